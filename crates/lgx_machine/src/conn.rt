@@ -1,0 +1,19 @@
+// Connections of controller tags to modules.
+use lgx_num::Name;
+
+#[derive(Drop)]
+pub struct ConnDef {
+    pub name: Name,
+    pub output: bool,
+    pub byte: u32,
+    pub words: u32,
+    pub trigger: Option<u32>,
+}
+
+/// An I/O word: its first byte in the image, its number among all words, and the task that it triggers.
+#[derive(Clone, Copy, PartialEq, Eq, Debug)]
+pub struct Slot {
+    pub byte: u32,
+    pub io: u32,
+    pub trigger: Option<u32>,
+}

@@ -1,0 +1,23 @@
+//! The ladder machine: what a reader of the project must believe, as definitions, and the plain types that they
+//! speak of.
+#![tactic(auto)]
+
+mod answer;
+mod bound;
+mod conn;
+mod event;
+mod fault;
+mod line;
+mod program;
+mod reply;
+mod task;
+
+pub use answer::{Mark, Moment, Outcome, TickReport, What};
+pub use bound::{Arg, Bound, Copying, Effect};
+pub use conn::{ConnDef, Slot};
+pub use event::{Accept, Action, Event, RungEdit, Text};
+pub use fault::{Fault, Severity};
+pub use line::Line;
+pub use program::Ins;
+pub use reply::{ConnFault, EditFault, ForceFault, Mode, ModeFault, Reply};
+pub use task::{TaskDef, TaskKind, TaskName};

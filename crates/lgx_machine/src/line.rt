@@ -1,0 +1,21 @@
+// Lines of the report.
+use crate::fault::Fault;
+use crate::reply::Reply;
+
+#[derive(Clone, Copy, PartialEq, Eq, Debug)]
+pub enum Line {
+    Begin {
+        task: u32,
+        program: u32,
+        version: u32,
+    },
+    Fault(Fault),
+    Reply {
+        lane: u32,
+        reply: Reply,
+    },
+    Set {
+        watch: u32,
+        value: i32,
+    },
+}

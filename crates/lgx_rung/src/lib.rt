@@ -1,0 +1,8 @@
+//! Ladder rungs: mnemonics, rungs as lists of elements, and the neutral text that spells them.
+#![tactic(auto)]
+
+mod fault;
+mod op;
+
+pub use fault::{CheckCode, CheckFault, TextCode, TextFault};
+pub use op::Op;
