@@ -1,10 +1,12 @@
 -- Laws of the definitions of numbers and of the image: what shows that they say what is meant.
-use Rattle.std.specs.Prelude.{◌≡◌, ℕ, ◌<◌, List, length, ℤ, IsTrue, FitsSigned, slice_index, EachIndex}
+use Rattle.std.specs.Prelude.{◌≡◌, ℕ, ◌<◌, List, length, ℤ, IsTrue, FitsSigned, slice_index, EachIndex, Some}
 use Rattle.std.specs.Int.{w32}
 use Rattle.lgx_num.specs.declared.number.Kind.{Kind}
 use Rattle.lgx_num.specs.declared.place.Place.{Place}
+use Rattle.lgx_num.specs.declared.place.Path.{Path}
 use Rattle.lgx_num.specs.Number.{store_low, fits, low_bits, bytes_of, dint_of}
-use Rattle.lgx_num.specs.Image.{number, write, bits_of, Lies, Apart}
+use Rattle.lgx_num.specs.Image.{number, write, bits_of, Lies, Apart, bit_of}
+use Rattle.lgx_num.specs.Paths.{Leads}
 
 -- ---- numbers
 
@@ -39,3 +41,9 @@ OtherPlacesStay = (image : List ℕ) (p q : Place) (v : ℤ) → Lies p (length 
 -- a write keeps the image's length
 abbrev pub WriteKeepsLength : Type 0
 WriteKeepsLength = (image : List ℕ) (p : Place) (v : ℤ) → length (write image p v) ≡ length image
+
+-- ---- subscripts
+
+-- where a path's subscripts are worked out, they lead by numbers in range
+abbrev pub SubscriptsStayInRange : Type 0
+SubscriptsStayInRange = (image : List ℕ) (p : Path) (to : ℕ) → bit_of image p ≡ Some to → Leads p.steps p.at to
