@@ -1,6 +1,6 @@
 -- The conveyor: its structures, tags and aliases, and the rungs of its three programs. Its cases stand behind them.
-use Rattle.std.specs.Prelude.{ℕ, Bool, true, false, List, [], ◌∷◌, codes}
-use Rattle.lgx_rung.specs.Tree.{Tree, end, one, fork, Legs, last, leg, Source, SourceIns}
+use Rattle.std.specs.Prelude.{ℕ, true, false, List, [], ◌∷◌, codes}
+use Rattle.lgx_rung.specs.Tree.{Tree, end, one, fork, last, leg, Source, SourceIns}
 use Rattle.lgx_rung.specs.declared.op.Op.{Op}
 use Rattle.lgx_rung.specs.declared.op.Op.TheVariants.{Xic, Xio, Ote, Ton, Ctu, Res, Sub, Mov, Add, Jsr}
 use Rattle.lgx_machine.specs.declared.types.Base.TheVariants.{Bool as OneBit, Dint, Timer, Counter, User}

@@ -1,5 +1,5 @@
 -- Layout of types (profile): sizes and alignments in bytes, and the members of a type by their first bit.
-use Rattle.std.specs.Prelude.{ℕ, zero, suc, ◌+◌, ◌-◌, ◌*◌, ◌/◌, Bool, true, false, ◌==◌, if◌then◌else◌, List, [], ◌∷◌, map, length, replicate, slice_get, slice_index, position, find as first_with, Option, Some, None, option_map, unwrap_or, codes}
+use Rattle.std.specs.Prelude.{ℕ, zero, suc, ◌+◌, ◌-◌, ◌*◌, ◌/◌, ◌==◌, if◌then◌else◌, List, [], ◌∷◌, map, length, replicate, slice_get, slice_index, position, find as first_with, Option, option_map, unwrap_or, codes}
 use Rattle.std.specs.Option.{option_or}
 use Rattle.lgx_num.specs.Name.{same}
 use Rattle.lgx_machine.specs.declared.types.Base.{Base}

@@ -11,3 +11,4 @@ pub mod ConveyorCases
 pub mod LayoutCases
 pub mod ShopTags
 pub mod ResolutionCases
+pub mod CheckCases
