@@ -12,3 +12,4 @@ pub mod LayoutCases
 pub mod ShopTags
 pub mod ResolutionCases
 pub mod CheckCases
+pub mod CheckedLaws

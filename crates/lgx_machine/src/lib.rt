@@ -13,6 +13,7 @@ mod reply;
 mod tag;
 mod task;
 mod text_cases;
+mod text_laws;
 mod types;
 
 pub use answer::{Mark, Moment, Outcome, TickReport, What};
@@ -29,4 +30,5 @@ pub use text_cases::{
     cause_cases, conveyor_checked, conveyor_layout, conveyor_places, declare_cases, layout_cases,
     resolution_cases, type_fault_cases,
 };
+pub use text_laws::checking_keeps_outline;
 pub use types::{Base, DataType, Member, MemberDecl, TypeCode, TypeDecl, TypeFault};

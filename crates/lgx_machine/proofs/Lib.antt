@@ -1,0 +1,2 @@
+mod Binds
+mod Outlines
