@@ -1,6 +1,5 @@
 -- What an answered bind says of its parts.
-use Rattle.std.specs.Prelude.{◌≡◌, ℕ, Bool, true, false, Option, Some, None, Result, Ok, Err, refl}
-use Rattle.std.proofs.Common.{ap}
+use Rattle.std.specs.Prelude.{◌≡◌, Bool, true, false, Option, Some, None, Result, Ok, Err, refl}
 use Rattle.lgx_machine.specs.FirstCause.{◌>>=◌, unless, some_or}
 
 abbrev ok_of : {A : Type 0} (E : Type 0) → A → Result A E

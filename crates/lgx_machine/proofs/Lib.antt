@@ -1,2 +1,6 @@
 mod Binds
 mod Outlines
+mod Everywhere
+mod TypesFit
+mod TagsFit
+mod FoundLie

@@ -1,18 +1,16 @@
 -- Checking keeps outlines.
-use Rattle.std.specs.Prelude.{◌≡◌, ℕ, zero, suc, ◌+◌, Bool, true, false, not, ◌&&◌, if◌then◌else◌, List, [], ◌∷◌, ◌++◌, map, length, filter_map, Option, Some, None, Result, Ok, Err, option_map, refl}
+use Rattle.std.specs.Prelude.{◌≡◌, ℕ, suc, ◌+◌, Bool, true, false, if◌then◌else◌, List, [], ◌∷◌, ◌++◌, map, length, filter_map, Option, Some, None, Result, Ok, Err, option_map, refl}
 use Rattle.std.specs.Result.{result_ok, result_err}
-use Rattle.std.proofs.Common.{ap, sym, arith}
+use Rattle.std.proofs.Common.{ap, sym}
 use Rattle.lgx_num.specs.declared.place.Operand.{Operand}
 use Rattle.lgx_rung.specs.Tree.{Tree, end, one, fork, Legs, last, leg, Source, SourceIns, instructions, leg_instructions}
 use Rattle.lgx_rung.specs.declared.op.Op.{Op}
 use Rattle.lgx_rung.specs.declared.fault.CheckCode.{CheckCode}
 use Rattle.lgx_rung.specs.declared.fault.CheckCode.TheVariants.{C1}
-use Rattle.lgx_rung.specs.declared.fault.CheckFault.{CheckFault}
-use Rattle.lgx_machine.specs.FirstCause.{◌>>=◌}
 use Rattle.lgx_machine.specs.Operands.{Want, is_optional, kinds, paired}
 use Rattle.lgx_machine.specs.declared.program.Ins.{Ins}
 use Rattle.std.specs.Prelude.{nat_le}
-use Rattle.lgx_machine.specs.Checked.{code_number, label_faults, length_faults, CheckScope, Spot, Label, labels, behind, operand_of, operands_of, lesser, least, answered, settled, instruction_of, checked_tree, checked_legs, checked_from, checked}
+use Rattle.lgx_machine.specs.Checked.{code_number, label_faults, length_faults, CheckScope, Spot, Label, labels, behind, operand_of, operands_of, lesser, least, answered, settled, instruction_of, checked_tree, checked_legs, checked_from}
 use Rattle.lgx_machine.specs.CheckedLaws.{tree_map, legs_map, source_outline, outline, KeepsOutline}
 use Rattle.lgx_machine.proofs.Binds.{bind_ok, ok_inj, err_not_ok}
 

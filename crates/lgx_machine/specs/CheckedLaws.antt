@@ -1,5 +1,5 @@
 -- What checking keeps: the rungs, forks and legs, each instruction's mnemonic, and its number of operands.
-use Rattle.std.specs.Prelude.{◌≡◌, ℕ, List, [], ◌∷◌, map, length, Result, Ok}
+use Rattle.std.specs.Prelude.{◌≡◌, ℕ, List, map, length, Ok}
 use Rattle.lgx_rung.specs.Tree.{Tree, end, one, fork, Legs, last, leg, Source, SourceIns}
 use Rattle.lgx_rung.specs.declared.op.Op.{Op}
 use Rattle.lgx_machine.specs.declared.program.Ins.{Ins}

@@ -13,3 +13,4 @@ pub mod ShopTags
 pub mod ResolutionCases
 pub mod CheckCases
 pub mod CheckedLaws
+pub mod ResolutionLaws

@@ -1,5 +1,12 @@
 // Laws of resolution and of checked text, over the definitions alone.
 ghost use Rattle.lgx_machine.specs.CheckedLaws.{KeepsOutline};
+ghost use Rattle.lgx_machine.specs.ResolutionLaws.{FoundLies, FixedLies};
+
+/// What an operand names lies in the image for all subscripts in range.
+pub fn found_lies_in_image()
+    ensures any { FoundLies }
+    ensures fixed { FixedLies }
+{}
 
 /// Checking keeps the rungs, their forks and legs, each mnemonic, and each number of operands.
 pub fn checking_keeps_outline()
