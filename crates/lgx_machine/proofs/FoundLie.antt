@@ -1,6 +1,6 @@
 -- What is found lies in the image.
 use Rattle.std.specs.Prelude.{◌≡◌, ℕ, zero, suc, ◌+◌, ◌*◌, ◌%◌, ◌<◌, ◌≤◌, Bool, true, false, not, ◌&&◌, ◌==◌, nat_lt, List, [], ◌∷◌, ◌++◌, length, Result, Ok, Err, ⊤, refl}
-use Rattle.std.proofs.Common.{subst, arith, eqb-true, ltb-true, length-append}
+use Rattle.std.proofs.Common.{sym, subst, arith, eqb-true, ltb-true, length-append}
 use Rattle.lgx_num.specs.Image.{Lies}
 use Rattle.lgx_num.specs.declared.place.Index.{Index}
 use Rattle.lgx_machine.specs.declared.types.Base.{Base}
@@ -18,9 +18,11 @@ use Rattle.lgx_machine.specs.OperandForm.{Form, tag, member, element, indexed, b
 use Rattle.lgx_machine.specs.Declarations.{Meaning, Entry, Declarations, bytes}
 use Rattle.lgx_machine.specs.Declarations.{tag as is_tag, alias as is_alias}
 use Rattle.lgx_machine.specs.Resolution.{single, is_array, integer_bits, is_integer, kind_of, stride, find_member, find_element, find_bit, may_index, index_by, find_indexed, Subscripts, operands, numbers_alone, resolved, seen_from, tag_found, meant, in_form, named_within, named, aliases}
-use Rattle.lgx_machine.specs.ResolutionLaws.{Everywhere, SoundTypes, Sound, EndsBy, LiesIn, FoundLies, FixedLies}
+use Rattle.lgx_num.specs.Paths.{Leads, SubscriptsLie, BytesLie, PathLies, OperandLies}
+use Rattle.lgx_machine.specs.ResolutionLaws.{Each}
+use Rattle.lgx_machine.specs.ResolutionLaws.{SoundTypes, Sound, EndsBy, LiesIn, FoundLies, FixedLies}
 use Rattle.lgx_machine.proofs.Binds.{bind_ok, ok_inj, err_not_ok, unless_ok, some_or_ok}
-use Rattle.lgx_machine.proofs.Everywhere.{each_append, everywhere_map, everywhere_behind, everywhere_more}
+use Rattle.lgx_machine.proofs.Subscripts.{leads_behind, leads_more, subscripts_more}
 use Rattle.lgx_machine.proofs.TypesFit.{element_fits, bit_fits, member_fits}
 use Rattle.lgx_machine.proofs.TagsFit.{LaidWell, seen_well, tag_lies}
 
@@ -56,7 +58,7 @@ member_lies types len g f name s l p =
     let one : g.of ≡ single g.of.base = is_single g.of (unless_ok _ _ _ a.1) in
     let fits = member_fits types g.of.base name m s (some_or_ok _ _ _ b.1) in
     let made : Found = record g { at = g.at + m.at; of = m.of } in
-    let lies : LiesIn types len made = record { subscripts = l.subscripts; few = l.few; inside = everywhere_behind g.steps g.at m.at (EndsBy types m.of g.stop) (everywhere_map g.steps g.at (EndsBy types g.of g.stop) _ (λ at e. fits.1 g.stop at (subst (λ (t : DataType). EndsBy types t g.stop at) one e)) l.inside); stop = l.stop; filled = fits.0 } in
+    let lies : LiesIn types len made = record { subscripts = l.subscripts; few = l.few; inside = λ to h. let b = leads_behind g.steps g.at m.at to h in subst (λ (at : ℕ). EndsBy types m.of g.stop at) (sym b.2) (fits.1 g.stop b.0 (subst (λ (t : DataType). EndsBy types t g.stop b.0) one (l.inside b.0 b.1))); stop = l.stop; filled = fits.0 } in
     subst (λ (z : Found). LiesIn types len z × (z.steps ≡ g.steps)) (ok_inj made f b.2) (lies, refl)
 
 pub element_lies : (types : List TypeDecl) (len : ℕ) (g f : Found) (n : ℕ) → LiesIn types len g → find_element types g n ≡ Ok f → LiesIn types len f × (f.steps ≡ g.steps)
@@ -64,7 +66,7 @@ element_lies types len g f n l p =
     let a = bind_ok (unless (is_array g.of) G5) _ f p in
     let b = bind_ok (unless (nat_lt n g.of.dim) G5) _ f a.2 in
     let made : Found = record g { at = g.at + n * stride types g.of.base; of = single g.of.base } in
-    let lies : LiesIn types len made = record { subscripts = l.subscripts; few = l.few; inside = everywhere_behind g.steps g.at (n * stride types g.of.base) (EndsBy types (single g.of.base) g.stop) (everywhere_map g.steps g.at (EndsBy types g.of g.stop) _ (λ at e. element_fits types g.of.base g.of.dim n g.stop at (ltb-true n g.of.dim (unless_ok _ _ _ b.1)) e) l.inside); stop = l.stop; filled = l.filled } in
+    let lies : LiesIn types len made = record { subscripts = l.subscripts; few = l.few; inside = λ to h. let b' = leads_behind g.steps g.at (n * stride types g.of.base) to h in subst (λ (at : ℕ). EndsBy types (single g.of.base) g.stop at) (sym b'.2) (element_fits types g.of.base g.of.dim n g.stop b'.0 (ltb-true n g.of.dim (unless_ok _ _ _ b.1)) (l.inside b'.0 b'.1)); stop = l.stop; filled = l.filled } in
     subst (λ (z : Found). LiesIn types len z × (z.steps ≡ g.steps)) (ok_inj made f b.2) (lies, refl)
 
 pub bit_lies : (types : List TypeDecl) (len : ℕ) (g f : Found) (n : ℕ) → LiesIn types len g → find_bit g n ≡ Ok f → LiesIn types len f × (f.steps ≡ g.steps)
@@ -73,7 +75,7 @@ bit_lies types len g f n l p =
     let b = bind_ok (unless (nat_lt n (integer_bits g.of.base)) G5) _ f a.2 in
     let one : g.of ≡ single g.of.base = is_single g.of (and_left (not (is_array g.of)) _ (unless_ok _ _ _ a.1)) in
     let made : Found = record g { at = g.at + n; of = single OneBit } in
-    let lies : LiesIn types len made = record { subscripts = l.subscripts; few = l.few; inside = everywhere_behind g.steps g.at n (EndsBy types (single OneBit) g.stop) (everywhere_map g.steps g.at (EndsBy types g.of g.stop) _ (λ at e. bit_fits types g.of.base n g.stop at (ltb-true n _ (unless_ok _ _ _ b.1)) (subst (λ (t : DataType). EndsBy types t g.stop at) one e)) l.inside); stop = l.stop; filled = omega arith } in
+    let lies : LiesIn types len made = record { subscripts = l.subscripts; few = l.few; inside = λ to h. let b' = leads_behind g.steps g.at n to h in subst (λ (at : ℕ). EndsBy types (single OneBit) g.stop at) (sym b'.2) (bit_fits types g.of.base n g.stop b'.0 (ltb-true n _ (unless_ok _ _ _ b.1)) (subst (λ (t : DataType). EndsBy types t g.stop b'.0) one (l.inside b'.0 b'.1))); stop = l.stop; filled = omega arith } in
     subst (λ (z : Found). LiesIn types len z × (z.steps ≡ g.steps)) (ok_inj made f b.2) (lies, refl)
 
 -- an integer place without subscripts lies in the image, on a byte
@@ -89,7 +91,7 @@ place_lies types len stop at (User i) h t e = absurd (omega arith)
 pub index_lies : (types : List TypeDecl) (len : ℕ) (array : DataType) (i : Found) → LiesIn types len i → may_index i ≡ true → (i.at % 8 ≡ 0) × Lies (index_by types array i).of len
 index_lies types len array i l p =
     let single_of : i.of ≡ single i.of.base = is_single i.of (and_left _ (nat_lt 0 (integer_bits i.of.base)) (and_left (is_integer i.of) _ p)) in
-    let inside : EndsBy types i.of i.stop i.at = subst (λ (is : List Index). Everywhere is i.at (EndsBy types i.of i.stop)) (empty_steps i.steps (and_right (is_integer i.of) _ p)) l.inside in
+    let inside : EndsBy types i.of i.stop i.at = l.inside i.at (subst (λ (is : List Index). Leads is i.at i.at) (sym (empty_steps i.steps (and_right (is_integer i.of) _ p))) refl) in
     place_lies types len i.stop i.at i.of.base (ltb-true 0 _ (and_right (not (is_array i.of)) _ (and_left (is_integer i.of) _ p))) l.stop (subst (λ (t : DataType). EndsBy types t i.stop i.at) single_of inside)
 
 pub indexed_lies : (types : List TypeDecl) (len : ℕ) (g f : Found) (subscript : Result Found TagCode) → LiesIn types len g → ((i : Found) → subscript ≡ Ok i → LiesIn types len i) → find_indexed types g subscript ≡ Ok f → LiesIn types len f
@@ -100,7 +102,7 @@ indexed_lies types len g f subscript l known p =
     let c = bind_ok (unless (nat_lt (length g.steps) 4) G9) _ f b.2 in
     let j : Index = index_by types g.of i in
     let made : Found = record g { steps = g.steps ++ j ∷ []; of = single g.of.base } in
-    let lies : LiesIn types len made = record { subscripts = each_append (λ i. (i.of.at % 8 ≡ 0) × Lies i.of len) g.steps (j ∷ []) l.subscripts (index_lies types len g.of i (known i a.1) (unless_ok _ _ _ b.1), tt); few = omega (arith, length-append g.steps (j ∷ []), ltb-true (length g.steps) 4 (unless_ok _ _ _ c.1)); inside = everywhere_more g.steps j g.at (EndsBy types (single g.of.base) g.stop) (everywhere_map g.steps g.at (EndsBy types g.of g.stop) _ (λ at e n h. element_fits types g.of.base g.of.dim n g.stop at h e) l.inside); stop = l.stop; filled = l.filled } in
+    let lies : LiesIn types len made = record { subscripts = subscripts_more g.steps j len l.subscripts (index_lies types len g.of i (known i a.1) (unless_ok _ _ _ b.1)); few = omega (arith, length-append g.steps (j ∷ []), ltb-true (length g.steps) 4 (unless_ok _ _ _ c.1)); inside = λ to h. let b' = leads_more g.steps j g.at to h in subst (λ (at : ℕ). EndsBy types (single g.of.base) g.stop at) (sym b'.4) (element_fits types g.of.base g.of.dim b'.1 g.stop b'.0 b'.3 (l.inside b'.0 b'.2)); stop = l.stop; filled = l.filled } in
     subst (λ (z : Found). LiesIn types len z) (ok_inj made f c.2) lies
 
 -- ---- forms

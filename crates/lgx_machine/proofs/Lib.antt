@@ -1,6 +1,7 @@
 mod Binds
 mod Outlines
-mod Everywhere
+mod Subscripts
 mod TypesFit
 mod TagsFit
 mod FoundLie
+mod OperandsLie

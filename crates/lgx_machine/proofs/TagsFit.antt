@@ -1,7 +1,7 @@
 -- Tags lie in the image one behind the other.
 use Rattle.std.specs.Prelude.{◌≡◌, ℕ, ◌+◌, ◌≤◌, List, [], ◌∷◌, Option, Some, None, refl}
 use Rattle.std.specs.Option.{option_or}
-use Rattle.std.proofs.Common.{arith}
+use Rattle.std.proofs.Common.{sym, subst, arith}
 use Rattle.lgx_machine.specs.declared.types.DataType.{DataType}
 use Rattle.lgx_machine.specs.declared.types.TypeDecl.{TypeDecl}
 use Rattle.lgx_machine.specs.declared.tag.Scope.{Scope}
@@ -10,8 +10,10 @@ use Rattle.lgx_machine.specs.Layout.{round_up, size_of}
 use Rattle.lgx_machine.specs.FirstCause.{numbers}
 use Rattle.lgx_machine.specs.Declarations.{Entry, Declarations, is_named, in_scope, in_order, entry_size, laid_from, laid, end_of, bytes, entry_of}
 use Rattle.lgx_machine.specs.Resolution.{seen_from, tag_found}
-use Rattle.lgx_machine.specs.ResolutionLaws.{Each, IsSoundMeaning, IsSoundType, Sound, LiesIn}
-use Rattle.lgx_machine.proofs.Everywhere.{each_append, each_filter, each_flat, each_find}
+use Rattle.lgx_num.specs.Paths.{Leads, SubscriptsLie, BytesLie, PathLies, OperandLies}
+use Rattle.lgx_machine.specs.ResolutionLaws.{Each}
+use Rattle.lgx_machine.specs.ResolutionLaws.{EndsBy, IsSoundMeaning, IsSoundType, Sound, LiesIn}
+use Rattle.lgx_machine.proofs.Subscripts.{each_append, each_filter, each_flat, each_find}
 use Rattle.lgx_machine.proofs.TypesFit.{width_of, begins_at}
 
 abbrev pub LaidWell : List TypeDecl → ℕ → ℕ × Entry → Type 0
@@ -40,4 +42,4 @@ seen_well d (Program q) name x s p = go (entry_of d (Program q) name) refl p
     go (Some y) r t = entry_well d (Program q) name x s (cc (r, t))
 
 pub tag_lies : (types : List TypeDecl) (len at : ℕ) (of : DataType) → at + size_of types of ≤ len → IsSoundType types of → LiesIn types len (tag_found types at of)
-tag_lies types len at of h s = record { subscripts = tt; few = omega arith; inside = (begins_at of.base at, omega (arith, width_of types of.base of.dim s.0)); stop = h; filled = s.1 }
+tag_lies types len at of h s = record { subscripts = tt; few = omega arith; inside = λ to q. subst (λ (b : ℕ). EndsBy types of (at + size_of types of) b) (sym q) (begins_at of.base at, omega (arith, width_of types of.base of.dim s.0)); stop = h; filled = s.1 }

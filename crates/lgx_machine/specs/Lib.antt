@@ -12,5 +12,5 @@ pub mod LayoutCases
 pub mod ShopTags
 pub mod ResolutionCases
 pub mod CheckCases
-pub mod CheckedLaws
 pub mod ResolutionLaws
+pub mod CheckedLaws

@@ -1,6 +1,6 @@
 -- What is found lies in the image, whatever its subscripts are: the words for it, and the law.
 use Rattle.std.specs.Prelude.{◌≡◌, ℕ, zero, suc, ◌+◌, ◌*◌, ◌%◌, ◌<◌, ◌≤◌, List, [], ◌∷◌, map, length, Ok, ⊤}
-use Rattle.lgx_num.specs.Image.{BeginsWell, Lies}
+use Rattle.lgx_num.specs.Image.{BeginsWell}
 use Rattle.lgx_num.specs.declared.place.Index.{Index}
 use Rattle.lgx_machine.specs.declared.types.Base.{Base}
 use Rattle.lgx_machine.specs.declared.types.Base.TheVariants.{Bool as OneBit, Sint, Int, Dint, Timer, Counter, User}
@@ -10,17 +10,13 @@ use Rattle.lgx_machine.specs.declared.tag.Scope.{Scope}
 use Rattle.lgx_machine.specs.declared.tag.Found.{Found}
 use Rattle.lgx_machine.specs.Layout.{type_of, structure_in, sizes, size_of}
 use Rattle.lgx_machine.specs.Declarations.{Meaning, tag, alias, Declarations, bytes}
+use Rattle.lgx_num.specs.Paths.{Leads, SubscriptsLie}
 use Rattle.lgx_machine.specs.Resolution.{single, kind_of, stride, found, found_fixed}
 
 -- P holds of each element
 abbrev pub Each : {A : Type 0} → (A → Type 0) → List A → Type 0
 Each P [] = ⊤
 Each P (x ∷ xs) = P x × Each P xs
-
--- P holds of every bit to which subscripts in range lead from this one
-abbrev pub Everywhere : List Index → ℕ → (ℕ → Type 0) → Type 0
-Everywhere [] at P = P at
-Everywhere (i ∷ is) at P = (n : ℕ) → n < i.length → Everywhere is (at + n * i.stride) P
 
 -- ---- what is asked of declarations
 
@@ -72,11 +68,11 @@ abbrev pub EndsBy : List TypeDecl → DataType → ℕ → ℕ → Type 0
 EndsBy types of stop at = BeginsWell (kind_of of.base) at × (at + width types of ≤ 8 * stop)
 
 pub record LiesIn (types : List TypeDecl) (len : ℕ) (f : Found) : Type 0 where
-  -- each subscript is read from a place in the image, on a byte, and there are at most four
-  pub subscripts : Each (λ i. (i.of.at % 8 ≡ 0) × Lies i.of len) f.steps
+  -- each subscript stands in the image, on a byte, and there are at most four
+  pub subscripts : SubscriptsLie f.steps len
   pub few : length f.steps ≤ 4
   -- wherever they lead, the place ends within its tag, and the tag within the image
-  pub inside : Everywhere f.steps f.at (EndsBy types f.of f.stop)
+  pub inside : (to : ℕ) → Leads f.steps f.at to → EndsBy types f.of f.stop to
   pub stop : f.stop ≤ len
   -- an element of its type has a byte at least
   pub filled : HasBytes types f.of

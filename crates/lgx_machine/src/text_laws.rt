@@ -1,5 +1,5 @@
 // Laws of resolution and of checked text, over the definitions alone.
-ghost use Rattle.lgx_machine.specs.CheckedLaws.{KeepsOutline};
+ghost use Rattle.lgx_machine.specs.CheckedLaws.{CheckedLies, KeepsOutline};
 ghost use Rattle.lgx_machine.specs.ResolutionLaws.{FoundLies, FixedLies};
 
 /// What an operand names lies in the image for all subscripts in range.
@@ -11,4 +11,9 @@ pub fn found_lies_in_image()
 /// Checking keeps the rungs, their forks and legs, each mnemonic, and each number of operands.
 pub fn checking_keeps_outline()
     ensures { KeepsOutline }
+{}
+
+/// Every operand of checked rungs lies in the image for all subscripts in range.
+pub fn checked_lies_in_image()
+    ensures { CheckedLies }
 {}

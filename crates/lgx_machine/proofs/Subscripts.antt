@@ -1,8 +1,10 @@
--- Lists each of whose elements has a property, and bits to which subscripts lead.
-use Rattle.std.specs.Prelude.{◌≡◌, ℕ, zero, suc, ◌+◌, ◌*◌, ◌<◌, Bool, true, false, cond, List, [], ◌∷◌, ◌++◌, map, filter, flat_map, find, slice_get, slice_index, Some}
+-- Lists each of whose elements has a property, and the bits to which subscripts lead.
+use Rattle.std.specs.Prelude.{refl, ◌≡◌, ℕ, zero, suc, ◌+◌, ◌*◌, ◌%◌, ◌<◌, Bool, true, false, cond, List, [], ◌∷◌, ◌++◌, map, filter, flat_map, find, slice_get, slice_index, Some}
 use Rattle.std.proofs.Common.{ap, subst, arith}
+use Rattle.lgx_num.specs.Image.{Lies}
 use Rattle.lgx_num.specs.declared.place.Index.{Index}
-use Rattle.lgx_machine.specs.ResolutionLaws.{Each, Everywhere}
+use Rattle.lgx_num.specs.Paths.{Leads, SubscriptsLie, BytesLie, PathLies, OperandLies}
+use Rattle.lgx_machine.specs.ResolutionLaws.{Each}
 
 -- ---- each element
 
@@ -45,18 +47,22 @@ get_mapped f [] i y q = absurd (cc q)
 get_mapped f (x ∷ xs) zero y q = ap f (cc q)
 get_mapped f (x ∷ xs) (suc i) y q = get_mapped f xs i y q
 
--- ---- wherever subscripts lead
-
-pub everywhere_map : (is : List Index) (at : ℕ) (P Q : ℕ → Type 0) → ((b : ℕ) → P b → Q b) → Everywhere is at P → Everywhere is at Q
-everywhere_map [] at P Q f p = f at p
-everywhere_map (i ∷ is) at P Q f p = λ n h. everywhere_map is (at + n * i.stride) P Q f (p n h)
+-- ---- where subscripts lead
 
 -- from so many bits further on
-pub everywhere_behind : (is : List Index) (at k : ℕ) (P : ℕ → Type 0) → Everywhere is at (λ b. P (b + k)) → Everywhere is (at + k) P
-everywhere_behind [] at k P p = p
-everywhere_behind (i ∷ is) at k P p = λ n h. subst (λ (a : ℕ). Everywhere is a P) (omega arith) (everywhere_behind is (at + n * i.stride) k P (p n h))
+pub leads_behind : (is : List Index) (at k to : ℕ) → Leads is (at + k) to → (b : ℕ) × Leads is at b × (to ≡ b + k)
+leads_behind [] at k to h = (at, refl, h)
+leads_behind (i ∷ is) at k to h =
+    let r = leads_behind is at k h.1 h.3 in
+    (h.0 * i.stride + r.0, (h.0, r.0, h.2, r.1, refl), omega (arith, r.2, h.4))
 
 -- with one more subscript behind them
-pub everywhere_more : (is : List Index) (j : Index) (at : ℕ) (P : ℕ → Type 0) → Everywhere is at (λ b. (n : ℕ) → n < j.length → P (b + n * j.stride)) → Everywhere (is ++ j ∷ []) at P
-everywhere_more [] j at P p = p
-everywhere_more (i ∷ is) j at P p = λ n h. everywhere_more is j (at + n * i.stride) P (p n h)
+pub leads_more : (is : List Index) (j : Index) (at to : ℕ) → Leads (is ++ j ∷ []) at to → (b n : ℕ) × Leads is at b × (n < j.length) × (to ≡ b + n * j.stride)
+leads_more [] j at to h = (at, h.0, refl, h.2, omega (arith, h.3, h.4))
+leads_more (i ∷ is) j at to h =
+    let r = leads_more is j at h.1 h.3 in
+    (h.0 * i.stride + r.0, r.1, (h.0, r.0, h.2, r.2, refl), r.3, omega (arith, r.4, h.4))
+
+pub subscripts_more : (is : List Index) (j : Index) (len : ℕ) → SubscriptsLie is len → (j.of.at % 8 ≡ 0) × Lies j.of len → SubscriptsLie (is ++ j ∷ []) len
+subscripts_more [] j len p q = (q.0, q.1, tt)
+subscripts_more (i ∷ is) j len p q = (p.0, p.1, subscripts_more is j len p.2 q)
