@@ -18,8 +18,7 @@ use Rattle.lgx_machine.specs.OperandForm.{Form, tag, member, element, indexed, b
 use Rattle.lgx_machine.specs.Declarations.{Meaning, Entry, Declarations, bytes}
 use Rattle.lgx_machine.specs.Declarations.{tag as is_tag, alias as is_alias}
 use Rattle.lgx_machine.specs.Resolution.{single, is_array, integer_bits, is_integer, kind_of, stride, find_member, find_element, find_bit, may_index, index_by, find_indexed, Subscripts, operands, numbers_alone, resolved, seen_from, tag_found, meant, in_form, named_within, named, aliases}
-use Rattle.lgx_num.specs.Paths.{Leads, SubscriptsLie, BytesLie, PathLies, OperandLies}
-use Rattle.lgx_machine.specs.ResolutionLaws.{Each}
+use Rattle.lgx_num.specs.Paths.{Leads}
 use Rattle.lgx_machine.specs.ResolutionLaws.{SoundTypes, Sound, EndsBy, LiesIn, FoundLies, FixedLies}
 use Rattle.lgx_machine.proofs.Binds.{bind_ok, ok_inj, err_not_ok, unless_ok, some_or_ok}
 use Rattle.lgx_machine.proofs.Subscripts.{leads_behind, leads_more, subscripts_more}

@@ -5,3 +5,5 @@ mod TypesFit
 mod TagsFit
 mod FoundLie
 mod OperandsLie
+mod Reaching
+mod SizesSettle

@@ -1,16 +1,16 @@
 -- Every operand of checked rungs lies in the image.
-use Rattle.std.specs.Prelude.{◌≡◌, ℕ, zero, suc, ◌+◌, ◌*◌, ◌%◌, ◌<◌, ◌≤◌, Bool, true, false, not, ◌&&◌, ◌==◌, nat_lt, ◌⊎◌, if◌then◌else◌, cond, pos, codes, bytes_eq, position, List, [], ◌∷◌, ◌++◌, map, length, filter_map, Option, Some, None, option_map, ok_or, Result, Ok, Err, ⊤, refl}
-use Rattle.std.specs.Result.{result_ok, result_err}
-use Rattle.std.proofs.Common.{sym, subst, arith, eqb-true, ltb-true, inl, inr}
+use Rattle.std.specs.Prelude.{◌≡◌, ℕ, zero, suc, ◌+◌, ◌*◌, ◌<◌, ◌≤◌, Bool, true, false, not, ◌&&◌, nat_lt, ◌⊎◌, if◌then◌else◌, pos, codes, bytes_eq, position, List, [], ◌∷◌, ◌++◌, map, length, filter_map, Option, Some, None, option_map, ok_or, Result, Ok, Err, refl}
+use Rattle.std.specs.Result.{result_ok}
+use Rattle.std.proofs.Common.{sym, subst, arith, ltb-true, inl, inr}
 use Rattle.lgx_num.specs.Name.{is_name, same}
-use Rattle.lgx_num.specs.Image.{BeginsWell, Lies, bits_of}
+use Rattle.lgx_num.specs.Image.{BeginsWell, bits_of}
 use Rattle.lgx_num.specs.declared.place.Path.{Path}
 use Rattle.lgx_num.specs.declared.place.Flag.{Flag}
 use Rattle.lgx_num.specs.declared.place.Operand.{Operand}
 use Rattle.lgx_num.specs.declared.place.Operand.TheVariants as operand
 use Rattle.lgx_rung.specs.Tree.{Tree, end, one, fork, Legs, last, leg, Source, SourceIns, instructions, leg_instructions}
 use Rattle.lgx_rung.specs.declared.fault.CheckCode.{CheckCode}
-use Rattle.lgx_rung.specs.declared.fault.CheckCode.TheVariants.{C1, C2, C10, C11, C12, C15}
+use Rattle.lgx_rung.specs.declared.fault.CheckCode.TheVariants.{C2, C11, C12, C15}
 use Rattle.lgx_machine.specs.declared.program.Ins.{Ins}
 use Rattle.lgx_machine.specs.declared.types.Base.{Base}
 use Rattle.lgx_machine.specs.declared.types.Base.TheVariants.{Bool as OneBit, Sint, Int, Dint, Timer, Counter, User}
@@ -20,16 +20,15 @@ use Rattle.lgx_machine.specs.declared.tag.Scope.{Scope}
 use Rattle.lgx_machine.specs.declared.tag.Scope.TheVariants.{Program}
 use Rattle.lgx_machine.specs.declared.tag.TagCode.{TagCode}
 use Rattle.lgx_machine.specs.declared.tag.Found.{Found}
-use Rattle.lgx_machine.specs.FirstCause.{◌>>=◌}
 use Rattle.lgx_machine.specs.OperandForm.{Number, fitting, outside, number, flag}
 use Rattle.lgx_machine.specs.Declarations.{Declarations, bytes}
 use Rattle.lgx_machine.specs.Resolution.{single, is_array, is_integer, integer_bits, kind_of, found}
-use Rattle.lgx_machine.specs.Operands.{Want, bool_place, bool_or_flag, integer_place, value, timer, counter, timer_or_counter, copied, copy_target, fill_target, question, routine, no_parameters, jump_label, own_label, event_task, kinds, paired, cause_of, path_of, block_of, is_bool, is_timer, is_counter, one_place, block_where, place_as, no_place, in_range, number_as, flag_as, found_as, read_as, data_operand, name_operand}
-use Rattle.lgx_machine.specs.Checked.{CheckScope, Spot, Label, labels, label_of, behind, operand_of, operands_of, least, answered, settled, instruction_of, checked_tree, checked_legs, checked_from, checked}
-use Rattle.lgx_num.specs.Paths.{Leads, SubscriptsLie, BytesLie, PathLies, OperandLies}
-use Rattle.lgx_machine.specs.ResolutionLaws.{Each}
+use Rattle.lgx_machine.specs.Operands.{Want, bool_place, bool_or_flag, integer_place, value, timer, counter, timer_or_counter, copied, copy_target, fill_target, question, routine, no_parameters, jump_label, own_label, event_task, kinds, paired, path_of, is_bool, is_timer, is_counter, one_place, block_where, place_as, number_as, flag_as, found_as, read_as, data_operand, name_operand}
+use Rattle.lgx_machine.specs.Checked.{CheckScope, Spot, Label, labels, label_of, behind, operand_of, operands_of, settled, instruction_of, checked_tree, checked_legs, checked_from}
+use Rattle.lgx_num.specs.Paths.{BytesLie, OperandLies}
+use Rattle.std.specs.List.{AllByRecursion as Each}
 use Rattle.lgx_machine.specs.Layout.{size_of}
-use Rattle.lgx_machine.specs.ResolutionLaws.{Sound, EndsBy, LiesIn, width, elements}
+use Rattle.lgx_machine.specs.ResolutionLaws.{Sound, EndsBy, LiesIn, elements}
 use Rattle.lgx_machine.specs.CheckedLaws.{OperandsLie, CheckedLies}
 use Rattle.lgx_machine.proofs.Binds.{bind_ok, ok_inj, err_not_ok}
 use Rattle.lgx_machine.proofs.Subscripts.{each_append}

@@ -3,8 +3,8 @@ use Rattle.std.specs.Prelude.{refl, ◌≡◌, ℕ, zero, suc, ◌+◌, ◌*◌,
 use Rattle.std.proofs.Common.{ap, subst, arith}
 use Rattle.lgx_num.specs.Image.{Lies}
 use Rattle.lgx_num.specs.declared.place.Index.{Index}
-use Rattle.lgx_num.specs.Paths.{Leads, SubscriptsLie, BytesLie, PathLies, OperandLies}
-use Rattle.lgx_machine.specs.ResolutionLaws.{Each}
+use Rattle.lgx_num.specs.Paths.{Leads, SubscriptsLie}
+use Rattle.std.specs.List.{AllByRecursion as Each}
 
 -- ---- each element
 

@@ -11,8 +11,7 @@ use Rattle.lgx_machine.specs.declared.types.MemberDecl.{MemberDecl}
 use Rattle.lgx_machine.specs.declared.types.Member.{Member}
 use Rattle.lgx_machine.specs.Layout.{looked_up, type_of, round_up, alignment_of, size_in, begin_after, placed_from, end_from, structure_in, sizes, size_of, members, member}
 use Rattle.lgx_machine.specs.Resolution.{single, integer_bits, kind_of, stride}
-use Rattle.lgx_num.specs.Paths.{Leads, SubscriptsLie, BytesLie, PathLies, OperandLies}
-use Rattle.lgx_machine.specs.ResolutionLaws.{Each}
+use Rattle.std.specs.List.{AllByRecursion as Each}
 use Rattle.lgx_machine.specs.ResolutionLaws.{IsEvenOf, HasBytes, IsSoundType, SoundTypes, width, EndsBy}
 use Rattle.lgx_machine.proofs.Subscripts.{each_map, each_find, each_get, get_mapped}
 

@@ -6,7 +6,8 @@ use Rattle.lgx_rung.specs.declared.op.Op.{Op}
 use Rattle.lgx_machine.specs.declared.program.Ins.{Ins}
 use Rattle.lgx_machine.specs.Declarations.{bytes}
 use Rattle.lgx_num.specs.Paths.{OperandLies}
-use Rattle.lgx_machine.specs.ResolutionLaws.{Each, Sound}
+use Rattle.std.specs.List.{AllByRecursion as Each}
+use Rattle.lgx_machine.specs.ResolutionLaws.{Sound}
 use Rattle.lgx_machine.specs.Checked.{CheckScope, checked}
 
 -- the tree in which each instruction is what f makes of it

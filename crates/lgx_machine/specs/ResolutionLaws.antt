@@ -1,7 +1,6 @@
 -- What is found lies in the image, whatever its subscripts are: the words for it, and the law.
-use Rattle.std.specs.Prelude.{◌≡◌, ℕ, zero, suc, ◌+◌, ◌*◌, ◌%◌, ◌<◌, ◌≤◌, List, [], ◌∷◌, map, length, Ok, ⊤}
+use Rattle.std.specs.Prelude.{None, ◌≡◌, ℕ, zero, suc, ◌+◌, ◌*◌, ◌%◌, ◌<◌, ◌≤◌, List, [], map, length, Ok, ⊤}
 use Rattle.lgx_num.specs.Image.{BeginsWell}
-use Rattle.lgx_num.specs.declared.place.Index.{Index}
 use Rattle.lgx_machine.specs.declared.types.Base.{Base}
 use Rattle.lgx_machine.specs.declared.types.Base.TheVariants.{Bool as OneBit, Sint, Int, Dint, Timer, Counter, User}
 use Rattle.lgx_machine.specs.declared.types.DataType.{DataType}
@@ -9,14 +8,11 @@ use Rattle.lgx_machine.specs.declared.types.TypeDecl.{TypeDecl}
 use Rattle.lgx_machine.specs.declared.tag.Scope.{Scope}
 use Rattle.lgx_machine.specs.declared.tag.Found.{Found}
 use Rattle.lgx_machine.specs.Layout.{type_of, structure_in, sizes, size_of}
+use Rattle.lgx_machine.specs.TypeFaults.{type_fault}
 use Rattle.lgx_machine.specs.Declarations.{Meaning, tag, alias, Declarations, bytes}
+use Rattle.std.specs.List.{AllByRecursion as Each}
 use Rattle.lgx_num.specs.Paths.{Leads, SubscriptsLie}
 use Rattle.lgx_machine.specs.Resolution.{single, kind_of, stride, found, found_fixed}
-
--- P holds of each element
-abbrev pub Each : {A : Type 0} → (A → Type 0) → List A → Type 0
-Each P [] = ⊤
-Each P (x ∷ xs) = P x × Each P xs
 
 -- ---- what is asked of declarations
 
@@ -83,3 +79,10 @@ FoundLies = (d : Declarations) (scope : Scope) (text : List ℕ) (f : Found) →
 -- where numbers alone are subscripts, nothing moves the place
 abbrev pub FixedLies : Type 0
 FixedLies = (d : Declarations) (scope : Scope) (text : List ℕ) (f : Found) → Sound d → found_fixed d scope text ≡ Ok f → LiesIn d.types (bytes d) f × (f.steps ≡ [])
+
+-- ---- structures without a fault
+
+-- where declared structures have no fault and each has a member, their sizes have settled: the rounds over how deep they
+-- are nested have gone far enough
+abbrev pub FaultlessIsSound : Type 0
+FaultlessIsSound = (types : List TypeDecl) → Each (λ d. 0 < length d.members) types → type_fault types ≡ None → SoundTypes types

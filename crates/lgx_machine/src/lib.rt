@@ -30,5 +30,7 @@ pub use text_cases::{
     cause_cases, conveyor_checked, conveyor_layout, conveyor_places, declare_cases, layout_cases,
     resolution_cases, type_fault_cases,
 };
-pub use text_laws::{checked_lies_in_image, checking_keeps_outline, found_lies_in_image};
+pub use text_laws::{
+    checked_lies_in_image, checking_keeps_outline, faultless_types_are_sound, found_lies_in_image,
+};
 pub use types::{Base, DataType, Member, MemberDecl, TypeCode, TypeDecl, TypeFault};

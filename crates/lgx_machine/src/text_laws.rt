@@ -1,6 +1,11 @@
 // Laws of resolution and of checked text, over the definitions alone.
 ghost use Rattle.lgx_machine.specs.CheckedLaws.{CheckedLies, KeepsOutline};
-ghost use Rattle.lgx_machine.specs.ResolutionLaws.{FoundLies, FixedLies};
+ghost use Rattle.lgx_machine.specs.ResolutionLaws.{FaultlessIsSound, FixedLies, FoundLies};
+
+/// Structures without a fault have sizes that their members give with these same sizes.
+pub fn faultless_types_are_sound()
+    ensures { FaultlessIsSound }
+{}
 
 /// What an operand names lies in the image for all subscripts in range.
 pub fn found_lies_in_image()
