@@ -13,13 +13,14 @@ use Rattle.lgx_machine.specs.declared.tag.TagCode.{TagCode}
 use Rattle.lgx_machine.specs.declared.tag.TagCode.TheVariants.{G3, G4, G5, G6, G7, G9, G10}
 use Rattle.lgx_machine.specs.declared.tag.Found.{Found}
 use Rattle.lgx_machine.specs.FirstCause.{unless, some_or}
-use Rattle.lgx_machine.specs.Layout.{member as member_of}
+use Rattle.lgx_machine.specs.Layout.{member as member_of, single}
 use Rattle.lgx_machine.specs.OperandForm.{Form, tag, member, element, indexed, bit, form as form_in}
 use Rattle.lgx_machine.specs.Declarations.{Meaning, Entry, Declarations, bytes}
 use Rattle.lgx_machine.specs.Declarations.{tag as is_tag, alias as is_alias}
-use Rattle.lgx_machine.specs.Resolution.{single, is_array, integer_bits, is_integer, kind_of, stride, find_member, find_element, find_bit, may_index, index_by, find_indexed, Subscripts, operands, numbers_alone, resolved, seen_from, tag_found, meant, in_form, named_within, named, aliases}
+use Rattle.lgx_machine.specs.Resolution.{is_array, integer_bits, is_integer, kind_of, stride, find_member, find_element, find_bit, may_index, index_by, find_indexed, Subscripts, operands, numbers_alone, resolved, seen_from, tag_found, meant, in_form, named_within, named, aliases}
 use Rattle.lgx_num.specs.Paths.{Leads}
-use Rattle.lgx_machine.specs.ResolutionLaws.{SoundTypes, Sound, EndsBy, LiesIn, FoundLies, FixedLies}
+use Rattle.lgx_machine.specs.LayoutLaws.{SoundTypes}
+use Rattle.lgx_machine.specs.ResolutionLaws.{Sound, EndsBy, LiesIn, FoundLies, FixedLies}
 use Rattle.lgx_machine.proofs.Binds.{bind_ok, ok_inj, err_not_ok, unless_ok, some_or_ok}
 use Rattle.lgx_machine.proofs.Subscripts.{leads_behind, leads_more, subscripts_more}
 use Rattle.lgx_machine.proofs.TypesFit.{element_fits, bit_fits, member_fits}

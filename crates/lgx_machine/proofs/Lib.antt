@@ -1,9 +1,9 @@
-mod Binds
+pub mod Binds
 mod Outlines
-mod Subscripts
-mod TypesFit
+pub mod Subscripts
+pub mod TypesFit
 mod TagsFit
-mod FoundLie
+pub mod FoundLie
 mod OperandsLie
-mod Reaching
-mod SizesSettle
+pub mod Reaching
+pub mod SizesSettle

@@ -22,12 +22,12 @@ use Rattle.lgx_machine.specs.declared.tag.TagCode.{TagCode}
 use Rattle.lgx_machine.specs.declared.tag.Found.{Found}
 use Rattle.lgx_machine.specs.OperandForm.{Number, fitting, outside, number, flag}
 use Rattle.lgx_machine.specs.Declarations.{Declarations, bytes}
-use Rattle.lgx_machine.specs.Resolution.{single, is_array, is_integer, integer_bits, kind_of, found}
+use Rattle.lgx_machine.specs.Resolution.{is_array, is_integer, integer_bits, kind_of, found}
 use Rattle.lgx_machine.specs.Operands.{Want, bool_place, bool_or_flag, integer_place, value, timer, counter, timer_or_counter, copied, copy_target, fill_target, question, routine, no_parameters, jump_label, own_label, event_task, kinds, paired, path_of, is_bool, is_timer, is_counter, one_place, block_where, place_as, number_as, flag_as, found_as, read_as, data_operand, name_operand}
 use Rattle.lgx_machine.specs.Checked.{CheckScope, Spot, Label, labels, label_of, behind, operand_of, operands_of, settled, instruction_of, checked_tree, checked_legs, checked_from}
 use Rattle.lgx_num.specs.Paths.{BytesLie, OperandLies}
 use Rattle.std.specs.List.{AllByRecursion as Each}
-use Rattle.lgx_machine.specs.Layout.{size_of}
+use Rattle.lgx_machine.specs.Layout.{size_of, single}
 use Rattle.lgx_machine.specs.ResolutionLaws.{Sound, EndsBy, LiesIn, elements}
 use Rattle.lgx_machine.specs.CheckedLaws.{OperandsLie, CheckedLies}
 use Rattle.lgx_machine.proofs.Binds.{bind_ok, ok_inj, err_not_ok}

@@ -65,8 +65,9 @@ instruction_outline s ls spot i made p = go (paired (kinds i.op) i.texts) refl p
   where
     go : (o : Option (List (Want × List ℕ))) → paired (kinds i.op) i.texts ≡ o → settled ls spot i (operands_of s ls spot o) ≡ Ok made → outline made ≡ source_outline i
     go None q r =
-        let a = answered_outline spot i.op _ _ made r in
-        absurd (cc (none_least (C1 ∷ (label_faults ls spot i ++ length_faults spot)) a.0))
+        let codes : List CheckCode = C1 ∷ (label_faults ls spot i ++ length_faults spot) in
+        let a : (least codes ≡ None) × (made ≡ record { op = i.op; args = [] }) = answered_outline spot i.op [] (least codes) made r in
+        absurd (cc (none_least codes a.0))
     go (Some ps) q r =
         let a = answered_outline spot i.op _ _ made r in
         let there : length (filter_map result_ok (map (operand_of s ls spot) ps)) ≡ length (map (operand_of s ls spot) ps) = all_there (map (operand_of s ls spot) ps) _ (none_least _ a.0) in

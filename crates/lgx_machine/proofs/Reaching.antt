@@ -14,6 +14,8 @@ use Rattle.lgx_machine.specs.Layout.{built_ins, looked_up, find, members_of}
 use Rattle.lgx_machine.specs.TypeFaults.{user_number, parts, among, reached_to}
 use Rattle.std.specs.List.{AllByRecursion as Each}
 use Rattle.lgx_machine.proofs.Subscripts.{each_flat}
+use Rattle.lgx_machine.specs.LayoutLaws.{OrderedHasNoRings}
+use Rattle.lgx_machine.specs.TypeFaults.{reaches_itself}
 use Rattle.lgx_machine.proofs.TypesFit.{looked_up_has}
 
 -- ---- sets
@@ -115,3 +117,42 @@ reach_later types (suc k) m u j h b p = go (le_cases m k h) (λ r. reach_later t
     go : (m ≤ k) ⊎ (m ≡ suc k) → (m ≤ k → among (reached_to k types u) j ≡ true) → among (reached_to (suc k) types u) j ≡ true
     go (inl r) known = reach_still types k u j b (known r)
     go (inr r) known = subst (λ (n : ℕ). among (reached_to n types u) j ≡ true) r p
+
+-- ---- where structures are ordered
+
+pub each_some : (P : ℕ → Type 0) (xs : List ℕ) → ((j : ℕ) → among xs j ≡ true → P j) → Each P xs
+each_some P [] h = tt
+each_some P (x ∷ xs) h = (h x (or_left (x == x) _ (eq-eqb x x refl)), each_some P xs (λ j q. h j (or_right (x == j) _ q)))
+
+pub each_has : (test : ℕ → Bool) (P : ℕ → Type 0) (xs : List ℕ) → ((j : ℕ) → test j ≡ true → P j) → Each P (filter test xs)
+each_has test P [] h = tt
+each_has test P (x ∷ xs) h = go (test x) refl (each_has test P xs h)
+  where
+    go : (b : Bool) → test x ≡ b → Each P (filter test xs) → Each P (cond b (x ∷ filter test xs) (filter test xs))
+    go true e rest = (h x e, rest)
+    go false e rest = rest
+
+pub any_has : (test : ℕ → Bool) (Q : Type 0) (P : ℕ → Type 0) (xs : List ℕ) → Each P xs → list_any test xs ≡ true → ((j : ℕ) → P j → test j ≡ true → Q) → Q
+any_has test Q P [] p q f = absurd (cc q)
+any_has test Q P (x ∷ xs) p q f = go (test x) refl q (λ r. any_has test Q P xs p.1 r f)
+  where
+    go : (b : Bool) → test x ≡ b → (b || list_any test xs) ≡ true → (list_any test xs ≡ true → Q) → Q
+    go true e r known = f x p.0 e
+    go false e r known = known r
+
+pub all_lower : (types : List TypeDecl) (order : ℕ → ℕ) → ((i j : ℕ) → among (parts types i) j ≡ true → order j < order i) → (m i : ℕ) → Each (λ j. order j < order i) (reached_to m types i)
+all_lower types order lower zero i = each_some (λ j. order j < order i) (parts types i) (lower i)
+all_lower types order lower (suc m) i =
+    let before : Each (λ j. order j < order i) (reached_to m types i) = all_lower types order lower m i in
+    each_has _ (λ j. order j < order i) (numbers 0 (length types)) (λ j q. go before j (among (reached_to m types i) j) refl q)
+  where
+    go : Each (λ j. order j < order i) (reached_to m types i) → (j : ℕ) (b : Bool) → among (reached_to m types i) j ≡ b → (b || list_any (λ k. among (parts types k) j) (reached_to m types i)) ≡ true → order j < order i
+    go before j true e q = each_among (λ j. order j < order i) (reached_to m types i) j before e
+    go before j false e q = any_has (λ k. among (parts types k) j) (order j < order i) (λ k. order k < order i) (reached_to m types i) before q (λ k p r. omega (arith, p, lower k j r))
+
+pub no_rings_in_order : OrderedHasNoRings
+no_rings_in_order types order lower i = go (reaches_itself types i) refl
+  where
+    go : (b : Bool) → reaches_itself types i ≡ b → reaches_itself types i ≡ false
+    go false e = e
+    go true e = absurd (omega (arith, each_among (λ j. order j < order i) (reached_to (length types) types i) i (all_lower types order lower (length types) i) e))

@@ -1,5 +1,5 @@
 -- The sizes of structures without a fault have settled.
-use Rattle.std.specs.Prelude.{◌≡◌, ℕ, zero, suc, ◌+◌, ◌*◌, ◌%◌, ◌<◌, ◌≤◌, Bool, true, false, not, ◌&&◌, ◌||◌, ◌==◌, eqb, List, [], ◌∷◌, ◌++◌, length, flat_map, slice_get, slice_index, Option, Some, None, option_map, unwrap_or, is_none, refl}
+use Rattle.std.specs.Prelude.{map, ◌≡◌, ℕ, zero, suc, ◌+◌, ◌*◌, ◌%◌, ◌<◌, ◌≤◌, Bool, true, false, not, ◌&&◌, ◌||◌, ◌==◌, eqb, List, [], ◌∷◌, ◌++◌, length, flat_map, slice_get, slice_index, Option, Some, None, option_map, unwrap_or, is_none, refl}
 use Rattle.std.specs.List.{AllByRecursion as Each, IsDistinct, list_any, enumerate_from}
 use Rattle.std.proofs.Common.{ap, sym, subst, arith, eqb-true, eq-eqb}
 use Rattle.std.proofs.lemmas.Map.Steps.{length-le_from_distinct_below}
@@ -13,8 +13,8 @@ use Rattle.lgx_machine.specs.Layout.{find, type_of, round_up, sized_in, size_in,
 use Rattle.std.proofs.lemmas.List.{ext_get_or, length-map}
 use Rattle.std.proofs.Math.ListN.{length-replicate}
 use Rattle.lgx_machine.specs.declared.types.TypeCode.TheVariants.{Y2, Y3, Y6}
-use Rattle.lgx_machine.specs.TypeFaults.{member_faults, structure_faults, name_taken, repeated, of_member, of_structure, is_bool, user_number, parts, among, reached_to, reaches_itself, type_faults}
-use Rattle.lgx_machine.specs.ResolutionLaws.{IsEvenOf, IsEven, HasBytes, IsSoundType, FaultlessIsSound}
+use Rattle.lgx_machine.specs.TypeFaults.{type_fault, member_faults, structure_faults, name_taken, repeated, of_member, of_structure, is_bool, user_number, parts, among, reached_to, reaches_itself, type_faults}
+use Rattle.lgx_machine.specs.LayoutLaws.{IsEvenOf, IsEven, HasBytes, IsSoundType, FaultlessIsSound, SizesAreTheOnly}
 use Rattle.lgx_machine.proofs.Subscripts.{each_map, each_get, get_mapped}
 use Rattle.lgx_machine.proofs.TypesFit.{end_grows}
 use Rattle.lgx_machine.proofs.Reaching.{or_right, among_numbers, find_there, parts_there, reach_more, reach_later}
@@ -143,6 +143,18 @@ settles types none full even (suc k) above i c h =
     let some : 0 < end_from types (sizes_to k types) 0 d.members = end_some types (sizes_to k types) d.members (each_get (λ d. 0 < length d.members) types i d full got) (each_get (λ d. Each (λ m. IsEven (type_of types m)) d.members) types i d even got) (λ j q. (known j q).1) in
     (cc (before, after, ap (round_up 4) ends), omega (arith, before, some))
 
+-- sizes that members give with these same sizes are those of the rounds
+pub agrees : (types : List TypeDecl) (others : List ℕ) → NoRings types → map (structure_in types others) types ≡ others → (k : ℕ) (above : List ℕ) (i : ℕ) → Chain types above i → length types ≤ length above + k → slice_index others i ≡ slice_index (sizes_to k types) i
+agrees types others none given zero above i c h = absurd (omega (arith, chain_length types above i c, h))
+agrees types others none given (suc k) above i c h =
+    let (d, got) = get_there types i c.there in
+    let known : (j : ℕ) → among (users types d.members) j ≡ true → slice_index others j ≡ slice_index (sizes_to k types) j = λ j q. agrees types others none given k (i ∷ above) j (chain_more types above i j none c (subst (λ (o : Option TypeDecl). among (users types (unwrap_or (option_map (λ d. d.members) o) [])) j ≡ true) (sym got) q)) (omega (arith, h)) in
+    let here : slice_index (map (structure_in types others) types) i ≡ structure_in types others d = get_mapped (structure_in types others) types i d got in
+    let own : slice_index others i ≡ structure_in types others d = subst (λ (xs : List ℕ). slice_index xs i ≡ structure_in types others d) given here in
+    let round : slice_index (sizes_to (suc k) types) i ≡ structure_in types (sizes_to k types) d = get_mapped (structure_in types (sizes_to k types)) types i d got in
+    let ends : end_from types others 0 d.members ≡ end_from types (sizes_to k types) 0 d.members = end_same types others (sizes_to k types) 0 d.members known in
+    cc (own, round, ap (round_up 4) ends)
+
 -- ---- from no fault
 
 pub first_none : {A : Type 0} (xs : List A) → first xs ≡ None → xs ≡ []
@@ -206,11 +218,16 @@ pub even_none : (base : Base) → IsEvenOf base 0
 even_none OneBit = refl
 even_none _ = tt
 
+pub no_rings : (types : List TypeDecl) → type_fault types ≡ None → NoRings types
+no_rings types p =
+    let a = append_none (flat_map (structure_faults types) (enumerate_from 0 types)) _ (first_none (type_faults types) p) in
+    let b = append_none (flat_map (λ i. where_true (reaches_itself types i) (of_structure Y3 i)) (numbers 0 (length types))) _ a.1 in
+    λ j h. where_none _ _ (flat_none (λ i. where_true (reaches_itself types i) (of_structure Y3 i)) (numbers 0 (length types)) j b.0 (among_numbers 0 (length types) j (omega arith) (omega (arith, h))))
+
 pub faultless : FaultlessIsSound
 faultless types full p =
     let a = append_none (flat_map (structure_faults types) (enumerate_from 0 types)) _ (first_none (type_faults types) p) in
-    let b = append_none (flat_map (λ i. where_true (reaches_itself types i) (of_structure Y3 i)) (numbers 0 (length types))) _ a.1 in
-    let none : NoRings types = λ j h. where_none _ _ (flat_none (λ i. where_true (reaches_itself types i) (of_structure Y3 i)) (numbers 0 (length types)) j b.0 (among_numbers 0 (length types) j (omega arith) (omega (arith, h)))) in
+    let none : NoRings types = no_rings types p in
     let even : Each (λ d. Each (λ m. IsEven (type_of types m)) d.members) types = each_map (λ d. (k : ℕ) × (structure_faults types (k, d) ≡ [])) (λ d. Each (λ m. IsEven (type_of types m)) d.members) types (λ d h. members_even types h.0 d h.1) (enumerated_none (structure_faults types) 0 types a.0) in
     let known : (i : ℕ) → i < length types → (slice_index (sizes types) i ≡ slice_index (sizes_to (suc (length types)) types) i) × (0 < slice_index (sizes types) i) = λ i h. settles types none full even (length types) [] i (starts types i h) (omega arith) in
     let filled : (m : MemberDecl) → HasBytes types (type_of types m) = λ m. sized_some (sizes types) (type_of types m).base 0 (even_none (type_of types m).base) (λ j q. (known j (find_there types m.of j (user_found (find types m.of) j q))).1) in
@@ -218,3 +235,8 @@ faultless types full p =
       settled = ext_get_or 0 (sizes_to (suc (length types)) types) (sizes types) (cc (sizes_length types (suc (length types)), sizes_length types (length types))) (λ i h. sym (known i (omega (arith, sizes_length types (suc (length types)), h))).0);
       members = each_map (λ d. Each (λ m. IsEven (type_of types m)) d.members) (λ d. Each (λ m. IsSoundType types (type_of types m)) d.members) types (λ d h. each_map (λ m. IsEven (type_of types m)) (λ m. IsSoundType types (type_of types m)) d.members (λ m e. (e, filled m)) h) even;
     }
+
+pub the_only : SizesAreTheOnly
+the_only types others p given =
+    let long : length others ≡ length types = subst (λ (xs : List ℕ). length xs ≡ length types) given (length-map types (structure_in types others)) in
+    ext_get_or 0 others (sizes types) (cc (long, sizes_length types (length types))) (λ i h. agrees types others (no_rings types p) given (length types) [] i (starts types i (omega (arith, long, h))) (omega arith))

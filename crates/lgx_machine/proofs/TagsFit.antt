@@ -11,7 +11,8 @@ use Rattle.lgx_machine.specs.FirstCause.{numbers}
 use Rattle.lgx_machine.specs.Declarations.{Entry, Declarations, is_named, in_scope, in_order, entry_size, laid_from, laid, end_of, bytes, entry_of}
 use Rattle.lgx_machine.specs.Resolution.{seen_from, tag_found}
 use Rattle.std.specs.List.{AllByRecursion as Each}
-use Rattle.lgx_machine.specs.ResolutionLaws.{EndsBy, IsSoundMeaning, IsSoundType, Sound, LiesIn}
+use Rattle.lgx_machine.specs.LayoutLaws.{IsSoundType}
+use Rattle.lgx_machine.specs.ResolutionLaws.{EndsBy, IsSoundMeaning, Sound, LiesIn}
 use Rattle.lgx_machine.proofs.Subscripts.{each_append, each_filter, each_flat, each_find}
 use Rattle.lgx_machine.proofs.TypesFit.{width_of, begins_at}
 

@@ -9,10 +9,11 @@ use Rattle.lgx_machine.specs.declared.types.Base.TheVariants.{Bool as OneBit, Si
 use Rattle.lgx_machine.specs.declared.types.TypeDecl.{TypeDecl}
 use Rattle.lgx_machine.specs.declared.types.MemberDecl.{MemberDecl}
 use Rattle.lgx_machine.specs.declared.types.Member.{Member}
-use Rattle.lgx_machine.specs.Layout.{looked_up, type_of, round_up, alignment_of, size_in, begin_after, placed_from, end_from, structure_in, sizes, size_of, members, member}
-use Rattle.lgx_machine.specs.Resolution.{single, integer_bits, kind_of, stride}
+use Rattle.lgx_machine.specs.Layout.{looked_up, type_of, round_up, alignment_of, size_in, begin_after, placed_from, end_from, structure_in, sizes, size_of, members, member, single}
+use Rattle.lgx_machine.specs.Resolution.{integer_bits, kind_of, stride}
 use Rattle.std.specs.List.{AllByRecursion as Each}
-use Rattle.lgx_machine.specs.ResolutionLaws.{IsEvenOf, HasBytes, IsSoundType, SoundTypes, width, EndsBy}
+use Rattle.lgx_machine.specs.LayoutLaws.{IsEvenOf, HasBytes, IsSoundType, SoundTypes}
+use Rattle.lgx_machine.specs.ResolutionLaws.{width, EndsBy}
 use Rattle.lgx_machine.proofs.Subscripts.{each_map, each_find, each_get, get_mapped}
 
 -- ---- sizes

@@ -13,10 +13,10 @@ use Rattle.lgx_machine.specs.declared.types.DataType.{DataType}
 use Rattle.lgx_machine.specs.declared.tag.Scope.TheVariants.{Controller, Program}
 use Rattle.lgx_machine.specs.declared.tag.TagCode.{TagCode}
 use Rattle.lgx_machine.specs.declared.tag.Found.{Found}
-use Rattle.lgx_machine.specs.Layout.{find, size_of, member}
+use Rattle.lgx_machine.specs.Layout.{find, size_of, member, single}
 use Rattle.lgx_machine.specs.TypeFaults.{type_fault}
 use Rattle.lgx_machine.specs.Declarations.{bytes}
-use Rattle.lgx_machine.specs.Resolution.{single, found, seal_fault}
+use Rattle.lgx_machine.specs.Resolution.{found, seal_fault}
 use Rattle.lgx_machine.specs.Checked.{checked}
 use Rattle.lgx_machine.specs.ConveyorTags.{line, structures, conveyor, conveyor_scope, rungs}
 

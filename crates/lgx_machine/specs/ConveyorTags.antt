@@ -9,7 +9,7 @@ use Rattle.lgx_machine.specs.declared.types.TypeDecl.{TypeDecl}
 use Rattle.lgx_machine.specs.declared.types.MemberDecl.{MemberDecl}
 use Rattle.lgx_machine.specs.declared.tag.Scope.TheVariants.{Controller}
 use Rattle.lgx_machine.specs.declared.task.TaskName.{TaskName}
-use Rattle.lgx_machine.specs.Resolution.{single}
+use Rattle.lgx_machine.specs.Layout.{single}
 use Rattle.lgx_machine.specs.Declarations.{Declarations, Entry, tag, alias}
 use Rattle.lgx_machine.specs.Checked.{CheckScope}
 

@@ -27,6 +27,10 @@ find decls name = option_or (looked_up name built_ins) (option_map User (positio
 abbrev pub type_of : List TypeDecl → MemberDecl → DataType
 type_of decls m = record { base = unwrap_or (find decls m.of) OneBit; dim = m.dim }
 
+-- a type that is no array
+abbrev pub single : Base → DataType
+single base = record { base = base; dim = 0 }
+
 -- ---- sizes
 
 -- the least multiple of the step that isn't below the number

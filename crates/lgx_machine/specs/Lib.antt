@@ -12,5 +12,6 @@ pub mod LayoutCases
 pub mod ShopTags
 pub mod ResolutionCases
 pub mod CheckCases
+pub mod LayoutLaws
 pub mod ResolutionLaws
 pub mod CheckedLaws

@@ -7,7 +7,7 @@ use Rattle.lgx_num.specs.declared.number.Kind.{Kind}
 use Rattle.lgx_num.specs.declared.number.Kind.TheVariants.{Bool as KBool, Sint as KSint, Int as KInt, Dint as KDint}
 use Rattle.lgx_num.specs.declared.place.Index.{Index}
 use Rattle.lgx_machine.specs.FirstCause.{◌>>=◌, unless, some_or}
-use Rattle.lgx_machine.specs.Layout.{member as member_of, size_of}
+use Rattle.lgx_machine.specs.Layout.{member as member_of, size_of, single}
 use Rattle.lgx_machine.specs.OperandForm.{Form, tag, member, element, indexed, bit, form}
 use Rattle.lgx_machine.specs.Declarations.{Meaning, Entry, Declarations, entry_of}
 use Rattle.lgx_machine.specs.Declarations.{tag as is_tag, alias as is_alias}
@@ -22,9 +22,6 @@ use Rattle.lgx_machine.specs.declared.tag.TagCode.TheVariants.{G3, G4, G5, G6, G
 use Rattle.lgx_machine.specs.declared.tag.Found.{Found}
 
 -- ---- types of what is found
-
-abbrev pub single : Base → DataType
-single base = record { base = base; dim = 0 }
 
 abbrev pub is_array : DataType → Bool
 is_array t = not (t.dim == 0)

@@ -10,7 +10,8 @@ use Rattle.lgx_machine.specs.declared.tag.TagCode.{TagCode}
 use Rattle.lgx_machine.specs.declared.tag.TagCode.TheVariants.{G1, G2, G3, G4, G5, G6, G7, G8, G9, G10}
 use Rattle.lgx_machine.specs.declared.tag.Found.{Found}
 use Rattle.lgx_machine.specs.Declarations.{Declarations, Entry, bytes, declare_fault, alias_fault}
-use Rattle.lgx_machine.specs.Resolution.{single, found, found_fixed, seal_fault}
+use Rattle.lgx_machine.specs.Layout.{single}
+use Rattle.lgx_machine.specs.Resolution.{found, found_fixed, seal_fault}
 use Rattle.lgx_machine.specs.ConveyorTags.{tag_of, alias_of}
 use Rattle.lgx_machine.specs.ConveyorCases.{bit_in, place_in}
 use Rattle.lgx_machine.specs.LayoutCases.{many}

@@ -5,7 +5,7 @@ use Rattle.lgx_machine.specs.declared.types.DataType.{DataType}
 use Rattle.lgx_machine.specs.declared.types.TypeDecl.{TypeDecl}
 use Rattle.lgx_machine.specs.declared.tag.Scope.TheVariants.{Program}
 use Rattle.lgx_machine.specs.declared.task.TaskName.{TaskName}
-use Rattle.lgx_machine.specs.Resolution.{single}
+use Rattle.lgx_machine.specs.Layout.{single}
 use Rattle.lgx_machine.specs.Declarations.{Declarations, Entry, tag, alias}
 use Rattle.lgx_machine.specs.Checked.{CheckScope}
 use Rattle.lgx_machine.specs.ConveyorTags.{tag_of, alias_of}

@@ -27,10 +27,11 @@ pub use reply::{ConnFault, EditFault, ForceFault, Mode, ModeFault, Reply};
 pub use tag::{Found, Scope, TagCode};
 pub use task::{TaskDef, TaskKind, TaskName};
 pub use text_cases::{
-    cause_cases, conveyor_checked, conveyor_layout, conveyor_places, declare_cases, layout_cases,
-    resolution_cases, type_fault_cases,
+    cause_cases, check_code_cases, conveyor_checked, conveyor_layout, conveyor_places,
+    declare_cases, layout_cases, operand_cases, resolution_cases, routine_cases, type_fault_cases,
 };
 pub use text_laws::{
-    checked_lies_in_image, checking_keeps_outline, faultless_types_are_sound, found_lies_in_image,
+    checked_lies_in_image, checking_keeps_outline, found_lies_in_image,
+    ordered_types_have_no_rings, sizes_are_settled,
 };
 pub use types::{Base, DataType, Member, MemberDecl, TypeCode, TypeDecl, TypeFault};

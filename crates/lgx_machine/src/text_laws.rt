@@ -1,10 +1,17 @@
-// Laws of resolution and of checked text, over the definitions alone.
+// Laws of layout, of resolution and of checked text, over the definitions alone.
 ghost use Rattle.lgx_machine.specs.CheckedLaws.{CheckedLies, KeepsOutline};
-ghost use Rattle.lgx_machine.specs.ResolutionLaws.{FaultlessIsSound, FixedLies, FoundLies};
+ghost use Rattle.lgx_machine.specs.LayoutLaws.{FaultlessIsSound, OrderedHasNoRings, SizesAreTheOnly};
+ghost use Rattle.lgx_machine.specs.ResolutionLaws.{FixedLies, FoundLies};
 
-/// Structures without a fault have sizes that their members give with these same sizes.
-pub fn faultless_types_are_sound()
-    ensures { FaultlessIsSound }
+/// Structures without a fault have sizes that their members give with these same sizes, and no others are such.
+pub fn sizes_are_settled()
+    ensures sound { FaultlessIsSound }
+    ensures only { SizesAreTheOnly }
+{}
+
+/// Structures that can be put in order, each behind those inside it, don't reach themselves.
+pub fn ordered_types_have_no_rings()
+    ensures { OrderedHasNoRings }
 {}
 
 /// What an operand names lies in the image for all subscripts in range.
