@@ -7,3 +7,5 @@ pub mod FoundLie
 mod OperandsLie
 pub mod Reaching
 pub mod SizesSettle
+mod FormsSpelled
+mod FormsRead

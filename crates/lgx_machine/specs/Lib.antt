@@ -12,6 +12,7 @@ pub mod LayoutCases
 pub mod ShopTags
 pub mod ResolutionCases
 pub mod CheckCases
+pub mod FormLaws
 pub mod LayoutLaws
 pub mod ResolutionLaws
 pub mod CheckedLaws

@@ -31,7 +31,7 @@ pub use text_cases::{
     declare_cases, layout_cases, operand_cases, resolution_cases, routine_cases, type_fault_cases,
 };
 pub use text_laws::{
-    checked_lies_in_image, checking_keeps_outline, found_lies_in_image,
+    checked_lies_in_image, checking_keeps_outline, forms_are_read, found_lies_in_image,
     ordered_types_have_no_rings, sizes_are_settled,
 };
 pub use types::{Base, DataType, Member, MemberDecl, TypeCode, TypeDecl, TypeFault};

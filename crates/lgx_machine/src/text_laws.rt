@@ -1,5 +1,6 @@
 // Laws of layout, of resolution and of checked text, over the definitions alone.
 ghost use Rattle.lgx_machine.specs.CheckedLaws.{CheckedLies, KeepsOutline};
+ghost use Rattle.lgx_machine.specs.FormLaws.{ReadsForms};
 ghost use Rattle.lgx_machine.specs.LayoutLaws.{FaultlessIsSound, OrderedHasNoRings, SizesAreTheOnly};
 ghost use Rattle.lgx_machine.specs.ResolutionLaws.{FixedLies, FoundLies};
 
@@ -12,6 +13,11 @@ pub fn sizes_are_settled()
 /// Structures that can be put in order, each behind those inside it, don't reach themselves.
 pub fn ordered_types_have_no_rings()
     ensures { OrderedHasNoRings }
+{}
+
+/// A text is read as an operand form exactly where the grammar spells that form by it.
+pub fn forms_are_read()
+    ensures { ReadsForms }
 {}
 
 /// What an operand names lies in the image for all subscripts in range.
