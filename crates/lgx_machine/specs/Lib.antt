@@ -1,4 +1,4 @@
-pub mod Operands
+pub mod Arguments
 pub mod Bits
 pub mod StatusWords
 pub mod Timers

@@ -8,7 +8,7 @@ use Rattle.lgx_rung.specs.declared.op.Op.TheVariants.{Ote, Ons, Osr, Osf, Ton, R
 use Rattle.lgx_rung.specs.Tree.{instructions}
 use Rattle.lgx_machine.specs.declared.program.Ins.{Ins}
 use Rattle.lgx_machine.specs.declared.bound.Arg.{Arg}
-use Rattle.lgx_machine.specs.Operands.{bind, arg, byte_of, put_bit}
+use Rattle.lgx_machine.specs.Arguments.{bind, arg, byte_of, put_bit}
 use Rattle.lgx_machine.specs.StatusWords.{en_bit, tt_bit, dn_bit, cu_bit, cd_bit, put_status, pre, put_acc}
 use Rattle.lgx_machine.specs.Position.{Rungs, ProgramRungs, routine_rungs}
 

@@ -4,7 +4,7 @@ use Rattle.std.specs.Prelude.{ℕ, ◌+◌, ◌*◌, Bool, true, false, List, �
 use Rattle.std.specs.Int.{w32}
 use Rattle.lgx_num.specs.declared.number.Kind.TheVariants.{Bool as KBool}
 use Rattle.lgx_num.specs.Image.{signed_at, write_signed, number_of, write_of}
-use Rattle.lgx_machine.specs.Operands.{is_one, bit_number}
+use Rattle.lgx_machine.specs.Arguments.{is_one, bit_number}
 
 -- ---- bits of the status word, by number
 
