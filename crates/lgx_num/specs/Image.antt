@@ -1,34 +1,40 @@
--- What stands at a place of the image, a list of bytes, and what a write makes of it.
-use Rattle.std.specs.Prelude.{ℕ, zero, suc, ◌+◌, ◌-◌, ◌*◌, ◌/◌, ◌%◌, ◌^◌, Bool, true, false, List, [], ◌∷◌, ◌++◌, ℤ, pos, negsuc, take, drop, length, nat_lt, ◌==◌, if◌then◌else◌, slice_index, slice_set, bit_and, bit_or, bit_xor, Option, Some, None, int_le, int_lt, ◌&&◌, unsigned_abs, ◌+ℤ◌, ◌*ℤ◌, ◌-ℤ◌}
-use Rattle.std.specs.Int.{Width, w8, w16, w32, cast_signed, bit_at, bit_not, to_le_bytes, from_le_bytes, int_rem_euclid, byte_len}
+-- What stands at a place of the image, what a write makes of the image, and where subscripts lead. An image is a list of
+-- bytes; bit i of byte k has the number 8k + i, and a SINT, INT or DINT stands in 1, 2 or 4 bytes, the lowest first.
+use Rattle.std.specs.Prelude.{◌≡◌, ℕ, zero, suc, ◌+◌, ◌*◌, ◌/◌, ◌%◌, ◌^◌, ◌≤◌, List, [], ◌∷◌, ◌⊎◌, ℤ, pos, negsuc, nat_lt, ◌==◌, if◌then◌else◌, slice_index, slice_set, bit_and, bit_or, Option, Some, None}
+use Rattle.std.specs.Int.{Width, w8, w16, w32, bit_at, bit_not, byte_len}
 use Rattle.lgx_num.specs.declared.number.Kind.{Kind}
 use Rattle.lgx_num.specs.declared.number.Kind.TheVariants.{Bool as KBool, Sint, Int, Dint}
-use Rattle.lgx_num.specs.Number.{low_bits}
 use Rattle.lgx_num.specs.declared.place.Place.{Place}
 use Rattle.lgx_num.specs.declared.place.Index.{Index}
 use Rattle.lgx_num.specs.declared.place.Path.{Path}
+use Rattle.lgx_num.specs.Number.{low_bits, signed_bytes, signed_of}
 
--- byte with its bit i put to b
-abbrev pub with_bit : ℕ → ℕ → ℕ → ℕ
-with_bit byte i b = if b == 1 then bit_or byte (2 ^ i) else bit_and byte (bit_not w8 (2 ^ i))
+-- ---- pieces of an image
+
+-- this many bytes from byte at on
+abbrev pub piece : List ℕ → ℕ → ℕ → List ℕ
+piece image at zero = []
+piece image at (suc n) = slice_index image at ∷ piece image (at + 1) n
 
 -- the image with these bytes from byte at on
 abbrev pub splice : List ℕ → ℕ → List ℕ → List ℕ
 splice image at [] = image
 splice image at (b ∷ bs) = splice (slice_set image at b) (at + 1) bs
 
--- as many bytes from byte at on
-abbrev pub piece : List ℕ → ℕ → ℕ → List ℕ
-piece image at zero = []
-piece image at (suc n) = slice_index image at ∷ piece image (at + 1) n
+-- the byte with its bit i set where b is 1, and else cleared
+abbrev pub with_bit : ℕ → ℕ → ℕ → ℕ
+with_bit byte i b = if b == 1 then bit_or byte (2 ^ i) else bit_and byte (bit_not w8 (2 ^ i))
 
+-- ---- numbers in an image
+
+-- the signed number from byte at on, and the image with the low bits of v there
 abbrev pub signed_at : Width → List ℕ → ℕ → ℤ
-signed_at w image at = cast_signed w (from_le_bytes w (piece image at (byte_len w)))
+signed_at w image at = signed_of w (piece image at (byte_len w))
 
 abbrev pub write_signed : Width → List ℕ → ℕ → ℤ → List ℕ
-write_signed w image at v = splice image at (to_le_bytes w (low_bits (8 * byte_len w) v))
+write_signed w image at v = splice image at (signed_bytes w v)
 
--- what stands at a kind's place whose first bit is this
+-- the same at a kind, from bit at on
 abbrev pub number_of : Kind → List ℕ → ℕ → ℤ
 number_of KBool image at = pos (bit_at (slice_index image (at / 8)) (at % 8))
 number_of Sint image at = signed_at w8 image (at / 8)
@@ -41,13 +47,43 @@ write_of Sint image at v = write_signed w8 image (at / 8) v
 write_of Int image at v = write_signed w16 image (at / 8) v
 write_of Dint image at v = write_signed w32 image (at / 8) v
 
+-- the number at a place, and the image in which the low bits of v stand there and all else is as before
 abbrev pub number : List ℕ → Place → ℤ
 number image p = number_of p.kind image p.at
 
 abbrev pub write : List ℕ → Place → ℤ → List ℕ
 write image p v = write_of p.kind image p.at v
 
--- where the subscripts lead, unless one is out of range
+-- ---- where a place lies
+
+-- how many bits a kind takes
+abbrev pub bits_of : Kind → ℕ
+bits_of KBool = 1
+bits_of Sint = 8
+bits_of Int = 16
+bits_of Dint = 32
+
+-- all but a bit begin on a byte
+abbrev pub BeginsWell : Kind → ℕ → Type 0
+BeginsWell KBool at = Unit {0}
+BeginsWell Sint at = at % 8 ≡ 0
+BeginsWell Int at = at % 8 ≡ 0
+BeginsWell Dint at = at % 8 ≡ 0
+
+-- a place lies in an image of this many bytes
+abbrev pub LiesAt : Kind → ℕ → ℕ → Type 0
+LiesAt kind at len = BeginsWell kind at × (at + bits_of kind ≤ 8 * len)
+
+abbrev pub Lies : Place → ℕ → Type 0
+Lies p len = LiesAt p.kind p.at len
+
+-- two places have no bit in common
+abbrev pub Apart : Place → Place → Type 0
+Apart p q = (p.at + bits_of p.kind ≤ q.at) ⊎ (q.at + bits_of q.kind ≤ p.at)
+
+-- ---- where subscripts lead
+
+-- how many bits a subscript leads on, or none where it is negative or not below the number of elements
 abbrev pub step_by : Index → ℤ → Option ℕ
 step_by i (pos n) = if nat_lt n i.length then Some (n * i.stride) else None
 step_by i (negsuc n) = None
@@ -58,6 +94,7 @@ moved None (Some b) = None
 moved (Some a) None = None
 moved None None = None
 
+-- the bit to which subscripts lead from bit at, each read in the image, or none where one is out of range
 abbrev pub steps_at : List ℕ → List Index → ℕ → Option ℕ
 steps_at image [] at = Some at
 steps_at image (i ∷ is) at = moved (step_by i (number image i.of)) (steps_at image is at)

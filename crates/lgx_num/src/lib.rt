@@ -1,4 +1,8 @@
-//! Numbers, names and places of the image, and lists of them.
+//! Numbers, names and places of the image: the words that every other crate speaks in.
+//!
+//! A value of a tag is a bit or a signed number of 8, 16 or 32 bits ([`Kind`]). A [`Place`] says where one stands in the
+//! image, the list of the bytes of all tags, and an [`Operand`] is what a checked instruction names. What stands at a
+//! place and what a write makes of an image are the definitions `number` and `write` of `specs/Image.antt`.
 #![tactic(auto)]
 
 mod list;
@@ -10,5 +14,8 @@ mod place;
 pub use list::List;
 pub use memory::Memory;
 pub use name::{Name, same};
-pub use number::{Kind, fits, store_low};
+pub use number::{Kind, bytes_of, dint_of, fits, store_low};
 pub use place::{Block, Flag, Flags, Index, Operand, Path, Place, Steps};
+
+#[cfg(test)]
+mod tests;

@@ -1,38 +1,112 @@
-// Places of the image, and the operands that name them.
+// Places of the image, the paths that lead to them, and the operands of checked instructions.
+ghost use Rattle.std.specs.Prelude.{◌≡◌, ◌<◌, ◌≤◌, ◌==◌, [], ◌∷◌, ◌++◌, length};
+
 use crate::number::Kind;
+use arrayvec::ArrayVec;
 use std::marker::Model;
 
-/// A place in the image, by the number of its first bit.
-#[derive(Clone, Copy, PartialEq, Eq, Debug)]
+const ROOM: usize = 4;
+
+/// A place in the image.
+///
+/// `at` is the number of its first bit: bit i of byte k is number 8k + i. All but a bit begin on a byte.
+#[derive(Clone, Copy, Default, PartialEq, Eq, Debug)]
 pub struct Place {
     pub kind: Kind,
     pub at: u32,
 }
 
-/// A variable subscript: the place that holds it, the bits from one element to the next, and the number of elements.
-#[derive(Clone, Copy, PartialEq, Eq, Debug)]
+/// A variable subscript.
+///
+/// `of` is the place that holds it, `stride` the number of bits from one element to the next, and `length` the number of
+/// elements: a subscript that is negative or not below it is out of range.
+#[derive(Clone, Copy, Default, PartialEq, Eq, Debug)]
 pub struct Index {
     pub of: Place,
     pub stride: u32,
     pub length: u32,
 }
 
-/// At most four subscripts.
+/// The variable subscripts of a path, at most four. It takes no memory.
 #[derive(Debug, Drop)]
 pub struct Steps {
-    list: Vec<Index>,
+    list: ArrayVec<Index, ROOM>,
 }
 
 impl Model for Steps {
-    ghost use Rattle.std.specs.Prelude.{List};
+    ghost use Rattle.std.specs.Prelude.{List, ◌≤◌, length};
     ghost use Rattle.lgx_num.specs.declared.place.Index.{Index};
 
     ghost Value = { List Index };
 
     ghost view = { λ s. s.list.items };
+
+    ghost invariant = { λ s. length s.list.items ≤ 4 };
+}
+
+impl Steps {
+    /// No subscript.
+    pub fn new() -> Self
+        ensures { result ≡ [] }
+    {
+        Steps {
+            list: ArrayVec::new(),
+        }
+    }
+
+    /// Adds a subscript behind the others. There must be room.
+    pub fn push(&mut self, index: Index)
+        requires { length self.old < 4 }
+        ensures { self.new ≡ self.old ++ index ∷ [] }
+    {
+        self.list.push(index);
+    }
+
+    /// The subscripts, in the order in which they were added.
+    pub fn as_slice(&self) -> &[Index]
+        ensures value { result.now ≡ self.now }
+        ensures room { length result.now ≤ 4 }
+    {
+        self.list.as_slice()
+    }
+
+    /// The number of subscripts.
+    pub fn len(&self) -> usize
+        ensures value { result ≡ length self.now }
+        ensures room { result ≤ 4 }
+    {
+        self.list.len()
+    }
+
+    /// Whether there is no subscript.
+    pub fn is_empty(&self) -> bool
+        ensures { result ≡ (length self.now == 0) }
+    {
+        self.list.is_empty()
+    }
+
+    /// Whether there is no room for another subscript.
+    pub fn is_full(&self) -> bool
+        ensures { result ≡ (length self.now == 4) }
+    {
+        self.list.is_full()
+    }
+
+    /// The same subscripts again.
+    pub fn copied(&self) -> Steps
+        ensures { result ≡ self.now }
+    {
+        let mut copy = Steps::new();
+        for index in self.as_slice() {
+            copy.push(*index);
+        }
+        copy
+    }
 }
 
 /// A place whose first bit is moved by subscripts.
+///
+/// `at` is the bit where it is with all of them 0. The place is worked out when its instruction is executed.
 #[derive(Debug, Drop)]
 pub struct Path {
     pub kind: Kind,
@@ -40,7 +114,22 @@ pub struct Path {
     pub steps: Steps,
 }
 
-/// What a copy goes over: the size of an element and the end of the tag, in bytes.
+impl Path {
+    /// The same path again.
+    pub fn copied(&self) -> Path
+        ensures { result ≡ self.now }
+    {
+        Path {
+            kind: self.kind,
+            at: self.at,
+            steps: self.steps.copied(),
+        }
+    }
+}
+
+/// What a copy or a fill goes over, from the element that `path` names on.
+///
+/// `size` is the size of an element in bytes, at least 1, and `stop` the byte at which its tag ends.
 #[derive(Debug, Drop)]
 pub struct Block {
     pub path: Path,
@@ -48,16 +137,33 @@ pub struct Block {
     pub stop: u32,
 }
 
-/// S:FS, S:V, S:Z and S:N.
+impl Block {
+    /// The same block again.
+    pub fn copied(&self) -> Block
+        ensures { result ≡ self.now }
+    {
+        Block {
+            path: self.path.copied(),
+            size: self.size,
+            stop: self.stop,
+        }
+    }
+}
+
+/// A status flag that an operand may name.
 #[derive(Clone, Copy, PartialEq, Eq, Debug)]
 pub enum Flag {
+    /// `S:FS`: this is the program's first scan after the change to Run.
     First,
+    /// `S:V`: the last arithmetic result didn't fit its destination.
     Overflow,
+    /// `S:Z`: it was zero.
     Zero,
+    /// `S:N`: it was negative.
     Negative,
 }
 
-/// The arithmetic flags of a task.
+/// The arithmetic status flags of a task: `S:V`, `S:Z` and `S:N`.
 #[derive(Clone, Copy, PartialEq, Eq, Debug)]
 pub struct Flags {
     pub v: bool,
@@ -68,14 +174,44 @@ pub struct Flags {
 /// An operand of a checked instruction.
 #[derive(Debug, Drop)]
 pub enum Operand {
+    /// An immediate number.
     Number(i32),
+    /// A bit or an integer of the image.
     Cell(Path),
+    /// A TIMER, 16 bytes.
     Timer(Path),
+    /// A COUNTER, 12 bytes.
     Counter(Path),
+    /// What a copy or a fill reads or writes.
     Block(Block),
+    /// A status flag.
     FlagOf(Flag),
+    /// A routine of the same program, by its number.
     Routine(u32),
+    /// A label of the same routine, by the number of the rung that it stands in.
     Label(u64),
+    /// A task, by its number.
     Task(u32),
+    /// The place `?` of a value that is kept in a TIMER or COUNTER.
     Blank,
+}
+
+impl Operand {
+    /// The same operand again.
+    pub fn copied(&self) -> Operand
+        ensures { result ≡ self.now }
+    {
+        match self {
+            Operand::Number(number) => Operand::Number(*number),
+            Operand::Cell(path) => Operand::Cell(path.copied()),
+            Operand::Timer(path) => Operand::Timer(path.copied()),
+            Operand::Counter(path) => Operand::Counter(path.copied()),
+            Operand::Block(block) => Operand::Block(block.copied()),
+            Operand::FlagOf(flag) => Operand::FlagOf(*flag),
+            Operand::Routine(routine) => Operand::Routine(*routine),
+            Operand::Label(rung) => Operand::Label(*rung),
+            Operand::Task(task) => Operand::Task(*task),
+            Operand::Blank => Operand::Blank,
+        }
+    }
 }
