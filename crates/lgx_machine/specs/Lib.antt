@@ -10,8 +10,6 @@ pub mod Position
 pub mod Instructions
 pub mod Scan
 pub mod Tasks
-pub mod Declarations
-pub mod Checked
 pub mod Forces
 pub mod Connections
 pub mod Project
