@@ -10,7 +10,9 @@ mod fault;
 mod line;
 mod program;
 mod reply;
+mod tag;
 mod task;
+mod types;
 
 pub use answer::{Mark, Moment, Outcome, TickReport, What};
 pub use bound::{Arg, Bound, Copying, Effect};
@@ -20,4 +22,6 @@ pub use fault::{Fault, Severity};
 pub use line::Line;
 pub use program::Ins;
 pub use reply::{ConnFault, EditFault, ForceFault, Mode, ModeFault, Reply};
+pub use tag::{Found, Scope, TagCode};
 pub use task::{TaskDef, TaskKind, TaskName};
+pub use types::{Base, DataType, Member, MemberDecl, TypeCode, TypeDecl, TypeFault};
