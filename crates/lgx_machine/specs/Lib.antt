@@ -1,2 +1,7 @@
+pub mod FirstCause
+pub mod Layout
+pub mod TypeFaults
+pub mod OperandForm
 pub mod Declarations
+pub mod Resolution
 pub mod Checked
