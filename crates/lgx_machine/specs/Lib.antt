@@ -4,4 +4,5 @@ pub mod TypeFaults
 pub mod OperandForm
 pub mod Declarations
 pub mod Resolution
+pub mod Operands
 pub mod Checked
