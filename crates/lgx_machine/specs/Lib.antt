@@ -6,3 +6,5 @@ pub mod Declarations
 pub mod Resolution
 pub mod Operands
 pub mod Checked
+pub mod ConveyorTags
+pub mod ConveyorCases

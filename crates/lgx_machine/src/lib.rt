@@ -12,6 +12,7 @@ mod program;
 mod reply;
 mod tag;
 mod task;
+mod text_cases;
 mod types;
 
 pub use answer::{Mark, Moment, Outcome, TickReport, What};
@@ -24,4 +25,5 @@ pub use program::Ins;
 pub use reply::{ConnFault, EditFault, ForceFault, Mode, ModeFault, Reply};
 pub use tag::{Found, Scope, TagCode};
 pub use task::{TaskDef, TaskKind, TaskName};
+pub use text_cases::{conveyor_checked, conveyor_layout, conveyor_places};
 pub use types::{Base, DataType, Member, MemberDecl, TypeCode, TypeDecl, TypeFault};
