@@ -8,3 +8,6 @@ pub mod Operands
 pub mod Checked
 pub mod ConveyorTags
 pub mod ConveyorCases
+pub mod LayoutCases
+pub mod ShopTags
+pub mod ResolutionCases

@@ -25,5 +25,8 @@ pub use program::Ins;
 pub use reply::{ConnFault, EditFault, ForceFault, Mode, ModeFault, Reply};
 pub use tag::{Found, Scope, TagCode};
 pub use task::{TaskDef, TaskKind, TaskName};
-pub use text_cases::{conveyor_checked, conveyor_layout, conveyor_places};
+pub use text_cases::{
+    cause_cases, conveyor_checked, conveyor_layout, conveyor_places, declare_cases, layout_cases,
+    resolution_cases, type_fault_cases,
+};
 pub use types::{Base, DataType, Member, MemberDecl, TypeCode, TypeDecl, TypeFault};
