@@ -23,3 +23,16 @@ pub mod Actions
 pub mod Machine
 pub mod Report
 pub mod ReportText
+pub mod FirstCause
+pub mod Layout
+pub mod TypeFaults
+pub mod OperandForm
+pub mod Declarations
+pub mod Resolution
+pub mod Operands
+pub mod Checked
+pub mod ConveyorTags
+pub mod ConveyorCases
+pub mod LayoutCases
+pub mod ShopTags
+pub mod ResolutionCases

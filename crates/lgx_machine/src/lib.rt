@@ -10,7 +10,10 @@ mod fault;
 mod line;
 mod program;
 mod reply;
+mod tag;
 mod task;
+mod text_cases;
+mod types;
 
 pub use answer::{Mark, Moment, Outcome, TickReport, What};
 pub use bound::{Arg, Bound, Copying, Effect};
@@ -20,4 +23,10 @@ pub use fault::{Fault, Severity};
 pub use line::Line;
 pub use program::Ins;
 pub use reply::{ConnFault, EditFault, ForceFault, Mode, ModeFault, Reply};
+pub use tag::{Found, Scope, TagCode};
 pub use task::{TaskDef, TaskKind, TaskName};
+pub use text_cases::{
+    cause_cases, conveyor_checked, conveyor_layout, conveyor_places, declare_cases, layout_cases,
+    resolution_cases, type_fault_cases,
+};
+pub use types::{Base, DataType, Member, MemberDecl, TypeCode, TypeDecl, TypeFault};
