@@ -1,5 +1,5 @@
 -- Rungs as trees: what follows an instruction or a fork is the rest of its leg. A fork has a first leg and others.
-use Rattle.std.specs.Prelude.{ℕ, List, [], ◌∷◌, ◌++◌}
+use Rattle.std.specs.Prelude.{ℕ, ◌+◌, max, List, [], ◌∷◌, ◌++◌}
 use Rattle.lgx_rung.specs.declared.op.Op.{Op}
 
 mutual
@@ -22,6 +22,33 @@ abbrev mutual
   pub leg_instructions : {A : Type 0} → Legs A → List A
   leg_instructions last = []
   leg_instructions (leg t legs) = instructions t ++ leg_instructions legs
+
+-- how many forks stand in one another at most
+abbrev mutual
+  pub depth : {A : Type 0} → Tree A → ℕ
+  depth end = 0
+  depth (one i rest) = depth rest
+  depth (fork t legs rest) = max (max (depth t) (leg_depth legs) + 1) (depth rest)
+
+  pub leg_depth : {A : Type 0} → Legs A → ℕ
+  leg_depth last = 0
+  leg_depth (leg t legs) = max (depth t) (leg_depth legs)
+
+-- a leg, and elements behind it
+abbrev pub append : {A : Type 0} → Tree A → Tree A → Tree A
+append end u = u
+append (one i rest) u = one i (append rest u)
+append (fork t legs rest) u = fork t legs (append rest u)
+
+-- legs, and one more behind them
+abbrev pub add_leg : {A : Type 0} → Legs A → Tree A → Legs A
+add_leg last t = leg t last
+add_leg (leg u legs) t = leg u (add_leg legs t)
+
+-- a fork of these legs, the last of which is given apart since a fork has at least one
+abbrev pub fork_of : {A : Type 0} → Legs A → Tree A → Tree A
+fork_of last t = fork t last end
+fork_of (leg u legs) t = fork u (add_leg legs t) end
 
 -- an instruction of source text: its mnemonic, and its operands as they were written
 pub record SourceIns : Type 0 where

@@ -3,6 +3,8 @@
 
 mod fault;
 mod op;
+mod text;
 
 pub use fault::{CheckCode, CheckFault, TextCode, TextFault};
 pub use op::Op;
+pub use text::worked_texts;
