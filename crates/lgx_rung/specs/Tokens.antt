@@ -6,7 +6,7 @@ use Rattle.lgx_rung.specs.declared.fault.TextFault.{TextFault}
 use Rattle.lgx_rung.specs.declared.fault.TextCode.{TextCode}
 use Rattle.lgx_rung.specs.declared.fault.TextCode.TheVariants.{T1, T2, T3, T4, T5}
 use Rattle.lgx_rung.specs.Mnemonics.{op_of}
-use Rattle.lgx_rung.specs.Tree.{end, one, Legs, last, append, add_leg, fork_of, SourceIns, Source}
+use Rattle.lgx_rung.specs.Tree.{end, one, Legs, last, append, fork_of, SourceIns, Source}
 
 -- space, tab, CR and LF
 abbrev pub is_blank : ℕ → Bool
@@ -103,7 +103,7 @@ pub data Place : Type 0 where
 -- a fork that is open: the leg before it, and its finished legs
 pub record Fork : Type 0 where
   pub before : Source
-  pub legs : Legs SourceIns
+  pub legs : List Source
 
 -- the open forks, the innermost first, and the leg as far as it is read
 pub record Reader : Type 0 where
@@ -118,16 +118,16 @@ abbrev pub instruction : Op → List (List ℕ) → Source
 instruction op texts = one (record { op = op; texts = texts }) end
 
 abbrev pub open_fork : Bool → List Fork → Source → Result Reader TextCode
-open_fork true forks current = Ok (record { place = Element; forks = record { before = current; legs = last } ∷ forks; current = end })
+open_fork true forks current = Ok (record { place = Element; forks = record { before = current; legs = [] } ∷ forks; current = end })
 open_fork false forks current = Err T5
 
 abbrev pub next_leg : List Fork → Source → Result Reader TextCode
 next_leg [] current = Err T1
-next_leg (f ∷ forks) current = Ok (record { place = Element; forks = record { before = f.before; legs = add_leg f.legs current } ∷ forks; current = end })
+next_leg (f ∷ forks) current = Ok (record { place = Element; forks = record { before = f.before; legs = f.legs ++ current ∷ [] } ∷ forks; current = end })
 
 abbrev pub close_fork : List Fork → Source → Result Reader TextCode
 close_fork [] current = Err T1
-close_fork (f ∷ forks) current = Ok (with_element forks f.before (fork_of f.legs current))
+close_fork (f ∷ forks) current = Ok (with_element forks f.before (fork_of (f.legs ++ current ∷ [])))
 
 abbrev pub end_rung : List Fork → Source → Result Reader TextCode
 end_rung [] current = Ok (record { place = Done; forks = []; current = current })

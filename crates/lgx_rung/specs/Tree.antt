@@ -40,15 +40,14 @@ append end u = u
 append (one i rest) u = one i (append rest u)
 append (fork t legs rest) u = fork t legs (append rest u)
 
--- legs, and one more behind them
-abbrev pub add_leg : {A : Type 0} → Legs A → Tree A → Legs A
-add_leg last t = leg t last
-add_leg (leg u legs) t = leg u (add_leg legs t)
+abbrev pub legs_of : {A : Type 0} → List (Tree A) → Legs A
+legs_of [] = last
+legs_of (t ∷ ts) = leg t (legs_of ts)
 
--- a fork of these legs, the last of which is given apart since a fork has at least one
-abbrev pub fork_of : {A : Type 0} → Legs A → Tree A → Tree A
-fork_of last t = fork t last end
-fork_of (leg u legs) t = fork u (add_leg legs t) end
+-- a fork of these legs, of which there is at least one
+abbrev pub fork_of : {A : Type 0} → List (Tree A) → Tree A
+fork_of [] = end
+fork_of (t ∷ ts) = fork t (legs_of ts) end
 
 -- an instruction of source text: its mnemonic, and its operands as they were written
 pub record SourceIns : Type 0 where

@@ -6,5 +6,5 @@ mod op;
 mod text;
 
 pub use fault::{CheckCode, CheckFault, TextCode, TextFault};
-pub use op::Op;
+pub use op::{Op, mnemonics_are_read_back};
 pub use text::worked_texts;
