@@ -1,1 +1,4 @@
+pub mod Mnemonics
 pub mod Tree
+pub mod Tokens
+pub mod Text

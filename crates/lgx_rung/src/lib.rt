@@ -3,6 +3,8 @@
 
 mod fault;
 mod op;
+mod text;
 
 pub use fault::{CheckCode, CheckFault, TextCode, TextFault};
-pub use op::Op;
+pub use op::{Op, mnemonics_are_read_back};
+pub use text::worked_texts;

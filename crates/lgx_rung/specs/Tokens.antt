@@ -1,0 +1,185 @@
+-- The tokens of a rung's text, and a reading of the list of tokens: the rung, or the first fault.
+use Rattle.std.specs.Prelude.{ℕ, ◌+◌, ◌-◌, Bool, true, false, ◌||◌, ◌==◌, nat_le, nat_lt, ◌&&◌, if◌then◌else◌, List, [], ◌∷◌, ◌++◌, length, reverse, Option, Some, None, Result, Ok, Err}
+use Rattle.lgx_num.specs.Name.{is_letter}
+use Rattle.lgx_rung.specs.declared.op.Op.{Op}
+use Rattle.lgx_rung.specs.declared.fault.TextFault.{TextFault}
+use Rattle.lgx_rung.specs.declared.fault.TextCode.{TextCode}
+use Rattle.lgx_rung.specs.declared.fault.TextCode.TheVariants.{T1, T2, T3, T4, T5}
+use Rattle.lgx_rung.specs.Mnemonics.{op_of}
+use Rattle.lgx_rung.specs.Tree.{end, one, Legs, last, append, fork_of, SourceIns, Source}
+
+-- space, tab, CR and LF
+abbrev pub is_blank : ℕ → Bool
+is_blank b = b == 32 || b == 9 || b == 13 || b == 10
+
+-- letters, digits and : _ . # - ? [ ]
+abbrev pub is_operand_byte : ℕ → Bool
+is_operand_byte b = is_letter b || (nat_le 48 b && nat_le b 58) || b == 95 || b == 46 || b == 35 || b == 45 || b == 63 || b == 91 || b == 93
+
+pub data Token : Type 0 where
+  Mnemonic : Op → Token
+  -- letters that are no mnemonic
+  Letters : Token
+  Operand : List ℕ → Token
+  OpenFork : Token
+  CloseFork : Token
+  OpenParen : Token
+  CloseParen : Token
+  Comma : Token
+  Semicolon : Token
+  -- a byte that is none of these
+  Stray : Token
+
+-- a token with the place of its first byte
+pub record Placed : Type 0 where
+  pub at : ℕ
+  pub token : Token
+
+-- ---- the tokens of a text: inside parentheses runs of operand bytes, outside runs of letters, and single bytes
+
+abbrev pub in_run : (inside : Bool) → ℕ → Bool
+in_run true b = is_operand_byte b
+in_run false b = is_letter b
+
+abbrev pub word : Option Op → Token
+word None = Letters
+word (Some op) = Mnemonic op
+
+abbrev pub run_token : (inside : Bool) → List ℕ → Token
+run_token true run = Operand run
+run_token false run = word (op_of run)
+
+abbrev pub mark : ℕ → Token
+mark b =
+    if b == 91 then OpenFork else (if b == 93 then CloseFork else (if b == 40 then OpenParen else (
+    if b == 41 then CloseParen else (if b == 44 then Comma else (if b == 59 then Semicolon else Stray)))))
+
+abbrev pub inside_after : (inside : Bool) → Token → Bool
+inside_after inside OpenParen = true
+inside_after inside CloseParen = false
+inside_after inside _ = inside
+
+-- what the bytes still to come give, from a place on, behind the bytes of an unfinished run (the last first)
+abbrev pub Rest : Type 0
+Rest = (inside : Bool) → (at : ℕ) → (run : List ℕ) → List Placed
+
+-- the run that ends before a place, and the tokens behind it
+abbrev pub end_run : (inside : Bool) → (at : ℕ) → (run : List ℕ) → List Placed → List Placed
+end_run inside at [] more = more
+end_run inside at (b ∷ bs) more = record { at = at - length (b ∷ bs); token = run_token inside (reverse (b ∷ bs)) } ∷ more
+
+abbrev pub put_mark : (inside : Bool) → (at : ℕ) → Token → Rest → List Placed
+put_mark inside at t rest = record { at = at; token = t } ∷ rest (inside_after inside t) (at + 1) []
+
+abbrev pub put_byte : (is_in_run : Bool) → (is_blank : Bool) → ℕ → Rest → Rest
+put_byte true blank b rest inside at run = rest inside (at + 1) (b ∷ run)
+put_byte false true b rest inside at run = end_run inside at run (rest inside (at + 1) [])
+put_byte false false b rest inside at run = end_run inside at run (put_mark inside at (mark b) rest)
+
+abbrev pub tokens_from : List ℕ → Rest
+tokens_from [] inside at run = end_run inside at run []
+tokens_from (b ∷ bs) inside at run = put_byte (in_run inside b) (is_blank b) b (tokens_from bs) inside at run
+
+abbrev pub tokens : List ℕ → List Placed
+tokens text = tokens_from text false 0 []
+
+-- ---- the reading
+
+-- what may stand next
+pub data Place : Type 0 where
+  -- an element, or the end of the leg or of the rung
+  Element : Place
+  -- the parenthesis behind a mnemonic
+  Named : Op → Place
+  -- the first operand, or the closing parenthesis
+  First : Op → Place
+  -- the operand behind a comma
+  Next : Op → List (List ℕ) → Place
+  -- a comma or the closing parenthesis
+  Behind : Op → List (List ℕ) → Place
+  -- nothing
+  Done : Place
+
+-- a fork that is open: the leg before it, and its finished legs
+pub record Fork : Type 0 where
+  pub before : Source
+  pub legs : List Source
+
+-- the open forks, the innermost first, and the leg as far as it is read
+pub record Reader : Type 0 where
+  pub place : Place
+  pub forks : List Fork
+  pub current : Source
+
+abbrev pub with_element : List Fork → Source → Source → Reader
+with_element forks before element = record { place = Element; forks = forks; current = append before element }
+
+abbrev pub instruction : Op → List (List ℕ) → Source
+instruction op texts = one (record { op = op; texts = texts }) end
+
+abbrev pub open_fork : Bool → List Fork → Source → Result Reader TextCode
+open_fork true forks current = Ok (record { place = Element; forks = record { before = current; legs = [] } ∷ forks; current = end })
+open_fork false forks current = Err T5
+
+abbrev pub next_leg : List Fork → Source → Result Reader TextCode
+next_leg [] current = Err T1
+next_leg (f ∷ forks) current = Ok (record { place = Element; forks = record { before = f.before; legs = f.legs ++ current ∷ [] } ∷ forks; current = end })
+
+abbrev pub close_fork : List Fork → Source → Result Reader TextCode
+close_fork [] current = Err T1
+close_fork (f ∷ forks) current = Ok (with_element forks f.before (fork_of (f.legs ++ current ∷ [])))
+
+abbrev pub end_rung : List Fork → Source → Result Reader TextCode
+end_rung [] current = Ok (record { place = Done; forks = []; current = current })
+end_rung (f ∷ forks) current = Err T1
+
+-- a token in an element's place
+abbrev pub element : Token → List Fork → Source → Result Reader TextCode
+element (Mnemonic op) forks current = Ok (record { place = Named op; forks = forks; current = current })
+element Letters forks current = Err T2
+element OpenFork forks current = open_fork (nat_lt (length forks) 16) forks current
+element CloseFork forks current = close_fork forks current
+element Comma forks current = next_leg forks current
+element Semicolon forks current = end_rung forks current
+element _ forks current = Err T1
+
+abbrev pub step_at : Place → Token → List Fork → Source → Result Reader TextCode
+step_at Element t forks current = element t forks current
+step_at (Named op) OpenParen forks current = Ok (record { place = First op; forks = forks; current = current })
+step_at (First op) (Operand text) forks current = Ok (record { place = Behind op (text ∷ []); forks = forks; current = current })
+step_at (First op) CloseParen forks current = Ok (with_element forks current (instruction op []))
+step_at (Next op texts) (Operand text) forks current = Ok (record { place = Behind op (texts ++ text ∷ []); forks = forks; current = current })
+step_at (Behind op texts) Comma forks current = Ok (record { place = Next op texts; forks = forks; current = current })
+step_at (Behind op texts) CloseParen forks current = Ok (with_element forks current (instruction op texts))
+step_at _ _ forks current = Err T1
+
+abbrev pub step : Reader → Token → Result Reader TextCode
+step r t = step_at r.place t r.forks r.current
+
+-- the answer where the tokens end
+abbrev pub answer : ℕ → Place → List Fork → Source → Result Source TextFault
+answer len Done forks current = Ok current
+answer len Element [] current = Err (record { code = T4; at = len })
+answer len _ forks current = Err (record { code = T3; at = len })
+
+abbrev pub read_on : Result Reader TextCode → (at : ℕ) → (Reader → Result Source TextFault) → Result Source TextFault
+read_on (Ok r) at rest = rest r
+read_on (Err code) at rest = Err (record { code = code; at = at })
+
+abbrev pub read_tokens : (len : ℕ) → List Placed → Reader → Result Source TextFault
+read_tokens len [] r = answer len r.place r.forks r.current
+read_tokens len (t ∷ ts) r = read_on (step r t.token) t.at (read_tokens len ts)
+
+abbrev pub start : Reader
+start = record { place = Element; forks = []; current = end }
+
+abbrev pub read_rung : List ℕ → Result Source TextFault
+read_rung text = read_tokens (length text) (tokens text) start
+
+-- ---- words for examples
+
+abbrev pub faulty : TextCode → ℕ → Result Source TextFault
+faulty code at = Err (record { code = code; at = at })
+
+abbrev pub ins : Op → List (List ℕ) → Source → Source
+ins op texts rest = one (record { op = op; texts = texts }) rest
