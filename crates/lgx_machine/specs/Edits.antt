@@ -16,7 +16,9 @@ use Rattle.lgx_machine.specs.declared.task.TaskName.{TaskName}
 use Rattle.lgx_machine.specs.Position.{Rungs, ProgramRungs}
 use Rattle.lgx_machine.specs.Project.{RoutineText, ProgramText}
 use Rattle.lgx_machine.specs.Declarations.{Declarations}
-use Rattle.lgx_machine.specs.Checked.{CheckScope, checked, read_rung}
+use Rattle.lgx_machine.specs.Checked.{CheckScope, checked}
+use Rattle.lgx_rung.specs.Tokens.{read_rung}
+use Rattle.lgx_machine.specs.FirstCause.{◌>>=◌, unless, some_or}
 
 -- ---- merged rungs
 
@@ -95,19 +97,6 @@ abbrev pub selected_number : Book → ℕ
 selected_number b = if b.testing then b.newest else b.number
 
 -- ---- refusals: the first that applies
-
-infixl 10 ◌>>=◌
-abbrev pub ◌>>=◌ : {A B : Type 0} → Result A EditFault → (A → Result B EditFault) → Result B EditFault
-(Ok x) >>= f = f x
-(Err e) >>= f = Err e
-
-abbrev pub refused_if : Bool → EditFault → Result Bool EditFault
-refused_if true e = Err e
-refused_if false e = Ok true
-
-abbrev pub some_or : {A : Type 0} → Option A → EditFault → Result A EditFault
-some_or None e = Err e
-some_or (Some x) e = Ok x
 
 abbrev pub none_or : Option ℕ → (ℕ → EditFault) → Result Bool EditFault
 none_or None e = Ok true
@@ -197,14 +186,14 @@ with_changes client r changes source rungs b =
 abbrev pub accept_in : CheckScope → ℕ → ℕ → List RungEdit → Book → Result Book EditFault
 accept_in scope client r edits b = do
   _ ← none_or (other_owner b client) E3
-  _ ← refused_if b.testing E4
+  _ ← unless (not b.testing) E4
   _ ← none_or (position_from (is_misplaced (length (routine_at b.base r).source)) 0 edits) E5
   _ ← none_or (first_again 0 (flat_map taken_by (changes_in b r)) edits) E6
   changes ← changes_of 0 edits
   let source = merged (routine_at b.base r).source (changes_in b r ++ changes) in do
     rungs ← ok_or_cause (checked scope source) E8
     let b' = with_changes client r changes source rungs b in do
-      _ ← refused_if (nat_lt instruction_room (instruction_count b'.merged)) E9
+      _ ← unless (nat_le (instruction_count b'.merged) instruction_room) E9
       Ok b'
 
 -- the books after a command, and its reply
@@ -228,7 +217,7 @@ on_accepted change books client name = do
   n ← program_named books name
   let b = book_at books n in do
     _ ← none_or (other_owner b client) E3
-    _ ← refused_if (not (is_some b.owner)) E10
+    _ ← unless (is_some b.owner) E10
     b' ← change b
     Ok (record { books = slice_set books n b'; reply = Done })
 
