@@ -10,6 +10,7 @@ mod fault;
 mod line;
 mod program;
 mod reply;
+mod script;
 mod task;
 
 pub use answer::{Mark, Moment, Outcome, TickReport, What};
@@ -20,4 +21,5 @@ pub use fault::{Fault, Severity};
 pub use line::Line;
 pub use program::Ins;
 pub use reply::{ConnFault, EditFault, ForceFault, Mode, ModeFault, Reply};
+pub use script::{JournalCode, JournalFault, Script, Timed};
 pub use task::{TaskDef, TaskKind, TaskName};
