@@ -1,1 +1,4 @@
 pub mod TextLines
+pub mod ActionText
+pub mod JournalText
+pub mod ScriptText
