@@ -2,3 +2,4 @@ pub mod TextLines
 pub mod ActionText
 pub mod JournalText
 pub mod ScriptText
+pub mod TextCases

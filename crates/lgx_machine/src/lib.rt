@@ -12,7 +12,7 @@ mod program;
 mod reply;
 mod script;
 mod task;
-mod texts;
+mod text_cases;
 
 pub use answer::{Mark, Moment, Outcome, TickReport, What};
 pub use bound::{Arg, Bound, Copying, Effect};
