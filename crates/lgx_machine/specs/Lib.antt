@@ -3,3 +3,5 @@ pub mod ActionText
 pub mod JournalText
 pub mod ScriptText
 pub mod TextCases
+pub mod Counting
+pub mod Legal

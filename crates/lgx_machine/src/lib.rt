@@ -13,6 +13,7 @@ mod reply;
 mod script;
 mod task;
 mod text_cases;
+mod trace;
 
 pub use answer::{Mark, Moment, Outcome, TickReport, What};
 pub use bound::{Arg, Bound, Copying, Effect};
@@ -24,3 +25,4 @@ pub use program::Ins;
 pub use reply::{ConnFault, EditFault, ForceFault, Mode, ModeFault, Reply};
 pub use script::{JournalCode, JournalFault, Script, Timed};
 pub use task::{TaskDef, TaskKind, TaskName};
+pub use trace::{AuditTask, StepFault, Table, TraceAnswer, TraceEvent, TraceMark, Verb};
