@@ -43,6 +43,15 @@ keeps_priority table x = check x.event
     check (Left t _ _) = may_step table x t
     check _ = true
 
+-- An open region isn't interrupted, and neither is an open CPS: while a task has one, no other task steps. The priority
+-- law alone leaves this open for a task of higher priority.
+abbrev pub another_open : ℕ → ℕ → List Counted → Bool
+another_open t u [] = false
+another_open t u (c ∷ cs) = (is_open c && not (nat_eq u t)) || another_open t (u + 1) cs
+
+abbrev pub keeps_region : Place → Bool
+keeps_region x = elim (stepping x.event) [ None ↦ true | Some t ↦ not (another_open t 0 x.tasks) ]
+
 -- ---- the turn law
 
 abbrev pub is_tick : TraceEvent → Bool
@@ -120,6 +129,12 @@ keeps_version x = check x.event
     check _ = true
 
 -- ---- the laws that a trace shows by itself
+
+-- whether the priority law, the two parts of the turn law and the version law hold of a trace, and the law of regions
+abbrev pub verdicts : Table → List TraceEvent → List Bool
+verdicts table trace =
+    let xs = places table trace in
+    list_all (keeps_priority table) xs ∷ each_from (keeps_turn table) xs ∷ each_from (gives_way table) xs ∷ list_all keeps_version xs ∷ list_all keeps_region xs ∷ []
 
 pub record Legal (table : Table) (trace : List TraceEvent) : Type 0 where
   pub priority : IsTrue (list_all (keeps_priority table) (places table trace))

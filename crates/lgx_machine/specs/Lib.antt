@@ -5,3 +5,4 @@ pub mod ScriptText
 pub mod TextCases
 pub mod Counting
 pub mod Legal
+pub mod LegalCases

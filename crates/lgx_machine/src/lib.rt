@@ -7,6 +7,7 @@ mod bound;
 mod conn;
 mod event;
 mod fault;
+mod legal_cases;
 mod line;
 mod program;
 mod reply;
