@@ -7,13 +7,13 @@ mod bound;
 mod conn;
 mod event;
 mod fault;
+mod journal_cases;
 mod legal_cases;
 mod line;
 mod program;
 mod reply;
 mod script;
 mod task;
-mod text_cases;
 mod trace;
 
 pub use answer::{Mark, Moment, Outcome, TickReport, What};

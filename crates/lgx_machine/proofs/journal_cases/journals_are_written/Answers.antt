@@ -1,7 +1,7 @@
 -- The texts compute once the digits of numbers do.
 use Rattle.std.proofs.Common.{refl}
 use Rattle.std.specs.Fmt.{digits}
-use Rattle.lgx_machine.proofs.text_cases.journals_are_written.Goals as goal
+use Rattle.lgx_machine.proofs.journal_cases.journals_are_written.Goals as goal
 
 pub returns-clause-paced : goal.returns-clause-paced
 unfolding digits

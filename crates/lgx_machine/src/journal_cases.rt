@@ -3,7 +3,7 @@
 ghost use Rattle.std.specs.Prelude.{◌≡◌, ◌∷◌, ◌++◌, [], codes, map, replicate, length, List, ℕ, Ok, Err};
 ghost use Rattle.lgx_machine.specs.JournalText.{EventRun, journal_of, journal_runs, text, refused};
 ghost use Rattle.lgx_machine.specs.ScriptText.{script_of};
-ghost use Rattle.lgx_machine.specs.TextCases.{paced_text, paced, tested_text, tested, clients_text, clients, edits_text, edits, edits_canonical, words_text, words, formless, before_end, plain, cut_scripts, lanes_text, lanes};
+ghost use Rattle.lgx_machine.specs.JournalCases.{paced_text, paced, tested_text, tested, clients_text, clients, edits_text, edits, edits_canonical, words_text, words, formless, before_end, plain, cut_scripts, lanes_text, lanes};
 ghost use Rattle.lgx_machine.specs.declared.event.Event.TheVariants.{Cpu, Tick, Act};
 ghost use Rattle.lgx_machine.specs.declared.event.Action.TheVariants.{ModeRun};
 ghost use Rattle.lgx_machine.specs.declared.script.JournalCode.TheVariants.{J1, J2, J3, J4, J5};
