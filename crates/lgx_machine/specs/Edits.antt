@@ -147,8 +147,8 @@ abbrev pub read_or_cause : ℕ → List ℕ → Result Source EditFault
 read_or_cause k text = ok_or_cause (read_rung text) (E7 k)
 
 abbrev pub change_of : ℕ → RungEdit → Result Change EditFault
-change_of k (Replace i text) = read_or_cause k text.bytes >>= λ new. Ok (Replaced i new)
-change_of k (Insert i text) = read_or_cause k text.bytes >>= λ new. Ok (Inserted i new)
+change_of k (Replace i text) = read_or_cause k text >>= λ new. Ok (Replaced i new)
+change_of k (Insert i text) = read_or_cause k text >>= λ new. Ok (Inserted i new)
 change_of k (Delete i) = Ok (Deleted i)
 
 -- the edits with their texts read, where the first is number k
