@@ -10,19 +10,19 @@ torn_copy = with_words (array (codes "Local:1:I") Dint 2 ∷ array (codes "d") D
 
 abbrev pub TornCopy : Type 0
 TornCopy = replay torn_copy (lines (codes "mode run"
-        ∷ codes "cpu 3"
-        ∷ codes "@0 in In1 0 7"
-        ∷ codes "@0 in In1 1 8"
-        ∷ codes "cpu 1"
-        ∷ codes "end"
-        ∷ []))
+    ∷ codes "cpu 3"
+    ∷ codes "@0 in In1 0 7"
+    ∷ codes "@0 in In1 1 8"
+    ∷ codes "cpu 1"
+    ∷ codes "end"
+    ∷ []))
     ≡ lines (codes "0 0 reply 31 ok"
-        ∷ codes "0 1 begin T P 0"
-        ∷ codes "0 3 reply 0 ok"
-        ∷ codes "0 3 reply 0 ok"
-        ∷ codes "0 4 set d[1] 8"
-        ∷ codes "end 0 4 run lost 0"
-        ∷ [])
+    ∷ codes "0 1 begin T P 0"
+    ∷ codes "0 3 reply 0 ok"
+    ∷ codes "0 3 reply 0 ok"
+    ∷ codes "0 4 set d[1] 8"
+    ∷ codes "end 0 4 run lost 0"
+    ∷ [])
 
 -- With CPS they are held until its last element.
 abbrev pub whole_copy : Project
@@ -30,23 +30,23 @@ whole_copy = with_words (array (codes "Local:1:I") Dint 2 ∷ array (codes "d") 
 
 abbrev pub WholeCopy : Type 0
 WholeCopy = replay whole_copy (lines (codes "mode run"
-        ∷ codes "cpu 3"
-        ∷ codes "@0 in In1 0 7"
-        ∷ codes "@0 in In1 1 8"
-        ∷ codes "cpu 1"
-        ∷ codes "@0 in In1 0 7"
-        ∷ codes "@0 in In1 1 8"
-        ∷ codes "cpu 5"
-        ∷ codes "end"
-        ∷ []))
+    ∷ codes "cpu 3"
+    ∷ codes "@0 in In1 0 7"
+    ∷ codes "@0 in In1 1 8"
+    ∷ codes "cpu 1"
+    ∷ codes "@0 in In1 0 7"
+    ∷ codes "@0 in In1 1 8"
+    ∷ codes "cpu 5"
+    ∷ codes "end"
+    ∷ []))
     ≡ lines (codes "0 0 reply 31 ok"
-        ∷ codes "0 1 begin T P 0"
-        ∷ codes "0 3 reply 0 held"
-        ∷ codes "0 3 reply 0 held"
-        ∷ codes "0 4 reply 0 ok"
-        ∷ codes "0 4 reply 0 ok"
-        ∷ codes "0 6 begin T P 0"
-        ∷ codes "0 8 set d[0] 7"
-        ∷ codes "0 9 set d[1] 8"
-        ∷ codes "end 0 9 run lost 0"
-        ∷ [])
+    ∷ codes "0 1 begin T P 0"
+    ∷ codes "0 3 reply 0 held"
+    ∷ codes "0 3 reply 0 held"
+    ∷ codes "0 4 reply 0 ok"
+    ∷ codes "0 4 reply 0 ok"
+    ∷ codes "0 6 begin T P 0"
+    ∷ codes "0 8 set d[0] 7"
+    ∷ codes "0 9 set d[1] 8"
+    ∷ codes "end 0 9 run lost 0"
+    ∷ [])

@@ -51,3 +51,4 @@ pub mod CopyRuns
 pub mod TaskRuns
 pub mod EditRuns
 pub mod WordRuns
+pub mod ConveyorRun

@@ -69,9 +69,12 @@ pub record ProgramLines : Type 0 where
   pub priority : ℕ
   pub watchdog : ℕ
 
+abbrev pub program_of : List ℕ → List RoutineLines → List ℕ → TaskKind → ℕ → ProgramLines
+program_of name routines task kind priority = record { name = name; routines = routines; task = task; kind = kind; priority = priority; watchdog = 500 }
+
 -- a program with one routine M
 abbrev pub program : List ℕ → List (List ℕ) → List ℕ → TaskKind → ℕ → ProgramLines
-program name texts task kind priority = record { name = name; routines = record { name = codes "M"; texts = texts } ∷ []; task = task; kind = kind; priority = priority; watchdog = 500 }
+program name texts task kind priority = program_of name (record { name = codes "M"; texts = texts } ∷ []) task kind priority
 
 -- the program P of the continuous task T
 abbrev pub continuous : List (List ℕ) → ProgramLines
@@ -151,6 +154,9 @@ with_words entries programs conns watches = project_of (tags_of programs entries
 
 abbrev pub input : List ℕ → List ℕ → Connection
 input name text = record { name = name; tag = text; output = false; trigger = None }
+
+abbrev pub with_trigger : ℕ → Connection → Connection
+with_trigger task c = record c { trigger = Some task }
 
 abbrev pub output : List ℕ → List ℕ → Connection
 output name text = record { name = name; tag = text; output = true; trigger = None }

@@ -1,5 +1,6 @@
 // Worked runs: what the ladder machine reports of a journal on a small project, from declared tags and the texts of rungs
 // and journal to the text of the report.
+ghost use Rattle.lgx_machine.specs.ConveyorRun.{ConveyorRun};
 ghost use Rattle.lgx_machine.specs.CopyRuns.{TornCopy, WholeCopy};
 ghost use Rattle.lgx_machine.specs.DataRuns.{CounterRollover, OverflowAndZeroDivisor, SubscriptOutOfRange, TimerOverTicks};
 ghost use Rattle.lgx_machine.specs.EditRuns.{EditRefusals, LostLabel, Owners, SelectedAtBegin};
@@ -15,8 +16,7 @@ pub fn ladder_runs()
     ensures one_shot { OneShotAfterPrescan }
     ensures zone { DisabledZone }
     ensures depth { CallDepth }
-{
-}
+{}
 
 /// Timers, counters, arithmetic and subscripts.
 pub fn data_runs()
@@ -24,15 +24,13 @@ pub fn data_runs()
     ensures counter { CounterRollover }
     ensures overflow { OverflowAndZeroDivisor }
     ensures subscript { SubscriptOutOfRange }
-{
-}
+{}
 
 /// Copies that I/O words may tear, and that they may not.
 pub fn copy_runs()
     ensures torn { TornCopy }
     ensures whole { WholeCopy }
-{
-}
+{}
 
 /// Preemption, regions, turns, overlaps and the watchdog.
 pub fn task_runs()
@@ -40,8 +38,7 @@ pub fn task_runs()
     ensures regions { NestedRegions }
     ensures turns { TurnsAtTicks }
     ensures watchdog { Watchdog }
-{
-}
+{}
 
 /// Online edits: when they count, whose they are, and each refusal.
 pub fn edit_runs()
@@ -49,12 +46,15 @@ pub fn edit_runs()
     ensures owners { Owners }
     ensures label { LostLabel }
     ensures refusals { EditRefusals }
-{
-}
+{}
 
 /// I/O words, forces and modes.
 pub fn word_runs()
     ensures forces { ForcedWords }
     ensures modes { Modes }
-{
-}
+{}
+
+/// Three tasks, a timer, a counter, a trigger and an edit in one run.
+pub fn conveyor_run()
+    ensures { ConveyorRun }
+{}
