@@ -1,13 +1,10 @@
 -- The conveyor: a horn before the motor starts, parts counted at an eye by an event task, and their rate by a periodic
 -- one. An engineer adds a fault bit to the motor's rung while it runs.
-use Rattle.std.specs.Prelude.{◌≡◌, ℕ, List, [], ◌∷◌, codes}
+use Rattle.std.specs.Prelude.{◌≡◌, List, [], ◌∷◌, codes, pos}
 use Rattle.lgx_machine.specs.declared.task.TaskKind.TheVariants.{Continuous, Periodic, Event as EventTask}
 use Rattle.lgx_machine.specs.ConveyorTags.{conveyor as tags}
 use Rattle.lgx_machine.specs.Project.{Project}
-use Rattle.lgx_machine.specs.Samples.{RoutineLines, ProgramLines, program_of, project_of, input, output, with_trigger, is_initially, lines, replay}
-
-abbrev pub routine : List ℕ → List (List ℕ) → RoutineLines
-routine name texts = record { name = name; texts = texts }
+use Rattle.lgx_machine.specs.Samples.{routine, program_of, project_of, input, output, with_trigger, is_initially, lines, replay}
 
 abbrev pub conveyor : Project
 conveyor = project_of tags
@@ -28,7 +25,7 @@ conveyor = project_of tags
     ∷ program_of (codes "EyeProg") (routine (codes "Main") (codes "XIC(Eye)ADD(Total,1,Total);" ∷ []) ∷ []) (codes "EyeTask") EventTask 2
     ∷ [])
     (with_trigger 2 (input (codes "In1") (codes "Local:1:I")) ∷ output (codes "Out1") (codes "Local:2:O") ∷ [])
-    (is_initially (codes "HornT.PRE") 20 ∷ is_initially (codes "Parts.PRE") 100 ∷ [])
+    (is_initially (codes "HornT.PRE") (pos 20) ∷ is_initially (codes "Parts.PRE") (pos 100) ∷ [])
     (codes "Run" ∷ codes "Horn" ∷ codes "Motor" ∷ codes "Total" ∷ codes "Rate" ∷ [])
 
 abbrev pub ConveyorRun : Type 0

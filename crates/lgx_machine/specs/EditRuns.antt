@@ -108,3 +108,35 @@ EditRefusals = replay edit_refusals (lines (codes "@0 accept Q M r 0 NOP();"
     ∷ codes "0 0 reply 1 refused E10"
     ∷ codes "end 0 0 program lost 0"
     ∷ [])
+
+-- Insertions stand in the order of acceptance; numbers go on behind an assemble and a cancel.
+abbrev pub merged_order : Project
+merged_order = plain (dint (codes "n") ∷ []) (continuous (codes "MOV(1,n);" ∷ codes "MOV(2,n);" ∷ []) ∷ []) [] (codes "n" ∷ [])
+
+abbrev pub MergedOrder : Type 0
+MergedOrder = replay merged_order (lines (codes "@0 accept P M i 1 MOV(7,n); | i 1 MOV(8,n); | d 0"
+    ∷ codes "@0 accept P M i 1 MOV(9,n);"
+    ∷ codes "@0 test P"
+    ∷ codes "mode run"
+    ∷ codes "cpu 5"
+    ∷ codes "@0 assemble P"
+    ∷ codes "@0 accept P M r 0 MOV(1,n);"
+    ∷ codes "@0 cancel P"
+    ∷ codes "cpu 2"
+    ∷ codes "end"
+    ∷ []))
+    ≡ lines (codes "0 0 reply 0 ok 1"
+    ∷ codes "0 0 reply 0 ok 2"
+    ∷ codes "0 0 reply 0 ok"
+    ∷ codes "0 0 reply 31 ok"
+    ∷ codes "0 1 begin T P 2"
+    ∷ codes "0 2 set n 7"
+    ∷ codes "0 3 set n 8"
+    ∷ codes "0 4 set n 9"
+    ∷ codes "0 5 set n 2"
+    ∷ codes "0 5 reply 0 ok"
+    ∷ codes "0 5 reply 0 ok 3"
+    ∷ codes "0 5 reply 0 ok"
+    ∷ codes "0 7 begin T P 2"
+    ∷ codes "end 0 7 run lost 0"
+    ∷ [])

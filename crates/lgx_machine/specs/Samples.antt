@@ -1,5 +1,5 @@
 -- Words for sample projects: what a project file says, as definitions.
-use Rattle.std.specs.Prelude.{ℕ, ◌+◌, ◌-◌, ◌/◌, Bool, true, false, List, [], ◌∷◌, ◌++◌, map, ℤ, pos, Option, Some, None, Result, Ok, Err, codes, fold, flat_map, length, replicate}
+use Rattle.std.specs.Prelude.{ℕ, ◌+◌, ◌-◌, ◌/◌, Bool, true, false, List, [], ◌∷◌, ◌++◌, map, ℤ, Option, Some, None, Result, Ok, Err, codes, fold, flat_map, length, replicate}
 use Rattle.std.specs.List.{enumerate_from}
 use Rattle.std.specs.Result.{result_unwrap_or}
 use Rattle.lgx_num.specs.declared.place.Place.{Place}
@@ -59,6 +59,9 @@ place_named d text = let f = found_or_zero (found_fixed d Controller text) in re
 pub record RoutineLines : Type 0 where
   pub name : List ℕ
   pub texts : List (List ℕ)
+
+abbrev pub routine : List ℕ → List (List ℕ) → RoutineLines
+routine name texts = record { name = name; texts = texts }
 
 -- a program whose first routine is the main one, and the task that runs it
 pub record ProgramLines : Type 0 where
@@ -145,12 +148,12 @@ tags_of programs entries = record { types = []; programs = length programs; entr
 abbrev pub plain : List Entry → List ProgramLines → List Initial → List (List ℕ) → Project
 plain entries programs initials watches = project_of (tags_of programs entries) programs [] initials watches
 
-abbrev pub is_initially : List ℕ → ℕ → Initial
-is_initially text value = record { tag = text; value = pos value }
+abbrev pub is_initially : List ℕ → ℤ → Initial
+is_initially text value = record { tag = text; value = value }
 
--- one with connections and without initial values
-abbrev pub with_words : List Entry → List ProgramLines → List Connection → List (List ℕ) → Project
-with_words entries programs conns watches = project_of (tags_of programs entries) programs conns [] watches
+-- one with connections
+abbrev pub with_words : List Entry → List ProgramLines → List Connection → List Initial → List (List ℕ) → Project
+with_words entries programs conns initials watches = project_of (tags_of programs entries) programs conns initials watches
 
 abbrev pub input : List ℕ → List ℕ → Connection
 input name text = record { name = name; tag = text; output = false; trigger = None }

@@ -1,12 +1,12 @@
 -- Runs of several tasks.
-use Rattle.std.specs.Prelude.{◌≡◌, List, [], ◌∷◌, codes}
+use Rattle.std.specs.Prelude.{◌≡◌, List, [], ◌∷◌, codes, pos}
 use Rattle.lgx_machine.specs.declared.task.TaskKind.TheVariants.{Periodic, Event as EventTask}
 use Rattle.lgx_machine.specs.Project.{Project}
 use Rattle.lgx_machine.specs.Samples.{bool, continuous, program, with_watchdog, plain, is_initially, lines, replay}
 
 -- A periodic task goes before the continuous one, which then goes on where it stood.
 abbrev pub preemption : Project
-preemption = plain (bool (codes "a") ∷ bool (codes "b") ∷ bool (codes "q") ∷ []) (continuous (codes "XIC(a)OTE(b);" ∷ []) ∷ program (codes "Q") (codes "OTL(q);" ∷ []) (codes "F") (Periodic 2) 5 ∷ []) (is_initially (codes "a") 1 ∷ []) (codes "b" ∷ codes "q" ∷ [])
+preemption = plain (bool (codes "a") ∷ bool (codes "b") ∷ bool (codes "q") ∷ []) (continuous (codes "XIC(a)OTE(b);" ∷ []) ∷ program (codes "Q") (codes "OTL(q);" ∷ []) (codes "F") (Periodic 2) 5 ∷ []) (is_initially (codes "a") (pos 1) ∷ []) (codes "b" ∷ codes "q" ∷ [])
 
 abbrev pub Preemption : Type 0
 Preemption = replay preemption (lines (codes "mode run"
@@ -25,7 +25,7 @@ Preemption = replay preemption (lines (codes "mode run"
 
 -- Not while two regions are open, nor while one is.
 abbrev pub nested_regions : Project
-nested_regions = plain (bool (codes "a") ∷ bool (codes "b") ∷ bool (codes "q") ∷ []) (continuous (codes "UID()UID()UIE()UIE()OTE(b);" ∷ []) ∷ program (codes "Q") (codes "OTL(q);" ∷ []) (codes "F") (Periodic 2) 5 ∷ []) (is_initially (codes "a") 1 ∷ []) (codes "b" ∷ codes "q" ∷ [])
+nested_regions = plain (bool (codes "a") ∷ bool (codes "b") ∷ bool (codes "q") ∷ []) (continuous (codes "UID()UID()UIE()UIE()OTE(b);" ∷ []) ∷ program (codes "Q") (codes "OTL(q);" ∷ []) (codes "F") (Periodic 2) 5 ∷ []) (is_initially (codes "a") (pos 1) ∷ []) (codes "b" ∷ codes "q" ∷ [])
 
 abbrev pub NestedRegions : Type 0
 NestedRegions = replay nested_regions (lines (codes "mode run"
@@ -84,4 +84,41 @@ Watchdog = replay watchdog (lines (codes "mode run"
     ∷ codes "0 1 begin T P 0"
     ∷ codes "3 5 fault major 6/1 T -"
     ∷ codes "end 3 5 faulted lost 0"
+    ∷ [])
+
+-- A region that is still open at the end of the scan is closed there.
+abbrev pub region_at_scan_end : Project
+region_at_scan_end = plain [] (continuous (codes "UID();" ∷ []) ∷ program (codes "Q") [] (codes "F") (Periodic 2) 5 ∷ []) [] []
+
+abbrev pub RegionAtScanEnd : Type 0
+RegionAtScanEnd = replay region_at_scan_end (lines (codes "mode run"
+    ∷ codes "cpu 2"
+    ∷ codes "tick 2"
+    ∷ codes "cpu 2"
+    ∷ codes "end"
+    ∷ []))
+    ≡ lines (codes "0 0 reply 31 ok"
+    ∷ codes "0 1 begin T P 0"
+    ∷ codes "2 4 begin F Q 0"
+    ∷ codes "end 2 4 run lost 0"
+    ∷ [])
+
+-- The continuous task is released again at its end, and its watchdog counts from there.
+abbrev pub released_again : Project
+released_again = plain [] (with_watchdog 3 (continuous []) ∷ []) [] []
+
+abbrev pub ReleasedAgain : Type 0
+ReleasedAgain = replay released_again (lines (codes "mode run"
+    ∷ codes "cpu 2"
+    ∷ codes "tick 2"
+    ∷ codes "cpu 2"
+    ∷ codes "tick 2"
+    ∷ codes "cpu 1"
+    ∷ codes "end"
+    ∷ []))
+    ≡ lines (codes "0 0 reply 31 ok"
+    ∷ codes "0 1 begin T P 0"
+    ∷ codes "2 3 begin T P 0"
+    ∷ codes "4 5 begin T P 0"
+    ∷ codes "end 4 5 run lost 0"
     ∷ [])

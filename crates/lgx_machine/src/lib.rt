@@ -28,7 +28,10 @@ pub use fault::{Fault, Severity};
 pub use line::Line;
 pub use program::Ins;
 pub use reply::{ConnFault, EditFault, ForceFault, Mode, ModeFault, Reply};
-pub use runs::{conveyor_run, copy_runs, data_runs, edit_runs, ladder_runs, task_runs, word_runs};
+pub use runs::{
+    arithmetic_runs, conveyor_run, copy_runs, edit_runs, ladder_runs, routine_runs, task_runs,
+    timer_runs, word_runs,
+};
 pub use script::{JournalCode, JournalFault, Script, Timed};
 pub use tag::{Found, Scope, TagCode};
 pub use task::{TaskDef, TaskKind, TaskName};
