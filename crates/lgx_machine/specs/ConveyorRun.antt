@@ -1,6 +1,6 @@
 -- The conveyor: a horn before the motor starts, parts counted at an eye by an event task, and their rate by a periodic
 -- one. An engineer adds a fault bit to the motor's rung while it runs.
-use Rattle.std.specs.Prelude.{◌≡◌, List, [], ◌∷◌, codes, pos}
+use Rattle.std.specs.Prelude.{◌≡◌, [], ◌∷◌, codes, pos}
 use Rattle.lgx_machine.specs.declared.task.TaskKind.TheVariants.{Continuous, Periodic, Event as EventTask}
 use Rattle.lgx_machine.specs.ConveyorTags.{conveyor as tags}
 use Rattle.lgx_machine.specs.Project.{Project}

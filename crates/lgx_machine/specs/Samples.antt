@@ -1,5 +1,5 @@
 -- Words for sample projects: what a project file says, as definitions.
-use Rattle.std.specs.Prelude.{ℕ, ◌+◌, ◌-◌, ◌/◌, Bool, true, false, List, [], ◌∷◌, ◌++◌, map, ℤ, Option, Some, None, Result, Ok, Err, codes, fold, flat_map, length, replicate}
+use Rattle.std.specs.Prelude.{ℕ, ◌-◌, ◌/◌, Bool, true, false, List, [], ◌∷◌, ◌++◌, map, ℤ, Option, Some, None, Result, Ok, Err, codes, fold, flat_map, length, replicate}
 use Rattle.std.specs.List.{enumerate_from}
 use Rattle.std.specs.Result.{result_unwrap_or}
 use Rattle.lgx_num.specs.declared.place.Place.{Place}
@@ -7,13 +7,12 @@ use Rattle.lgx_num.specs.Image.{write}
 use Rattle.lgx_rung.specs.Tree.{Source, end}
 use Rattle.lgx_rung.specs.Tokens.{read_rung}
 use Rattle.lgx_machine.specs.declared.types.Base.{Base}
-use Rattle.lgx_machine.specs.declared.types.Base.TheVariants.{Bool as OneBit, Sint, Int, Dint, Timer, Counter}
-use Rattle.lgx_machine.specs.declared.types.DataType.{DataType}
+use Rattle.lgx_machine.specs.declared.types.Base.TheVariants.{Bool as OneBit, Sint, Dint, Timer, Counter}
 use Rattle.lgx_machine.specs.declared.tag.Scope.TheVariants.{Controller}
 use Rattle.lgx_machine.specs.declared.tag.Found.{Found}
 use Rattle.lgx_machine.specs.declared.tag.TagCode.{TagCode}
 use Rattle.lgx_machine.specs.declared.task.TaskKind.{TaskKind}
-use Rattle.lgx_machine.specs.declared.task.TaskKind.TheVariants.{Continuous, Periodic, Event as EventTask}
+use Rattle.lgx_machine.specs.declared.task.TaskKind.TheVariants.{Continuous, Event as EventTask}
 use Rattle.lgx_machine.specs.declared.task.TaskDef.{TaskDef}
 use Rattle.lgx_machine.specs.declared.task.TaskName.{TaskName}
 use Rattle.lgx_machine.specs.declared.conn.ConnDef.{ConnDef}
