@@ -53,3 +53,4 @@ pub mod TaskRuns
 pub mod EditRuns
 pub mod WordRuns
 pub mod ConveyorRun
+pub mod TaskLaws

@@ -16,6 +16,7 @@ mod runs;
 mod script;
 mod tag;
 mod task;
+mod task_laws;
 mod text_cases;
 mod trace;
 mod types;
@@ -35,6 +36,7 @@ pub use runs::{
 pub use script::{JournalCode, JournalFault, Script, Timed};
 pub use tag::{Found, Scope, TagCode};
 pub use task::{TaskDef, TaskKind, TaskName};
+pub use task_laws::tasks_stay_orderly;
 pub use text_cases::{
     cause_cases, conveyor_checked, conveyor_layout, conveyor_places, declare_cases, layout_cases,
     resolution_cases, type_fault_cases,

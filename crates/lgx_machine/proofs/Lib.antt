@@ -1,0 +1,4 @@
+pub mod TurnLists
+pub mod OrderlyTables
+pub mod OrderlyRuns
+pub mod OrderlyLaws
