@@ -1,10 +1,10 @@
 // The files and the standard output of the system. They tell nothing of contents.
-ghost use Rattle.std.specs.Prelude.{◌≡◌, ◌≤◌, ◌<◌, [], take, length, None, OnOk, OnErr, IfOk, IfErr, IfSome};
+ghost use Rattle.std.specs.Prelude.{◌≡◌, ◌≤◌, ◌<◌, [], take, length, None, OnOk, OnErr, IfOk, IfErr, IfSome, IsErrOf, is_ok, if◌then◌else◌};
 ghost use Rattle.std.specs.Bool.{OnTrue, OnFalse};
 ghost use Rattle.std.specs.Io.{ReadsAtMost, WritesAtMost};
 ghost use Rattle.std.specs.Io.KnownBytes.{Appends, Consumes, IsAtEnd, Keeps};
 ghost use Rattle.lgx_io.specs.Files.{max_bytes, IsCause};
-ghost use Rattle.lgx_io.specs.Sink.{AppendsPart};
+ghost use Rattle.lgx_io.specs.Sink.{next_count, Rose, AppendsPart};
 
 use crate::files::{FailedRead, FileFault, Files, MAX_BYTES, ReadCause};
 use crate::sink::{Sink, SinkFault};
@@ -147,8 +147,10 @@ impl<'a, R: FileAccess> Files for HostFiles<'a, R> {
             Err(FileFault::TooLong { .. }) => ReadCause::TooLong,
             Ok(_) | Err(FileFault::Memory) => return answer,
         };
-        self.failures.push(FailedRead { name: key, cause })?;
-        answer
+        match self.failures.push(FailedRead { name: key, cause }) {
+            Ok(()) => answer,
+            Err(_) => unreachable!(),
+        }
     }
 }
 
@@ -181,7 +183,17 @@ impl<'a, P: Print> Sink for HostSink<'a, P> {
 
     ghost faults = { λ s. s };
 
-    fn put(&mut self, bytes: &[u8]) -> Result<(), SinkFault> {
+    fn put(&mut self, bytes: &[u8]) -> Result<(), SinkFault>
+        ensures ok { OnOk result (Appends None None bytes.now) }
+        ensures failed { IsErrOf result SinkFault.Failed → Rose self.old self.new }
+        ensures part { IsErrOf result SinkFault.Failed → AppendsPart None None bytes.now }
+        ensures no_fault { IsErrOf result SinkFault.Memory → self.new ≡ self.old }
+        ensures later { self.old ≤ self.new }
+
+        // Beside what each `Sink` says: the count rises at a fault alone, and memory is never wanted.
+        ensures counted { self.new ≡ (if is_ok result then self.old else next_count self.old) }
+        ensures no_memory { ¬ IsErrOf result SinkFault.Memory }
+    {
         if write_all(&mut io::writer(self.rt), bytes) {
             return Ok(());
         }
