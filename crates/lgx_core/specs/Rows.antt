@@ -1,11 +1,11 @@
 -- Two runs that are worked out.
-use Rattle.std.specs.Prelude.{◌≡◌, List, [], ◌∷◌, true, false}
+use Rattle.std.specs.Prelude.{◌≡◌, [], ◌∷◌, true, false}
 use Rattle.lgx_core.specs.declared.project.BitOp.TheVariants.{Xic, Ote}
 use Rattle.lgx_core.specs.declared.event.Event.TheVariants.{Cpu, ModeRun}
 use Rattle.lgx_core.specs.declared.answer.What.TheVariants.{Began, Left}
 use Rattle.lgx_core.specs.declared.answer.Reply.TheVariants.{Done}
 use Rattle.lgx_core.specs.Project.{Plan}
-use Rattle.lgx_core.specs.Machine.{State, Stepped, Replied, start, run, trace}
+use Rattle.lgx_core.specs.Machine.{Stepped, Replied, start, run, trace}
 use Rattle.lgx_core.specs.Table.{bit}
 
 -- a program without rungs

@@ -1,4 +1,9 @@
 // The controller.
+ghost use Rattle.std.specs.Prelude.{◌≡◌, ◌<◌, [], IsTrue, IfSome, IfNone, length, fold};
+ghost use Rattle.lgx_core.specs.Project.{rung_fits, rungs_fit, initial_fits};
+ghost use Rattle.lgx_core.specs.Table.{row, prescan_rung, prescan};
+ghost use Rattle.lgx_core.specs.Machine.{put_initial};
+
 use crate::answer::{Mode, ModeFault, Moment, Reply, What};
 use crate::project::{BitOp, Initial, Ins, Project};
 use lgx_num::{List, Memory};
@@ -47,6 +52,22 @@ impl Model for Controller {
 }
 
 impl Scan {
+    ghost use Rattle.lgx_core.specs.Position.{settle, enter};
+    ghost use Rattle.lgx_core.specs.Place.{position_of, before, IsWithin};
+
+    // At a routine's first instruction.
+    fn enter(rungs: &[List<Ins>]) -> Scan
+        ensures place { position_of rungs.now result ≡ enter rungs.now }
+        ensures within { IsWithin rungs.now result }
+    {
+        let first = Scan {
+            on: true,
+            rung: 0,
+            at: 0,
+        };
+        first.settled(rungs)
+    }
+
     // Past ends of rungs and rungs without instructions.
     fn settled(self, rungs: &[List<Ins>]) -> Scan
         requires { IsWithin rungs.now self }
@@ -54,10 +75,7 @@ impl Scan {
         ensures within { IsWithin rungs.now result }
     {
         let mut scan = self;
-        while scan.rung < rungs.len()
-            && rungs.len() - scan.rung > 1
-            && scan.at >= rungs[scan.rung].len()
-        {
+        while rungs.len() - scan.rung > 1 && scan.at >= rungs[scan.rung].len() {
             scan = Scan {
                 on: true,
                 rung: scan.rung + 1,
@@ -67,10 +85,21 @@ impl Scan {
         scan
     }
 
-    fn next_ins(self, rungs: &[List<Ins>]) -> Option<Ins>
-        ensures { result ≡ slice_get (position_of rungs.now self).rest 0 }
+    // The next instruction and the scan behind it; none at the routine's end.
+    fn next(self, rungs: &[List<Ins>]) -> Option<(Ins, Scan)>
+        requires { IsWithin rungs.now self }
+        ensures ended { IfNone result ((position_of rungs.now self).rest ≡ []) }
+        ensures first { IfSome result (λ n. position_of rungs.now self
+            ≡ before n.0 (position_of rungs.now n.1)) }
+        ensures within { IfSome result (λ n. IsWithin rungs.now n.1) }
     {
-        rungs.get(self.rung)?.as_slice().get(self.at).copied()
+        let ins = *rungs.get(self.rung)?.as_slice().get(self.at)?;
+        let behind = Scan {
+            on: self.on,
+            rung: self.rung,
+            at: self.at + 1,
+        };
+        Some((ins, behind))
     }
 }
 
@@ -123,7 +152,7 @@ fn put_initial(bits: &mut [bool], values: &[Initial])
 impl Controller {
     ghost use Rattle.std.specs.Prelude.{◌≡◌, ◌<◌, ◌+◌, length, IfOk};
     ghost use Rattle.lgx_core.specs.declared.event.Event.TheVariants.{Cpu, ModeRun};
-    ghost use Rattle.lgx_core.specs.Machine.{start, step, Stepped, Replied};
+    ghost use Rattle.lgx_core.specs.Machine.{start, step, run_step, stepped, Stepped, Replied};
     ghost use Rattle.lgx_core.specs.Table.{bit};
 
     /// The project's controller, in Program.
@@ -157,6 +186,36 @@ impl Controller {
             Mode::Run => self.run_step(),
         };
         Moment { what }
+    }
+
+    fn run_step(&mut self) -> What
+        ensures step { run_step self.old.state ≡ stepped self.new.state result }
+        ensures spent { self.new.spent ≡ self.old.spent }
+        ensures size { length self.new.state.bits ≡ length self.old.state.bits }
+    {
+        let rungs = self.rungs.as_slice();
+        let Some(scan) = self.scan else {
+            self.scan = Some(Scan::enter(rungs));
+            return What::Began {
+                task: 0,
+                program: 0,
+                version: 0,
+            };
+        };
+        let Some((ins, behind)) = scan.next(rungs) else {
+            self.scan = None;
+            return What::Left {
+                task: 0,
+                program: 0,
+                ended: true,
+            };
+        };
+        let on = execute(ins, scan.on, &mut self.bits);
+        self.scan = Some(Scan { on, ..behind }.settled(rungs));
+        What::Ran {
+            task: 0,
+            program: 0,
+        }
     }
 
     /// The change to Run: the rungs are prescanned (1756-PM005, prescan). Refused with `M1` in Run.
