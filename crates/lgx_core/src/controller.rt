@@ -1,5 +1,5 @@
 // The controller.
-ghost use Rattle.std.specs.Prelude.{◌≡◌, ◌<◌, [], IsTrue, IfSome, IfNone, length, fold};
+ghost use Rattle.std.specs.Prelude.{◌≡◌, ◌<◌, [], true, IsTrue, IfSome, IfNone, length, fold};
 ghost use Rattle.lgx_core.specs.Project.{rung_fits, rungs_fit, initial_fits};
 ghost use Rattle.lgx_core.specs.Table.{row, prescan_rung, prescan};
 ghost use Rattle.lgx_core.specs.Machine.{put_initial};
@@ -55,17 +55,23 @@ impl Scan {
     ghost use Rattle.lgx_core.specs.Position.{settle, enter};
     ghost use Rattle.lgx_core.specs.Place.{position_of, before, IsWithin};
 
+    // At a rung's first place, with a true condition.
+    fn at_rung(rung: usize) -> Scan
+        ensures { result ≡ record { on = true; rung = rung; at = 0 } }
+    {
+        Scan {
+            on: true,
+            rung,
+            at: 0,
+        }
+    }
+
     // At a routine's first instruction.
     fn enter(rungs: &[List<Ins>]) -> Scan
         ensures place { position_of rungs.now result ≡ enter rungs.now }
         ensures within { IsWithin rungs.now result }
     {
-        let first = Scan {
-            on: true,
-            rung: 0,
-            at: 0,
-        };
-        first.settled(rungs)
+        Scan::at_rung(0).settled(rungs)
     }
 
     // Past ends of rungs and rungs without instructions.
@@ -76,11 +82,7 @@ impl Scan {
     {
         let mut scan = self;
         while rungs.len() - scan.rung > 1 && scan.at >= rungs[scan.rung].len() {
-            scan = Scan {
-                on: true,
-                rung: scan.rung + 1,
-                at: 0,
-            };
+            scan = Scan::at_rung(scan.rung + 1);
         }
         scan
     }
@@ -251,7 +253,7 @@ impl Controller {
         self.mode
     }
 
-    /// The tick, in milliseconds since the start. There are no ticks yet.
+    /// The tick; one tick stands for 1 ms. Nothing ticks yet.
     pub fn now(&self) -> u32
         ensures { result ≡ 0 }
     {
@@ -265,3 +267,6 @@ impl Controller {
         self.spent
     }
 }
+
+#[cfg(test)]
+mod tests;

@@ -1,4 +1,6 @@
 // A project: one program of one continuous task, over BOOL tags that it names by number.
+ghost use Rattle.std.specs.Prelude.{◌≡◌};
+
 use lgx_num::{List, Name};
 use std::marker::Model;
 
@@ -29,6 +31,18 @@ pub struct Initial {
 pub struct Watch {
     pub text: Name,
     pub tag: u32,
+}
+
+impl Watch {
+    /// The same watch again.
+    pub fn copied(&self) -> Watch
+        ensures { result ≡ self.now }
+    {
+        Watch {
+            text: self.text.copied(),
+            tag: self.tag,
+        }
+    }
 }
 
 /// The names of the task and of its program, the number of tags, the rungs of the program's one routine from the top
