@@ -4,3 +4,4 @@ pub mod Position
 pub mod Machine
 pub mod Place
 pub mod Rows
+pub mod WholeScan

@@ -190,6 +190,7 @@ impl Controller {
         Moment { what }
     }
 
+    // A step in Run.
     fn run_step(&mut self) -> What
         ensures step { run_step self.old.state ≡ stepped self.new.state result }
         ensures spent { self.new.spent ≡ self.old.spent }

@@ -4,11 +4,11 @@
 mod answer;
 mod controller;
 mod event;
+mod laws;
 mod project;
-mod rows;
 
 pub use answer::{Mode, ModeFault, Moment, Reply, What};
 pub use controller::Controller;
 pub use event::Event;
+pub use laws::{whole_scan, worked_runs};
 pub use project::{BitOp, Initial, Ins, Project, Watch};
-pub use rows::worked_runs;
