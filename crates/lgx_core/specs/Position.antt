@@ -18,6 +18,6 @@ settled (rung ∷ rungs) [] on = settled rungs rung true
 abbrev pub settle : Position → Position
 settle p = settled p.rungs p.rest p.on
 
--- at the first instruction of a routine
+-- at a routine's first instruction, or at its end where it has none
 abbrev pub enter : List (List Ins) → Position
 enter rungs = settled rungs [] true

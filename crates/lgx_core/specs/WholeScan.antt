@@ -30,6 +30,7 @@ told_of (rung ∷ rungs) = map (λ (i : Ins). Ran 0 0) rung ++ told_of rungs
 abbrev pub scan_told : List (List Ins) → List What
 scan_told rungs = Began 0 0 0 ∷ told_of rungs
 
+-- a processor step with what it did
 abbrev pub step_told : What → Event × Answer
 step_told what = (Cpu, Stepped (record { what = what }))
 
