@@ -6,8 +6,8 @@ use Rattle.lgx_rung.specs.declared.fault.TextFault.{TextFault}
 use Rattle.lgx_rung.specs.declared.fault.TextCode.{TextCode}
 use Rattle.lgx_rung.specs.declared.fault.TextCode.TheVariants.{T1, T2, T3, T4, T5}
 use Rattle.lgx_rung.specs.Mnemonics.{text_of, op_of}
-use Rattle.lgx_rung.specs.Tree.{end, one, fork, Legs, last, leg, depth, SourceIns, Source}
-use Rattle.lgx_rung.specs.Tokens.{is_blank, is_operand_byte, Token, Mnemonic, Letters, Operand, OpenFork, CloseFork, OpenParen, CloseParen, Comma, Semicolon, Stray, Placed, tokens}
+use Rattle.lgx_rung.specs.Tree.{end, one, fork, Legs, last, leg, depth, instructions, SourceIns, Source}
+use Rattle.lgx_rung.specs.Tokens.{is_blank, is_operand, Token, Mnemonic, Letters, Operand, OpenFork, CloseFork, OpenParen, CloseParen, Comma, Semicolon, Stray, Placed, tokens}
 
 -- ---- the grammar
 --   rung    = list ";"
@@ -38,11 +38,6 @@ rung_tokens r = list_tokens r ++ Semicolon ∷ []
 
 -- ---- spelling
 
--- one byte or more, each an operand byte
-abbrev pub is_operand : List ℕ → Bool
-is_operand [] = false
-is_operand (b ∷ bs) = list_all is_operand_byte (b ∷ bs)
-
 -- the bytes that a token may have: a mnemonic may stand in any case
 abbrev pub IsSpelling : Token → List ℕ → Type 0
 IsSpelling (Mnemonic op) bytes = op_of bytes ≡ Some op
@@ -66,6 +61,11 @@ IsWritten text (t ∷ ts) =
 -- at most sixteen forks stand in one another
 abbrev pub IsNested : Source → Type 0
 IsNested r = depth r ≤ 16
+
+-- a rung that text can have: besides, each operand is one operand byte or more
+pub record IsSourceRung (r : Source) : Type 0 where
+  pub nested : IsNested r
+  pub operands : IsTrue (list_all (λ i. list_all is_operand i.texts) (instructions r))
 
 abbrev pub Spells : List ℕ → Source → Type 0
 Spells text r = IsNested r × IsWritten text (rung_tokens r)

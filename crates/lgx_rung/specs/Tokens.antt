@@ -1,5 +1,6 @@
 -- The tokens of a rung's text, and a reading of the list of tokens: the rung, or the first fault.
 use Rattle.std.specs.Prelude.{ℕ, ◌+◌, ◌-◌, Bool, true, false, ◌||◌, ◌==◌, nat_le, nat_lt, ◌&&◌, if◌then◌else◌, List, [], ◌∷◌, ◌++◌, length, reverse, Option, Some, None, Result, Ok, Err}
+use Rattle.std.specs.List.{list_all}
 use Rattle.lgx_num.specs.Name.{is_letter}
 use Rattle.lgx_rung.specs.declared.op.Op.{Op}
 use Rattle.lgx_rung.specs.declared.fault.TextFault.{TextFault}
@@ -15,6 +16,11 @@ is_blank b = b == 32 || b == 9 || b == 13 || b == 10
 -- letters, digits and : _ . # - ? [ ]
 abbrev pub is_operand_byte : ℕ → Bool
 is_operand_byte b = is_letter b || (nat_le 48 b && nat_le b 58) || b == 95 || b == 46 || b == 35 || b == 45 || b == 63 || b == 91 || b == 93
+
+-- one such byte or more
+abbrev pub is_operand : List ℕ → Bool
+is_operand [] = false
+is_operand (b ∷ bs) = list_all is_operand_byte (b ∷ bs)
 
 pub data Token : Type 0 where
   Mnemonic : Op → Token
@@ -127,7 +133,7 @@ next_leg (f ∷ forks) current = Ok (record { place = Element; forks = record { 
 
 abbrev pub close_fork : List Fork → Source → Result Reader TextCode
 close_fork [] current = Err T1
-close_fork (f ∷ forks) current = Ok (with_element forks f.before (fork_of (f.legs ++ current ∷ [])))
+close_fork (f ∷ forks) current = Ok (with_element forks f.before (fork_of (f.legs ++ current ∷ []) end))
 
 abbrev pub end_rung : List Fork → Source → Result Reader TextCode
 end_rung [] current = Ok (record { place = Done; forks = []; current = current })

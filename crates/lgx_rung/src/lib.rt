@@ -3,8 +3,12 @@
 
 mod fault;
 mod op;
+mod rung;
 mod text;
+mod texts;
 
 pub use fault::{CheckCode, CheckFault, TextCode, TextFault};
 pub use op::{Op, mnemonics_are_read_back};
+pub use rung::{Element, Legs, SourceRung};
 pub use text::worked_texts;
+pub use texts::Texts;
