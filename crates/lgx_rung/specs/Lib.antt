@@ -6,3 +6,4 @@ pub mod Coding
 pub mod Elements
 pub mod Sizes
 pub mod ElementsFall
+pub mod ForkCode

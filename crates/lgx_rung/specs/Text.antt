@@ -26,12 +26,12 @@ operands (text ∷ texts) = Operand text ∷ more_operands texts
 abbrev mutual
   pub list_tokens : Source → List Token
   list_tokens end = []
-  list_tokens (one i rest) = Mnemonic i.op ∷ OpenParen ∷ operands i.texts ++ CloseParen ∷ list_tokens rest
-  list_tokens (fork t legs rest) = OpenFork ∷ list_tokens t ++ leg_tokens legs ++ CloseFork ∷ list_tokens rest
+  list_tokens (one i rest) = Mnemonic i.op ∷ OpenParen ∷ (operands i.texts ++ CloseParen ∷ list_tokens rest)
+  list_tokens (fork t legs rest) = OpenFork ∷ (list_tokens t ++ (leg_tokens legs ++ CloseFork ∷ list_tokens rest))
 
   pub leg_tokens : Legs SourceIns → List Token
   leg_tokens last = []
-  leg_tokens (leg t legs) = Comma ∷ list_tokens t ++ leg_tokens legs
+  leg_tokens (leg t legs) = Comma ∷ (list_tokens t ++ leg_tokens legs)
 
 abbrev pub rung_tokens : Source → List Token
 rung_tokens r = list_tokens r ++ Semicolon ∷ []
@@ -62,10 +62,14 @@ IsWritten text (t ∷ ts) =
 abbrev pub IsNested : Source → Type 0
 IsNested r = depth r ≤ 16
 
--- a rung that text can have: besides, each operand is one operand byte or more
+-- each operand is one operand byte or more
+abbrev pub has_operands : Source → Bool
+has_operands r = list_all (λ i. list_all is_operand i.texts) (instructions r)
+
+-- a rung that has a text
 pub record IsSourceRung (r : Source) : Type 0 where
   pub nested : IsNested r
-  pub operands : IsTrue (list_all (λ i. list_all is_operand i.texts) (instructions r))
+  pub operands : IsTrue (has_operands r)
 
 abbrev pub Spells : List ℕ → Source → Type 0
 Spells text r = IsNested r × IsWritten text (rung_tokens r)

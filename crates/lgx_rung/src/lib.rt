@@ -9,6 +9,6 @@ mod texts;
 
 pub use fault::{CheckCode, CheckFault, TextCode, TextFault};
 pub use op::{Op, mnemonics_are_read_back};
-pub use rung::{Element, Legs, SourceRung};
+pub use rung::{Element, Legs, OpenFork, SourceRung};
 pub use text::worked_texts;
 pub use texts::Texts;

@@ -21,7 +21,7 @@ pub struct Legs {
     legs: Vec<SourceRung>,
 }
 
-/// A rung or a leg of a rung, with at most 16 forks nested.
+/// A rung, or a leg of one, with at most 16 forks nested.
 #[cycle(rung)]
 #[derive(Drop)]
 pub struct SourceRung {
@@ -118,5 +118,67 @@ impl SourceRung {
         let _ = texts.as_slice();
         self.elements.push(Element::Ins(op, texts))?;
         Ok(())
+    }
+}
+
+/// A fork whose bracket is open, while a rung is read: the leg before it and the legs that are finished.
+#[derive(Drop)]
+pub struct OpenFork {
+    before: SourceRung,
+    legs: Vec<SourceRung>,
+}
+
+impl Model for OpenFork {
+    ghost use Rattle.std.specs.Prelude.{IsTrue};
+    ghost use Rattle.std.specs.List.{list_all};
+    ghost use Rattle.std.specs.Coded.{codes};
+    ghost use Rattle.lgx_rung.specs.ForkCode.{fork_code};
+    ghost use Rattle.lgx_rung.specs.Text.{has_operands};
+    ghost use Rattle.lgx_rung.specs.Tokens.{Fork};
+
+    ghost Value = { Fork };
+
+    ghost coded = { fork_code (Prim.hlevel codes) };
+
+    ghost view = { λ f. record { before = f.before; legs = f.legs.items } };
+
+    ghost invariant = { λ f. IsTrue (list_all has_operands f.legs.items) };
+}
+
+impl OpenFork {
+    ghost use Rattle.std.specs.Prelude.{◌≡◌, ◌≤◌, [], ◌∷◌, ◌++◌, IfOk, OnOk, OnErr};
+    ghost use Rattle.lgx_rung.specs.Tree.{end, append, depth, fork_of};
+
+    /// A fork that opens behind a leg's elements.
+    pub fn new(alloc: Global, before: SourceRung) -> Self
+        ensures { result ≡ record { before = before; legs = [] } }
+    {
+        OpenFork {
+            before,
+            legs: Vec::new(alloc),
+        }
+    }
+
+    /// Finishes a leg; another follows.
+    pub fn next_leg(&mut self, leg: SourceRung) -> Result<(), Memory>
+        ensures added { OnOk result (self.new ≡ record self.old { legs = self.old.legs ++ leg ∷ [] }) }
+        ensures unchanged { OnErr result (self.new ≡ self.old) }
+    {
+        let _ = &leg.elements;
+        self.legs.push(leg)?;
+        Ok(())
+    }
+
+    /// Finishes the last leg: the leg before the fork, with the fork behind it.
+    pub fn close(self, leg: SourceRung) -> Result<SourceRung, Memory>
+        requires nested { depth (append self.before (fork_of (self.legs ++ leg ∷ []) end)) ≤ 16 }
+        ensures { IfOk result (λ r. r ≡ append self.before (fork_of (self.legs ++ leg ∷ []) end)) }
+    {
+        let _ = &leg.elements;
+        let OpenFork { before, mut legs } = self;
+        legs.push(leg)?;
+        let SourceRung { mut elements } = before;
+        elements.push(Element::Fork(Legs { legs }))?;
+        Ok(SourceRung { elements })
     }
 }
