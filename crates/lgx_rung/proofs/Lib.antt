@@ -1,1 +1,3 @@
 pub mod Trees
+pub mod Reading
+pub mod Causes

@@ -1,5 +1,6 @@
 -- Neutral text: the texts that spell a rung, its canonical spelling, and the first fault of a text that spells none.
-use Rattle.std.specs.Prelude.{◌≡◌, ℕ, ◌≤◌, Bool, IsTrue, false, List, [], ◌∷◌, ◌++◌, length, map, codes, Some}
+use Rattle.std.specs.Prelude.{◌≡◌, ℕ, ◌≤◌, Bool, IsTrue, false, List, [], ◌∷◌, ◌++◌, length, map, codes, Some, None}
+use Rattle.lgx_num.specs.Name.{is_letter}
 use Rattle.std.specs.List.{list_all}
 use Rattle.lgx_rung.specs.declared.op.Op.TheVariants.{Nop}
 use Rattle.lgx_rung.specs.declared.fault.TextFault.{TextFault}
@@ -40,7 +41,7 @@ rung_tokens r = list_tokens r ++ Semicolon ∷ []
 
 -- the bytes that a token may have: a mnemonic may stand in any case
 abbrev pub IsSpelling : Token → List ℕ → Type 0
-IsSpelling (Mnemonic op) bytes = op_of bytes ≡ Some op
+IsSpelling (Mnemonic op) bytes = IsTrue (list_all is_letter bytes) × (op_of bytes ≡ Some op)
 IsSpelling (Operand text) bytes = (bytes ≡ text) × IsTrue (is_operand text)
 IsSpelling OpenFork bytes = bytes ≡ codes "["
 IsSpelling CloseFork bytes = bytes ≡ codes "]"
@@ -48,8 +49,8 @@ IsSpelling OpenParen bytes = bytes ≡ codes "("
 IsSpelling CloseParen bytes = bytes ≡ codes ")"
 IsSpelling Comma bytes = bytes ≡ codes ","
 IsSpelling Semicolon bytes = bytes ≡ codes ";"
-IsSpelling Letters bytes = ⊥
-IsSpelling Stray bytes = ⊥
+IsSpelling Letters bytes = IsTrue (list_all is_letter bytes) × (op_of bytes ≡ None)
+IsSpelling Stray bytes = length bytes ≡ 1
 
 -- the text is these tokens in order, with blanks before, between and behind them
 abbrev pub IsWritten : List ℕ → List Token → Type 0
