@@ -1,3 +1,4 @@
 pub mod Trees
 pub mod Reading
 pub mod Causes
+pub mod Lexing
