@@ -218,3 +218,113 @@ written_ends_run : (text : List ℕ) (ts : List Token) (inside : Bool) → Start
 written_ends_run text [] inside s w = absurd s
 written_ends_run text (t ∷ ts) inside s w =
     subst (EndsRun inside) (sym w.3.0) (blanks_end_run w.0 (w.1 ++ w.2) inside w.3.1 (mark_ends_run t inside w.1 w.2 s w.3.2))
+
+run_ends : (run text : List ℕ) (inside : Bool) (b : ℕ) (bs : List ℕ) (ts : List Token) → reverse run ≡ b ∷ bs → EndsRun inside text → Gives text inside [] ts
+    → Gives text inside run (run_token inside (b ∷ bs) ∷ ts)
+run_ends [] text inside b bs ts e h g = cc
+run_ends (c ∷ cs) text inside b bs ts e h g = subst (λ x. Gives text inside (c ∷ cs) (run_token inside x ∷ ts)) e (end_of_run text inside c cs ts h g)
+
+run_gives : (bytes text : List ℕ) (inside : Bool) (b : ℕ) (bs : List ℕ) (ts : List Token) → bytes ≡ b ∷ bs → IsTrue (list_all (in_run inside) bytes) → EndsRun inside text → Gives text inside [] ts
+    → Gives (bytes ++ text) inside [] (run_token inside (b ∷ bs) ∷ ts)
+run_gives bytes text inside b bs ts e h r g =
+    over_run bytes text inside [] (run_token inside (b ∷ bs) ∷ ts) h (run_ends (onto bytes []) text inside b bs ts (reverse-onto bytes [] ∙ e) r g)
+
+mnemonic_gives : (bytes text : List ℕ) (op : Op) (ts : List Token) → IsSpelling (Mnemonic op) bytes → EndsRun false text → Gives text false [] ts → Gives (bytes ++ text) false [] (Mnemonic op ∷ ts)
+mnemonic_gives [] text op ts h r g = let none : op_of [] ≡ Some op = h.1 in cc
+mnemonic_gives (b ∷ bs) text op ts h r g =
+    subst (λ o. Gives ((b ∷ bs) ++ text) false [] (word o ∷ ts)) h.1 (run_gives (b ∷ bs) text false b bs ts refl h.0 r g)
+
+operand_gives : (x text : List ℕ) (ts : List Token) → IsTrue (is_operand x) → EndsRun true text → Gives text true [] ts → Gives (x ++ text) true [] (Operand x ∷ ts)
+operand_gives [] text ts h r g = cc
+operand_gives (b ∷ bs) text ts h r g = run_gives (b ∷ bs) text true b bs ts refl h r g
+
+-- what the tokens behind give, read inside and outside
+abbrev Behind : List ℕ → List Token → Type 0
+Behind rest ts = (inside : Bool) → IsApart inside ts → Gives rest inside [] ts
+
+token_gives : (t : Token) (ts : List Token) (inside : Bool) (bytes rest : List ℕ) → IsApart inside (t ∷ ts) → IsSpelling t bytes → IsWritten rest ts → Behind rest ts → Gives (bytes ++ rest) inside [] (t ∷ ts)
+token_gives (Mnemonic op) ts false bytes rest a h w k = mnemonic_gives bytes rest op ts h (written_ends_run rest ts false a.0 w) (k false a.1)
+token_gives (Mnemonic op) ts true bytes rest a h w k = absurd a
+token_gives (Operand x) ts true bytes rest a h w k =
+    subst (λ y. Gives (y ++ rest) true [] (Operand x ∷ ts)) (sym h.0) (operand_gives x rest ts h.1 (written_ends_run rest ts true a.0 w) (k true a.1))
+token_gives (Operand x) ts false bytes rest a h w k = absurd a
+token_gives OpenFork ts false bytes rest a h w k = subst (λ y. Gives (y ++ rest) false [] (OpenFork ∷ ts)) (sym h) (λ at. ap (λ x. OpenFork ∷ x) (k false a (at + 1)))
+token_gives OpenFork ts true bytes rest a h w k = absurd a
+token_gives CloseFork ts false bytes rest a h w k = subst (λ y. Gives (y ++ rest) false [] (CloseFork ∷ ts)) (sym h) (λ at. ap (λ x. CloseFork ∷ x) (k false a (at + 1)))
+token_gives CloseFork ts true bytes rest a h w k = absurd a
+token_gives OpenParen ts true bytes rest a h w k = subst (λ y. Gives (y ++ rest) true [] (OpenParen ∷ ts)) (sym h) (λ at. ap (λ x. OpenParen ∷ x) (k true a (at + 1)))
+token_gives OpenParen ts false bytes rest a h w k = subst (λ y. Gives (y ++ rest) false [] (OpenParen ∷ ts)) (sym h) (λ at. ap (λ x. OpenParen ∷ x) (k true a (at + 1)))
+token_gives CloseParen ts true bytes rest a h w k = subst (λ y. Gives (y ++ rest) true [] (CloseParen ∷ ts)) (sym h) (λ at. ap (λ x. CloseParen ∷ x) (k false a (at + 1)))
+token_gives CloseParen ts false bytes rest a h w k = subst (λ y. Gives (y ++ rest) false [] (CloseParen ∷ ts)) (sym h) (λ at. ap (λ x. CloseParen ∷ x) (k false a (at + 1)))
+token_gives Comma ts true bytes rest a h w k = subst (λ y. Gives (y ++ rest) true [] (Comma ∷ ts)) (sym h) (λ at. ap (λ x. Comma ∷ x) (k true a (at + 1)))
+token_gives Comma ts false bytes rest a h w k = subst (λ y. Gives (y ++ rest) false [] (Comma ∷ ts)) (sym h) (λ at. ap (λ x. Comma ∷ x) (k false a (at + 1)))
+token_gives Semicolon ts true bytes rest a h w k = subst (λ y. Gives (y ++ rest) true [] (Semicolon ∷ ts)) (sym h) (λ at. ap (λ x. Semicolon ∷ x) (k true a (at + 1)))
+token_gives Semicolon ts false bytes rest a h w k = subst (λ y. Gives (y ++ rest) false [] (Semicolon ∷ ts)) (sym h) (λ at. ap (λ x. Semicolon ∷ x) (k false a (at + 1)))
+token_gives Letters ts true bytes rest a h w k = absurd a
+token_gives Letters ts false bytes rest a h w k = absurd a
+token_gives Stray ts true bytes rest a h w k = absurd a
+token_gives Stray ts false bytes rest a h w k = absurd a
+
+gives : (ts : List Token) (text : List ℕ) → IsWritten text ts → Behind text ts
+gives [] text w inside a =
+    subst (λ x. Gives x inside [] []) (append-nil text) (over_blanks text [] inside [] w (λ at. refl))
+gives (t ∷ ts) text w inside a =
+    subst (λ x. Gives x inside [] (t ∷ ts)) (sym w.3.0)
+    (over_blanks w.0 (w.1 ++ w.2) inside (t ∷ ts) w.3.1 (token_gives t ts inside w.1 w.2 a w.3.2 w.3.3 (gives ts w.2 w.3.3)))
+
+pub tokens_of_written : (text : List ℕ) (r : Source) → IsWritten text (rung_tokens r) → kinds (tokens text) ≡ rung_tokens r
+tokens_of_written text r w = gives (rung_tokens r) text w false (apart_rung r) 0
+
+-- ---- the canonical spelling
+
+written_token : (t : Token) (ts : List Token) → IsSpelling t (canon_token t) → IsWritten (canon_tokens ts) ts → IsWritten (canon_tokens (t ∷ ts)) (t ∷ ts)
+written_token t ts h w = ([], canon_token t, canon_tokens ts, (refl, refl, h, w))
+
+spelled_op : (op : Op) → IsSpelling (Mnemonic op) (text_of op)
+spelled_op Xic = (refl, refl)
+spelled_op _ = (refl, refl)
+
+more_written : (xs : List (List ℕ)) (ts : List Token) → IsTrue (list_all is_operand xs) → IsWritten (canon_tokens ts) ts → IsWritten (canon_tokens (more_operands xs ++ ts)) (more_operands xs ++ ts)
+more_written [] ts h w = w
+more_written (x ∷ xs) ts h w =
+    let parts = and_parts (is_operand x) (list_all is_operand xs) h in
+    written_token Comma (Operand x ∷ (more_operands xs ++ ts)) refl (written_token (Operand x) (more_operands xs ++ ts) (refl, parts.0) (more_written xs ts parts.1 w))
+
+operands_written : (xs : List (List ℕ)) (ts : List Token) → IsTrue (list_all is_operand xs) → IsWritten (canon_tokens ts) ts → IsWritten (canon_tokens (operands xs ++ ts)) (operands xs ++ ts)
+operands_written [] ts h w = w
+operands_written (x ∷ xs) ts h w =
+    let parts = and_parts (is_operand x) (list_all is_operand xs) h in
+    written_token (Operand x) (more_operands xs ++ ts) (refl, parts.0) (more_written xs ts parts.1 w)
+
+abbrev are_operands : SourceIns → Bool
+are_operands i = list_all is_operand i.texts
+
+abbrev IsCanonical : List Token → Type 0
+IsCanonical ts = IsWritten (canon_tokens ts) ts
+
+mutual
+  list_written : (t : Source) (ts : List Token) → IsTrue (list_all are_operands (instructions t)) → IsCanonical ts → IsCanonical (list_tokens t ++ ts)
+  list_written end ts h w = w
+  list_written (one i rest) ts h w =
+      let parts = and_parts (are_operands i) (list_all are_operands (instructions rest)) h in
+      written_token (Mnemonic i.op) (OpenParen ∷ ((operands i.texts ++ CloseParen ∷ list_tokens rest) ++ ts)) (spelled_op i.op)
+      (written_token OpenParen ((operands i.texts ++ CloseParen ∷ list_tokens rest) ++ ts) refl
+      (subst IsCanonical (sym (append_assoc (operands i.texts) (CloseParen ∷ list_tokens rest) ts))
+      (operands_written i.texts (CloseParen ∷ (list_tokens rest ++ ts)) parts.0 (written_token CloseParen (list_tokens rest ++ ts) refl (list_written rest ts parts.1 w)))))
+  list_written (fork t legs rest) ts h w =
+      let parts = and_parts (list_all are_operands (instructions t)) (list_all are_operands (leg_instructions legs ++ instructions rest)) (sym (list_all-append are_operands (instructions t) (leg_instructions legs ++ instructions rest)) ∙ h) in
+      let more = and_parts (list_all are_operands (leg_instructions legs)) (list_all are_operands (instructions rest)) (sym (list_all-append are_operands (leg_instructions legs) (instructions rest)) ∙ parts.1) in
+      written_token OpenFork ((list_tokens t ++ (leg_tokens legs ++ CloseFork ∷ list_tokens rest)) ++ ts) refl
+      (subst IsCanonical (sym (append_assoc (list_tokens t) (leg_tokens legs ++ CloseFork ∷ list_tokens rest) ts ∙ ap (λ x. list_tokens t ++ x) (append_assoc (leg_tokens legs) (CloseFork ∷ list_tokens rest) ts)))
+      (list_written t (leg_tokens legs ++ CloseFork ∷ (list_tokens rest ++ ts)) parts.0
+      (legs_written legs (CloseFork ∷ (list_tokens rest ++ ts)) more.0 (written_token CloseFork (list_tokens rest ++ ts) refl (list_written rest ts more.1 w)))))
+
+  legs_written : (legs : Legs SourceIns) (ts : List Token) → IsTrue (list_all are_operands (leg_instructions legs)) → IsCanonical ts → IsCanonical (leg_tokens legs ++ ts)
+  legs_written last ts h w = w
+  legs_written (leg t legs) ts h w =
+      let parts = and_parts (list_all are_operands (instructions t)) (list_all are_operands (leg_instructions legs)) (sym (list_all-append are_operands (instructions t) (leg_instructions legs)) ∙ h) in
+      written_token Comma ((list_tokens t ++ leg_tokens legs) ++ ts) refl
+      (subst IsCanonical (sym (append_assoc (list_tokens t) (leg_tokens legs) ts)) (list_written t (leg_tokens legs ++ ts) parts.0 (legs_written legs ts parts.1 w)))
+
+pub canon_written : (r : Source) → IsTrue (has_operands r) → IsWritten (canon r) (rung_tokens r)
+canon_written r h = list_written r (Semicolon ∷ []) h (written_token Semicolon [] refl refl)
