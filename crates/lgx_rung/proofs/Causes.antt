@@ -1,59 +1,18 @@
 -- The reading of tokens answers the rung that they spell, or else the first fault.
-use Rattle.std.proofs.Common.{◌≡◌, ℕ, ◌≤◌, ◌+◌, Bool, true, false, nat_lt, List, [], ◌∷◌, ◌++◌, length, map, refl, ap, sym, ◌∙◌, subst, append_assoc, Result, Ok, Err, IfErr}
+use Rattle.std.proofs.Common.{◌≡◌, ℕ, suc, ◌≤◌, ◌<◌, ◌+◌, ◌-◌, Bool, true, false, nat_lt, arith, inl, inr, List, [], ◌∷◌, ◌++◌, length, map, refl, ap, sym, ◌∙◌, subst, append_assoc, Result, Ok, Err, IfErr}
 use Rattle.std.proofs.lemmas.List.{append-nil}
+use Rattle.std.proofs.lemmas.Bool.{ltb-false}
 use Rattle.lgx_rung.specs.declared.op.Op.{Op}
 use Rattle.lgx_rung.specs.declared.op.Op.TheVariants.{Nop}
 use Rattle.lgx_rung.specs.declared.fault.TextFault.{TextFault}
 use Rattle.lgx_rung.specs.declared.fault.TextCode.{TextCode}
 use Rattle.lgx_rung.specs.declared.fault.TextCode.TheVariants.{T1, T2, T3, T4, T5}
-use Rattle.lgx_rung.specs.Text.{rung_tokens, IsNested, Begins, MayFollow, InElementPlace, kinds, IsWrong, StopsAt, LacksSemicolon, LacksTokens, IsCause, IsTextCause}
+use Rattle.lgx_rung.specs.Text.{rung_tokens, IsNested, Begins, MayFollow, InElementPlace, kinds, IsWrong, StopsAt, IsCutShort, IsOpen, EndsByMnemonic, open_forks, in_parentheses, IsCause, IsTextCause, list_tokens, leg_tokens, operands, more_operands}
 use Rattle.lgx_rung.specs.Tokens.{Token, Mnemonic, Letters, Operand, OpenFork, CloseFork, OpenParen, CloseParen, Comma, Semicolon, Stray, Placed, tokens, Place, Element, Named, First, Behind, Next, Fork, Reader, At, Done, open_fork, read_at, read_token, read_end, read_on, read_tokens, read_rung}
-use Rattle.lgx_rung.specs.Tree.{Source}
-use Rattle.lgx_rung.proofs.Reading.{and_then, run, start, run-append, taken, taken_by_run, fit_by_run, runs_rung, goes_on, GoesOn, Ends}
-
--- ---- a run, and what begins a rung
-
-abbrev Runs : List Token → Reader → Type 0
-Runs ts s = run ts start ≡ Ok s
-
-run_on : (ts more : List Token) (s : Reader) → Runs ts s → run (ts ++ more) start ≡ run more s
-run_on ts more s e = run-append ts more start ∙ ap (λ q. and_then q (run more)) e
-
--- a run's result, where a longer run succeeds
-shorter : (q : Result Reader TextCode) (f : Reader → Result Reader TextCode) (u : Reader) → and_then q f ≡ Ok u → (s : Reader) × (q ≡ Ok s) × (f s ≡ Ok u)
-shorter (Ok s) f u e = (s, refl, e)
-shorter (Err code) f u e = cc
-
-runs_before : (ts more : List Token) (u : Reader) → Runs (ts ++ more) u → (s : Reader) × Runs ts s × (run more s ≡ Ok u)
-runs_before ts more u e = shorter (run ts start) (run more) u (sym (run-append ts more start) ∙ e)
-
--- a run to the end is a rung's
-pub ends_rung : (ts : List Token) (r : Source) → Runs ts (Done r) → IsNested r × (rung_tokens r ≡ ts)
-ends_rung ts r e = (fit_by_run ts (Done r) e, taken_by_run ts (Done r) e)
-
-pub rung_ends : (ts : List Token) (r : Source) → IsNested r → rung_tokens r ≡ ts → Runs ts (Done r)
-rung_ends ts r h e = subst (λ x. Runs x (Done r)) e (runs_rung r h)
-
-lacks_tokens : (ts : List Token) (s : Reader) → Runs ts s → GoesOn s → LacksTokens ts
-lacks_tokens ts s e g =
-    let end = ends_rung (ts ++ g.0 ∷ g.1) g.2.0 (run_on ts (g.0 ∷ g.1) s e ∙ g.2.1) in
-    (g.2.0, g.0, g.1, end)
-
-begins : (ts : List Token) (s : Reader) → Runs ts s → Begins ts
-begins ts (At p forks t) e =
-    let l = lacks_tokens ts (At p forks t) e (goes_on p forks t) in
-    (l.0, l.1 ∷ l.2, l.3)
-begins ts (Done r) e =
-    let h = ends_rung ts r e in
-    (r, [], (h.0, h.1 ∙ sym (append-nil ts)))
-
-runs_of_begins : (ts : List Token) → Begins ts → (s : Reader) × Runs ts s
-runs_of_begins ts b =
-    let r = runs_before ts b.1 (Done b.0) (rung_ends (ts ++ b.1) b.0 b.2.0 b.2.1) in
-    (r.0, r.1)
-
-one_more : (ts : List Token) (t : Token) (s u : Reader) → Runs ts s → read_token s t ≡ Ok u → Runs (ts ++ t ∷ []) u
-one_more ts t s u e h = run_on ts (t ∷ []) s e ∙ ap (λ q. and_then q (run [])) h
+use Rattle.lgx_rung.specs.Tree.{depth, Source}
+use Rattle.lgx_rung.proofs.Reading.{and_then, run, start, run-append, taken, taken_by_run, fit_by_run, runs_rung, goes_on, GoesOn, Ends, finished, fork_tokens, place_tokens}
+use Rattle.lgx_rung.proofs.Runs.{Runs, run_on, shorter, runs_before, ends_rung, rung_ends, cut_short, begins, runs_of_begins, one_more}
+use Rattle.lgx_rung.proofs.Open.{forks_of_run, open_of_run, closed_of_run, IsOpenAt}
 
 -- ---- an element's place
 
@@ -81,30 +40,33 @@ of_element_place ts s e p =
 
 -- ---- what is wrong with a token
 
-wrong_fork : (b : Bool) (ts : List Token) (forks : List Fork) (t : Source) → InElementPlace ts → IfErr (open_fork b forks t) (λ code. IsWrong code ts OpenFork)
-wrong_fork true ts forks t e = tt
-wrong_fork false ts forks t e = (e, refl)
+wrong_fork : (b : Bool) (ts : List Token) (forks : List Fork) (t : Source) → nat_lt (length forks) 16 ≡ b → Runs ts (At Element forks t) → InElementPlace ts → IfErr (open_fork b forks t) (λ code. IsWrong code ts OpenFork)
+wrong_fork true ts forks t h r e = tt
+wrong_fork false ts forks t h r e =
+    let full : 16 ≤ length forks = ltb-false (length forks) 16 h in
+    let fit : length forks + depth t ≤ 16 = (fit_by_run ts (At Element forks t) r).0 in
+    (e, refl, forks_of_run ts Element forks t r ∙ omega arith)
 
 elsewhere : (ts : List Token) (s : Reader) (t : Token) → Runs ts s → (IsAtElement s → ⊥) → IsWrong T1 ts t
 elsewhere ts s t e h = λ p. absurd (h (of_element_place ts s e p))
 
-wrong_element : (ts : List Token) (t : Token) (forks : List Fork) (leg : Source) → InElementPlace ts → IfErr (read_at Element t forks leg) (λ code. IsWrong code ts t)
-wrong_element ts (Mnemonic op) forks leg e = tt
-wrong_element ts Letters forks leg e = (e, refl)
-wrong_element ts (Operand x) forks leg e = λ _. ((λ h. cc), (λ h. cc))
-wrong_element ts OpenFork forks leg e = wrong_fork (nat_lt (length forks) 16) ts forks leg e
-wrong_element ts CloseFork [] leg e = λ _. ((λ h. cc), (λ h. cc))
-wrong_element ts CloseFork (f ∷ fs) leg e = tt
-wrong_element ts OpenParen forks leg e = λ _. ((λ h. cc), (λ h. cc))
-wrong_element ts CloseParen forks leg e = λ _. ((λ h. cc), (λ h. cc))
-wrong_element ts Comma [] leg e = λ _. ((λ h. cc), (λ h. cc))
-wrong_element ts Comma (f ∷ fs) leg e = tt
-wrong_element ts Semicolon [] leg e = tt
-wrong_element ts Semicolon (f ∷ fs) leg e = λ _. ((λ h. cc), (λ h. cc))
-wrong_element ts Stray forks leg e = λ _. ((λ h. cc), (λ h. cc))
+wrong_element : (ts : List Token) (t : Token) (forks : List Fork) (leg : Source) → Runs ts (At Element forks leg) → InElementPlace ts → IfErr (read_at Element t forks leg) (λ code. IsWrong code ts t)
+wrong_element ts (Mnemonic op) forks leg r e = tt
+wrong_element ts Letters forks leg r e = (e, refl)
+wrong_element ts (Operand x) forks leg r e = λ _. ((λ h. cc), (λ h. cc))
+wrong_element ts OpenFork forks leg r e = wrong_fork (nat_lt (length forks) 16) ts forks leg refl r e
+wrong_element ts CloseFork [] leg r e = λ _. ((λ h. cc), (λ h. cc))
+wrong_element ts CloseFork (f ∷ fs) leg r e = tt
+wrong_element ts OpenParen forks leg r e = λ _. ((λ h. cc), (λ h. cc))
+wrong_element ts CloseParen forks leg r e = λ _. ((λ h. cc), (λ h. cc))
+wrong_element ts Comma [] leg r e = λ _. ((λ h. cc), (λ h. cc))
+wrong_element ts Comma (f ∷ fs) leg r e = tt
+wrong_element ts Semicolon [] leg r e = tt
+wrong_element ts Semicolon (f ∷ fs) leg r e = λ _. ((λ h. cc), (λ h. cc))
+wrong_element ts Stray forks leg r e = λ _. ((λ h. cc), (λ h. cc))
 
 wrong : (ts : List Token) (s : Reader) (t : Token) → Runs ts s → IfErr (read_token s t) (λ code. IsWrong code ts t)
-wrong ts (At Element forks leg) t e = wrong_element ts t forks leg (element_place ts (At Element forks leg) e tt)
+wrong ts (At Element forks leg) t e = wrong_element ts t forks leg e (element_place ts (At Element forks leg) e tt)
 wrong ts (At (Named op) forks leg) OpenParen e = tt
 wrong ts (At (Named op) forks leg) t e = elsewhere ts (At (Named op) forks leg) t e (λ h. h)
 wrong ts (At (First op) forks leg) (Operand x) e = tt
@@ -174,37 +136,22 @@ outcome (t ∷ ts) r = first t ts r (read_token r t.token) refl (outcome ts)
 
 -- ---- causes
 
-lacks_semicolon : (ts : List Token) (leg : Source) → Runs ts (At Element [] leg) → LacksSemicolon ts
-lacks_semicolon ts leg e = (leg, ends_rung (ts ++ Semicolon ∷ []) leg (one_more ts Semicolon (At Element [] leg) (Done leg) e refl))
-
-takes_semicolon : (ts : List Token) (s : Reader) → Runs ts s → (l : LacksSemicolon ts) → and_then (read_token s Semicolon) (run []) ≡ Ok (Done l.0)
-takes_semicolon ts s e l = sym (run_on ts (Semicolon ∷ []) s e) ∙ rung_ends (ts ++ Semicolon ∷ []) l.0 l.1.0 l.1.1
-
--- the text ends, and more than a semicolon is missing
-ends_open : (text : List ℕ) (p : Place) (forks : List Fork) (leg : Source) → Runs (kinds (tokens text)) (At p forks leg)
-    → ((l : LacksSemicolon (kinds (tokens text))) → ⊥) → IsTextCause text (fault T3 (length text))
-ends_open text p forks leg e n = (refl, lacks_tokens (kinds (tokens text)) (At p forks leg) e (goes_on p forks leg), n)
+-- the text ends while something is open
+ends_open : (text : List ℕ) (p : Place) (forks : List Fork) (leg : Source) (f : TextFault) → Runs (kinds (tokens text)) (At p forks leg)
+    → IsOpenAt p forks → fault T3 (length text) ≡ f → IsTextCause text f
+ends_open text p forks leg f e h same =
+    subst (IsTextCause text) same (refl, cut_short (kinds (tokens text)) (At p forks leg) e (goes_on p forks leg), open_of_run (kinds (tokens text)) p forks leg e h)
 
 ends_early : (text : List ℕ) (s : Reader) (f : TextFault) → Runs (kinds (tokens text)) s → read_end (length text) s ≡ Err f → IsTextCause text f
 ends_early text (Done r) f e h = cc
 ends_early text (At Element [] leg) f e h =
     let same : fault T4 (length text) ≡ f = cc in
-    subst (IsTextCause text) same (refl, lacks_semicolon (kinds (tokens text)) leg e)
-ends_early text (At Element (g ∷ gs) leg) f e h =
-    let same : fault T3 (length text) ≡ f = cc in
-    subst (IsTextCause text) same (ends_open text Element (g ∷ gs) leg e (λ l. let k = takes_semicolon (kinds (tokens text)) (At Element (g ∷ gs) leg) e l in cc))
-ends_early text (At (Named op) forks leg) f e h =
-    let same : fault T3 (length text) ≡ f = cc in
-    subst (IsTextCause text) same (ends_open text (Named op) forks leg e (λ l. let k = takes_semicolon (kinds (tokens text)) (At (Named op) forks leg) e l in cc))
-ends_early text (At (First op) forks leg) f e h =
-    let same : fault T3 (length text) ≡ f = cc in
-    subst (IsTextCause text) same (ends_open text (First op) forks leg e (λ l. let k = takes_semicolon (kinds (tokens text)) (At (First op) forks leg) e l in cc))
-ends_early text (At (Behind op x xs) forks leg) f e h =
-    let same : fault T3 (length text) ≡ f = cc in
-    subst (IsTextCause text) same (ends_open text (Behind op x xs) forks leg e (λ l. let k = takes_semicolon (kinds (tokens text)) (At (Behind op x xs) forks leg) e l in cc))
-ends_early text (At (Next op x xs) forks leg) f e h =
-    let same : fault T3 (length text) ≡ f = cc in
-    subst (IsTextCause text) same (ends_open text (Next op x xs) forks leg e (λ l. let k = takes_semicolon (kinds (tokens text)) (At (Next op x xs) forks leg) e l in cc))
+    subst (IsTextCause text) same (refl, cut_short (kinds (tokens text)) (At Element [] leg) e (goes_on Element [] leg), closed_of_run (kinds (tokens text)) leg e)
+ends_early text (At Element (g ∷ gs) leg) f e h = ends_open text Element (g ∷ gs) leg f e tt (cc)
+ends_early text (At (Named op) forks leg) f e h = ends_open text (Named op) forks leg f e tt (cc)
+ends_early text (At (First op) forks leg) f e h = ends_open text (First op) forks leg f e tt (cc)
+ends_early text (At (Behind op x xs) forks leg) f e h = ends_open text (Behind op x xs) forks leg f e tt (cc)
+ends_early text (At (Next op x xs) forks leg) f e h = ends_open text (Next op x xs) forks leg f e tt (cc)
 
 -- the code of a token that may not follow is one of three
 stops_at : (text : List ℕ) (code : TextCode) (at : ℕ) (before : List Token) (t : Token) → IsWrong code before t → StopsAt text code at → IsTextCause text (fault code at)
@@ -256,23 +203,23 @@ read_of_stop text code at c =
     ∙ read_stop (length text) c.before c.next c.behind start r.0 code r.1 (answered (read_token r.0 c.next.token) (kinds c.before) c.next.token r.0 code refl r.1 c.ends c.is_wrong)
     ∙ ap (λ x. Err (fault code x)) (sym c.is_there)
 
-at_end : (s u : Reader) → and_then (read_token s Semicolon) (run []) ≡ Ok u → (leg : Source) → u ≡ Done leg → (len : ℕ) → read_end len s ≡ Err (fault T4 len)
-at_end (At Element [] t) u e leg d len = refl
-at_end (At Element (f ∷ fs) t) u e leg d len = cc
-at_end (At (Named op) fs t) u e leg d len = cc
-at_end (At (First op) fs t) u e leg d len = cc
-at_end (At (Behind op x xs) fs t) u e leg d len = cc
-at_end (At (Next op x xs) fs t) u e leg d len = cc
-at_end (Done r) u e leg d len = cc
+closed_at_end : (ts : List Token) (s : Reader) (t : Token) (more : List Token) (u : Reader) → Runs ts s → and_then (read_token s t) (run more) ≡ Ok u → (IsOpen ts → ⊥) → (len : ℕ) → read_end len s ≡ Err (fault T4 len)
+closed_at_end ts (At Element [] leg) t more u e h n len = refl
+closed_at_end ts (At Element (f ∷ fs) leg) t more u e h n len = absurd (n (open_of_run ts Element (f ∷ fs) leg e tt))
+closed_at_end ts (At (Named op) fs leg) t more u e h n len = absurd (n (open_of_run ts (Named op) fs leg e tt))
+closed_at_end ts (At (First op) fs leg) t more u e h n len = absurd (n (open_of_run ts (First op) fs leg e tt))
+closed_at_end ts (At (Behind op x xs) fs leg) t more u e h n len = absurd (n (open_of_run ts (Behind op x xs) fs leg e tt))
+closed_at_end ts (At (Next op x xs) fs leg) t more u e h n len = absurd (n (open_of_run ts (Next op x xs) fs leg e tt))
+closed_at_end ts (Done r) t more u e h n len = cc
 
-open_at_end : (ts : List Token) (s : Reader) (t : Token) (more : List Token) (u : Reader) → Runs ts s → and_then (read_token s t) (run more) ≡ Ok u → (LacksSemicolon ts → ⊥) → (len : ℕ) → read_end len s ≡ Err (fault T3 len)
-open_at_end ts (At Element [] leg) t more u e h n len = absurd (n (lacks_semicolon ts leg e))
-open_at_end ts (At Element (f ∷ fs) leg) t more u e h n len = refl
-open_at_end ts (At (Named op) fs leg) t more u e h n len = refl
-open_at_end ts (At (First op) fs leg) t more u e h n len = refl
-open_at_end ts (At (Behind op x xs) fs leg) t more u e h n len = refl
-open_at_end ts (At (Next op x xs) fs leg) t more u e h n len = refl
-open_at_end ts (Done r) t more u e h n len = cc
+open_at_end : (ts : List Token) (s : Reader) (t : Token) (more : List Token) (u : Reader) → Runs ts s → and_then (read_token s t) (run more) ≡ Ok u → IsOpen ts → (len : ℕ) → read_end len s ≡ Err (fault T3 len)
+open_at_end ts (At Element [] leg) t more u e h o len = absurd (closed_of_run ts leg e o)
+open_at_end ts (At Element (f ∷ fs) leg) t more u e h o len = refl
+open_at_end ts (At (Named op) fs leg) t more u e h o len = refl
+open_at_end ts (At (First op) fs leg) t more u e h o len = refl
+open_at_end ts (At (Behind op x xs) fs leg) t more u e h o len = refl
+open_at_end ts (At (Next op x xs) fs leg) t more u e h o len = refl
+open_at_end ts (Done r) t more u e h o len = cc
 
 read_of_code : (text : List ℕ) (code : TextCode) (at : ℕ) → IsCause code at text → read_rung text ≡ Err (fault code at)
 read_of_code text T1 at c = read_of_stop text T1 at c
@@ -286,9 +233,9 @@ read_of_code text T3 at c =
     ∙ ap (λ x. Err (fault T3 x)) (sym c.0)
 read_of_code text T4 at c =
     let l = c.1 in
-    let r = runs_before (kinds (tokens text)) (Semicolon ∷ []) (Done l.0) (rung_ends (kinds (tokens text) ++ Semicolon ∷ []) l.0 l.1.0 l.1.1) in
+    let r = runs_before (kinds (tokens text)) (l.1 ∷ l.2) (Done l.0) (rung_ends (kinds (tokens text) ++ l.1 ∷ l.2) l.0 l.3.0 l.3.1) in
     read_run (length text) (tokens text) start r.0 r.1
-    ∙ at_end r.0 (Done l.0) r.2 l.0 refl (length text)
+    ∙ closed_at_end (kinds (tokens text)) r.0 l.1 l.2 (Done l.0) r.1 r.2 c.2 (length text)
     ∙ ap (λ x. Err (fault T4 x)) (sym c.0)
 
 -- and the cause is read
