@@ -7,10 +7,18 @@ mod bound;
 mod conn;
 mod event;
 mod fault;
+mod journal_cases;
+mod legal_cases;
 mod line;
 mod program;
 mod reply;
+mod runs;
+mod script;
+mod tag;
 mod task;
+mod text_cases;
+mod trace;
+mod types;
 
 pub use answer::{Mark, Moment, Outcome, TickReport, What};
 pub use bound::{Arg, Bound, Copying, Effect};
@@ -20,4 +28,16 @@ pub use fault::{Fault, Severity};
 pub use line::Line;
 pub use program::Ins;
 pub use reply::{ConnFault, EditFault, ForceFault, Mode, ModeFault, Reply};
+pub use runs::{
+    arithmetic_runs, conveyor_run, copy_runs, edit_runs, ladder_runs, routine_runs, task_runs,
+    timer_runs, word_runs,
+};
+pub use script::{JournalCode, JournalFault, Script, Timed};
+pub use tag::{Found, Scope, TagCode};
 pub use task::{TaskDef, TaskKind, TaskName};
+pub use text_cases::{
+    cause_cases, conveyor_checked, conveyor_layout, conveyor_places, declare_cases, layout_cases,
+    resolution_cases, type_fault_cases,
+};
+pub use trace::{AuditTask, StepFault, Table, TraceAnswer, TraceEvent, TraceMark, Verb};
+pub use types::{Base, DataType, Member, MemberDecl, TypeCode, TypeDecl, TypeFault};
