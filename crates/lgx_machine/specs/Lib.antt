@@ -51,3 +51,8 @@ pub mod CopyRuns
 pub mod TaskRuns
 pub mod EditRuns
 pub mod WordRuns
+pub mod Partial
+pub mod TraceView
+pub mod Refusals
+pub mod Stages
+pub mod LawRuns

@@ -8,6 +8,7 @@ mod conn;
 mod event;
 mod fault;
 mod journal_cases;
+mod law_runs;
 mod legal_cases;
 mod line;
 mod program;
