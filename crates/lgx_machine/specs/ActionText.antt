@@ -47,7 +47,7 @@ edit_of part =
     let verb = first_word part in
     let rest = behind_word part in
     or_else (at_word verb (codes "r") (text_edit_of (λ n t. Replace n t) rest))
-        (or_else (at_word verb (codes "i") (text_edit_of (λ n t. Insert n t) rest)) (at_word verb (codes "d") (delete_of (words rest))))
+    (or_else (at_word verb (codes "i") (text_edit_of (λ n t. Insert n t) rest)) (at_word verb (codes "d") (delete_of (words rest))))
 
 -- EDITS are 1 to 16 parts separated by `|`
 abbrev pub edits_of : List ℕ → Option (List RungEdit)
@@ -67,11 +67,11 @@ accept_of rest = do
 abbrev pub one_word_of : List ℕ → List ℕ → Option Action
 one_word_of verb word =
     or_else (at_word verb (codes "test") (option_map (λ p. Test p) (name_of word)))
-        (or_else (at_word verb (codes "untest") (option_map (λ p. Untest p) (name_of word)))
-        (or_else (at_word verb (codes "assemble") (option_map (λ p. Assemble p) (name_of word)))
-        (or_else (at_word verb (codes "cancel") (option_map (λ p. Cancel p) (name_of word)))
-        (or_else (at_word verb (codes "force") (or_else (at_word word (codes "enable") (Some ForceEnable)) (or_else (at_word word (codes "disable") (Some ForceDisable)) (at_word word (codes "remove") (Some ForceRemove)))))
-        (at_word verb (codes "mode") (or_else (at_word word (codes "run") (Some ModeRun)) (at_word word (codes "program") (Some ModeProgram))))))))
+    (or_else (at_word verb (codes "untest") (option_map (λ p. Untest p) (name_of word)))
+    (or_else (at_word verb (codes "assemble") (option_map (λ p. Assemble p) (name_of word)))
+    (or_else (at_word verb (codes "cancel") (option_map (λ p. Cancel p) (name_of word)))
+    (or_else (at_word verb (codes "force") (or_else (at_word word (codes "enable") (Some ForceEnable)) (or_else (at_word word (codes "disable") (Some ForceDisable)) (at_word word (codes "remove") (Some ForceRemove)))))
+    (at_word verb (codes "mode") (or_else (at_word word (codes "run") (Some ModeRun)) (at_word word (codes "program") (Some ModeProgram))))))))
 
 -- `out CONN WORD`
 abbrev pub word_out_of : List ℕ → List ℕ → Option Action

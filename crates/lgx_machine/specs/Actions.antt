@@ -113,6 +113,7 @@ mask_of (Some t) = 2 ^ t
 abbrev pub ran : State → Acted
 ran s = record { state = to_run s; outcome = record { reply = reply.Done; fault = None; released = mask_of (continuous_task s.table) } }
 
+-- From Faulted no change of mode is taken but `clear`, and a change to the present mode is refused.
 abbrev pub run_from : Mode → State → Acted
 run_from Program s = ran s
 run_from Run s = replied s (reply.Mode M1)
@@ -128,6 +129,15 @@ abbrev pub clear_from : Mode → State → Acted
 clear_from Faulted s = replied (record s { mode = Program }) reply.Done
 clear_from _ s = replied s (reply.Mode M3)
 
+abbrev pub mode_run : State → Acted
+mode_run s = unless_held s (run_from s.mode s)
+
+abbrev pub mode_program : State → Acted
+mode_program s = unless_held s (program_from s.mode s)
+
+abbrev pub clear : State → Acted
+clear s = unless_held s (clear_from s.mode s)
+
 -- ---- all of them
 
 -- Edits are taken in every mode, and by the lane as their client; forces too.
@@ -139,7 +149,7 @@ act s lane (ForceInstall conn word mask value) =
 act s lane ForceEnable = force_replied s (enable s.forces)
 act s lane ForceDisable = force_replied s (Ok (disable s.forces))
 act s lane ForceRemove = force_replied s (remove_all s.forces)
-act s lane ModeRun = unless_held s (run_from s.mode s)
-act s lane ModeProgram = unless_held s (program_from s.mode s)
-act s lane Clear = unless_held s (clear_from s.mode s)
+act s lane ModeRun = mode_run s
+act s lane ModeProgram = mode_program s
+act s lane Clear = clear s
 act s lane command = edit_replied s (edit s.plan.tags s.plan.names s.books lane command)

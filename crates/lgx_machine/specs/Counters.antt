@@ -1,25 +1,20 @@
--- The counter instructions.
-use Rattle.std.specs.Prelude.{ℕ, Bool, true, false, List, ℤ, pos, negsuc, ◌+ℤ◌, if◌then◌else◌}
-use Rattle.lgx_num.specs.Number.{int_eq}
+-- The counter instructions (1756-RM003).
+use Rattle.std.specs.Prelude.{ℕ, Bool, true, false, List, pos, negsuc, ◌+ℤ◌, if◌then◌else◌}
+use Rattle.lgx_num.specs.Number.{int_eq, least, greatest}
+use Rattle.lgx_num.specs.declared.number.Kind.TheVariants.{Dint}
 use Rattle.lgx_rung.specs.declared.op.Op.{Op}
 use Rattle.lgx_rung.specs.declared.op.Op.TheVariants.{Ctu, Ctd}
 use Rattle.lgx_machine.specs.StatusWords.{cu_bit, cd_bit, dn_bit, ov_bit, un_bit, status, put_status, acc, put_acc, is_reached}
 
-abbrev pub greatest : ℤ
-greatest = pos 2147483647
-
-abbrev pub least : ℤ
-least = negsuc 2147483647
-
 -- One more; behind the greatest value comes the least, and the overflow bit is set.
 abbrev pub one_up : ℕ → List ℕ → List ℕ
 one_up at image =
-    if int_eq (acc image at) greatest then put_status at ov_bit true (put_acc at least image) else put_acc at (acc image at +ℤ pos 1) image
+    if int_eq (acc image at) (greatest Dint) then put_status at ov_bit true (put_acc at (least Dint) image) else put_acc at (acc image at +ℤ pos 1) image
 
 -- One less; behind the least value comes the greatest, and the underflow bit is set.
 abbrev pub one_down : ℕ → List ℕ → List ℕ
 one_down at image =
-    if int_eq (acc image at) least then put_status at un_bit true (put_acc at greatest image) else put_acc at (acc image at +ℤ negsuc 0) image
+    if int_eq (acc image at) (least Dint) then put_status at un_bit true (put_acc at (greatest Dint) image) else put_acc at (acc image at +ℤ negsuc 0) image
 
 -- After each of them the counter is done exactly where its accumulator has come up to the preset (profile).
 abbrev pub judged : ℕ → List ℕ → List ℕ

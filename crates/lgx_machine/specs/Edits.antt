@@ -1,4 +1,4 @@
--- Online edits of rungs.
+-- Online edits of rungs (1756-PM008).
 use Rattle.std.specs.Prelude.{ℕ, ◌+◌, Bool, true, false, not, List, [], ◌∷◌, ◌++◌, map, length, nat_lt, nat_le, nat_eq, if◌then◌else◌, Option, Some, None, is_some, Result, Ok, Err, sum_by, flat_map, filter_map, slice_set, slice_index_or}
 use Rattle.std.specs.List.{list_any, position_from, enumerate_from}
 use Rattle.lgx_num.specs.Name.{same}

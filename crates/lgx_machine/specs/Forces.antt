@@ -1,4 +1,4 @@
--- Forces of I/O words.
+-- Forces of I/O words. No command on forces changes a tag by itself (profile).
 use Rattle.std.specs.Prelude.{ℕ, Bool, true, false, not, List, length, nat_lt, nat_le, nat_eq, if◌then◌else◌, ℤ, Option, Some, None, is_some, Result, Ok, Err, count_by, replicate, slice_set, slice_index_or}
 use Rattle.std.specs.Int.{w32, int_bit_and, int_bit_or, int_bit_not}
 use Rattle.lgx_machine.specs.declared.reply.ForceFault.{ForceFault}

@@ -118,9 +118,13 @@ before_rest r (Ok rs) = Ok (r ∷ rs)
 abbrev pub runs_from : ℕ → Tally → List (List ℕ) → Result (List EventRun) JournalFault
 runs_from n t [] = refused n J1
 runs_from n t (l ∷ ls) =
-    elim (is_skipped l) [ true ↦ runs_from (n + 1) t ls
-      | false ↦ elim (is_end l && not (is_long l)) [ true ↦ Ok []
-      | false ↦ elim (read_line t l) [ Err code ↦ refused n code | Ok r ↦ before_rest r (runs_from (n + 1) (with_run t r) ls) ] ] ]
+    elim (is_skipped l) [
+      | true ↦ runs_from (n + 1) t ls
+      | false ↦ elim (is_end l && not (is_long l)) [
+        | true ↦ Ok []
+        | false ↦ elim (read_line t l) [ Err code ↦ refused n code | Ok r ↦ before_rest r (runs_from (n + 1) (with_run t r) ls) ]
+      ]
+    ]
 
 abbrev pub no_events : Tally
 no_events = record { steps = 0; ticks = 0; actions = 0 }

@@ -1,7 +1,8 @@
 -- Runs of rungs, zones and calls.
-use Rattle.std.specs.Prelude.{◌≡◌, List, [], ◌∷◌, codes}
+use Rattle.std.specs.Prelude.{◌≡◌, [], ◌∷◌, codes, pos}
+use Rattle.lgx_machine.specs.declared.task.TaskKind.TheVariants.{Continuous}
 use Rattle.lgx_machine.specs.Project.{Project}
-use Rattle.lgx_machine.specs.Samples.{bool, continuous, program, plain, is_initially, lines, replay}
+use Rattle.lgx_machine.specs.Samples.{bool, dint, continuous, program_of, routine, plain, with_words, input, is_initially, lines, replay}
 
 -- A program without rungs: each scan begins and leaves its main routine.
 abbrev pub empty_program : Project
@@ -9,59 +10,59 @@ empty_program = plain [] (continuous [] ∷ []) [] []
 
 abbrev pub EmptyProgram : Type 0
 EmptyProgram = replay empty_program (lines (codes "mode run"
-        ∷ codes "cpu 4"
-        ∷ codes "end"
-        ∷ []))
+    ∷ codes "cpu 4"
+    ∷ codes "end"
+    ∷ []))
     ≡ lines (codes "0 0 reply 31 ok"
-        ∷ codes "0 1 begin T P 0"
-        ∷ codes "0 3 begin T P 0"
-        ∷ codes "end 0 4 run lost 0"
-        ∷ [])
+    ∷ codes "0 1 begin T P 0"
+    ∷ codes "0 3 begin T P 0"
+    ∷ codes "end 0 4 run lost 0"
+    ∷ [])
 
 -- A bit examined and another set to it: two instructions, and the routine left.
 abbrev pub one_rung : Project
-one_rung = plain (bool (codes "a") ∷ bool (codes "b") ∷ []) (continuous (codes "XIC(a)OTE(b);" ∷ []) ∷ []) (is_initially (codes "a") 1 ∷ []) (codes "b" ∷ [])
+one_rung = plain (bool (codes "a") ∷ bool (codes "b") ∷ []) (continuous (codes "XIC(a)OTE(b);" ∷ []) ∷ []) (is_initially (codes "a") (pos 1) ∷ []) (codes "b" ∷ [])
 
 abbrev pub OneRung : Type 0
 OneRung = replay one_rung (lines (codes "mode run"
-        ∷ codes "cpu 3"
-        ∷ codes "end"
-        ∷ []))
+    ∷ codes "cpu 3"
+    ∷ codes "end"
+    ∷ []))
     ≡ lines (codes "0 0 reply 31 ok"
-        ∷ codes "0 1 begin T P 0"
-        ∷ codes "0 3 set b 1"
-        ∷ codes "end 0 3 run lost 0"
-        ∷ [])
+    ∷ codes "0 1 begin T P 0"
+    ∷ codes "0 3 set b 1"
+    ∷ codes "end 0 3 run lost 0"
+    ∷ [])
 
 -- A leg without an instruction passes the condition on.
 abbrev pub empty_leg : Project
-empty_leg = plain (bool (codes "a") ∷ bool (codes "b") ∷ bool (codes "c") ∷ []) (continuous (codes "XIC(a)[XIC(b),]OTE(c);" ∷ []) ∷ []) (is_initially (codes "a") 1 ∷ []) (codes "c" ∷ [])
+empty_leg = plain (bool (codes "a") ∷ bool (codes "b") ∷ bool (codes "c") ∷ []) (continuous (codes "XIC(a)[XIC(b),]OTE(c);" ∷ []) ∷ []) (is_initially (codes "a") (pos 1) ∷ []) (codes "c" ∷ [])
 
 abbrev pub EmptyLeg : Type 0
 EmptyLeg = replay empty_leg (lines (codes "mode run"
-        ∷ codes "cpu 4"
-        ∷ codes "end"
-        ∷ []))
+    ∷ codes "cpu 4"
+    ∷ codes "end"
+    ∷ []))
     ≡ lines (codes "0 0 reply 31 ok"
-        ∷ codes "0 1 begin T P 0"
-        ∷ codes "0 4 set c 1"
-        ∷ codes "end 0 4 run lost 0"
-        ∷ [])
+    ∷ codes "0 1 begin T P 0"
+    ∷ codes "0 4 set c 1"
+    ∷ codes "end 0 4 run lost 0"
+    ∷ [])
 
 -- The prescan sets the storage, so the first scan gives no pulse.
 abbrev pub one_shot_after_prescan : Project
-one_shot_after_prescan = plain (bool (codes "a") ∷ bool (codes "s") ∷ bool (codes "b") ∷ []) (continuous (codes "XIC(a)ONS(s)OTE(b);" ∷ []) ∷ []) (is_initially (codes "a") 1 ∷ []) (codes "s" ∷ codes "b" ∷ [])
+one_shot_after_prescan = plain (bool (codes "a") ∷ bool (codes "s") ∷ bool (codes "b") ∷ []) (continuous (codes "XIC(a)ONS(s)OTE(b);" ∷ []) ∷ []) (is_initially (codes "a") (pos 1) ∷ []) (codes "s" ∷ codes "b" ∷ [])
 
 abbrev pub OneShotAfterPrescan : Type 0
 OneShotAfterPrescan = replay one_shot_after_prescan (lines (codes "mode run"
-        ∷ codes "cpu 4"
-        ∷ codes "end"
-        ∷ []))
+    ∷ codes "cpu 4"
+    ∷ codes "end"
+    ∷ []))
     ≡ lines (codes "0 0 reply 31 ok"
-        ∷ codes "0 0 set s 1"
-        ∷ codes "0 1 begin T P 0"
-        ∷ codes "end 0 4 run lost 0"
-        ∷ [])
+    ∷ codes "0 0 set s 1"
+    ∷ codes "0 1 begin T P 0"
+    ∷ codes "end 0 4 run lost 0"
+    ∷ [])
 
 -- Between an MCR with a false condition and the next one, rungs start with a false condition.
 abbrev pub disabled_zone : Project
@@ -69,14 +70,14 @@ disabled_zone = plain (bool (codes "a") ∷ bool (codes "b") ∷ bool (codes "c"
 
 abbrev pub DisabledZone : Type 0
 DisabledZone = replay disabled_zone (lines (codes "mode run"
-        ∷ codes "cpu 6"
-        ∷ codes "end"
-        ∷ []))
+    ∷ codes "cpu 6"
+    ∷ codes "end"
+    ∷ []))
     ≡ lines (codes "0 0 reply 31 ok"
-        ∷ codes "0 1 begin T P 0"
-        ∷ codes "0 6 set c 1"
-        ∷ codes "end 0 6 run lost 0"
-        ∷ [])
+    ∷ codes "0 1 begin T P 0"
+    ∷ codes "0 6 set c 1"
+    ∷ codes "end 0 6 run lost 0"
+    ∷ [])
 
 -- A routine that calls itself: 25 frames nest, and the next call is at fault.
 abbrev pub call_depth : Project
@@ -84,11 +85,89 @@ call_depth = plain [] (continuous (codes "JSR(M,0);" ∷ []) ∷ []) [] []
 
 abbrev pub CallDepth : Type 0
 CallDepth = replay call_depth (lines (codes "mode run"
-        ∷ codes "cpu 30"
-        ∷ codes "end"
-        ∷ []))
+    ∷ codes "cpu 30"
+    ∷ codes "end"
+    ∷ []))
     ≡ lines (codes "0 0 reply 31 ok"
-        ∷ codes "0 1 begin T P 0"
-        ∷ codes "0 26 fault major 4/84 T P"
-        ∷ codes "end 0 30 faulted lost 0"
-        ∷ [])
+    ∷ codes "0 1 begin T P 0"
+    ∷ codes "0 26 fault major 4/84 T P"
+    ∷ codes "end 0 30 faulted lost 0"
+    ∷ [])
+
+-- A pulse where the condition becomes true, and one where it becomes false.
+abbrev pub one_shots : Project
+one_shots = with_words (dint (codes "Local:1:I") ∷ bool (codes "s") ∷ bool (codes "r") ∷ bool (codes "u") ∷ bool (codes "f") ∷ []) (continuous (codes "XIC(Local:1:I.0)OSR(s,r);" ∷ codes "XIC(Local:1:I.0)OSF(u,f);" ∷ []) ∷ []) (input (codes "In") (codes "Local:1:I") ∷ []) [] (codes "r" ∷ codes "f" ∷ [])
+
+abbrev pub OneShots : Type 0
+OneShots = replay one_shots (lines (codes "mode run"
+    ∷ codes "cpu 6"
+    ∷ codes "@0 in In 0 1"
+    ∷ codes "cpu 12"
+    ∷ codes "@0 in In 0 0"
+    ∷ codes "cpu 12"
+    ∷ codes "end"
+    ∷ []))
+    ≡ lines (codes "0 0 reply 31 ok"
+    ∷ codes "0 1 begin T P 0"
+    ∷ codes "0 6 reply 0 ok"
+    ∷ codes "0 7 begin T P 0"
+    ∷ codes "0 9 set r 1"
+    ∷ codes "0 13 begin T P 0"
+    ∷ codes "0 15 set r 0"
+    ∷ codes "0 18 reply 0 ok"
+    ∷ codes "0 19 begin T P 0"
+    ∷ codes "0 23 set f 1"
+    ∷ codes "0 25 begin T P 0"
+    ∷ codes "0 29 set f 0"
+    ∷ codes "end 0 30 run lost 0"
+    ∷ [])
+
+-- One bit that is both storage and output: what is written last stays.
+abbrev pub one_bit_for_both : Project
+one_bit_for_both = with_words (dint (codes "Local:1:I") ∷ bool (codes "s") ∷ bool (codes "u") ∷ []) (continuous (codes "XIC(Local:1:I.0)OSR(s,s);" ∷ codes "XIC(Local:1:I.0)OSF(u,u);" ∷ []) ∷ []) (input (codes "In") (codes "Local:1:I") ∷ []) (is_initially (codes "Local:1:I") (pos 1) ∷ []) (codes "s" ∷ codes "u" ∷ [])
+
+abbrev pub OneBitForBoth : Type 0
+OneBitForBoth = replay one_bit_for_both (lines (codes "mode run"
+    ∷ codes "cpu 6"
+    ∷ codes "@0 in In 0 0"
+    ∷ codes "cpu 6"
+    ∷ codes "end"
+    ∷ []))
+    ≡ lines (codes "0 0 reply 31 ok"
+    ∷ codes "0 1 begin T P 0"
+    ∷ codes "0 3 set s 1"
+    ∷ codes "0 6 reply 0 ok"
+    ∷ codes "0 7 begin T P 0"
+    ∷ codes "0 9 set s 0"
+    ∷ codes "end 0 12 run lost 0"
+    ∷ [])
+
+-- A jump keeps the zone: the MCR behind the label closes it, whatever its condition.
+abbrev pub jump_in_zone : Project
+jump_in_zone = plain (bool (codes "a") ∷ bool (codes "b") ∷ []) (continuous (codes "MCR();" ∷ codes "JMP(l);" ∷ codes "LBL(l)XIC(a)MCR();" ∷ codes "OTE(b);" ∷ []) ∷ []) [] (codes "b" ∷ [])
+
+abbrev pub JumpInZone : Type 0
+JumpInZone = replay jump_in_zone (lines (codes "mode run"
+    ∷ codes "cpu 8"
+    ∷ codes "end"
+    ∷ []))
+    ≡ lines (codes "0 0 reply 31 ok"
+    ∷ codes "0 1 begin T P 0"
+    ∷ codes "0 7 set b 1"
+    ∷ codes "end 0 8 run lost 0"
+    ∷ [])
+
+-- A return leaves the rest of its routine out; behind the call the condition is as it was.
+abbrev pub call_and_return : Project
+call_and_return = plain (bool (codes "a") ∷ bool (codes "b") ∷ bool (codes "c") ∷ []) (program_of (codes "P") (routine (codes "M") (codes "JSR(N,0)OTE(c);" ∷ []) ∷ routine (codes "N") (codes "XIC(a)RET();" ∷ codes "OTE(b);" ∷ []) ∷ []) (codes "T") Continuous 16 ∷ []) (is_initially (codes "a") (pos 1) ∷ []) (codes "b" ∷ codes "c" ∷ [])
+
+abbrev pub CallAndReturn : Type 0
+CallAndReturn = replay call_and_return (lines (codes "mode run"
+    ∷ codes "cpu 7"
+    ∷ codes "end"
+    ∷ []))
+    ≡ lines (codes "0 0 reply 31 ok"
+    ∷ codes "0 1 begin T P 0"
+    ∷ codes "0 6 set c 1"
+    ∷ codes "end 0 7 run lost 0"
+    ∷ [])

@@ -80,8 +80,10 @@ keeps_on t us = not (list_any (λ u. nat_eq u t) (drop (prefix_len (λ u. nat_eq
 
 -- between two steps of t, while t stays up and no tick stands between them, no other task of its priority steps
 abbrev pub keeps_turn : Table → Place → List Place → Bool
-keeps_turn table x xs = elim (stepping x.event) [ None ↦ true
-  | Some t ↦ keeps_on t (who_steps table (priority_of table t) (take_while (λ y. stays t x y) (before_tick xs))) ]
+keeps_turn table x xs = elim (stepping x.event) [
+  | None ↦ true
+  | Some t ↦ keeps_on t (who_steps table (priority_of table t) (take_while (λ y. stays t x y) (before_tick xs)))
+]
 
 -- at place y every other task of t's priority that was counted up at place k has gone down
 abbrev pub others_went : Table → ℕ → Place → Place → Bool

@@ -46,7 +46,8 @@ pub mod Legal
 pub mod LegalCases
 pub mod Samples
 pub mod LadderRuns
-pub mod DataRuns
+pub mod TimerRuns
+pub mod ArithmeticRuns
 pub mod CopyRuns
 pub mod TaskRuns
 pub mod EditRuns
@@ -56,3 +57,4 @@ pub mod TraceView
 pub mod Refusals
 pub mod Stages
 pub mod LawRuns
+pub mod ConveyorRun

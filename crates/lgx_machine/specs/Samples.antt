@@ -1,5 +1,5 @@
 -- Words for sample projects: what a project file says, as definitions.
-use Rattle.std.specs.Prelude.{ℕ, ◌+◌, ◌-◌, ◌/◌, Bool, true, false, List, [], ◌∷◌, ◌++◌, map, ℤ, pos, Option, Some, None, Result, Ok, Err, codes, fold, flat_map, length, replicate}
+use Rattle.std.specs.Prelude.{ℕ, ◌-◌, ◌/◌, Bool, true, false, List, [], ◌∷◌, ◌++◌, map, ℤ, Option, Some, None, Result, Ok, Err, codes, fold, flat_map, length, replicate}
 use Rattle.std.specs.List.{enumerate_from}
 use Rattle.std.specs.Result.{result_unwrap_or}
 use Rattle.lgx_num.specs.declared.place.Place.{Place}
@@ -7,13 +7,12 @@ use Rattle.lgx_num.specs.Image.{write}
 use Rattle.lgx_rung.specs.Tree.{Source, end}
 use Rattle.lgx_rung.specs.Tokens.{read_rung}
 use Rattle.lgx_machine.specs.declared.types.Base.{Base}
-use Rattle.lgx_machine.specs.declared.types.Base.TheVariants.{Bool as OneBit, Sint, Int, Dint, Timer, Counter}
-use Rattle.lgx_machine.specs.declared.types.DataType.{DataType}
+use Rattle.lgx_machine.specs.declared.types.Base.TheVariants.{Bool as OneBit, Sint, Dint, Timer, Counter}
 use Rattle.lgx_machine.specs.declared.tag.Scope.TheVariants.{Controller}
 use Rattle.lgx_machine.specs.declared.tag.Found.{Found}
 use Rattle.lgx_machine.specs.declared.tag.TagCode.{TagCode}
 use Rattle.lgx_machine.specs.declared.task.TaskKind.{TaskKind}
-use Rattle.lgx_machine.specs.declared.task.TaskKind.TheVariants.{Continuous, Periodic, Event as EventTask}
+use Rattle.lgx_machine.specs.declared.task.TaskKind.TheVariants.{Continuous, Event as EventTask}
 use Rattle.lgx_machine.specs.declared.task.TaskDef.{TaskDef}
 use Rattle.lgx_machine.specs.declared.task.TaskName.{TaskName}
 use Rattle.lgx_machine.specs.declared.conn.ConnDef.{ConnDef}
@@ -60,6 +59,9 @@ pub record RoutineLines : Type 0 where
   pub name : List ℕ
   pub texts : List (List ℕ)
 
+abbrev pub routine : List ℕ → List (List ℕ) → RoutineLines
+routine name texts = record { name = name; texts = texts }
+
 -- a program whose first routine is the main one, and the task that runs it
 pub record ProgramLines : Type 0 where
   pub name : List ℕ
@@ -69,9 +71,12 @@ pub record ProgramLines : Type 0 where
   pub priority : ℕ
   pub watchdog : ℕ
 
+abbrev pub program_of : List ℕ → List RoutineLines → List ℕ → TaskKind → ℕ → ProgramLines
+program_of name routines task kind priority = record { name = name; routines = routines; task = task; kind = kind; priority = priority; watchdog = 500 }
+
 -- a program with one routine M
 abbrev pub program : List ℕ → List (List ℕ) → List ℕ → TaskKind → ℕ → ProgramLines
-program name texts task kind priority = record { name = name; routines = record { name = codes "M"; texts = texts } ∷ []; task = task; kind = kind; priority = priority; watchdog = 500 }
+program name texts task kind priority = program_of name (record { name = codes "M"; texts = texts } ∷ []) task kind priority
 
 -- the program P of the continuous task T
 abbrev pub continuous : List (List ℕ) → ProgramLines
@@ -142,15 +147,18 @@ tags_of programs entries = record { types = []; programs = length programs; entr
 abbrev pub plain : List Entry → List ProgramLines → List Initial → List (List ℕ) → Project
 plain entries programs initials watches = project_of (tags_of programs entries) programs [] initials watches
 
-abbrev pub is_initially : List ℕ → ℕ → Initial
-is_initially text value = record { tag = text; value = pos value }
+abbrev pub is_initially : List ℕ → ℤ → Initial
+is_initially text value = record { tag = text; value = value }
 
--- one with connections and without initial values
-abbrev pub with_words : List Entry → List ProgramLines → List Connection → List (List ℕ) → Project
-with_words entries programs conns watches = project_of (tags_of programs entries) programs conns [] watches
+-- one with connections
+abbrev pub with_words : List Entry → List ProgramLines → List Connection → List Initial → List (List ℕ) → Project
+with_words entries programs conns initials watches = project_of (tags_of programs entries) programs conns initials watches
 
 abbrev pub input : List ℕ → List ℕ → Connection
 input name text = record { name = name; tag = text; output = false; trigger = None }
+
+abbrev pub with_trigger : ℕ → Connection → Connection
+with_trigger task c = record c { trigger = Some task }
 
 abbrev pub output : List ℕ → List ℕ → Connection
 output name text = record { name = name; tag = text; output = true; trigger = None }

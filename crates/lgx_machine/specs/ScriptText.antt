@@ -86,15 +86,21 @@ read_turn s line = do
 abbrev pub turns_from : ℕ → Script → List (List ℕ) → Result Script JournalFault
 turns_from n s [] = refused n J1
 turns_from n s (l ∷ ls) =
-    elim (is_skipped l) [ true ↦ turns_from (n + 1) s ls
-      | false ↦ elim (is_end l && not (is_long l)) [ true ↦ Ok s
-      | false ↦ elim (read_turn s l) [ Err code ↦ refused n code | Ok s' ↦ turns_from (n + 1) s' ls ] ] ]
+    elim (is_skipped l) [
+      | true ↦ turns_from (n + 1) s ls
+      | false ↦ elim (is_end l && not (is_long l)) [
+        | true ↦ Ok s
+        | false ↦ elim (read_turn s l) [ Err code ↦ refused n code | Ok s' ↦ turns_from (n + 1) s' ls ]
+      ]
+    ]
 
 abbrev pub script_from : ℕ → List (List ℕ) → Result Script JournalFault
 script_from n [] = refused n J1
 script_from n (l ∷ ls) =
-    elim (is_skipped l) [ true ↦ script_from (n + 1) ls
-      | false ↦ elim (read_header l) [ Err code ↦ refused n code | Ok s ↦ turns_from (n + 1) s ls ] ]
+    elim (is_skipped l) [
+      | true ↦ script_from (n + 1) ls
+      | false ↦ elim (read_header l) [ Err code ↦ refused n code | Ok s ↦ turns_from (n + 1) s ls ]
+    ]
 
 -- the script that a text is, or the first line with a cause and its first cause
 abbrev pub script_of : List ℕ → Result Script JournalFault

@@ -1,5 +1,5 @@
 -- A timer or a counter in the image: a status word of single bits, then its preset and its accumulator. A timer's last
--- word is the tick at which it last counted.
+-- word is the tick at which it last counted (profile).
 use Rattle.std.specs.Prelude.{ℕ, ◌+◌, ◌*◌, Bool, true, false, List, ℤ, pos, int_le}
 use Rattle.std.specs.Int.{w32}
 use Rattle.lgx_num.specs.declared.number.Kind.TheVariants.{Bool as KBool}

@@ -1,46 +1,46 @@
 -- Runs of several tasks.
-use Rattle.std.specs.Prelude.{◌≡◌, List, [], ◌∷◌, codes}
+use Rattle.std.specs.Prelude.{◌≡◌, [], ◌∷◌, codes, pos}
 use Rattle.lgx_machine.specs.declared.task.TaskKind.TheVariants.{Periodic, Event as EventTask}
 use Rattle.lgx_machine.specs.Project.{Project}
 use Rattle.lgx_machine.specs.Samples.{bool, continuous, program, with_watchdog, plain, is_initially, lines, replay}
 
 -- A periodic task goes before the continuous one, which then goes on where it stood.
 abbrev pub preemption : Project
-preemption = plain (bool (codes "a") ∷ bool (codes "b") ∷ bool (codes "q") ∷ []) (continuous (codes "XIC(a)OTE(b);" ∷ []) ∷ program (codes "Q") (codes "OTL(q);" ∷ []) (codes "F") (Periodic 2) 5 ∷ []) (is_initially (codes "a") 1 ∷ []) (codes "b" ∷ codes "q" ∷ [])
+preemption = plain (bool (codes "a") ∷ bool (codes "b") ∷ bool (codes "q") ∷ []) (continuous (codes "XIC(a)OTE(b);" ∷ []) ∷ program (codes "Q") (codes "OTL(q);" ∷ []) (codes "F") (Periodic 2) 5 ∷ []) (is_initially (codes "a") (pos 1) ∷ []) (codes "b" ∷ codes "q" ∷ [])
 
 abbrev pub Preemption : Type 0
 Preemption = replay preemption (lines (codes "mode run"
-        ∷ codes "cpu 2"
-        ∷ codes "tick 2"
-        ∷ codes "cpu 4"
-        ∷ codes "end"
-        ∷ []))
+    ∷ codes "cpu 2"
+    ∷ codes "tick 2"
+    ∷ codes "cpu 4"
+    ∷ codes "end"
+    ∷ []))
     ≡ lines (codes "0 0 reply 31 ok"
-        ∷ codes "0 1 begin T P 0"
-        ∷ codes "2 3 begin F Q 0"
-        ∷ codes "2 4 set q 1"
-        ∷ codes "2 6 set b 1"
-        ∷ codes "end 2 6 run lost 0"
-        ∷ [])
+    ∷ codes "0 1 begin T P 0"
+    ∷ codes "2 3 begin F Q 0"
+    ∷ codes "2 4 set q 1"
+    ∷ codes "2 6 set b 1"
+    ∷ codes "end 2 6 run lost 0"
+    ∷ [])
 
 -- Not while two regions are open, nor while one is.
 abbrev pub nested_regions : Project
-nested_regions = plain (bool (codes "a") ∷ bool (codes "b") ∷ bool (codes "q") ∷ []) (continuous (codes "UID()UID()UIE()UIE()OTE(b);" ∷ []) ∷ program (codes "Q") (codes "OTL(q);" ∷ []) (codes "F") (Periodic 2) 5 ∷ []) (is_initially (codes "a") 1 ∷ []) (codes "b" ∷ codes "q" ∷ [])
+nested_regions = plain (bool (codes "a") ∷ bool (codes "b") ∷ bool (codes "q") ∷ []) (continuous (codes "UID()UID()UIE()UIE()OTE(b);" ∷ []) ∷ program (codes "Q") (codes "OTL(q);" ∷ []) (codes "F") (Periodic 2) 5 ∷ []) (is_initially (codes "a") (pos 1) ∷ []) (codes "b" ∷ codes "q" ∷ [])
 
 abbrev pub NestedRegions : Type 0
 NestedRegions = replay nested_regions (lines (codes "mode run"
-        ∷ codes "cpu 2"
-        ∷ codes "tick 2"
-        ∷ codes "cpu 7"
-        ∷ codes "end"
-        ∷ []))
+    ∷ codes "cpu 2"
+    ∷ codes "tick 2"
+    ∷ codes "cpu 7"
+    ∷ codes "end"
+    ∷ []))
     ≡ lines (codes "0 0 reply 31 ok"
-        ∷ codes "0 1 begin T P 0"
-        ∷ codes "2 6 begin F Q 0"
-        ∷ codes "2 7 set q 1"
-        ∷ codes "2 9 set b 1"
-        ∷ codes "end 2 9 run lost 0"
-        ∷ [])
+    ∷ codes "0 1 begin T P 0"
+    ∷ codes "2 6 begin F Q 0"
+    ∷ codes "2 7 set q 1"
+    ∷ codes "2 9 set b 1"
+    ∷ codes "end 2 9 run lost 0"
+    ∷ [])
 
 -- Tasks of one priority take turns at ticks; a second trigger of a task that is up is an overlap and queues no run.
 abbrev pub turns_at_ticks : Project
@@ -48,27 +48,27 @@ turns_at_ticks = plain (bool (codes "a1") ∷ bool (codes "a2") ∷ bool (codes 
 
 abbrev pub TurnsAtTicks : Type 0
 TurnsAtTicks = replay turns_at_ticks (lines (codes "mode run"
-        ∷ codes "cpu 1"
-        ∷ codes "tick 10"
-        ∷ codes "cpu 4"
-        ∷ codes "tick 1"
-        ∷ codes "cpu 2"
-        ∷ codes "tick 1"
-        ∷ codes "cpu 1"
-        ∷ codes "tick 1"
-        ∷ codes "cpu 4"
-        ∷ codes "end"
-        ∷ []))
+    ∷ codes "cpu 1"
+    ∷ codes "tick 10"
+    ∷ codes "cpu 4"
+    ∷ codes "tick 1"
+    ∷ codes "cpu 2"
+    ∷ codes "tick 1"
+    ∷ codes "cpu 1"
+    ∷ codes "tick 1"
+    ∷ codes "cpu 4"
+    ∷ codes "end"
+    ∷ []))
     ≡ lines (codes "0 0 reply 31 ok"
-        ∷ codes "10 2 begin A PA 0"
-        ∷ codes "10 3 set a1 1"
-        ∷ codes "10 5 fault minor 6/3 B -"
-        ∷ codes "11 6 begin B PB 0"
-        ∷ codes "11 7 set b1 1"
-        ∷ codes "12 8 set a2 1"
-        ∷ codes "13 9 set b2 1"
-        ∷ codes "end 13 12 run lost 0"
-        ∷ [])
+    ∷ codes "10 2 begin A PA 0"
+    ∷ codes "10 3 set a1 1"
+    ∷ codes "10 5 fault minor 6/3 B -"
+    ∷ codes "11 6 begin B PB 0"
+    ∷ codes "11 7 set b1 1"
+    ∷ codes "12 8 set a2 1"
+    ∷ codes "13 9 set b2 1"
+    ∷ codes "end 13 12 run lost 0"
+    ∷ [])
 
 -- A loop of jumps never ends its scan; the watchdog is a major fault of the task.
 abbrev pub watchdog : Project
@@ -76,12 +76,49 @@ watchdog = plain [] (with_watchdog 3 (continuous (codes "LBL(l)JMP(l);" ∷ []))
 
 abbrev pub Watchdog : Type 0
 Watchdog = replay watchdog (lines (codes "mode run"
-        ∷ codes "cpu 5"
-        ∷ codes "tick 3"
-        ∷ codes "end"
-        ∷ []))
+    ∷ codes "cpu 5"
+    ∷ codes "tick 3"
+    ∷ codes "end"
+    ∷ []))
     ≡ lines (codes "0 0 reply 31 ok"
-        ∷ codes "0 1 begin T P 0"
-        ∷ codes "3 5 fault major 6/1 T -"
-        ∷ codes "end 3 5 faulted lost 0"
-        ∷ [])
+    ∷ codes "0 1 begin T P 0"
+    ∷ codes "3 5 fault major 6/1 T -"
+    ∷ codes "end 3 5 faulted lost 0"
+    ∷ [])
+
+-- A region that is still open at the end of the scan is closed there.
+abbrev pub region_at_scan_end : Project
+region_at_scan_end = plain [] (continuous (codes "UID();" ∷ []) ∷ program (codes "Q") [] (codes "F") (Periodic 2) 5 ∷ []) [] []
+
+abbrev pub RegionAtScanEnd : Type 0
+RegionAtScanEnd = replay region_at_scan_end (lines (codes "mode run"
+    ∷ codes "cpu 2"
+    ∷ codes "tick 2"
+    ∷ codes "cpu 2"
+    ∷ codes "end"
+    ∷ []))
+    ≡ lines (codes "0 0 reply 31 ok"
+    ∷ codes "0 1 begin T P 0"
+    ∷ codes "2 4 begin F Q 0"
+    ∷ codes "end 2 4 run lost 0"
+    ∷ [])
+
+-- The continuous task is released again at its end, and its watchdog counts from there.
+abbrev pub released_again : Project
+released_again = plain [] (with_watchdog 3 (continuous []) ∷ []) [] []
+
+abbrev pub ReleasedAgain : Type 0
+ReleasedAgain = replay released_again (lines (codes "mode run"
+    ∷ codes "cpu 2"
+    ∷ codes "tick 2"
+    ∷ codes "cpu 2"
+    ∷ codes "tick 2"
+    ∷ codes "cpu 1"
+    ∷ codes "end"
+    ∷ []))
+    ≡ lines (codes "0 0 reply 31 ok"
+    ∷ codes "0 1 begin T P 0"
+    ∷ codes "2 3 begin T P 0"
+    ∷ codes "4 5 begin T P 0"
+    ∷ codes "end 4 5 run lost 0"
+    ∷ [])

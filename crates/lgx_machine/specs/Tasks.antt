@@ -1,4 +1,4 @@
--- The table of tasks: which are up, which one is chosen, and how they come up and go down.
+-- The table of tasks: which are up, which one is chosen, and how they come up and go down (1756-PM005).
 use Rattle.std.specs.Prelude.{ℕ, ◌+◌, ◌-◌, ◌%◌, Bool, true, false, ◌&&◌, ◌||◌, List, [], ◌∷◌, ◌++◌, map, nat_lt, nat_le, nat_eq, if◌then◌else◌, Option, Some, None, is_some, slice_set, slice_index_or}
 use Rattle.std.specs.List.{list_any, position_from}
 use Rattle.lgx_machine.specs.declared.task.TaskKind.{TaskKind}

@@ -1,4 +1,4 @@
--- The tick.
+-- The tick: one stands for a millisecond (profile).
 use Rattle.std.specs.Prelude.{ℕ, ◌+◌, ◌^◌, length, if◌then◌else◌, Option, Some, None, fold}
 use Rattle.std.specs.List.{range_with_len}
 use Rattle.lgx_machine.specs.declared.fault.Fault.{Fault}

@@ -1,4 +1,4 @@
--- The timer instructions.
+-- The timer instructions (1756-RM003).
 use Rattle.std.specs.Prelude.{ℕ, Bool, true, false, not, ◌||◌, List, ℤ, pos, ◌+ℤ◌, ◌-ℤ◌, if◌then◌else◌, Option, Some, None, int_lt}
 use Rattle.std.specs.Int.{int_min, int_max}
 use Rattle.lgx_rung.specs.declared.op.Op.{Op}
@@ -33,7 +33,7 @@ abbrev pub count_on : ℕ → ℕ → List ℕ → Option (List ℕ)
 count_on at now image =
     if has_negative image at then None else Some (judged_on at (put_last_tick at now (counted_on at now image)))
 
--- ---- TOF with a false condition (profile)
+-- ---- TOF with a false condition
 
 -- The first of them in a row disables the timer; each later one adds the ticks.
 abbrev pub counted_off : ℕ → ℕ → List ℕ → List ℕ

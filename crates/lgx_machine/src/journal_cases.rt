@@ -17,8 +17,7 @@ pub fn journals_are_read()
     ensures words { journal_of words_text ≡ Ok words }
     ensures empty { journal_of (codes " end \nend") ≡ Ok [] }
     ensures whole_count { journal_runs (codes "cpu 4000000\ntick 4000000\nend") ≡ Ok (record { event = Cpu; count = 4000000 } ∷ record { event = Tick; count = 4000000 } ∷ []) }
-{
-}
+{}
 
 /// Refused journals, with the line and its first cause.
 pub fn journals_are_refused()
@@ -31,15 +30,13 @@ pub fn journals_are_refused()
     ensures zero { journal_of (codes "mode run\ncpu 0\nend\n") ≡ refused 2 J4 }
     ensures steps { journal_of (codes "cpu 4000000\ntick 1\ncpu 1\nend\n") ≡ refused 3 J4 }
     ensures ticks { journal_of (codes "tick 4000000\ncpu 1\n\ntick 1\nend\n") ≡ refused 4 J4 }
-{
-}
+{}
 
 /// Scripts are read to their lanes.
 pub fn scripts_are_read()
     ensures lanes { script_of lanes_text ≡ Ok lanes }
     ensures whole { cut_scripts 13 1 ≡ Ok plain ∷ [] }
-{
-}
+{}
 
 /// Refused scripts, with the line and its first cause.
 pub fn scripts_are_refused()
@@ -53,8 +50,7 @@ pub fn scripts_are_refused()
     ensures many_steps { script_of (codes "run 1000001 5 1\nend\n") ≡ refused 1 J4 }
     ensures many_lanes { script_of (codes "run 5 1 32\nend\n") ≡ refused 1 J4 }
     ensures back { script_of (codes "run 10 5 2\n@0 2 clear\n@1 1 clear\n@0 1 clear\nend\n") ≡ refused 4 J5 }
-{
-}
+{}
 
 /// The canonical text, which is read back.
 pub fn journals_are_written()
@@ -65,5 +61,4 @@ pub fn journals_are_written()
     ensures edits_again { journal_of edits_canonical ≡ Ok edits }
     ensures words { text words ≡ words_text }
     ensures nothing { text [] ≡ codes "end\n" }
-{
-}
+{}

@@ -13,8 +13,7 @@ pub fn laws_hold()
     ensures keeps_it { verdicts equals keeps_it ≡ all_hold }
     ensures edited { verdicts one edited ≡ all_hold }
     ensures assembled { verdicts one assembled ≡ all_hold }
-{
-}
+{}
 
 /// Traces that break one law.
 pub fn laws_are_broken()
@@ -30,5 +29,4 @@ pub fn laws_are_broken()
     ensures early { verdicts one early ≡ breaks_version }
     ensures late { verdicts one late ≡ breaks_version }
     ensures interrupted { verdicts two interrupted ≡ breaks_region }
-{
-}
+{}

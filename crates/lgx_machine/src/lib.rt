@@ -26,10 +26,19 @@ pub use bound::{Arg, Bound, Copying, Effect};
 pub use conn::{ConnDef, Slot};
 pub use event::{Accept, Action, Event, RungEdit, Text};
 pub use fault::{Fault, Severity};
+pub use journal_cases::{
+    journals_are_read, journals_are_refused, journals_are_written, scripts_are_read,
+    scripts_are_refused,
+};
+pub use law_runs::{copies_and_refusals, runs_are_legal, scans_keep_rungs, scripts_are_run};
+pub use legal_cases::{laws_are_broken, laws_hold};
 pub use line::Line;
 pub use program::Ins;
 pub use reply::{ConnFault, EditFault, ForceFault, Mode, ModeFault, Reply};
-pub use runs::{copy_runs, data_runs, edit_runs, ladder_runs, task_runs, word_runs};
+pub use runs::{
+    arithmetic_runs, conveyor_run, copy_runs, edit_runs, ladder_runs, routine_runs, task_runs,
+    timer_runs, word_runs,
+};
 pub use script::{JournalCode, JournalFault, Script, Timed};
 pub use tag::{Found, Scope, TagCode};
 pub use task::{TaskDef, TaskKind, TaskName};

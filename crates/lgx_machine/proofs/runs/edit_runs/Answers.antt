@@ -11,6 +11,10 @@ pub returns-clause-owners : goal.returns-clause-owners
 unfolding digits
 returns-clause-owners c = refl
 
+pub returns-clause-order : goal.returns-clause-order
+unfolding digits
+returns-clause-order c = refl
+
 pub returns-clause-label : goal.returns-clause-label
 unfolding digits
 returns-clause-label c = refl

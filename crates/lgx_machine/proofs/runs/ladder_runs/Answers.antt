@@ -15,14 +15,14 @@ pub returns-clause-empty_leg : goal.returns-clause-empty_leg
 unfolding digits
 returns-clause-empty_leg c = refl
 
-pub returns-clause-one_shot : goal.returns-clause-one_shot
+pub returns-clause-first_scan : goal.returns-clause-first_scan
 unfolding digits
-returns-clause-one_shot c = refl
+returns-clause-first_scan c = refl
 
-pub returns-clause-zone : goal.returns-clause-zone
+pub returns-clause-one_shots : goal.returns-clause-one_shots
 unfolding digits
-returns-clause-zone c = refl
+returns-clause-one_shots c = refl
 
-pub returns-clause-depth : goal.returns-clause-depth
+pub returns-clause-one_bit : goal.returns-clause-one_bit
 unfolding digits
-returns-clause-depth c = refl
+returns-clause-one_bit c = refl

@@ -11,6 +11,10 @@ pub returns-clause-regions : goal.returns-clause-regions
 unfolding digits
 returns-clause-regions c = refl
 
+pub returns-clause-scan_end : goal.returns-clause-scan_end
+unfolding digits
+returns-clause-scan_end c = refl
+
 pub returns-clause-turns : goal.returns-clause-turns
 unfolding digits
 returns-clause-turns c = refl
@@ -18,3 +22,7 @@ returns-clause-turns c = refl
 pub returns-clause-watchdog : goal.returns-clause-watchdog
 unfolding digits
 returns-clause-watchdog c = refl
+
+pub returns-clause-released_again : goal.returns-clause-released_again
+unfolding digits
+returns-clause-released_again c = refl

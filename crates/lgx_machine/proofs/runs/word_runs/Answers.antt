@@ -3,9 +3,13 @@ use Rattle.std.proofs.Common.{refl}
 use Rattle.std.specs.Fmt.{digits}
 use Rattle.lgx_machine.proofs.runs.word_runs.Goals as goal
 
-pub returns-clause-forces : goal.returns-clause-forces
+pub returns-clause-words : goal.returns-clause-words
 unfolding digits
-returns-clause-forces c = refl
+returns-clause-words c = refl
+
+pub returns-clause-input : goal.returns-clause-input
+unfolding digits
+returns-clause-input c = refl
 
 pub returns-clause-modes : goal.returns-clause-modes
 unfolding digits

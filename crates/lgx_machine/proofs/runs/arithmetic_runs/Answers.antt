@@ -1,15 +1,7 @@
 -- The runs compute once the digits of numbers do.
 use Rattle.std.proofs.Common.{refl}
 use Rattle.std.specs.Fmt.{digits}
-use Rattle.lgx_machine.proofs.runs.data_runs.Goals as goal
-
-pub returns-clause-timer : goal.returns-clause-timer
-unfolding digits
-returns-clause-timer c = refl
-
-pub returns-clause-counter : goal.returns-clause-counter
-unfolding digits
-returns-clause-counter c = refl
+use Rattle.lgx_machine.proofs.runs.arithmetic_runs.Goals as goal
 
 pub returns-clause-overflow : goal.returns-clause-overflow
 unfolding digits
@@ -18,3 +10,11 @@ returns-clause-overflow c = refl
 pub returns-clause-subscript : goal.returns-clause-subscript
 unfolding digits
 returns-clause-subscript c = refl
+
+pub returns-clause-limits : goal.returns-clause-limits
+unfolding digits
+returns-clause-limits c = refl
+
+pub returns-clause-results : goal.returns-clause-results
+unfolding digits
+returns-clause-results c = refl
