@@ -16,7 +16,7 @@ use Rattle.lgx_machine.specs.declared.reply.Reply.TheVariants as reply
 use Rattle.lgx_machine.specs.declared.event.Action.{Action}
 use Rattle.lgx_machine.specs.declared.event.Action.TheVariants.{WordIn, WordOut, ForceInstall, ForceEnable, ForceDisable, ForceRemove, ModeRun, ModeProgram, Clear}
 use Rattle.lgx_machine.specs.declared.answer.Outcome.{Outcome}
-use Rattle.lgx_machine.specs.Tasks.{held, start, stop}
+use Rattle.lgx_machine.specs.Tasks.{held, start, stop, continuous_task}
 use Rattle.lgx_machine.specs.Connections.{slot, io_word}
 use Rattle.lgx_machine.specs.Forces.{Forces, forced, install, enable, disable, remove_all}
 use Rattle.lgx_machine.specs.Edits.{Book, Edited, edit, selected}
@@ -103,9 +103,17 @@ to_run s = record s { mode = Run; table = start s.tick s.table; progress = map (
 abbrev pub to_program : State → State
 to_program s = record s { mode = Program; table = stop s.table; progress = map dropped s.progress }
 
+-- The outcome of the change to Run tells that the continuous task was released.
+abbrev pub mask_of : Option ℕ → ℕ
+mask_of None = 0
+mask_of (Some t) = 2 ^ t
+
+abbrev pub ran : State → Acted
+ran s = record { state = to_run s; outcome = record { reply = reply.Done; fault = None; released = mask_of (continuous_task s.table) } }
+
 -- From Faulted no change of mode is taken but `clear`, and a change to the present mode is refused.
 abbrev pub run_from : Mode → State → Acted
-run_from Program s = replied (to_run s) reply.Done
+run_from Program s = ran s
 run_from Run s = replied s (reply.Mode M1)
 run_from Faulted s = replied s (reply.Mode M2)
 

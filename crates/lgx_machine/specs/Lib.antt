@@ -52,5 +52,10 @@ pub mod CopyRuns
 pub mod TaskRuns
 pub mod EditRuns
 pub mod WordRuns
+pub mod Partial
+pub mod TraceView
+pub mod Refusals
+pub mod Stages
+pub mod LawRuns
 pub mod ConveyorRun
 pub mod TaskLaws

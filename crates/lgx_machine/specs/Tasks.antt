@@ -105,9 +105,12 @@ abbrev pub put_up_if : Option ℕ → ℕ → Table → Table
 put_up_if None now s = s
 put_up_if (Some t) now s = put_up t now s
 
+abbrev pub continuous_task : Table → Option ℕ
+continuous_task s = position_from (λ d. is_continuous d.kind) 0 s.defs
+
 -- The change to Run puts every task down and releases the continuous one. Ranks go on.
 abbrev pub start : ℕ → Table → Table
-start now s = put_up_if (position_from (λ d. is_continuous d.kind) 0 s.defs) now (record (stop s) { ran_at = now })
+start now s = put_up_if (continuous_task s) now (record (stop s) { ran_at = now })
 
 -- After its last program a task goes down; the continuous task is released again at once.
 abbrev pub finish : ℕ → ℕ → Table → Table
