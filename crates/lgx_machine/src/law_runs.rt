@@ -20,23 +20,20 @@ pub fn runs_are_legal()
     ensures turns { verdicts_on turns_at_ticks turning ≡ all_hold }
     ensures edits { verdicts_on selected_at_begin tested ≡ all_hold }
     ensures copy { verdicts_on whole_copy held_copy ≡ all_hold }
-{
-}
+{}
 
 /// A scan keeps the rungs that were selected at its begin, also where others are selected in its middle.
 pub fn scans_keep_rungs()
     ensures kept { rungs_at one_nop (take 5 emptied) ≡ begun_at one_nop (take 5 emptied) }
     ensures taken { rungs_at one_nop emptied ≡ begun_at one_nop emptied }
-{
-}
+{}
 
 /// A synchronous copy is whole, and what is held or refused changes nothing.
 pub fn copies_and_refusals()
     ensures copy { IsTrue (each_from keeps_copy (stages whole_copy held_copy)) }
     ensures held { AllByRecursion KeepsState (stages whole_copy held_copy) }
     ensures refused { AllByRecursion KeepsState (stages owners clients) }
-{
-}
+{}
 
 /// Journals of scripts, partial and complete.
 pub fn scripts_are_run()
@@ -44,5 +41,4 @@ pub fn scripts_are_run()
     ensures word { IsComplete torn_copy one_word word_at_end }
     ensures open { IsComplete whole_copy (script 3 10) (run_mode ∷ cpu 4) }
     ensures not_yet { IsPartial whole_copy (script 3 10) [] (run_mode ∷ cpu 3) }
-{
-}
+{}

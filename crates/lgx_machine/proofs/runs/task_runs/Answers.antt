@@ -15,6 +15,14 @@ pub returns-clause-scan_end : goal.returns-clause-scan_end
 unfolding digits
 returns-clause-scan_end c = refl
 
+pub returns-clause-programs : goal.returns-clause-programs
+unfolding digits
+returns-clause-programs c = refl
+
+pub returns-clause-at_tick : goal.returns-clause-at_tick
+unfolding digits
+returns-clause-at_tick c = refl
+
 pub returns-clause-turns : goal.returns-clause-turns
 unfolding digits
 returns-clause-turns c = refl
