@@ -22,7 +22,7 @@ use Rattle.lgx_machine.specs.Forces.{Forces, forced, install, enable, disable, r
 use Rattle.lgx_machine.specs.Edits.{Book, Edited, edit, selected}
 use Rattle.lgx_machine.specs.Prescan.{prescan}
 use Rattle.lgx_machine.specs.State.{State, no_progress, dropped}
-use Rattle.lgx_machine.specs.Releases.{Released, release_or_overlap}
+use Rattle.lgx_machine.specs.Releases.{release_or_overlap}
 
 -- the state after an action, and its outcome
 pub record Acted : Type 0 where

@@ -1,5 +1,5 @@
 -- Runs of comparisons, arithmetic and subscripts.
-use Rattle.std.specs.Prelude.{◌≡◌, List, [], ◌∷◌, codes, pos}
+use Rattle.std.specs.Prelude.{◌≡◌, [], ◌∷◌, codes, pos}
 use Rattle.lgx_machine.specs.declared.types.Base.TheVariants.{Dint}
 use Rattle.lgx_machine.specs.Project.{Project}
 use Rattle.lgx_machine.specs.Samples.{array, bool, sint, dint, continuous, plain, with_words, input, is_initially, lines, replay}

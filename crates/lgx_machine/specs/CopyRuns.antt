@@ -1,5 +1,5 @@
 -- Runs of copies with I/O words between their elements.
-use Rattle.std.specs.Prelude.{◌≡◌, List, [], ◌∷◌, codes, pos, negsuc}
+use Rattle.std.specs.Prelude.{◌≡◌, [], ◌∷◌, codes, pos, negsuc}
 use Rattle.lgx_machine.specs.declared.types.Base.TheVariants.{Sint, Int, Dint}
 use Rattle.lgx_machine.specs.Project.{Project}
 use Rattle.lgx_machine.specs.Samples.{array, dint, continuous, plain, with_words, input, is_initially, lines, replay}

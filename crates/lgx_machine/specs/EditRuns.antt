@@ -1,7 +1,7 @@
 -- Runs with online edits.
-use Rattle.std.specs.Prelude.{◌≡◌, List, [], ◌∷◌, codes}
+use Rattle.std.specs.Prelude.{◌≡◌, [], ◌∷◌, codes}
 use Rattle.lgx_machine.specs.Project.{Project}
-use Rattle.lgx_machine.specs.Samples.{bool, dint, continuous, program, plain, lines, replay}
+use Rattle.lgx_machine.specs.Samples.{bool, dint, continuous, plain, lines, replay}
 
 -- The merged rungs that are selected in mid-scan run from the next scan on, and so does the base again.
 abbrev pub selected_at_begin : Project

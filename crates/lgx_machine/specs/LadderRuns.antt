@@ -1,8 +1,8 @@
 -- Runs of rungs, zones and calls.
-use Rattle.std.specs.Prelude.{◌≡◌, List, [], ◌∷◌, codes, pos}
+use Rattle.std.specs.Prelude.{◌≡◌, [], ◌∷◌, codes, pos}
 use Rattle.lgx_machine.specs.declared.task.TaskKind.TheVariants.{Continuous}
 use Rattle.lgx_machine.specs.Project.{Project}
-use Rattle.lgx_machine.specs.Samples.{bool, dint, continuous, program, routines, routine, task, plain, with_words, input, is_initially, lines, replay}
+use Rattle.lgx_machine.specs.Samples.{bool, dint, continuous, routines, routine, task, plain, with_words, input, is_initially, lines, replay}
 
 -- A program without rungs: each scan begins and leaves its main routine.
 abbrev pub empty_program : Project

@@ -1,5 +1,5 @@
 -- Runs of several tasks.
-use Rattle.std.specs.Prelude.{◌≡◌, List, [], ◌∷◌, codes, pos}
+use Rattle.std.specs.Prelude.{◌≡◌, [], ◌∷◌, codes, pos}
 use Rattle.lgx_machine.specs.declared.task.TaskKind.TheVariants.{Continuous, Periodic, Event as EventTask}
 use Rattle.lgx_machine.specs.Project.{Project}
 use Rattle.lgx_machine.specs.Samples.{bool, continuous, program, task, with_watchdog, plain, is_initially, lines, replay}

@@ -1,5 +1,5 @@
 -- Runs of timers and counters.
-use Rattle.std.specs.Prelude.{◌≡◌, List, [], ◌∷◌, codes, pos, negsuc}
+use Rattle.std.specs.Prelude.{◌≡◌, [], ◌∷◌, codes, pos, negsuc}
 use Rattle.lgx_machine.specs.declared.types.Base.TheVariants.{Dint}
 use Rattle.lgx_machine.specs.Project.{Project}
 use Rattle.lgx_machine.specs.Samples.{array, bool, dint, timer, counter, continuous, plain, with_words, input, is_initially, lines, replay}

@@ -1,5 +1,5 @@
 -- Runs with I/O words, forces and modes.
-use Rattle.std.specs.Prelude.{◌≡◌, List, [], ◌∷◌, codes, pos}
+use Rattle.std.specs.Prelude.{◌≡◌, [], ◌∷◌, codes, pos}
 use Rattle.lgx_machine.specs.declared.types.Base.TheVariants.{Dint}
 use Rattle.lgx_machine.specs.declared.task.TaskKind.TheVariants.{Event as EventTask}
 use Rattle.lgx_machine.specs.Project.{Project}
