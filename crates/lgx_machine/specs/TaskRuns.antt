@@ -1,8 +1,9 @@
 -- Runs of several tasks.
 use Rattle.std.specs.Prelude.{◌≡◌, [], ◌∷◌, codes, pos}
+use Rattle.lgx_machine.specs.declared.types.Base.TheVariants.{Dint}
 use Rattle.lgx_machine.specs.declared.task.TaskKind.TheVariants.{Continuous, Periodic, Event as EventTask}
 use Rattle.lgx_machine.specs.Project.{Project}
-use Rattle.lgx_machine.specs.Samples.{bool, continuous, program, task, with_watchdog, plain, is_initially, lines, replay}
+use Rattle.lgx_machine.specs.Samples.{array, bool, continuous, program, task, with_watchdog, plain, with_words, with_trigger, input, is_initially, lines, replay}
 
 -- A periodic task goes before the continuous one, which then goes on where it stood.
 abbrev pub preemption : Project
@@ -159,4 +160,44 @@ ReleasedAgain = replay released_again (lines (codes "mode run"
     ∷ codes "2 3 begin T P 0"
     ∷ codes "4 5 begin T P 0"
     ∷ codes "end 4 5 run lost 0"
+    ∷ [])
+
+-- A region that is never closed keeps the other task waiting; the watchdog ends it.
+abbrev pub open_loop : Project
+open_loop = plain (bool (codes "a") ∷ bool (codes "b") ∷ bool (codes "q") ∷ []) (with_watchdog 3 (continuous (codes "UID();" ∷ codes "LBL(l)JMP(l);" ∷ [])) ∷ task (codes "F") (Periodic 2) 5 (program (codes "Q") (codes "OTL(q);" ∷ []) ∷ []) ∷ []) (is_initially (codes "a") (pos 1) ∷ []) (codes "b" ∷ codes "q" ∷ [])
+
+abbrev pub OpenLoop : Type 0
+OpenLoop = replay open_loop (lines (codes "mode run"
+    ∷ codes "cpu 6"
+    ∷ codes "tick 3"
+    ∷ codes "cpu 2"
+    ∷ codes "end"
+    ∷ []))
+    ≡ lines (codes "0 0 reply 31 ok"
+    ∷ codes "0 1 begin T P 0"
+    ∷ codes "3 6 fault major 6/1 T -"
+    ∷ codes "end 3 8 faulted lost 0"
+    ∷ [])
+
+-- Three tasks of one priority come up in the order C, A, B, and take turns at ticks; A, which has a region open at one, keeps its turn.
+abbrev pub three_in_turn : Project
+three_in_turn = with_words (array (codes "x") Dint 1 ∷ []) (task (codes "D") EventTask 2 (program (codes "PD") (codes "EVENT(C)EVENT(A)EVENT(B);" ∷ []) ∷ []) ∷ task (codes "A") EventTask 3 (program (codes "PA") (codes "UID()NOP();" ∷ []) ∷ []) ∷ task (codes "B") EventTask 3 (program (codes "PB") [] ∷ []) ∷ task (codes "C") EventTask 3 (program (codes "PC") [] ∷ []) ∷ []) (with_trigger 0 (input (codes "I") (codes "x")) ∷ []) [] []
+
+abbrev pub ThreeInTurn : Type 0
+ThreeInTurn = replay three_in_turn (lines (codes "mode run"
+    ∷ codes "in I 0 1"
+    ∷ codes "cpu 5"
+    ∷ codes "tick 1"
+    ∷ codes "cpu 2"
+    ∷ codes "tick 1"
+    ∷ codes "cpu 7"
+    ∷ codes "end"
+    ∷ []))
+    ≡ lines (codes "0 0 reply 31 ok"
+    ∷ codes "0 0 reply 31 ok"
+    ∷ codes "0 1 begin D PD 0"
+    ∷ codes "1 6 begin A PA 0"
+    ∷ codes "2 10 begin B PB 0"
+    ∷ codes "2 12 begin C PC 0"
+    ∷ codes "end 2 14 run lost 0"
     ∷ [])

@@ -3,9 +3,9 @@
 ghost use Rattle.lgx_machine.specs.ArithmeticRuns.{Limits, OverflowAndZeroDivisor, Results, SubscriptOutOfRange};
 ghost use Rattle.lgx_machine.specs.ConveyorRun.{ConveyorRun};
 ghost use Rattle.lgx_machine.specs.CopyRuns.{FillToTheEnd, HeldCommands, ShortSource, TornCopy, WholeCopy};
-ghost use Rattle.lgx_machine.specs.EditRuns.{EditRefusals, LostLabel, MergedOrder, Owners, SelectedAtBegin};
+ghost use Rattle.lgx_machine.specs.EditRuns.{EditRefusals, EditsInMidScan, LostLabel, MergedOrder, Owners, SelectedAtBegin};
 ghost use Rattle.lgx_machine.specs.LadderRuns.{CallAndReturn, CallDepth, DisabledZone, EmptyLeg, EmptyLegFirst, EmptyProgram, FalseConditions, JumpInZone, OneBitForBoth, OneRung, OneShotAfterPrescan, OneShots};
-ghost use Rattle.lgx_machine.specs.TaskRuns.{NestedRegions, OpenAtTick, Preemption, RegionAtScanEnd, ReleasedAgain, TurnsAtTicks, TwoPrograms, Watchdog};
+ghost use Rattle.lgx_machine.specs.TaskRuns.{NestedRegions, OpenAtTick, OpenLoop, Preemption, RegionAtScanEnd, ReleasedAgain, ThreeInTurn, TurnsAtTicks, TwoPrograms, Watchdog};
 ghost use Rattle.lgx_machine.specs.TimerRuns.{CountDown, CounterRollover, NegativePreset, OffDelay, RetentiveTimer, TimeBackwards, TimerOverTicks};
 ghost use Rattle.lgx_machine.specs.WordRuns.{ForcedInput, ForcedWords, LateTrigger, Modes};
 
@@ -66,12 +66,15 @@ pub fn task_runs()
     ensures at_tick { OpenAtTick }
     ensures turns { TurnsAtTicks }
     ensures watchdog { Watchdog }
+    ensures open_loop { OpenLoop }
+    ensures three { ThreeInTurn }
     ensures released_again { ReleasedAgain }
 {}
 
 /// Online edits: when they count, whose they are, what is merged, and each refusal.
 pub fn edit_runs()
     ensures selected { SelectedAtBegin }
+    ensures mid_scan { EditsInMidScan }
     ensures owners { Owners }
     ensures order { MergedOrder }
     ensures label { LostLabel }

@@ -31,6 +31,14 @@ pub returns-clause-watchdog : goal.returns-clause-watchdog
 unfolding digits
 returns-clause-watchdog c = refl
 
+pub returns-clause-open_loop : goal.returns-clause-open_loop
+unfolding digits
+returns-clause-open_loop c = refl
+
+pub returns-clause-three : goal.returns-clause-three
+unfolding digits
+returns-clause-three c = refl
+
 pub returns-clause-released_again : goal.returns-clause-released_again
 unfolding digits
 returns-clause-released_again c = refl
