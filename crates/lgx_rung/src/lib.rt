@@ -7,6 +7,9 @@ mod rung;
 mod text;
 mod texts;
 
+#[cfg(test)]
+mod tests;
+
 pub use fault::{CheckCode, CheckFault, TextCode, TextFault};
 pub use op::{Op, mnemonics_are_read_back};
 pub use rung::{Element, Legs, OpenFork, SourceRung};
