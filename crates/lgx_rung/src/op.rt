@@ -187,5 +187,4 @@ impl Op {
 pub fn mnemonics_are_read_back()
     ensures back { (op : AnyOp) → op_of (text_of op) ≡ Some op }
     ensures distinct { (a b : AnyOp) → text_of a ≡ text_of b → a ≡ b }
-{
-}
+{}

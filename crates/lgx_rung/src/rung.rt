@@ -1,7 +1,6 @@
 // Rungs of source text.
 use crate::op::Op;
 use crate::texts::Texts;
-
 use lgx_num::Memory;
 use std::alloc::Global;
 use std::marker::Model;

@@ -2,7 +2,6 @@ ghost use Rattle.std.specs.Prelude.{◌≡◌, [], ◌∷◌, OnOk, codes};
 ghost use Rattle.lgx_rung.specs.Tree.{append, end, one};
 
 use crate::{Element, Op, OpenFork, SourceRung, Texts};
-
 use lgx_num::Memory;
 use std::alloc::Global;
 use std::test::Fail;

@@ -1,6 +1,6 @@
-use Rattle.std.proofs.Common.{◌≡◌, ap, sym, subst, ◌∙◌, ◌≤◌, [], ◌∷◌, ◌++◌, IsTrue}
+use Rattle.std.proofs.Common.{◌≡◌, ap, sym, subst, ◌∙◌, [], ◌∷◌, ◌++◌, IsTrue}
 use Rattle.std.specs.List.{list_all}
-use Rattle.lgx_rung.specs.Tree.{end, append, depth, fork_of, Source}
+use Rattle.lgx_rung.specs.Tree.{end, append, fork_of}
 use Rattle.lgx_rung.specs.Text.{IsSourceRung, has_operands}
 use Rattle.lgx_rung.specs.Elements.{tree_of}
 use Rattle.lgx_rung.proofs.Trees.{IsSourceRung-fork, tree_of-fork, legs_operands-push}
