@@ -10,3 +10,5 @@ pub mod Reports
 pub mod Values
 pub mod Puts
 pub mod Judged
+pub mod Endings
+pub mod Exactly

@@ -12,7 +12,7 @@ use Rattle.logix_run.specs.declared.judge.Verdict.TheVariants.{Usage, NoProject,
 use Rattle.logix_run.specs.Journal.{events_of}
 use Rattle.logix_run.specs.Report.{report}
 use Rattle.logix_run.specs.Output.{Contents, usage, no_project, no_journal, command_output}
-use Rattle.logix_run.specs.Outside.{Told, Failures, AreToldOf, Gains, OfRead, IsTooLong}
+use Rattle.logix_run.specs.Outside.{Told, Failures, AreToldOf, CameWhole, Gains, OfRead, IsTooLong}
 use Rattle.std.specs.Prelude.{IfSome}
 
 -- the status and the text of a verdict
@@ -32,7 +32,7 @@ IsShort (Report plan entries) = (length plan.watches ≤ 256) × (length (events
 -- the verdict's output is that of contents which are those told, and no read failed
 abbrev pub IsJudged : Told → Failures → Failures → Option (List ℕ × List ℕ) → Verdict → Type 0
 IsJudged told before after names verdict =
-    (contents : Contents) × AreToldOf told names contents × (command_output contents names ≡ output verdict) × (after ≡ before)
+    (contents : Contents) × (AreToldOf told names contents × CameWhole names contents) × (command_output contents names ≡ output verdict) × (after ≡ before)
 
 -- why there is no verdict
 abbrev pub IsStopped : Told → Failures → Failures → Option (List ℕ × List ℕ) → Status → Type 0
@@ -54,3 +54,8 @@ Ends told before after names (Err status) = IsStopped told before after names st
 abbrev pub Writes : Option (List ℕ) → Option (List ℕ) → ℕ → ℕ → Status × List ℕ → Status → Type 0
 Writes before after faults now output result =
     ((result ≡ output.0) × Appends before after output.1) ⊎ ((result ≡ status.WriteFault) × AppendsPart before after output.1 × Rose faults now) ⊎ ((result ≡ status.Memory) × AppendsPart before after output.1)
+
+-- how a call ends: it wrote what it judged of the contents that were read, or it stopped before and wrote nothing
+abbrev pub Ended : Told → Failures → Failures → Option (List ℕ) → Option (List ℕ) → ℕ → ℕ → Option (List ℕ × List ℕ) → Status → Type 0
+Ended told before after held now faults count names result =
+    ((contents : Contents) × (AreToldOf told names contents × CameWhole names contents) × (after ≡ before) × Writes held now faults count (command_output contents names) result) ⊎ (IsStopped told before after names result × (now ≡ held))

@@ -10,4 +10,5 @@ pub mod Report
 pub mod Words
 pub mod Output
 pub mod Outside
+pub mod Where
 pub mod Judging

@@ -26,14 +26,29 @@ AreToldOf told None contents = ⊤
 AreToldOf told (Some (p, j)) contents =
     IfSome (told p) (λ bytes. contents.project ≡ bytes) × IfSome (told j) (λ bytes. contents.journal ≡ bytes)
 
--- the status is what is made of contents that are those told, and all of its text was added to what the sink held
+-- The project came whole, and so did the journal where the project is one: a longer file isn't read.
+abbrev pub CameWhole : Option (List ℕ × List ℕ) → Contents → Type 0
+CameWhole None contents = ⊤
+CameWhole (Some names) contents =
+    (length contents.project ≤ max_bytes) × (IsSome (project_of contents.project) → length contents.journal ≤ max_bytes)
+
+-- contents that came whole and are those told
+abbrev pub AreRead : Told → List (List ℕ) → Contents → Type 0
+AreRead told words contents = AreToldOf told (replay_of words) contents × CameWhole (replay_of words) contents
+
+-- the status is what is made of the contents that were read, and all of its text was added to what the sink held
 abbrev pub AddsAll : Told → Option (List ℕ) → Option (List ℕ) → List (List ℕ) → Status → Type 0
 AddsAll told before after words result =
-    (contents : Contents) × AreToldOf told (replay_of words) contents × (result ≡ (judged contents words).0) × Appends before after (judged contents words).1
+    (contents : Contents) × AreRead told words contents × (result ≡ (judged contents words).0) × Appends before after (judged contents words).1
 
--- of such a text a first part was added
+-- a first part of the text that is made of the contents that were read
 abbrev pub AddsPart : Told → Option (List ℕ) → Option (List ℕ) → List (List ℕ) → Type 0
 AddsPart told before after words =
+    (contents : Contents) × AreRead told words contents × AppendsPart before after (judged contents words).1
+
+-- a first part, maybe nothing, and maybe before the files were read
+abbrev pub AddsPartOrNone : Told → Option (List ℕ) → Option (List ℕ) → List (List ℕ) → Type 0
+AddsPartOrNone told before after words =
     (contents : Contents) × AreToldOf told (replay_of words) contents × AppendsPart before after (judged contents words).1
 
 -- what was added to what the sink held
@@ -44,7 +59,7 @@ Adds told before after words status.Project = AddsAll told before after words st
 Adds told before after words status.Script = AddsAll told before after words status.Script
 Adds told before after words status.ReadFault = after ≡ before
 Adds told before after words status.WriteFault = AddsPart told before after words
-Adds told before after words status.Memory = AddsPart told before after words
+Adds told before after words status.Memory = AddsPartOrNone told before after words
 Adds told before after words status.TooLong = after ≡ before
 
 -- the list of failures gained this pair and no other
@@ -76,13 +91,9 @@ AddsFailure told before after words status.Memory = after ≡ before
 AddsFailure told before after words status.TooLong =
     OfRead told (replay_of words) (λ name. Gains before after name cause.TooLong × IfSome (told name) IsTooLong)
 
--- this status, or want of memory, which is free
-abbrev pub IsOrMemory : Status → Status → Type 0
-IsOrMemory wanted result = (result ≡ wanted) ⊎ (result ≡ status.Memory)
-
--- the list of failures gained no pair of this name and this cause
-abbrev pub GainsNo : Failures → Failures → List ℕ → ReadCause → Type 0
-GainsNo before after name why = Gains before after name why → ⊥
+-- The list of failures didn't gain this name with `Failed`.
+abbrev pub NotFailed : Failures → Failures → List ℕ → Type 0
+NotFailed before after name = Gains before after name cause.Failed → ⊥
 
 -- the count of faults didn't rise
 abbrev pub Calm : ℕ → ℕ → Type 0
