@@ -9,3 +9,7 @@ pub mod Reaching
 pub mod SizesSettle
 mod FormsSpelled
 mod FormsRead
+pub mod TurnLists
+pub mod OrderlyTables
+pub mod OrderlyRuns
+pub mod OrderlyLaws

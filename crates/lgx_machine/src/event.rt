@@ -1,10 +1,23 @@
 // Actions of modules and engineers, and the events of a run.
 use lgx_num::{List, Name};
+use std::marker::Model;
 
-/// The text of a rung edit: at most 65,536 bytes without LF and `|`, and without a blank at its ends.
+/// The text of a rung edit, seen as its bytes: at most 65,536 of them, with no line feed and no `|` among them, and
+/// no blank of neutral text (space, tab, CR, LF) at either end.
 #[derive(Drop)]
 pub struct Text {
-    pub bytes: List<u8>,
+    bytes: Vec<u8>,
+}
+
+impl Model for Text {
+    ghost use Rattle.std.specs.Prelude.{ℕ, List, IsTrue};
+    ghost use Rattle.lgx_machine.specs.TextLines.{is_edit_text};
+
+    ghost Value = { List ℕ };
+
+    ghost view = { λ t. t.bytes.items };
+
+    ghost invariant = { λ t. IsTrue (is_edit_text t.bytes.items) };
 }
 
 #[derive(Drop)]

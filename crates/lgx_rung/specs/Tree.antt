@@ -1,5 +1,5 @@
 -- Rungs as trees: what follows an instruction or a fork is the rest of its leg. A fork has a first leg and others.
-use Rattle.std.specs.Prelude.{ℕ, List, [], ◌∷◌, ◌++◌}
+use Rattle.std.specs.Prelude.{ℕ, ◌+◌, max, List, [], ◌∷◌, ◌++◌}
 use Rattle.lgx_rung.specs.declared.op.Op.{Op}
 
 mutual
@@ -22,6 +22,32 @@ abbrev mutual
   pub leg_instructions : {A : Type 0} → Legs A → List A
   leg_instructions last = []
   leg_instructions (leg t legs) = instructions t ++ leg_instructions legs
+
+-- how many forks stand in one another at most
+abbrev mutual
+  pub depth : {A : Type 0} → Tree A → ℕ
+  depth end = 0
+  depth (one i rest) = depth rest
+  depth (fork t legs rest) = max (max (depth t) (leg_depth legs) + 1) (depth rest)
+
+  pub leg_depth : {A : Type 0} → Legs A → ℕ
+  leg_depth last = 0
+  leg_depth (leg t legs) = max (depth t) (leg_depth legs)
+
+-- a leg, and elements behind it
+abbrev pub append : {A : Type 0} → Tree A → Tree A → Tree A
+append end u = u
+append (one i rest) u = one i (append rest u)
+append (fork t legs rest) u = fork t legs (append rest u)
+
+abbrev pub legs_of : {A : Type 0} → List (Tree A) → Legs A
+legs_of [] = last
+legs_of (t ∷ ts) = leg t (legs_of ts)
+
+-- a fork of these legs, and the rest of the leg that it stands in; there is at least one, and none count as an empty one
+abbrev pub fork_of : {A : Type 0} → List (Tree A) → Tree A → Tree A
+fork_of [] rest = fork end last rest
+fork_of (t ∷ ts) rest = fork t (legs_of ts) rest
 
 -- an instruction of source text: its mnemonic, and its operands as they were written
 pub record SourceIns : Type 0 where

@@ -1,0 +1,173 @@
+-- The text of a journal: how its lines are read, with the first line that is refused and its first cause, and the
+-- canonical text of a list of events.
+use Rattle.std.specs.Prelude.{ℕ, ◌+◌, List, [], ◌∷◌, ◌++◌, length, replicate, flat_map, Bool, true, false, not, ◌&&◌, ◌||◌, nat_lt, nat_eq, if◌then◌else◌, Option, Some, None, option_map, Result, Ok, Err, codes, decimal}
+use Rattle.std.specs.Str.{bytes_eq}
+use Rattle.lgx_machine.specs.declared.event.Action.{Action}
+use Rattle.lgx_machine.specs.declared.event.Event.{Event}
+use Rattle.lgx_machine.specs.declared.event.Event.TheVariants.{Cpu, Tick, Act}
+use Rattle.lgx_machine.specs.declared.script.JournalCode.{JournalCode}
+use Rattle.lgx_machine.specs.declared.script.JournalCode.TheVariants.{J1, J2, J4}
+use Rattle.lgx_machine.specs.declared.script.JournalFault.{JournalFault}
+use Rattle.lgx_machine.specs.TextLines.{lines, is_skipped, words, first_word, behind_word, number_of}
+use Rattle.lgx_machine.specs.ActionText.{or_else, at_word, action_of, action_words, spaced}
+
+-- an event and how often it stands there; an action stands there once
+pub record EventRun : Type 0 where
+  pub event : Event
+  pub count : ℕ
+
+abbrev pub events_of : List EventRun → List Event
+events_of runs = flat_map (λ r. replicate r.count r.event) runs
+
+-- ---- one line
+
+-- the lane that a line names by its first word, `@LANE`
+abbrev pub at_lane : List ℕ → Option ℕ
+at_lane [] = None
+at_lane (c ∷ digits) = if nat_eq c 64 then number_of digits else None
+
+abbrev pub lane_of : List ℕ → Option ℕ
+lane_of line = at_lane (first_word line)
+
+abbrev pub action_run : ℕ → Option Action → Option EventRun
+action_run lane o = option_map (λ a. record { event = Act lane a; count = 1 }) o
+
+-- `cpu N` is N events, and `tick N` too
+abbrev pub times : Event → Option ℕ → Option EventRun
+times e None = None
+times e (Some n) = Some (record { event = e; count = n })
+
+abbrev pub counted_run : List (List ℕ) → Option EventRun
+counted_run (verb ∷ count ∷ []) = or_else (at_word verb (codes "cpu") (times Cpu (number_of count))) (at_word verb (codes "tick") (times Tick (number_of count)))
+counted_run _ = None
+
+-- `@LANE ACTION`
+abbrev pub lane_run : List ℕ → Option ℕ → Option EventRun
+lane_run line None = None
+lane_run line (Some lane) = action_run lane (action_of (behind_word line))
+
+-- what a line of a journal says; an action without a lane is of lane 31
+abbrev pub run_of : List ℕ → Option EventRun
+run_of line = or_else (counted_run (words line)) (or_else (lane_run line (lane_of line)) (action_run 31 (action_of line)))
+
+-- the line `end` ends a text; what follows isn't read
+abbrev pub is_end : List ℕ → Bool
+is_end line = bytes_eq (spaced (words line)) (codes "end")
+
+-- ---- limits
+
+-- how many processor steps, ticks and actions stand in a text so far
+pub record Tally : Type 0 where
+  pub steps : ℕ
+  pub ticks : ℕ
+  pub actions : ℕ
+
+abbrev pub with_run : Tally → EventRun → Tally
+with_run t r = add r.event
+  where
+    add : Event → Tally
+    add Cpu = record t { steps = t.steps + r.count }
+    add Tick = record t { ticks = t.ticks + r.count }
+    add (Act lane a) = record t { actions = t.actions + r.count }
+
+-- at most 4,000,000 processor steps, 4,000,000 ticks and 100,000 actions
+abbrev pub is_over : Tally → Bool
+is_over t = nat_lt 4000000 t.steps || nat_lt 4000000 t.ticks || nat_lt 100000 t.actions
+
+-- at most 65,536 bytes in a line
+abbrev pub is_long : List ℕ → Bool
+is_long line = nat_lt 65536 (length line)
+
+-- a lane of modules and engineers is at most 30
+abbrev pub is_no_lane : Option ℕ → Bool
+is_no_lane None = false
+is_no_lane (Some lane) = nat_lt 30 lane
+
+-- ---- the first cause of a line, and the first line that has one
+
+infixl 10 ◌>>=◌
+abbrev pub ◌>>=◌ : {A B : Type 0} → Result A JournalCode → (A → Result B JournalCode) → Result B JournalCode
+(Err e) >>= f = Err e
+(Ok x) >>= f = f x
+
+abbrev pub some_or : {A : Type 0} → JournalCode → Option A → Result A JournalCode
+some_or e None = Err e
+some_or e (Some x) = Ok x
+
+abbrev pub unless : Bool → JournalCode → Result (Unit {0}) JournalCode
+unless true e = Err e
+unless false e = Ok tt
+
+-- what a line says behind a text with this tally, or its first cause
+abbrev pub read_line : Tally → List ℕ → Result EventRun JournalCode
+read_line t line = do
+  _ ← unless (is_long line) J1
+  run ← some_or J1 (run_of line)
+  _ ← unless (is_no_lane (lane_of line)) J2
+  _ ← unless (nat_eq run.count 0 || is_over (with_run t run)) J4
+  Ok run
+
+abbrev pub refused : {A : Type 0} → ℕ → JournalCode → Result A JournalFault
+refused n code = Err (record { code = code; line = n })
+
+abbrev pub before_rest : EventRun → Result (List EventRun) JournalFault → Result (List EventRun) JournalFault
+before_rest r (Err e) = Err e
+before_rest r (Ok rs) = Ok (r ∷ rs)
+
+-- the lines from number n on, behind a text with this tally; a text without `end` is refused at the line after its last
+abbrev pub runs_from : ℕ → Tally → List (List ℕ) → Result (List EventRun) JournalFault
+runs_from n t [] = refused n J1
+runs_from n t (l ∷ ls) =
+    elim (is_skipped l) [
+      | true ↦ runs_from (n + 1) t ls
+      | false ↦ elim (is_end l && not (is_long l)) [
+        | true ↦ Ok []
+        | false ↦ elim (read_line t l) [ Err code ↦ refused n code | Ok r ↦ before_rest r (runs_from (n + 1) (with_run t r) ls) ]
+      ]
+    ]
+
+abbrev pub no_events : Tally
+no_events = record { steps = 0; ticks = 0; actions = 0 }
+
+-- the journal that a text is, as runs, or the first line with a cause and its first cause
+abbrev pub journal_runs : List ℕ → Result (List EventRun) JournalFault
+journal_runs bytes = runs_from 1 no_events (lines bytes)
+
+abbrev pub all_events : Result (List EventRun) JournalFault → Result (List Event) JournalFault
+all_events (Err e) = Err e
+all_events (Ok runs) = Ok (events_of runs)
+
+abbrev pub journal_of : List ℕ → Result (List Event) JournalFault
+journal_of bytes = all_events (journal_runs bytes)
+
+-- ---- the canonical text
+
+-- runs of processor steps, and of ticks, are one run each
+abbrev pub runs_on : Event → Event → Bool
+runs_on Cpu Cpu = true
+runs_on Tick Tick = true
+runs_on _ _ = false
+
+abbrev pub before_runs : Event → List EventRun → List EventRun
+before_runs e [] = record { event = e; count = 1 } ∷ []
+before_runs e (r ∷ rs) = if runs_on e r.event then record r { count = r.count + 1 } ∷ rs else record { event = e; count = 1 } ∷ r ∷ rs
+
+abbrev pub joined : List Event → List EventRun
+joined [] = []
+joined (e ∷ es) = before_runs e (joined es)
+
+-- lane 31's lines have no `@`
+abbrev pub lane_words : ℕ → List (List ℕ)
+lane_words lane = if nat_eq lane 31 then [] else (64 ∷ decimal lane) ∷ []
+
+abbrev pub event_words : Event → ℕ → List (List ℕ)
+event_words Cpu count = codes "cpu" ∷ decimal count ∷ []
+event_words Tick count = codes "tick" ∷ decimal count ∷ []
+event_words (Act lane a) count = lane_words lane ++ action_words a
+
+abbrev pub line_of : Event → ℕ → List ℕ
+line_of e count = spaced (event_words e count) ++ 10 ∷ []
+
+-- one line a run with its whole count, and the line `end` last
+abbrev pub text : List Event → List ℕ
+text journal = flat_map (λ r. line_of r.event r.count) (joined journal) ++ codes "end" ++ 10 ∷ []

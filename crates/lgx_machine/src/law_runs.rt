@@ -1,0 +1,44 @@
+// Runs of the machine that keep the laws of the schedule, and journals of scripts. Each function is a law: it does
+// nothing, and its contract is what is shown.
+ghost use Rattle.std.specs.Prelude.{◌≡◌, ◌∷◌, ◌++◌, [], take, IsTrue, length};
+ghost use Rattle.std.specs.List.{AllByRecursion};
+ghost use Rattle.lgx_machine.specs.LegalCases.{all_hold};
+ghost use Rattle.lgx_machine.specs.JournalCases.{cpu, tick, paced, tested, clients};
+ghost use Rattle.lgx_machine.specs.LadderRuns.{one_rung};
+ghost use Rattle.lgx_machine.specs.TaskRuns.{preemption, nested_regions, turns_at_ticks};
+ghost use Rattle.lgx_machine.specs.EditRuns.{selected_at_begin, owners};
+ghost use Rattle.lgx_machine.specs.CopyRuns.{torn_copy, whole_copy};
+ghost use Rattle.lgx_machine.specs.Partial.{IsPartial, IsComplete};
+ghost use Rattle.lgx_machine.specs.Stages.{stages, each_from, keeps_copy, KeepsState};
+ghost use Rattle.lgx_machine.specs.LawRuns.{verdicts_on, run_mode, preempted, nested, turning, rungs_at, begun_at, held_copy, script, one_word, word_at_end, one_nop, emptied};
+
+/// The laws that a trace shows by itself hold of runs with preemption, nested regions, turns at ticks, edits in
+/// mid-scan and a synchronous copy.
+pub fn runs_are_legal()
+    ensures preemption { verdicts_on preemption preempted ≡ all_hold }
+    ensures nested { verdicts_on nested_regions nested ≡ all_hold }
+    ensures turns { verdicts_on turns_at_ticks turning ≡ all_hold }
+    ensures edits { verdicts_on selected_at_begin tested ≡ all_hold }
+    ensures copy { verdicts_on whole_copy held_copy ≡ all_hold }
+{}
+
+/// A scan keeps the rungs that were selected at its begin, also where others are selected in its middle.
+pub fn scans_keep_rungs()
+    ensures kept { rungs_at one_nop (take 5 emptied) ≡ begun_at one_nop (take 5 emptied) }
+    ensures taken { rungs_at one_nop emptied ≡ begun_at one_nop emptied }
+{}
+
+/// A synchronous copy is whole, and what is held or refused changes nothing.
+pub fn copies_and_refusals()
+    ensures copy { IsTrue (each_from keeps_copy (stages whole_copy held_copy)) }
+    ensures held { AllByRecursion KeepsState (stages whole_copy held_copy) }
+    ensures refused { AllByRecursion KeepsState (stages owners clients) }
+{}
+
+/// Journals of scripts, partial and complete.
+pub fn scripts_are_run()
+    ensures paced { IsComplete one_rung (script 3 2) paced }
+    ensures word { IsComplete torn_copy one_word word_at_end }
+    ensures open { IsComplete whole_copy (script 3 10) (run_mode ∷ cpu 4) }
+    ensures not_yet { IsPartial whole_copy (script 3 10) [] (run_mode ∷ cpu 3) }
+{}
