@@ -12,3 +12,4 @@ pub mod Puts
 pub mod Judged
 pub mod Endings
 pub mod Exactly
+pub mod TagNames

@@ -16,6 +16,7 @@ mod recorder;
 mod report;
 mod rung;
 mod status;
+mod tags;
 mod words;
 
 pub use program::logix_plain;

@@ -8,7 +8,8 @@ ghost use Rattle.logix_run.specs.Project.{tag_name, names_of, rungs_of, routine_
 use crate::fields::{
     Object, is_object_of, list_at, name_at, number_at, only_item, optional_list_at, text_at,
 };
-use crate::rung::{rung_of, tag_at};
+use crate::rung::rung_of;
+use crate::tags::Tags;
 use lgx_core::{Initial, Ins, Project, Watch};
 use lgx_num::{List, Memory, Name, same};
 use serde_json::Value;
@@ -32,28 +33,27 @@ fn tag_name(value: &Value) -> Option<Name>
 }
 
 #[tactic(auto, using(crate::proofs::Items::item_counts), unfolding(crate::specs::Project::names_of))]
-fn names_of(alloc: Global, tags: &[Value]) -> Result<Option<Vec<Name>>, Memory>
-    ensures names { IfOk result (λ o. option_map (λ v. v.items) o ≡ names_of (items_view tags.now)) }
-    ensures few { IfOk result (λ o. IfSome o (λ v. length v.items ≤ 4096)) }
+fn names_of(alloc: Global, tags: &[Value]) -> Result<Option<Tags>, Memory>
+    ensures names { IfOk result (λ o. o ≡ names_of (items_view tags.now)) }
+    ensures few { IfOk result (λ o. IfSome o (λ names. length names ≤ 4096)) }
 {
     if tags.len() > 4096 {
         return Ok(None);
     }
-    let mut names = Vec::new(alloc);
+    let mut names = Tags::new(alloc);
     for tag in tags {
         let Some(name) = tag_name(tag) else {
             return Ok(None);
         };
-        if tag_at(&names, name.bytes()).is_some() {
+        if !names.add(alloc, name)? {
             return Ok(None);
         }
-        names.push(name)?;
     }
     Ok(Some(names))
 }
 
 #[tactic(auto, using(crate::proofs::Items::item_counts), unfolding(crate::specs::Project::rungs_of))]
-fn rungs_of(alloc: Global, names: &[Name], texts: &[Value]) -> Result<Option<Rungs>, Memory>
+fn rungs_of(alloc: Global, names: &Tags, texts: &[Value]) -> Result<Option<Rungs>, Memory>
     requires { length names.now ≤ 4096 }
     ensures rungs { IfOk result (λ o. option_map (λ v. v.items) o ≡ rungs_of names.now (items_view texts.now)) }
     ensures fit { IfOk result (λ o. IfSome o (λ v. IsTrue (rungs_fit (length names.now) v.items))) }
@@ -82,7 +82,7 @@ fn rungs_of(alloc: Global, names: &[Name], texts: &[Value]) -> Result<Option<Run
 #[tactic(auto, unfolding(crate::specs::Project::routine_of))]
 fn routine_of(
     alloc: Global,
-    names: &[Name],
+    names: &Tags,
     main: &Name,
     value: &Value,
 ) -> Result<Option<Rungs>, Memory>
@@ -108,7 +108,7 @@ fn routine_of(
 #[tactic(auto, unfolding(crate::specs::Project::program_of))]
 fn program_of(
     alloc: Global,
-    names: &[Name],
+    names: &Tags,
     value: &Value,
 ) -> Result<Option<(Name, List<List<Ins>>)>, Memory>
     requires { length names.now ≤ 4096 }
@@ -157,29 +157,36 @@ fn task_of(program: &Name, value: &Value) -> Option<Name>
 }
 
 #[tactic(auto, unfolding(crate::specs::Project::initial_of))]
-fn initial_of(names: &[Name], value: &Value) -> Option<Initial>
+fn initial_of(alloc: Global, names: &Tags, value: &Value) -> Result<Option<Initial>, Memory>
     requires { length names.now ≤ 4096 }
-    ensures initial { result ≡ initial_of names.now (view value.now) }
-    ensures below { IfSome result (λ x. x.tag < length names.now) }
+    ensures initial { IfOk result (λ o. o ≡ initial_of names.now (view value.now)) }
+    ensures below { IfOk result (λ o. IfSome o (λ x. x.tag < length names.now)) }
 {
     if !is_object_of(Object::Initial, value) {
-        return None;
+        return Ok(None);
     }
-    let tag = tag_at(names, text_at("tag", value)?.as_bytes())?;
-    let number = number_at("value", value)?;
+    let Some(text) = text_at("tag", value) else {
+        return Ok(None);
+    };
+    let Some(tag) = names.find(alloc, text.as_bytes())? else {
+        return Ok(None);
+    };
+    let Some(number) = number_at("value", value) else {
+        return Ok(None);
+    };
     if number > 1 {
-        return None;
+        return Ok(None);
     }
-    Some(Initial {
+    Ok(Some(Initial {
         tag,
         value: number == 1,
-    })
+    }))
 }
 
 #[tactic(auto, using(crate::proofs::Items::item_counts), unfolding(crate::specs::Project::initials_of))]
 fn initials_of(
     alloc: Global,
-    names: &[Name],
+    names: &Tags,
     values: &[Value],
 ) -> Result<Option<Vec<Initial>>, Memory>
     requires { length names.now ≤ 4096 }
@@ -191,7 +198,7 @@ fn initials_of(
     }
     let mut done = Vec::new(alloc);
     for value in values {
-        let Some(x) = initial_of(names, value) else {
+        let Some(x) = initial_of(alloc, names, value)? else {
             return Ok(None);
         };
         done.push(x)?;
@@ -200,18 +207,25 @@ fn initials_of(
 }
 
 #[tactic(auto, unfolding(crate::specs::Project::watch_of))]
-fn watch_of(names: &[Name], value: &Value) -> Option<Watch>
+fn watch_of(alloc: Global, names: &Tags, value: &Value) -> Result<Option<Watch>, Memory>
     requires { length names.now ≤ 4096 }
-    ensures watch { result ≡ watch_of names.now (view value.now) }
-    ensures below { IfSome result (λ w. w.tag < length names.now) }
+    ensures watch { IfOk result (λ o. o ≡ watch_of names.now (view value.now)) }
+    ensures below { IfOk result (λ o. IfSome o (λ w. w.tag < length names.now)) }
 {
-    let text = Name::read(value.as_str()?.as_bytes())?;
-    let tag = tag_at(names, text.bytes())?;
-    Some(Watch { text, tag })
+    let Some(text) = value.as_str() else {
+        return Ok(None);
+    };
+    let Some(text) = Name::read(text.as_bytes()) else {
+        return Ok(None);
+    };
+    let Some(tag) = names.find(alloc, text.bytes())? else {
+        return Ok(None);
+    };
+    Ok(Some(Watch { text, tag }))
 }
 
 #[tactic(auto, using(crate::proofs::Items::item_counts), unfolding(crate::specs::Project::watches_of))]
-fn watches_of(alloc: Global, names: &[Name], values: &[Value]) -> Result<Option<Vec<Watch>>, Memory>
+fn watches_of(alloc: Global, names: &Tags, values: &[Value]) -> Result<Option<Vec<Watch>>, Memory>
     requires { length names.now ≤ 4096 }
     ensures watches { IfOk result (λ o. option_map (λ v. v.items) o ≡ watches_of names.now (items_view values.now)) }
     ensures fit { IfOk result (λ o. IfSome o (λ v. IsTrue (watches_fit (length names.now) v.items))) }
@@ -222,7 +236,7 @@ fn watches_of(alloc: Global, names: &[Name], values: &[Value]) -> Result<Option<
     }
     let mut done = Vec::new(alloc);
     for value in values {
-        let Some(x) = watch_of(names, value) else {
+        let Some(x) = watch_of(alloc, names, value)? else {
             return Ok(None);
         };
         done.push(x)?;
@@ -231,9 +245,9 @@ fn watches_of(alloc: Global, names: &[Name], values: &[Value]) -> Result<Option<
 }
 
 #[tactic(auto, unfolding(crate::specs::Project::tags_of))]
-fn tags_of(alloc: Global, value: &Value) -> Result<Option<Vec<Name>>, Memory>
-    ensures names { IfOk result (λ o. option_map (λ v. v.items) o ≡ tags_of (view value.now)) }
-    ensures few { IfOk result (λ o. IfSome o (λ v. length v.items ≤ 4096)) }
+fn tags_of(alloc: Global, value: &Value) -> Result<Option<Tags>, Memory>
+    ensures names { IfOk result (λ o. o ≡ tags_of (view value.now)) }
+    ensures few { IfOk result (λ o. IfSome o (λ names. length names ≤ 4096)) }
 {
     if !is_object_of(Object::Top, value) || number_at("schema", value) != Some(1) {
         return Ok(None);
@@ -250,7 +264,7 @@ fn tags_of(alloc: Global, value: &Value) -> Result<Option<Vec<Name>>, Memory>
 #[tactic(auto, unfolding(crate::specs::Project::the_program))]
 fn the_program(
     alloc: Global,
-    names: &[Name],
+    names: &Tags,
     value: &Value,
 ) -> Result<Option<(Name, List<List<Ins>>)>, Memory>
     requires { length names.now ≤ 4096 }
@@ -276,11 +290,7 @@ fn the_task(program: &Name, value: &Value) -> Option<Name>
 }
 
 #[tactic(auto, unfolding(crate::specs::Project::the_initials))]
-fn the_initials(
-    alloc: Global,
-    names: &[Name],
-    value: &Value,
-) -> Result<Option<Vec<Initial>>, Memory>
+fn the_initials(alloc: Global, names: &Tags, value: &Value) -> Result<Option<Vec<Initial>>, Memory>
     requires { length names.now ≤ 4096 }
     ensures initials { IfOk result (λ o. option_map (λ v. v.items) o ≡ the_initials names.now (view value.now)) }
     ensures fit { IfOk result (λ o. IfSome o (λ v. IsTrue (initial_fits (length names.now) v.items))) }
@@ -292,7 +302,7 @@ fn the_initials(
 }
 
 #[tactic(auto, unfolding(crate::specs::Project::the_watches))]
-fn the_watches(alloc: Global, names: &[Name], value: &Value) -> Result<Option<Vec<Watch>>, Memory>
+fn the_watches(alloc: Global, names: &Tags, value: &Value) -> Result<Option<Vec<Watch>>, Memory>
     requires { length names.now ≤ 4096 }
     ensures watches { IfOk result (λ o. option_map (λ v. v.items) o ≡ the_watches names.now (view value.now)) }
     ensures fit { IfOk result (λ o. IfSome o (λ v. IsTrue (watches_fit (length names.now) v.items))) }
