@@ -1,20 +1,19 @@
 -- Runs of the machine, as the laws of the schedule and scripts see them.
-use Rattle.std.specs.Prelude.{◌≡◌, ℕ, List, [], ◌∷◌, ◌++◌, map, take, replicate, Bool, Option, Some, None, option_map, IsTrue, codes, ℤ, pos}
-use Rattle.lgx_machine.specs.declared.event.Action.{Action}
-use Rattle.lgx_machine.specs.declared.event.Action.TheVariants.{WordIn, Test, Untest, Cancel, ModeRun, ModeProgram}
+use Rattle.std.specs.Prelude.{ℕ, List, [], ◌∷◌, ◌++◌, Bool, Option, option_map, codes, pos}
+use Rattle.lgx_machine.specs.declared.event.Action.TheVariants.{WordIn, Test, ModeRun, ModeProgram}
 use Rattle.lgx_machine.specs.declared.event.RungEdit.TheVariants.{Replace}
 use Rattle.lgx_machine.specs.declared.event.Event.{Event}
-use Rattle.lgx_machine.specs.declared.event.Event.TheVariants.{Cpu, Tick, Act}
+use Rattle.lgx_machine.specs.declared.event.Event.TheVariants.{Act}
 use Rattle.lgx_machine.specs.declared.script.Script.{Script}
 use Rattle.lgx_machine.specs.Position.{ProgramRungs}
 use Rattle.lgx_machine.specs.Project.{Project}
-use Rattle.lgx_machine.specs.State.{start, Scan}
+use Rattle.lgx_machine.specs.State.{start}
 use Rattle.lgx_machine.specs.Machine.{run}
 use Rattle.lgx_machine.specs.JournalCases.{cpu, tick, timed, accept}
 use Rattle.lgx_machine.specs.Samples.{plain, continuous}
 use Rattle.lgx_machine.specs.Legal.{verdicts}
 use Rattle.lgx_machine.specs.TraceView.{table_of, view}
-use Rattle.lgx_machine.specs.Stages.{scan_of, stages, begun_by, each_from, keeps_copy}
+use Rattle.lgx_machine.specs.Stages.{scan_of, stages, begun_by}
 
 -- the verdicts on a run of the machine
 abbrev pub verdicts_on : Project → List Event → List Bool
