@@ -1,5 +1,5 @@
 -- The actions of modules and engineers: I/O words, forces, edits and modes.
-use Rattle.std.specs.Prelude.{ℕ, ◌^◌, Bool, true, false, List, map, ℤ, Option, Some, None, Result, Ok, Err, fold}
+use Rattle.std.specs.Prelude.{ℕ, ◌^◌, Bool, true, false, if◌then◌else◌, List, map, ℤ, Option, Some, None, Result, Ok, Err, fold}
 use Rattle.std.specs.Int.{w32}
 use Rattle.lgx_num.specs.Image.{signed_at, write_signed}
 use Rattle.lgx_machine.specs.declared.fault.Fault.{Fault}
@@ -35,11 +35,7 @@ replied s r = record { state = s; outcome = record { reply = r; fault = None; re
 
 -- I/O words and mode commands are answered Held exactly where a CPS is in progress.
 abbrev pub unless_held : State → Acted → Acted
-unless_held s a = go (held s.table)
-  where
-    go : Bool → Acted
-    go true = replied s reply.Held
-    go false = a
+unless_held s a = if held s.table then replied s reply.Held else a
 
 -- ---- I/O words
 

@@ -14,6 +14,7 @@ mod line;
 mod program;
 mod reply;
 mod runs;
+mod sanity;
 mod script;
 mod tag;
 mod task;
@@ -38,6 +39,9 @@ pub use reply::{ConnFault, EditFault, ForceFault, Mode, ModeFault, Reply};
 pub use runs::{
     arithmetic_runs, conveyor_run, copy_runs, edit_runs, ladder_runs, routine_runs, task_runs,
     timer_runs, word_runs,
+};
+pub use sanity::{
+    open_task_is_up, ranks_are_ordered, steps_are_of_up_tasks, tasks_are_down_outside_run,
 };
 pub use script::{JournalCode, JournalFault, Script, Timed};
 pub use tag::{Found, Scope, TagCode};

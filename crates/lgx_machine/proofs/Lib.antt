@@ -1,0 +1,5 @@
+pub mod Places
+pub mod Ordered
+pub mod ChosenTask
+pub mod Sane
+pub mod UpSteps
