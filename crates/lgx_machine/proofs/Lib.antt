@@ -1,5 +1,4 @@
-pub mod Places
-pub mod Ordered
-pub mod ChosenTask
-pub mod Sane
-pub mod UpSteps
+pub mod TurnLists
+pub mod OrderlyTables
+pub mod OrderlyRuns
+pub mod OrderlyLaws

@@ -1,5 +1,5 @@
 -- The actions of modules and engineers: I/O words, forces, edits and modes.
-use Rattle.std.specs.Prelude.{ℕ, ◌^◌, Bool, true, false, if◌then◌else◌, List, map, ℤ, Option, Some, None, Result, Ok, Err, fold}
+use Rattle.std.specs.Prelude.{ℕ, ◌^◌, Bool, true, false, List, map, ℤ, Option, Some, None, Result, Ok, Err, fold}
 use Rattle.std.specs.Int.{w32}
 use Rattle.lgx_num.specs.Image.{signed_at, write_signed}
 use Rattle.lgx_machine.specs.declared.fault.Fault.{Fault}
@@ -33,22 +33,24 @@ pub record Acted : Type 0 where
 abbrev pub replied : State → Reply → Acted
 replied s r = record { state = s; outcome = record { reply = r; fault = None; released = 0 } }
 
+abbrev pub held_or : Bool → State → Acted → Acted
+held_or true s a = replied s reply.Held
+held_or false s a = a
+
 -- I/O words and mode commands are answered Held exactly where a CPS is in progress.
 abbrev pub unless_held : State → Acted → Acted
-unless_held s a = if held s.table then replied s reply.Held else a
+unless_held s a = held_or (held s.table) s a
 
 -- ---- I/O words
 
-abbrev pub after_trigger : ℕ → Released → Acted
-after_trigger t r = go r.fault
-  where
-    go : Option Fault → Acted
-    go None = record { state = r.state; outcome = record { reply = reply.Done; fault = None; released = 2 ^ t } }
-    go (Some f) = record { state = r.state; outcome = record { reply = reply.Done; fault = Some f; released = 0 } }
+-- the word is taken; bit t of the mask of released tasks stands for task t
+abbrev pub after_trigger : ℕ → State → Option Fault → Acted
+after_trigger t s None = record { state = s; outcome = record { reply = reply.Done; fault = None; released = 2 ^ t } }
+after_trigger t s (Some f) = record { state = s; outcome = record { reply = reply.Done; fault = Some f; released = 0 } }
 
 -- a trigger releases its event task in Run alone
 abbrev pub triggers : State → Mode → Option ℕ → Acted
-triggers s Run (Some t) = after_trigger t (release_or_overlap t s)
+triggers s Run (Some t) = let r = release_or_overlap t s in after_trigger t r.state r.fault
 triggers s _ _ = replied s reply.Done
 
 abbrev pub put_in : State → ℤ → Result Slot ConnFault → Acted

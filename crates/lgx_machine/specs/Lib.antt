@@ -58,4 +58,4 @@ pub mod Refusals
 pub mod Stages
 pub mod LawRuns
 pub mod ConveyorRun
-pub mod Sanity
+pub mod TaskLaws

@@ -19,15 +19,14 @@ pub record Ticked : Type 0 where
 abbrev pub quiet : TickReport
 quiet = record { watchdog = None; released = 0; overlapped = 0 }
 
-abbrev pub noted : ℕ → TickReport → Released → Ticked
-noted t report r = go r.fault
-  where
-    go : Option Fault → Ticked
-    go None = record { state = r.state; report = record report { released = report.released + 2 ^ t } }
-    go (Some f) = record { state = r.state; report = record report { overlapped = report.overlapped + 2 ^ t } }
+-- task t was released, or it overlapped with this fault
+abbrev pub noted : ℕ → TickReport → State → Option Fault → Ticked
+noted t report s None = record { state = s; report = record report { released = report.released + 2 ^ t } }
+noted t report s (Some f) = record { state = s; report = record report { overlapped = report.overlapped + 2 ^ t } }
 
 abbrev pub release_if_due : Ticked → ℕ → Ticked
-release_if_due x t = if due t x.state.tick x.state.table then noted t x.report (release_or_overlap t x.state) else x
+release_if_due x t =
+    let r = release_or_overlap t x.state in if due t x.state.tick x.state.table then noted t x.report r.state r.fault else x
 
 -- each due task, in project order
 abbrev pub release_due : State → Ticked

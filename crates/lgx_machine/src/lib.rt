@@ -14,10 +14,10 @@ mod line;
 mod program;
 mod reply;
 mod runs;
-mod sanity;
 mod script;
 mod tag;
 mod task;
+mod task_laws;
 mod text_cases;
 mod trace;
 mod types;
@@ -40,12 +40,10 @@ pub use runs::{
     arithmetic_runs, conveyor_run, copy_runs, edit_runs, ladder_runs, routine_runs, task_runs,
     timer_runs, word_runs,
 };
-pub use sanity::{
-    open_task_is_up, ranks_are_ordered, steps_are_of_up_tasks, tasks_are_down_outside_run,
-};
 pub use script::{JournalCode, JournalFault, Script, Timed};
 pub use tag::{Found, Scope, TagCode};
 pub use task::{TaskDef, TaskKind, TaskName};
+pub use task_laws::tasks_stay_orderly;
 pub use text_cases::{
     cause_cases, conveyor_checked, conveyor_layout, conveyor_places, declare_cases, layout_cases,
     resolution_cases, type_fault_cases,

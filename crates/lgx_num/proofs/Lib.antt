@@ -1,1 +1,4 @@
 pub mod Names
+pub mod Numbers
+pub mod Images
+pub mod Subscripts

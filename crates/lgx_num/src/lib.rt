@@ -5,12 +5,14 @@
 //! place and what a write makes of an image are the definitions `number` and `write` of `specs/Image.antt`.
 #![tactic(auto)]
 
+mod laws;
 mod list;
 mod memory;
 mod name;
 mod number;
 mod place;
 
+pub use laws::{law_of_bytes, law_of_low_bits, law_of_subscripts, law_of_writes};
 pub use list::List;
 pub use memory::Memory;
 pub use name::{Name, same};

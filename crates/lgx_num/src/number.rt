@@ -18,8 +18,8 @@ pub enum Kind {
 
 /// The signed number of the low 8, 16 or 32 bits of a value; for a bit the lowest one.
 ///
-/// It is what a destination keeps of a result that may be too large for it (1756-RM003, arithmetic status flags: an
-/// overflow stores the low bits).
+/// It is what a destination keeps of a result that is too large for it (1756-RM003, data conversions: from a larger
+/// integer to a smaller one the upper part is cut off).
 pub fn store_low(kind: Kind, value: i64) -> i32
     ensures { result ≡ store_low kind value }
 {

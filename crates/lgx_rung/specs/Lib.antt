@@ -2,3 +2,8 @@ pub mod Mnemonics
 pub mod Tree
 pub mod Tokens
 pub mod Text
+pub mod Coding
+pub mod Elements
+pub mod Sizes
+pub mod ElementsFall
+pub mod ForkCode

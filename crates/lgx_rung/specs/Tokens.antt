@@ -1,5 +1,6 @@
 -- The tokens of a rung's text, and a reading of the list of tokens: the rung, or the first fault.
 use Rattle.std.specs.Prelude.{ℕ, ◌+◌, ◌-◌, Bool, true, false, ◌||◌, ◌==◌, nat_le, nat_lt, ◌&&◌, if◌then◌else◌, List, [], ◌∷◌, ◌++◌, length, reverse, Option, Some, None, Result, Ok, Err}
+use Rattle.std.specs.List.{list_all}
 use Rattle.lgx_num.specs.Name.{is_letter}
 use Rattle.lgx_rung.specs.declared.op.Op.{Op}
 use Rattle.lgx_rung.specs.declared.fault.TextFault.{TextFault}
@@ -15,6 +16,11 @@ is_blank b = b == 32 || b == 9 || b == 13 || b == 10
 -- letters, digits and : _ . # - ? [ ]
 abbrev pub is_operand_byte : ℕ → Bool
 is_operand_byte b = is_letter b || (nat_le 48 b && nat_le b 58) || b == 95 || b == 46 || b == 35 || b == 45 || b == 63 || b == 91 || b == 93
+
+-- one such byte or more
+abbrev pub is_operand : List ℕ → Bool
+is_operand [] = false
+is_operand (b ∷ bs) = list_all is_operand_byte (b ∷ bs)
 
 pub data Token : Type 0 where
   Mnemonic : Op → Token
@@ -93,88 +99,84 @@ pub data Place : Type 0 where
   Named : Op → Place
   -- the first operand, or the closing parenthesis
   First : Op → Place
+  -- a comma or the closing parenthesis, behind the first operand and others
+  Behind : Op → (first : List ℕ) → (others : List (List ℕ)) → Place
   -- the operand behind a comma
-  Next : Op → List (List ℕ) → Place
-  -- a comma or the closing parenthesis
-  Behind : Op → List (List ℕ) → Place
-  -- nothing
-  Done : Place
+  Next : Op → (first : List ℕ) → (others : List (List ℕ)) → Place
 
 -- a fork that is open: the leg before it, and its finished legs
 pub record Fork : Type 0 where
   pub before : Source
   pub legs : List Source
 
--- the open forks, the innermost first, and the leg as far as it is read
-pub record Reader : Type 0 where
-  pub place : Place
-  pub forks : List Fork
-  pub current : Source
+pub data Reader : Type 0 where
+  -- in a rung: the open forks, the innermost first, and the leg as far as it is read
+  At : Place → List Fork → (leg : Source) → Reader
+  -- behind the semicolon
+  Done : Source → Reader
 
-abbrev pub with_element : List Fork → Source → Source → Reader
-with_element forks before element = record { place = Element; forks = forks; current = append before element }
+abbrev pub add_element : List Fork → (leg : Source) → Source → Reader
+add_element forks leg element = At Element forks (append leg element)
 
 abbrev pub instruction : Op → List (List ℕ) → Source
 instruction op texts = one (record { op = op; texts = texts }) end
 
-abbrev pub open_fork : Bool → List Fork → Source → Result Reader TextCode
-open_fork true forks current = Ok (record { place = Element; forks = record { before = current; legs = [] } ∷ forks; current = end })
-open_fork false forks current = Err T5
+abbrev pub open_fork : (has_room : Bool) → List Fork → (leg : Source) → Result Reader TextCode
+open_fork true forks leg = Ok (At Element (record { before = leg; legs = [] } ∷ forks) end)
+open_fork false forks leg = Err T5
 
-abbrev pub next_leg : List Fork → Source → Result Reader TextCode
-next_leg [] current = Err T1
-next_leg (f ∷ forks) current = Ok (record { place = Element; forks = record { before = f.before; legs = f.legs ++ current ∷ [] } ∷ forks; current = end })
+abbrev pub next_leg : List Fork → (leg : Source) → Result Reader TextCode
+next_leg [] leg = Err T1
+next_leg (f ∷ forks) leg = Ok (At Element (record { before = f.before; legs = f.legs ++ leg ∷ [] } ∷ forks) end)
 
-abbrev pub close_fork : List Fork → Source → Result Reader TextCode
-close_fork [] current = Err T1
-close_fork (f ∷ forks) current = Ok (with_element forks f.before (fork_of (f.legs ++ current ∷ [])))
+abbrev pub close_fork : List Fork → (leg : Source) → Result Reader TextCode
+close_fork [] leg = Err T1
+close_fork (f ∷ forks) leg = Ok (add_element forks f.before (fork_of (f.legs ++ leg ∷ []) end))
 
-abbrev pub end_rung : List Fork → Source → Result Reader TextCode
-end_rung [] current = Ok (record { place = Done; forks = []; current = current })
-end_rung (f ∷ forks) current = Err T1
+abbrev pub end_rung : List Fork → (leg : Source) → Result Reader TextCode
+end_rung [] leg = Ok (Done leg)
+end_rung (f ∷ forks) leg = Err T1
 
 -- a token in an element's place
-abbrev pub element : Token → List Fork → Source → Result Reader TextCode
-element (Mnemonic op) forks current = Ok (record { place = Named op; forks = forks; current = current })
-element Letters forks current = Err T2
-element OpenFork forks current = open_fork (nat_lt (length forks) 16) forks current
-element CloseFork forks current = close_fork forks current
-element Comma forks current = next_leg forks current
-element Semicolon forks current = end_rung forks current
-element _ forks current = Err T1
+abbrev pub read_element : Token → List Fork → (leg : Source) → Result Reader TextCode
+read_element (Mnemonic op) forks leg = Ok (At (Named op) forks leg)
+read_element Letters forks leg = Err T2
+read_element OpenFork forks leg = open_fork (nat_lt (length forks) 16) forks leg
+read_element CloseFork forks leg = close_fork forks leg
+read_element Comma forks leg = next_leg forks leg
+read_element Semicolon forks leg = end_rung forks leg
+read_element _ forks leg = Err T1
 
-abbrev pub step_at : Place → Token → List Fork → Source → Result Reader TextCode
-step_at Element t forks current = element t forks current
-step_at (Named op) OpenParen forks current = Ok (record { place = First op; forks = forks; current = current })
-step_at (First op) (Operand text) forks current = Ok (record { place = Behind op (text ∷ []); forks = forks; current = current })
-step_at (First op) CloseParen forks current = Ok (with_element forks current (instruction op []))
-step_at (Next op texts) (Operand text) forks current = Ok (record { place = Behind op (texts ++ text ∷ []); forks = forks; current = current })
-step_at (Behind op texts) Comma forks current = Ok (record { place = Next op texts; forks = forks; current = current })
-step_at (Behind op texts) CloseParen forks current = Ok (with_element forks current (instruction op texts))
-step_at _ _ forks current = Err T1
+abbrev pub read_at : Place → Token → List Fork → (leg : Source) → Result Reader TextCode
+read_at Element t forks leg = read_element t forks leg
+read_at (Named op) OpenParen forks leg = Ok (At (First op) forks leg)
+read_at (First op) (Operand text) forks leg = Ok (At (Behind op text []) forks leg)
+read_at (First op) CloseParen forks leg = Ok (add_element forks leg (instruction op []))
+read_at (Behind op first others) Comma forks leg = Ok (At (Next op first others) forks leg)
+read_at (Behind op first others) CloseParen forks leg = Ok (add_element forks leg (instruction op (first ∷ others)))
+read_at (Next op first others) (Operand text) forks leg = Ok (At (Behind op first (others ++ text ∷ [])) forks leg)
+read_at _ _ forks leg = Err T1
 
-abbrev pub step : Reader → Token → Result Reader TextCode
-step r t = step_at r.place t r.forks r.current
+abbrev pub read_token : Reader → Token → Result Reader TextCode
+read_token (At place forks leg) t = read_at place t forks leg
+read_token (Done rung) t = Err T1
 
--- the answer where the tokens end
-abbrev pub answer : ℕ → Place → List Fork → Source → Result Source TextFault
-answer len Done forks current = Ok current
-answer len Element [] current = Err (record { code = T4; at = len })
-answer len _ forks current = Err (record { code = T3; at = len })
+-- the answer where the text ends, by its length
+abbrev pub read_end : (len : ℕ) → Reader → Result Source TextFault
+read_end len (Done rung) = Ok rung
+read_end len (At Element [] leg) = Err (record { code = T4; at = len })
+read_end len (At place forks leg) = Err (record { code = T3; at = len })
 
 abbrev pub read_on : Result Reader TextCode → (at : ℕ) → (Reader → Result Source TextFault) → Result Source TextFault
 read_on (Ok r) at rest = rest r
 read_on (Err code) at rest = Err (record { code = code; at = at })
 
 abbrev pub read_tokens : (len : ℕ) → List Placed → Reader → Result Source TextFault
-read_tokens len [] r = answer len r.place r.forks r.current
-read_tokens len (t ∷ ts) r = read_on (step r t.token) t.at (read_tokens len ts)
-
-abbrev pub start : Reader
-start = record { place = Element; forks = []; current = end }
+read_tokens len [] r = read_end len r
+read_tokens len (t ∷ ts) r = read_on (read_token r t.token) t.at (read_tokens len ts)
 
 abbrev pub read_rung : List ℕ → Result Source TextFault
-read_rung text = read_tokens (length text) (tokens text) start
+read_rung text = read_tokens (length text) (tokens text) (At Element [] end)
 
 -- ---- words for examples
 

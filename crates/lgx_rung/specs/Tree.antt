@@ -44,10 +44,10 @@ abbrev pub legs_of : {A : Type 0} → List (Tree A) → Legs A
 legs_of [] = last
 legs_of (t ∷ ts) = leg t (legs_of ts)
 
--- a fork of these legs, of which there is at least one
-abbrev pub fork_of : {A : Type 0} → List (Tree A) → Tree A
-fork_of [] = end
-fork_of (t ∷ ts) = fork t (legs_of ts) end
+-- a fork of these legs, and the rest of the leg that it stands in; there is at least one, and none count as an empty one
+abbrev pub fork_of : {A : Type 0} → List (Tree A) → Tree A → Tree A
+fork_of [] rest = fork end last rest
+fork_of (t ∷ ts) rest = fork t (legs_of ts) rest
 
 -- an instruction of source text: its mnemonic, and its operands as they were written
 pub record SourceIns : Type 0 where

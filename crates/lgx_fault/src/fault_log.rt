@@ -1,0 +1,72 @@
+// The last faults, in a ring of fixed room.
+ghost use Rattle.std.specs.Prelude.{◌≡◌, ℕ, ◌≤◌, ◌==◌, ◌↔◌, List, [], ◌∷◌, ◌++◌, length, slice_get, IfOk, IsNone};
+ghost use Rattle.lgx_machine.specs.declared.fault.Fault.{Fault};
+ghost use Rattle.lgx_fault.specs.Kept.{last_faults};
+
+use circular_buffer::HeapCircularBuffer;
+use lgx_machine::Fault;
+use lgx_num::Memory;
+use std::alloc::Global;
+use std::marker::Model;
+
+const ROOM: usize = 64;
+
+/// The last 64 faults that were noted, oldest first. Its room is taken once, by [`FaultLog::new`].
+///
+/// A controller records minor and major faults as long as it runs; that it keeps 64 of them is this project's own choice.
+#[derive(Drop)]
+pub struct FaultLog {
+    ring: HeapCircularBuffer<Fault>,
+}
+
+impl Model for FaultLog {
+    ghost use Rattle.std.specs.Prelude.{◌≡◌, List};
+    ghost use Rattle.lgx_machine.specs.declared.fault.Fault.{Fault};
+
+    ghost Value = { List Fault };
+
+    ghost view = { λ l. l.ring.items };
+
+    ghost invariant = { λ l. l.ring.capacity ≡ 64 };
+}
+
+impl FaultLog {
+    /// A log without a fault.
+    pub fn new(alloc: Global) -> Result<FaultLog, Memory>
+        ensures { IfOk result (λ log. log ≡ []) }
+    {
+        let ring = HeapCircularBuffer::with_capacity(alloc, ROOM)?;
+        Ok(FaultLog { ring })
+    }
+
+    /// Notes a fault behind the others. Where 64 are held, the oldest is given up. It takes no memory.
+    pub fn note(&mut self, fault: Fault)
+        ensures step { self.new ≡ last_faults (self.old ++ fault ∷ []) }
+        ensures holds { (all : List Fault) → self.old ≡ last_faults all → self.new ≡ last_faults (all ++ fault ∷ []) }
+    {
+        self.ring.push_back(fault);
+    }
+
+    /// The number of faults that are held: 0 to 64.
+    pub fn len(&self) -> u32
+        ensures value { result ≡ length self.now }
+        ensures room { result ≤ 64 }
+    {
+        self.ring.len() as u32
+    }
+
+    /// Whether no fault was noted.
+    pub fn is_empty(&self) -> bool
+        ensures { result ≡ (length self.now == 0) }
+    {
+        self.ring.is_empty()
+    }
+
+    /// Fault number `i` of those that are held, counted from 0 at the oldest.
+    pub fn get(&self, i: u32) -> Option<Fault>
+        ensures value { result ≡ slice_get self.now i }
+        ensures none { IsNone result ↔ (length self.now ≤ i) }
+    {
+        self.ring.get(i as usize).copied()
+    }
+}

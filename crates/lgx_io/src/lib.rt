@@ -1,0 +1,33 @@
+//! Files that are read whole, and a sink that takes pieces of bytes: as traits with a written meaning, in
+//! memory, and over the system.
+//!
+//! Code that is generic over [`Files`] and [`Sink`] can make neither a failed read nor a fault of a put by
+//! itself. So its contract can say that it answers such a failure only where the object that was handed in
+//! recorded one. What the objects hold is optional in the traits: clauses on bytes hold where it is told.
+//!
+//! | type | its contents | fails |
+//! |---|---|---|
+//! | [`MemFiles`], [`MemSink`] | told | at the calls that it was given |
+//! | [`SureFiles`], [`SureSink`] | told | never |
+//! | [`HostFiles`], [`HostSink`] | not told | where the system fails |
+//!
+//! **The trusted edge.** No contract can say what a real file has or where the bytes of standard output go, so
+//! `HostFiles` and `HostSink` tell nothing of contents. Their causes and counts are proved, and so are the
+//! loops that they stand on: over any reader whose bytes are known `HostFiles` reads all of them, and over any
+//! writer that tells what it holds `HostSink` adds the whole piece, or a first part of it at a fault. What is
+//! left to trust are the few lines that open a file and name standard output.
+#![tactic(auto)]
+
+mod files;
+mod host;
+mod memory;
+mod sink;
+mod sure;
+#[cfg(test)]
+mod tests;
+
+pub use files::{FileFault, Files, MAX_BYTES, ReadCause};
+pub use host::{HostFiles, HostSink};
+pub use memory::{MemFiles, MemSink};
+pub use sink::{Sink, SinkFault};
+pub use sure::{SureFiles, SureSink};

@@ -1,0 +1,42 @@
+-- Laws of the tasks in every state that a journal leads to.
+use Rattle.std.specs.Prelude.{◌≡◌, ℕ, ◌<◌, IsTrue, List, Option, Some, None}
+use Rattle.lgx_machine.specs.declared.event.Event.{Event}
+use Rattle.lgx_machine.specs.declared.answer.What.{What}
+use Rattle.lgx_machine.specs.declared.answer.What.TheVariants.{Idle, Began, Ran, Copied, Left}
+use Rattle.lgx_machine.specs.declared.reply.Mode.TheVariants.{Run}
+use Rattle.lgx_machine.specs.Tasks.{Turn, turn, is_up, is_open}
+use Rattle.lgx_machine.specs.Project.{Project}
+use Rattle.lgx_machine.specs.State.{State}
+use Rattle.lgx_machine.specs.ProcessorStep.{processor_step}
+use Rattle.lgx_machine.specs.Machine.{run}
+
+-- At most one task has something open.
+abbrev pub OneOpen : Type 0
+OneOpen = (project : Project) (journal : List Event) (t q : ℕ) → IsTrue (is_open (turn (run project journal).table t)) → IsTrue (is_open (turn (run project journal).table q)) → t ≡ q
+
+-- A task that has something open is up.
+abbrev pub OpenIsUp : Type 0
+OpenIsUp = (s : State) (t : ℕ) → IsTrue (is_open (turn s.table t)) → IsTrue (is_up s.table t)
+
+-- Tasks are up in Run alone, so outside Run nothing is open.
+abbrev pub UpInRun : Type 0
+UpInRun = (project : Project) (journal : List Event) (t : ℕ) → IsTrue (is_up (run project journal).table t) → (run project journal).mode ≡ Run
+
+-- The ranks of tasks that are up differ, and each is below the next rank.
+abbrev pub RanksDiffer : Type 0
+RanksDiffer = (project : Project) (journal : List Event) (t q : ℕ) (u v : Turn) → turn (run project journal).table t ≡ Some u → turn (run project journal).table q ≡ Some v → u.rank ≡ v.rank → t ≡ q
+
+abbrev pub RanksBelowNext : Type 0
+RanksBelowNext = (project : Project) (journal : List Event) (t : ℕ) (u : Turn) → turn (run project journal).table t ≡ Some u → u.rank < (run project journal).table.next
+
+-- the task that a processor step was of
+abbrev pub task_of : What → Option ℕ
+task_of Idle = None
+task_of (Began t n version) = Some t
+task_of (Ran t n) = Some t
+task_of (Copied t n) = Some t
+task_of (Left t n ended) = Some t
+
+-- A step is of a task that was up before it.
+abbrev pub StepOfUpTask : Type 0
+StepOfUpTask = (s : State) (t : ℕ) → task_of (processor_step s).moment.what ≡ Some t → IsTrue (is_up s.table t)

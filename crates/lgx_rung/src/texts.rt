@@ -1,0 +1,55 @@
+// The operands of an instruction as they were written.
+ghost use Rattle.std.specs.Prelude.{◌≡◌, [], ◌∷◌, ◌++◌, IsTrue, OnOk, OnErr};
+ghost use Rattle.std.specs.List.{list_all};
+ghost use Rattle.lgx_rung.specs.Tokens.{is_operand};
+
+use lgx_num::{List, Memory};
+use std::alloc::Global;
+use std::marker::Model;
+
+/// Operand texts, each of one byte or more: letters, digits and `_ : . # - ? [ ]`.
+#[derive(Drop)]
+pub struct Texts {
+    texts: Vec<List<u8>>,
+}
+
+impl Model for Texts {
+    ghost use Rattle.std.specs.Prelude.{ℕ, List as Items, IsTrue};
+    ghost use Rattle.std.specs.List.{list_all};
+    ghost use Rattle.lgx_rung.specs.Tokens.{is_operand};
+
+    ghost Value = { Items (Items ℕ) };
+
+    ghost view = { λ t. t.texts.items };
+
+    ghost invariant = { λ t. IsTrue (list_all is_operand t.texts.items) };
+}
+
+impl Texts {
+    /// No operands.
+    pub fn new(alloc: Global) -> Self
+        ensures { result ≡ [] }
+    {
+        Texts {
+            texts: Vec::new(alloc),
+        }
+    }
+
+    /// Adds an operand behind the others.
+    pub fn push(&mut self, alloc: Global, text: &[u8]) -> Result<(), Memory>
+        requires { IsTrue (is_operand text.now) }
+        ensures added { OnOk result (self.new ≡ self.old ++ text.now ∷ []) }
+        ensures unchanged { OnErr result (self.new ≡ self.old) }
+    {
+        let text = List::of(text.to_vec(alloc)?);
+        self.texts.push(text)?;
+        Ok(())
+    }
+
+    pub fn as_slice(&self) -> &[List<u8>]
+        ensures texts { result.now ≡ self.now }
+        ensures operands { IsTrue (list_all is_operand self.now) }
+    {
+        &self.texts
+    }
+}
