@@ -37,8 +37,10 @@ pub mod LayoutCases
 pub mod ShopTags
 pub mod ResolutionCases
 pub mod TextLines
+pub mod Commands
 pub mod ActionText
 pub mod JournalText
+pub mod Scripts
 pub mod ScriptText
 pub mod JournalCases
 pub mod Counting

@@ -8,7 +8,7 @@ use Rattle.lgx_machine.specs.declared.event.Event.TheVariants.{Cpu, Tick, Act}
 use Rattle.lgx_machine.specs.declared.reply.Reply.{Reply}
 use Rattle.lgx_machine.specs.declared.reply.Reply.TheVariants.{Held}
 use Rattle.lgx_machine.specs.declared.script.Timed.{Timed}
-use Rattle.lgx_machine.specs.declared.script.Script.{Script}
+use Rattle.lgx_machine.specs.Scripts.{Script}
 use Rattle.lgx_machine.specs.Tasks.{held}
 use Rattle.lgx_machine.specs.Project.{Project}
 use Rattle.lgx_machine.specs.Machine.{Answer, OfAction, Entry, run, trace}

@@ -6,7 +6,7 @@ use Rattle.lgx_num.specs.Name.{same}
 use Rattle.lgx_rung.specs.Tree.{Source}
 use Rattle.lgx_machine.specs.declared.conn.ConnDef.{ConnDef}
 use Rattle.lgx_machine.specs.declared.event.RungEdit.{RungEdit}
-use Rattle.lgx_machine.specs.declared.event.Accept.{Accept as AcceptCommand}
+use Rattle.lgx_machine.specs.Commands.{AcceptCommand}
 use Rattle.lgx_machine.specs.declared.event.Action.{Action}
 use Rattle.lgx_machine.specs.declared.event.Action.TheVariants.{WordIn, WordOut, Accept, Test, Untest, Assemble, Cancel, ForceInstall, ForceEnable, ForceDisable, ForceRemove, ModeRun, ModeProgram, Clear}
 use Rattle.lgx_machine.specs.declared.reply.Mode.{Mode as Modes}

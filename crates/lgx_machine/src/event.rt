@@ -27,11 +27,23 @@ pub enum RungEdit {
     Delete(u32),
 }
 
+/// Edits of a routine that are accepted together: 1 to 16 of them.
 #[derive(Drop)]
 pub struct Accept {
     pub program: Name,
     pub routine: Name,
     pub edits: List<RungEdit>,
+}
+
+impl Model for Accept {
+    ghost use Rattle.std.specs.Prelude.{IsTrue, length};
+    ghost use Rattle.lgx_machine.specs.Commands.{AcceptCommand, accept_command, is_edit_count};
+
+    ghost Value = { AcceptCommand };
+
+    ghost view = { λ a. accept_command a.program a.routine a.edits };
+
+    ghost invariant = { λ a. IsTrue (is_edit_count (length a.edits)) };
 }
 
 #[derive(Drop)]
