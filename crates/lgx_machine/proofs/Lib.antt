@@ -2,3 +2,4 @@ pub mod TurnLists
 pub mod OrderlyTables
 pub mod OrderlyRuns
 pub mod OrderlyLaws
+pub mod JoinedRuns

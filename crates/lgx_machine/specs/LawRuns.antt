@@ -14,7 +14,7 @@ use Rattle.lgx_machine.specs.JournalCases.{cpu, tick, timed, accept}
 use Rattle.lgx_machine.specs.Samples.{plain, continuous}
 use Rattle.lgx_machine.specs.Legal.{verdicts}
 use Rattle.lgx_machine.specs.TraceView.{table_of, view}
-use Rattle.lgx_machine.specs.Stages.{scan_of, stages, begun_by, each_from, keeps_copy}
+use Rattle.lgx_machine.specs.Stages.{scan_of, stages, begun_by}
 
 -- the verdicts on a run of the machine
 abbrev pub verdicts_on : Project → List Event → List Bool

@@ -52,6 +52,11 @@ another_open t u (c ∷ cs) = (is_open c && not (nat_eq u t)) || another_open t 
 abbrev pub keeps_region : Place → Bool
 keeps_region x = elim (stepping x.event) [ None ↦ true | Some t ↦ not (another_open t 0 x.tasks) ]
 
+-- each of a list with those behind it
+abbrev pub each_from : {A : Type 0} → (A → List A → Bool) → List A → Bool
+each_from test [] = true
+each_from test (x ∷ xs) = test x xs && each_from test xs
+
 -- ---- the turn law
 
 abbrev pub is_tick : TraceEvent → Bool
@@ -114,11 +119,6 @@ after_tick table t x (k ∷ ys) = not (is_tick k.event && is_turn table t x k) |
 -- down.
 abbrev pub gives_way : Table → Place → List Place → Bool
 gives_way table x xs = elim (stepping x.event) [ None ↦ true | Some t ↦ after_tick table t x (behind_actions xs) ]
-
--- each place with those behind it
-abbrev pub each_from : (Place → List Place → Bool) → List Place → Bool
-each_from test [] = true
-each_from test (x ∷ xs) = test x xs && each_from test xs
 
 -- ---- the version law
 

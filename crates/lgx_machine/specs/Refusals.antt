@@ -18,6 +18,7 @@ use Rattle.lgx_machine.specs.declared.reply.EditFault.{EditFault}
 use Rattle.lgx_machine.specs.declared.reply.EditFault.TheVariants.{E1, E2, E3, E4, E5, E6, E7, E8, E9, E10, E11, E12}
 use Rattle.lgx_machine.specs.declared.reply.Reply.{Reply}
 use Rattle.lgx_machine.specs.declared.reply.Reply.TheVariants.{Held, Mode, Conn, Force, Edit}
+use Rattle.lgx_machine.specs.Partial.{agree}
 use Rattle.lgx_machine.specs.Tasks.{held}
 use Rattle.lgx_machine.specs.Connections.{no_conn, conn_named, io_word}
 use Rattle.lgx_machine.specs.Forces.{force_room, installed}
@@ -46,10 +47,6 @@ conn_of s name = slice_index_or s.plan.conns (unwrap_or (conn_named s.plan.conns
 
 abbrev pub is_no_conn : State → List ℕ → Bool
 is_no_conn s name = is_none (conn_named s.plan.conns name)
-
-abbrev pub agree : Bool → Bool → Bool
-agree true b = b
-agree false b = not b
 
 abbrev pub word_causes : State → List ℕ → ℕ → Bool → List (Option Reply)
 word_causes s name word output =

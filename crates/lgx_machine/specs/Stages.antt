@@ -18,7 +18,8 @@ use Rattle.lgx_machine.specs.Position.{ProgramRungs}
 use Rattle.lgx_machine.specs.Edits.{Book, Edited, edit, book_at, selected}
 use Rattle.lgx_machine.specs.Project.{Project}
 use Rattle.lgx_machine.specs.State.{State, Scan, progress_of, start}
-use Rattle.lgx_machine.specs.Machine.{Answer, OfStep, OfTick, OfAction, step}
+use Rattle.lgx_machine.specs.Legal.{each_from}
+use Rattle.lgx_machine.specs.Machine.{Answer, OfStep, OfTick, OfAction, step, run}
 use Rattle.lgx_machine.specs.Refusals.{first_cause}
 
 -- an event with its answer, and the states before and after it
@@ -80,10 +81,7 @@ scan_of s t = (progress_of s t).scan
 -- After each event, the rungs of a task's scan are those that the accepted commands before its begin select.
 abbrev pub ScansKeepRungs : Project → Type 0
 ScansKeepRungs p =
-    (journal : List Event) (t : ℕ) → IfSome (scan_of (after journal) t) (λ scan. begun_by t (start p).books (stages p journal) ≡ Some scan.rungs)
-  where
-    after : List Event → State
-    after journal = fold (λ s e. (step s e).state) (start p) journal
+    (journal : List Event) (t : ℕ) → IfSome (scan_of (run p journal) t) (λ scan. begun_by t (start p).books (stages p journal) ≡ Some scan.rungs)
 
 -- ---- the copy law
 
@@ -132,10 +130,6 @@ ends_whole t x _ _ = true
 abbrev pub keeps_copy : Stage → List Stage → Bool
 keeps_copy x xs = elim (sync_start x.answer) [ None ↦ true
   | Some t ↦ ends_whole t x (copy_in x.after t) (find (starts_or_ends t) xs) ]
-
-abbrev pub each_from : (Stage → List Stage → Bool) → List Stage → Bool
-each_from test [] = true
-each_from test (x ∷ xs) = test x xs && each_from test xs
 
 -- Where a CPS has copied its last element and its ranges share no byte, the destination's bytes are the source's as they
 -- were right after the step that started it.

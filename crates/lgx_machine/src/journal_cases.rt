@@ -1,9 +1,10 @@
 // Texts of journals and scripts, computed by the definitions. Each function is a law: it does nothing, and its
 // contract is what is shown.
 ghost use Rattle.std.specs.Prelude.{◌≡◌, ◌∷◌, ◌++◌, [], codes, map, replicate, length, List, ℕ, Ok, Err};
-ghost use Rattle.lgx_machine.specs.JournalText.{EventRun, journal_of, journal_runs, text, refused};
+ghost use Rattle.lgx_machine.specs.JournalText.{EventRun, journal_of, journal_runs, text, refused, joined, events_of};
 ghost use Rattle.lgx_machine.specs.ScriptText.{script_of};
 ghost use Rattle.lgx_machine.specs.JournalCases.{paced_text, paced, tested_text, tested, clients_text, clients, edits_text, edits, edits_canonical, words_text, words, formless, before_end, plain, cut_scripts, lanes_text, lanes};
+ghost use Rattle.lgx_machine.specs.declared.event.Event.{Event};
 ghost use Rattle.lgx_machine.specs.declared.event.Event.TheVariants.{Cpu, Tick, Act};
 ghost use Rattle.lgx_machine.specs.declared.event.Action.TheVariants.{ModeRun};
 ghost use Rattle.lgx_machine.specs.declared.script.JournalCode.TheVariants.{J1, J2, J3, J4, J5};
@@ -62,3 +63,9 @@ pub fn journals_are_written()
     ensures words { text words ≡ words_text }
     ensures nothing { text [] ≡ codes "end\n" }
 {}
+
+/// The runs of equal events in which a journal is written expand to its events.
+pub fn runs_expand()
+    ensures { (journal : List Event) → events_of (joined journal) ≡ journal }
+{
+}

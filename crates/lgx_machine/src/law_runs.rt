@@ -9,7 +9,8 @@ ghost use Rattle.lgx_machine.specs.TaskRuns.{preemption, nested_regions, turns_a
 ghost use Rattle.lgx_machine.specs.EditRuns.{selected_at_begin, owners};
 ghost use Rattle.lgx_machine.specs.CopyRuns.{torn_copy, whole_copy};
 ghost use Rattle.lgx_machine.specs.Partial.{IsPartial, IsComplete, is_paced, is_held_over};
-ghost use Rattle.lgx_machine.specs.Stages.{stages, each_from, keeps_copy, KeepsState};
+ghost use Rattle.lgx_machine.specs.Legal.{each_from};
+ghost use Rattle.lgx_machine.specs.Stages.{stages, keeps_copy, KeepsState};
 ghost use Rattle.lgx_machine.specs.LawRuns.{verdicts_on, run_mode, preempted, nested, turning, rungs_at, begun_at, held_copy, script, one_word, word, word_at_end, one_nop, emptied};
 
 /// The laws that a trace shows by itself hold of runs with preemption, nested regions, turns at ticks, edits in
