@@ -1,17 +1,15 @@
 -- The laws of the tasks from what keeps them orderly.
-use Rattle.std.proofs.Common.{◌≡◌, ℕ, ◌+◌, ◌<◌, Bool, true, false, cond, List, [], ◌∷◌, Option, Some, None, refl, sym, ◌∙◌, ap, subst}
-use Rattle.std.specs.Prelude.{IsTrue, unwrap_or, slice_index_or, nat_lt, is_some, length}
+use Rattle.std.proofs.Common.{◌≡◌, ℕ, true, false, Option, Some, None, refl, sym, ◌∙◌, subst}
+use Rattle.std.specs.Prelude.{IsTrue, is_some}
 use Rattle.lgx_machine.specs.declared.bound.Effect.{Effect}
 use Rattle.lgx_machine.specs.declared.bound.Effect.TheVariants.{Ran, Up, Down, Trigger, CopyStart, Copied, Left, Minor, Major}
-use Rattle.lgx_machine.specs.Scan.{Advanced, advance}
-use Rattle.lgx_machine.specs.Tasks.{Turn, Table, turn, is_up, is_open, chosen}
+use Rattle.lgx_machine.specs.Scan.{advance}
+use Rattle.lgx_machine.specs.Tasks.{Turn, turn, is_up, is_open, chosen}
 use Rattle.lgx_machine.specs.State.{State, Scan, Progress, progress_of}
-use Rattle.lgx_machine.specs.Releases.{Released, release_or_overlap}
-use Rattle.lgx_machine.specs.ProcessorStep.{Stepped, after_effect, after_advance, scan_step, task_step, processor_step, with_progress}
+use Rattle.lgx_machine.specs.ProcessorStep.{after_effect, scan_step, task_step, with_progress}
 use Rattle.lgx_machine.specs.Machine.{run}
 use Rattle.lgx_machine.specs.TaskLaws.{OneOpen, UpInRun, RanksDiffer, RanksBelowNext, StepOfUpTask, task_of}
 use Rattle.lgx_machine.proofs.TurnLists.{inner, chosen_up}
-use Rattle.lgx_machine.proofs.OrderlyTables.{Orderly}
 use Rattle.lgx_machine.proofs.OrderlyRuns.{run_orderly}
 
 -- a turn that is open, or that is there, is a task's that is up

@@ -1,6 +1,6 @@
 -- Each event keeps the tasks orderly, so they are in every state that a journal leads to.
-use Rattle.std.proofs.Common.{◌≡◌, ℕ, ◌+◌, ◌^◌, Bool, true, false, cond, List, [], ◌∷◌, Option, Some, None, map, refl, sym, ◌∙◌, ap, subst, Ok, Err}
-use Rattle.std.specs.Prelude.{ℤ, Result, slice_set, slice_index_or, fold, nat_lt, length}
+use Rattle.std.proofs.Common.{◌≡◌, ℕ, ◌+◌, Bool, true, false, cond, List, [], ◌∷◌, Option, Some, None, refl, sym, subst, Ok, Err}
+use Rattle.std.specs.Prelude.{ℤ, Result, fold, nat_lt, length}
 use Rattle.std.specs.Int.{w32}
 use Rattle.std.specs.List.{range_with_len}
 use Rattle.lgx_num.specs.Image.{write_signed}
@@ -10,7 +10,6 @@ use Rattle.lgx_machine.specs.declared.reply.ConnFault.{ConnFault}
 use Rattle.lgx_machine.specs.declared.reply.ForceFault.{ForceFault}
 use Rattle.lgx_machine.specs.declared.reply.EditFault.{EditFault}
 use Rattle.lgx_machine.specs.declared.conn.Slot.{Slot}
-use Rattle.lgx_machine.specs.declared.answer.What.{What}
 use Rattle.lgx_machine.specs.declared.answer.TickReport.{TickReport}
 use Rattle.lgx_machine.specs.declared.event.Event.{Event}
 use Rattle.lgx_machine.specs.declared.event.Event.TheVariants.{Cpu, Tick, Act}
@@ -20,15 +19,15 @@ use Rattle.lgx_machine.specs.declared.bound.Effect.{Effect}
 use Rattle.lgx_machine.specs.declared.bound.Effect.TheVariants.{Ran, Up, Down, Trigger, CopyStart, Copied, Left, Minor, Major}
 use Rattle.lgx_machine.specs.Tasks.{Table, turn, region, chosen, is_up, held, rotate, expired, due}
 use Rattle.lgx_machine.specs.Scan.{Advanced, advance}
-use Rattle.lgx_machine.specs.Forces.{Forces, forced, install, enable, remove_all}
+use Rattle.lgx_machine.specs.Forces.{Forces, forced, enable, remove_all}
 use Rattle.lgx_machine.specs.Connections.{slot, io_word}
 use Rattle.lgx_machine.specs.Edits.{Edited, edit}
 use Rattle.lgx_machine.specs.Project.{Project}
 use Rattle.lgx_machine.specs.State.{State, Scan, Progress, progress_of, programs_of, start}
 use Rattle.lgx_machine.specs.Releases.{Released, release_or_overlap}
-use Rattle.lgx_machine.specs.ProcessorStep.{Stepped, with_progress, scan_ended, after_effect, after_advance, scan_step, task_step, processor_step}
-use Rattle.lgx_machine.specs.Ticks.{Ticked, quiet, noted, release_if_due, release_due, after_watchdogs, tick}
-use Rattle.lgx_machine.specs.Actions.{Acted, held_or, after_trigger, triggers, put_in, word_in, take_out, install_on, force_replied, edit_replied, run_from, program_from, clear_from, mode_run, mode_program, clear, act}
+use Rattle.lgx_machine.specs.ProcessorStep.{with_progress, scan_ended, after_effect, after_advance, scan_step, task_step}
+use Rattle.lgx_machine.specs.Ticks.{Ticked, quiet, noted, release_if_due, after_watchdogs, tick}
+use Rattle.lgx_machine.specs.Actions.{Acted, held_or, after_trigger, triggers, put_in, take_out, install_on, force_replied, edit_replied, run_from, program_from, clear_from, act}
 use Rattle.lgx_machine.specs.Machine.{step, run_from as run_on, run}
 use Rattle.lgx_machine.proofs.TurnLists.{none_up}
 use Rattle.lgx_machine.proofs.OrderlyTables.{Orderly, chosen_in_run, down_orderly, stop_orderly, region_orderly, copy_orderly, release_orderly, start_orderly, finish_orderly, rotate_orderly}

@@ -1,12 +1,12 @@
 -- A table of tasks is orderly where tasks are up in Run alone, their ranks differ and are below the next one, and at most
 -- one has something open. What keeps it so.
-use Rattle.std.proofs.Common.{◌≡◌, ℕ, zero, suc, ◌+◌, ◌-◌, ◌<◌, ◌≤◌, Bool, true, false, cond, List, [], ◌∷◌, Option, Some, None, map, ◌⊎◌, inl, inr, refl, sym, ◌∙◌, ap, subst, arith}
-use Rattle.std.specs.Prelude.{unwrap_or, slice_set, slice_index_or, nat_lt, ◌||◌}
+use Rattle.std.proofs.Common.{◌≡◌, ℕ, ◌+◌, ◌<◌, Bool, true, false, cond, Option, Some, None, inl, inr, refl, sym, ◌∙◌, ap, subst, arith}
+use Rattle.std.specs.Prelude.{unwrap_or, slice_set}
 use Rattle.std.specs.List.{position_from}
 use Rattle.lgx_machine.specs.declared.reply.Mode.{Mode}
-use Rattle.lgx_machine.specs.declared.reply.Mode.TheVariants.{Program, Run, Faulted}
-use Rattle.lgx_machine.specs.Tasks.{Turn, Table, turn, task, is_up, is_open, chosen, is_continuous, put_up, put_up_if, release, stop, start, finish, with_region, region, set_region, region_up, region_down, region_clear, with_copies, set_copy, with_rank, last_in_line, unless_open, rotate}
-use Rattle.lgx_machine.proofs.TurnLists.{after_set, none_up, inner, Up, chosen_up, chosen_open}
+use Rattle.lgx_machine.specs.declared.reply.Mode.TheVariants.{Run}
+use Rattle.lgx_machine.specs.Tasks.{Turn, Table, turn, task, is_up, is_open, chosen, is_continuous, put_up, put_up_if, release, stop, start, finish, with_region, set_region, with_copies, set_copy, with_rank, last_in_line, unless_open, rotate}
+use Rattle.lgx_machine.proofs.TurnLists.{after_set, none_up, chosen_up, chosen_open}
 
 pub record Orderly (m : Mode) (s : Table) : Type 0 where
   pub in_run : (t : ℕ) (u : Turn) → turn s t ≡ Some u → m ≡ Run

@@ -1,9 +1,9 @@
 -- What a change of one turn leaves, and where the chosen task stands.
-use Rattle.std.proofs.Common.{◌≡◌, ℕ, zero, suc, ◌+◌, ◌-◌, ◌<◌, ◌≤◌, Bool, true, false, cond, List, [], ◌∷◌, ◌++◌, Option, Some, None, map, ◌⊎◌, inl, inr, refl, sym, ◌∙◌, ap, subst, arith}
-use Rattle.std.specs.Prelude.{unwrap_or, slice_set, slice_index_or, nat_lt, ◌||◌}
+use Rattle.std.proofs.Common.{◌≡◌, ℕ, zero, suc, ◌+◌, Bool, true, false, cond, List, [], ◌∷◌, Option, Some, None, map, ◌⊎◌, inl, inr, refl, sym, ◌∙◌, ap, subst, arith}
+use Rattle.std.specs.Prelude.{unwrap_or, slice_set, slice_index_or}
 use Rattle.std.specs.List.{position_from}
 use Rattle.lgx_machine.specs.declared.task.TaskDef.{TaskDef}
-use Rattle.lgx_machine.specs.Tasks.{Turn, Table, Candidate, turn, is_up, is_open, chosen, or_else, least, least_of, before, candidate, candidates}
+use Rattle.lgx_machine.specs.Tasks.{Turn, Table, Candidate, turn, is_open, chosen, or_else, least, least_of, before, candidates}
 
 -- ---- one turn changed
 

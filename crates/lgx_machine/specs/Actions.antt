@@ -22,7 +22,7 @@ use Rattle.lgx_machine.specs.Forces.{Forces, forced, install, enable, disable, r
 use Rattle.lgx_machine.specs.Edits.{Book, Edited, edit, selected}
 use Rattle.lgx_machine.specs.Prescan.{prescan}
 use Rattle.lgx_machine.specs.State.{State, no_progress, dropped}
-use Rattle.lgx_machine.specs.Releases.{Released, release_or_overlap}
+use Rattle.lgx_machine.specs.Releases.{release_or_overlap}
 
 -- the state after an action, and its outcome
 pub record Acted : Type 0 where
@@ -103,11 +103,12 @@ to_run s = record s { mode = Run; table = start s.tick s.table; progress = map (
 abbrev pub to_program : State → State
 to_program s = record s { mode = Program; table = stop s.table; progress = map dropped s.progress }
 
--- The outcome of the change to Run tells that the continuous task was released.
+-- the mask of one task, or of none
 abbrev pub mask_of : Option ℕ → ℕ
 mask_of None = 0
 mask_of (Some t) = 2 ^ t
 
+-- Its outcome tells that the continuous task was released.
 abbrev pub ran : State → Acted
 ran s = record { state = to_run s; outcome = record { reply = reply.Done; fault = None; released = mask_of (continuous_task s.table) } }
 

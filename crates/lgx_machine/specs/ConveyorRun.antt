@@ -4,11 +4,12 @@ use Rattle.std.specs.Prelude.{◌≡◌, [], ◌∷◌, codes, pos}
 use Rattle.lgx_machine.specs.declared.task.TaskKind.TheVariants.{Continuous, Periodic, Event as EventTask}
 use Rattle.lgx_machine.specs.ConveyorTags.{conveyor as tags}
 use Rattle.lgx_machine.specs.Project.{Project}
-use Rattle.lgx_machine.specs.Samples.{routine, program_of, project_of, input, output, with_trigger, is_initially, lines, replay}
+use Rattle.lgx_machine.specs.Samples.{routine, routines, task, project_of, input, output, with_trigger, is_initially, lines, replay}
 
 abbrev pub conveyor : Project
 conveyor = project_of tags
-    (program_of (codes "Conveyor") (
+    (task (codes "MainTask") Continuous 16 (
+    routines (codes "Conveyor") (
     routine (codes "Main") (
     codes "[XIC(StartPB),XIC(Run)]XIC(StopPB)OTE(Run);"
     ∷ codes "XIC(Run)TON(HornT,?,?);"
@@ -20,9 +21,14 @@ conveyor = project_of tags
     codes "XIC(Eye)CTU(Parts,?,?);"
     ∷ codes "XIC(Parts.DN)RES(Parts);"
     ∷ [])
-    ∷ []) (codes "MainTask") Continuous 16
-    ∷ program_of (codes "Rates") (routine (codes "Main") (codes "SUB(Total,Last,Rate)MOV(Total,Last);" ∷ []) ∷ []) (codes "Fast") (Periodic 10) 5
-    ∷ program_of (codes "EyeProg") (routine (codes "Main") (codes "XIC(Eye)ADD(Total,1,Total);" ∷ []) ∷ []) (codes "EyeTask") EventTask 2
+    ∷ [])
+    ∷ [])
+    ∷ task (codes "Fast") (Periodic 10) 5 (
+    routines (codes "Rates") (routine (codes "Main") (codes "SUB(Total,Last,Rate)MOV(Total,Last);" ∷ []) ∷ [])
+    ∷ [])
+    ∷ task (codes "EyeTask") EventTask 2 (
+    routines (codes "EyeProg") (routine (codes "Main") (codes "XIC(Eye)ADD(Total,1,Total);" ∷ []) ∷ [])
+    ∷ [])
     ∷ [])
     (with_trigger 2 (input (codes "In1") (codes "Local:1:I")) ∷ output (codes "Out1") (codes "Local:2:O") ∷ [])
     (is_initially (codes "HornT.PRE") (pos 20) ∷ is_initially (codes "Parts.PRE") (pos 100) ∷ [])

@@ -57,7 +57,7 @@ fill_to_the_end = plain (array (codes "w") Dint 2 ∷ array (codes "b") Sint 4 �
 
 abbrev pub FillToTheEnd : Type 0
 FillToTheEnd = replay fill_to_the_end (lines (codes "mode run"
-    ∷ codes "cpu 6"
+    ∷ codes "cpu 8"
     ∷ codes "end"
     ∷ []))
     ≡ lines (codes "0 0 reply 31 ok"
@@ -65,7 +65,8 @@ FillToTheEnd = replay fill_to_the_end (lines (codes "mode run"
     ∷ codes "0 4 set b[1] 44"
     ∷ codes "0 5 set b[2] 44"
     ∷ codes "0 6 set b[3] 44"
-    ∷ codes "end 0 6 run lost 0"
+    ∷ codes "0 8 begin T P 0"
+    ∷ codes "end 0 8 run lost 0"
     ∷ [])
 
 -- A copy goes no further than its source's tag: two of four elements, byte by byte into words of two.

@@ -2,7 +2,7 @@
 use Rattle.std.specs.Prelude.{◌≡◌, [], ◌∷◌, codes, pos}
 use Rattle.lgx_machine.specs.declared.task.TaskKind.TheVariants.{Continuous}
 use Rattle.lgx_machine.specs.Project.{Project}
-use Rattle.lgx_machine.specs.Samples.{bool, dint, continuous, program_of, routine, plain, with_words, input, is_initially, lines, replay}
+use Rattle.lgx_machine.specs.Samples.{bool, dint, continuous, routines, routine, task, plain, with_words, input, is_initially, lines, replay}
 
 -- A program without rungs: each scan begins and leaves its main routine.
 abbrev pub empty_program : Project
@@ -94,6 +94,38 @@ CallDepth = replay call_depth (lines (codes "mode run"
     ∷ codes "end 0 30 faulted lost 0"
     ∷ [])
 
+-- An empty leg counts wherever it stands.
+abbrev pub empty_leg_first : Project
+empty_leg_first = plain (bool (codes "a") ∷ bool (codes "b") ∷ bool (codes "c") ∷ bool (codes "d") ∷ bool (codes "e") ∷ []) (continuous (codes "XIC(a)[,XIC(b)]OTE(c);" ∷ codes "XIC(a)[XIC(b),,]OTE(d);" ∷ codes "[XIC(a),XIC(b)]OTE(e);" ∷ []) ∷ []) (is_initially (codes "a") (pos 1) ∷ []) (codes "c" ∷ codes "d" ∷ codes "e" ∷ [])
+
+abbrev pub EmptyLegFirst : Type 0
+EmptyLegFirst = replay empty_leg_first (lines (codes "mode run"
+    ∷ codes "cpu 11"
+    ∷ codes "end"
+    ∷ []))
+    ≡ lines (codes "0 0 reply 31 ok"
+    ∷ codes "0 1 begin T P 0"
+    ∷ codes "0 4 set c 1"
+    ∷ codes "0 7 set d 1"
+    ∷ codes "0 10 set e 1"
+    ∷ codes "end 0 11 run lost 0"
+    ∷ [])
+
+-- Behind a false condition nothing is examined as true, latched or unlatched; AFI makes one.
+abbrev pub false_conditions : Project
+false_conditions = plain (bool (codes "a") ∷ bool (codes "b") ∷ bool (codes "x") ∷ bool (codes "y") ∷ bool (codes "z") ∷ bool (codes "w") ∷ []) (continuous (codes "XIO(a)XIO(b)OTL(x);" ∷ codes "XIO(a)OTU(y);" ∷ codes "AFI()OTL(z);" ∷ codes "OTU(w);" ∷ []) ∷ []) (is_initially (codes "a") (pos 1) ∷ is_initially (codes "y") (pos 1) ∷ is_initially (codes "w") (pos 1) ∷ []) (codes "x" ∷ codes "y" ∷ codes "z" ∷ codes "w" ∷ [])
+
+abbrev pub FalseConditions : Type 0
+FalseConditions = replay false_conditions (lines (codes "mode run"
+    ∷ codes "cpu 10"
+    ∷ codes "end"
+    ∷ []))
+    ≡ lines (codes "0 0 reply 31 ok"
+    ∷ codes "0 1 begin T P 0"
+    ∷ codes "0 9 set w 0"
+    ∷ codes "end 0 10 run lost 0"
+    ∷ [])
+
 -- A pulse where the condition becomes true, and one where it becomes false.
 abbrev pub one_shots : Project
 one_shots = with_words (dint (codes "Local:1:I") ∷ bool (codes "s") ∷ bool (codes "r") ∷ bool (codes "u") ∷ bool (codes "f") ∷ []) (continuous (codes "XIC(Local:1:I.0)OSR(s,r);" ∷ codes "XIC(Local:1:I.0)OSF(u,f);" ∷ []) ∷ []) (input (codes "In") (codes "Local:1:I") ∷ []) [] (codes "r" ∷ codes "f" ∷ [])
@@ -128,7 +160,7 @@ one_bit_for_both = with_words (dint (codes "Local:1:I") ∷ bool (codes "s") ∷
 
 abbrev pub OneBitForBoth : Type 0
 OneBitForBoth = replay one_bit_for_both (lines (codes "mode run"
-    ∷ codes "cpu 6"
+    ∷ codes "cpu 12"
     ∷ codes "@0 in In 0 0"
     ∷ codes "cpu 6"
     ∷ codes "end"
@@ -136,10 +168,11 @@ OneBitForBoth = replay one_bit_for_both (lines (codes "mode run"
     ≡ lines (codes "0 0 reply 31 ok"
     ∷ codes "0 1 begin T P 0"
     ∷ codes "0 3 set s 1"
-    ∷ codes "0 6 reply 0 ok"
     ∷ codes "0 7 begin T P 0"
-    ∷ codes "0 9 set s 0"
-    ∷ codes "end 0 12 run lost 0"
+    ∷ codes "0 12 reply 0 ok"
+    ∷ codes "0 13 begin T P 0"
+    ∷ codes "0 15 set s 0"
+    ∷ codes "end 0 18 run lost 0"
     ∷ [])
 
 -- A jump keeps the zone: the MCR behind the label closes it, whatever its condition.
@@ -159,7 +192,7 @@ JumpInZone = replay jump_in_zone (lines (codes "mode run"
 
 -- A return leaves the rest of its routine out; behind the call the condition is as it was.
 abbrev pub call_and_return : Project
-call_and_return = plain (bool (codes "a") ∷ bool (codes "b") ∷ bool (codes "c") ∷ []) (program_of (codes "P") (routine (codes "M") (codes "JSR(N,0)OTE(c);" ∷ []) ∷ routine (codes "N") (codes "XIC(a)RET();" ∷ codes "OTE(b);" ∷ []) ∷ []) (codes "T") Continuous 16 ∷ []) (is_initially (codes "a") (pos 1) ∷ []) (codes "b" ∷ codes "c" ∷ [])
+call_and_return = plain (bool (codes "a") ∷ bool (codes "b") ∷ bool (codes "c") ∷ []) (task (codes "T") Continuous 16 (routines (codes "P") (routine (codes "M") (codes "JSR(N,0)OTE(c);" ∷ []) ∷ routine (codes "N") (codes "XIC(a)RET();" ∷ codes "OTE(b);" ∷ []) ∷ []) ∷ []) ∷ []) (is_initially (codes "a") (pos 1) ∷ []) (codes "b" ∷ codes "c" ∷ [])
 
 abbrev pub CallAndReturn : Type 0
 CallAndReturn = replay call_and_return (lines (codes "mode run"

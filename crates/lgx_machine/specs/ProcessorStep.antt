@@ -9,6 +9,7 @@ use Rattle.lgx_machine.specs.declared.answer.Mark.TheVariants as mark
 use Rattle.lgx_machine.specs.declared.answer.Moment.{Moment}
 use Rattle.lgx_machine.specs.declared.bound.Effect.{Effect}
 use Rattle.lgx_machine.specs.declared.bound.Effect.TheVariants.{Ran, Up, Down, Trigger, CopyStart, Copied, Left, Minor, Major}
+use Rattle.lgx_machine.specs.Instructions.{overflowed}
 use Rattle.lgx_machine.specs.Position.{first_position}
 use Rattle.lgx_machine.specs.Scan.{Advanced, advance}
 use Rattle.lgx_machine.specs.Tasks.{Table, chosen, finish, region_up, region_down, region_clear, set_copy}
@@ -50,7 +51,7 @@ next_program s t p = slice_index (programs_of s t) p.ended
 
 -- ---- a program scan has ended
 
--- After the task's last program it goes down; else its region count becomes 0, and its next program is to begin.
+-- The task's next program is to begin, and its region count becomes 0; after its last program it goes down.
 abbrev pub scan_ended : ℕ → Progress → State → State
 scan_ended t p s =
     if nat_lt (p.ended + 1) (length (programs_of s t)) then with_progress t (record p { ended = p.ended + 1; scan = None }) (with_table (region_clear t s.table) s)
@@ -78,7 +79,7 @@ after_effect s t p n effect = go effect
     go (Copied false sync) = plainly s (what.Copied t n)
     go (Left true) = plainly (scan_ended t p s) (what.Left t n true)
     go (Left false) = plainly s (what.Left t n false)
-    go Minor = let f = program_fault s severity.Minor 4 t n in told (with_fault f s) ran mark.Plain (Some f)
+    go Minor = let f = program_fault s severity.Minor overflowed t n in told (with_fault f s) ran mark.Plain (Some f)
     go (Major code) = let f = program_fault s severity.Major code t n in told (major_fault f s) ran mark.Plain (Some f)
 
 abbrev pub after_advance : State → ℕ → Progress → Scan → Advanced → Stepped

@@ -112,6 +112,7 @@ merged_causes scope lane r b changes = go (checked scope source)
   where
     source : List Source
     source = merged (routine_at b.base r).source (changes_in b r ++ changes)
+
     go : Result Rungs CheckFault → List (Option Reply)
     go (Err f) = Some (Edit (E8 f)) ∷ []
     go (Ok rungs) = when (nat_lt instruction_room (instruction_count (with_changes lane r changes source rungs b).merged)) (Edit E9) ∷ []
@@ -128,13 +129,17 @@ accept_causes s lane a = for (position_from (λ r. same r.name a.routine) 0 b.ba
   where
     n : ℕ
     n = unwrap_or (program_at s a.program) (length s.books)
+
     b : Book
     b = book_named s a.program
+
     read : Result (List Change) EditFault
     read = changes_of 0 a.edits
+
     edits_causes : ℕ → List (Option Reply)
     edits_causes r =
         option_map (λ k. Edit (E5 k)) (position_from (is_misplaced (length (routine_at b.base r).source)) 0 a.edits) ∷ option_map (λ k. Edit (E6 k)) (first_again 0 (flat_map taken_by (changes_in b r)) a.edits) ∷ text_cause read ∷ if_read read (merged_causes (scope_of s.plan.tags s.plan.names n b) lane r b)
+
     for : Option ℕ → List (Option Reply)
     for None = no_program s a.program ∷ Some (Edit E2) ∷ []
     for (Some r) = no_program s a.program ∷ owner_cause b lane ∷ when b.testing (Edit E4) ∷ edits_causes r

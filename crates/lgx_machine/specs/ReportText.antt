@@ -1,5 +1,7 @@
 -- The report as text.
-use Rattle.std.specs.Prelude.{ℕ, ◌+◌, List, [], ◌∷◌, ◌++◌, map, flat_map, ℤ, pos, negsuc, Option, Some, None, codes, decimal, slice_index_or}
+use Rattle.std.specs.Prelude.{ℕ, List, [], ◌∷◌, ◌++◌, map, flat_map, Option, Some, None, codes, decimal, slice_index_or}
+use Rattle.std.specs.Fmt.{signed_decimal}
+use Rattle.std.specs.List.{join_with_byte}
 use Rattle.lgx_rung.specs.declared.fault.TextFault.{TextFault}
 use Rattle.lgx_rung.specs.declared.fault.TextCode.{TextCode}
 use Rattle.lgx_rung.specs.declared.fault.TextCode.TheVariants.{T1, T2, T3, T4, T5}
@@ -40,19 +42,9 @@ names_of p = record { tasks = map (λ t. t.name) p.names; programs = map (λ q. 
 abbrev pub name : List (List ℕ) → ℕ → List ℕ
 name names n = slice_index_or names n []
 
--- words with a space between each two
-abbrev pub words : List (List ℕ) → List ℕ
-words [] = []
-words (w ∷ []) = w
-words (w ∷ ws) = w ++ 32 ∷ words ws
-
--- a line ends with LF
+-- words with a space between each two, and a line feed behind them
 abbrev pub line_of : List (List ℕ) → List ℕ
-line_of ws = words ws ++ 10 ∷ []
-
-abbrev pub signed : ℤ → List ℕ
-signed (pos n) = decimal n
-signed (negsuc n) = 45 ∷ decimal (n + 1)
+line_of words = join_with_byte 32 words ++ 10 ∷ []
 
 -- ---- causes
 
@@ -124,7 +116,7 @@ mode_cause M3 = codes "M3"
 -- `ok`, with the value of a word out or an accept's number; `held`; or `refused` and the cause
 abbrev pub answer : Replies → List (List ℕ)
 answer Done = codes "ok" ∷ []
-answer (Word v) = codes "ok" ∷ signed v ∷ []
+answer (Word v) = codes "ok" ∷ signed_decimal v ∷ []
 answer (Version n) = codes "ok" ∷ decimal n ∷ []
 answer Held = codes "held" ∷ []
 answer (Mode f) = codes "refused" ∷ mode_cause f ∷ []
@@ -150,7 +142,7 @@ line_words names (Begin t n version) =
 line_words names (Fault f) =
     codes "fault" ∷ severity f.severity ∷ fault_number f ∷ name names.tasks f.task ∷ program_or_dash names f.program ∷ []
 line_words names (Reply lane r) = codes "reply" ∷ decimal lane ∷ answer r
-line_words names (Set w v) = codes "set" ∷ name names.watches w ∷ signed v ∷ []
+line_words names (Set w v) = codes "set" ∷ name names.watches w ∷ signed_decimal v ∷ []
 
 abbrev pub line_text : Names → Stamped → List ℕ
 line_text names s = line_of (decimal s.tick ∷ decimal s.step ∷ line_words names s.line)

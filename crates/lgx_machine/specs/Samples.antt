@@ -1,6 +1,6 @@
 -- Words for sample projects: what a project file says, as definitions.
-use Rattle.std.specs.Prelude.{ℕ, ◌-◌, ◌/◌, Bool, true, false, List, [], ◌∷◌, ◌++◌, map, ℤ, Option, Some, None, Result, Ok, Err, codes, fold, flat_map, length, replicate}
-use Rattle.std.specs.List.{enumerate_from}
+use Rattle.std.specs.Prelude.{ℕ, ◌+◌, ◌-◌, ◌/◌, Bool, true, false, List, [], ◌∷◌, ◌++◌, map, ℤ, Option, Some, None, Result, Ok, Err, codes, fold, flat_map, length, replicate}
+use Rattle.std.specs.List.{enumerate_from, range_with_len}
 use Rattle.std.specs.Result.{result_unwrap_or}
 use Rattle.lgx_num.specs.declared.place.Place.{Place}
 use Rattle.lgx_num.specs.Image.{write}
@@ -59,41 +59,56 @@ pub record RoutineLines : Type 0 where
   pub name : List ℕ
   pub texts : List (List ℕ)
 
-abbrev pub routine : List ℕ → List (List ℕ) → RoutineLines
-routine name texts = record { name = name; texts = texts }
-
--- a program whose first routine is the main one, and the task that runs it
+-- a program whose first routine is the main one
 pub record ProgramLines : Type 0 where
   pub name : List ℕ
   pub routines : List RoutineLines
-  pub task : List ℕ
+
+-- a task with its programs
+pub record TaskLines : Type 0 where
+  pub name : List ℕ
   pub kind : TaskKind
   pub priority : ℕ
   pub watchdog : ℕ
+  pub programs : List ProgramLines
 
-abbrev pub program_of : List ℕ → List RoutineLines → List ℕ → TaskKind → ℕ → ProgramLines
-program_of name routines task kind priority = record { name = name; routines = routines; task = task; kind = kind; priority = priority; watchdog = 500 }
+abbrev pub routine : List ℕ → List (List ℕ) → RoutineLines
+routine name texts = record { name = name; texts = texts }
+
+abbrev pub routines : List ℕ → List RoutineLines → ProgramLines
+routines name rs = record { name = name; routines = rs }
 
 -- a program with one routine M
-abbrev pub program : List ℕ → List (List ℕ) → List ℕ → TaskKind → ℕ → ProgramLines
-program name texts task kind priority = program_of name (record { name = codes "M"; texts = texts } ∷ []) task kind priority
+abbrev pub program : List ℕ → List (List ℕ) → ProgramLines
+program name texts = routines name (routine (codes "M") texts ∷ [])
 
--- the program P of the continuous task T
-abbrev pub continuous : List (List ℕ) → ProgramLines
-continuous texts = program (codes "P") texts (codes "T") Continuous 16
+abbrev pub task : List ℕ → TaskKind → ℕ → List ProgramLines → TaskLines
+task name kind priority programs = record { name = name; kind = kind; priority = priority; watchdog = 500; programs = programs }
 
-abbrev pub with_watchdog : ℕ → ProgramLines → ProgramLines
-with_watchdog ticks p = record p { watchdog = ticks }
+abbrev pub with_watchdog : ℕ → TaskLines → TaskLines
+with_watchdog ticks t = record t { watchdog = ticks }
+
+-- the continuous task T with the program P
+abbrev pub continuous : List (List ℕ) → TaskLines
+continuous texts = task (codes "T") Continuous 16 (program (codes "P") texts ∷ [])
 
 abbrev pub is_event : TaskKind → Bool
 is_event EventTask = true
 is_event _ = false
 
-abbrev pub task_name : ProgramLines → TaskName
-task_name p = record { name = p.task; event = is_event p.kind }
+abbrev pub task_name : TaskLines → TaskName
+task_name t = record { name = t.name; event = is_event t.kind }
 
-abbrev pub task_def : ProgramLines → TaskDef
-task_def p = record { kind = p.kind; priority = p.priority; watchdog = p.watchdog }
+abbrev pub task_def : TaskLines → TaskDef
+task_def t = record { kind = t.kind; priority = t.priority; watchdog = t.watchdog }
+
+-- the programs of all tasks, and for each task the numbers of its own, from number n on
+abbrev pub programs_of : List TaskLines → List ProgramLines
+programs_of tasks = flat_map (λ t. t.programs) tasks
+
+abbrev pub schedule_from : ℕ → List TaskLines → List (List ℕ)
+schedule_from n [] = []
+schedule_from n (t ∷ ts) = range_with_len n (length t.programs) ∷ schedule_from (n + length t.programs) ts
 
 abbrev pub read_text : List ℕ → Source
 read_text text = result_unwrap_or (read_rung text) end
@@ -134,31 +149,31 @@ watch d text = record { text = text; place = place_named d text }
 
 -- ---- projects
 
--- each task runs its one program
-abbrev pub project_of : Declarations → List ProgramLines → List Connection → List Initial → List (List ℕ) → Project
-project_of d programs conns initials watches =
-    let names = map task_name programs in
-    record { tags = d; programs = map (program_text d names) (enumerate_from 0 programs); tasks = map task_def programs; names = names; schedule = map (λ p. p.0 ∷ []) (enumerate_from 0 programs); conns = map (connection d) conns; image = fold (with_initial d) (replicate (bytes d) 0) initials; watches = map (watch d) watches }
+abbrev pub project_of : Declarations → List TaskLines → List Connection → List Initial → List (List ℕ) → Project
+project_of d tasks conns initials watches =
+    let names = map task_name tasks in
+    record { tags = d; programs = map (program_text d names) (enumerate_from 0 (programs_of tasks)); tasks = map task_def tasks; names = names; schedule = schedule_from 0 tasks; conns = map (connection d) conns; image = fold (with_initial d) (replicate (bytes d) 0) initials; watches = map (watch d) watches }
 
-abbrev pub tags_of : List ProgramLines → List Entry → Declarations
-tags_of programs entries = record { types = []; programs = length programs; entries = entries }
+-- controller tags without structures
+abbrev pub tags_of : List TaskLines → List Entry → Declarations
+tags_of tasks entries = record { types = []; programs = length (programs_of tasks); entries = entries }
 
--- a project without structures and connections
-abbrev pub plain : List Entry → List ProgramLines → List Initial → List (List ℕ) → Project
-plain entries programs initials watches = project_of (tags_of programs entries) programs [] initials watches
+-- a project without connections
+abbrev pub plain : List Entry → List TaskLines → List Initial → List (List ℕ) → Project
+plain entries tasks initials watches = project_of (tags_of tasks entries) tasks [] initials watches
 
 abbrev pub is_initially : List ℕ → ℤ → Initial
 is_initially text value = record { tag = text; value = value }
 
 -- one with connections
-abbrev pub with_words : List Entry → List ProgramLines → List Connection → List Initial → List (List ℕ) → Project
-with_words entries programs conns initials watches = project_of (tags_of programs entries) programs conns initials watches
+abbrev pub with_words : List Entry → List TaskLines → List Connection → List Initial → List (List ℕ) → Project
+with_words entries tasks conns initials watches = project_of (tags_of tasks entries) tasks conns initials watches
 
 abbrev pub input : List ℕ → List ℕ → Connection
 input name text = record { name = name; tag = text; output = false; trigger = None }
 
 abbrev pub with_trigger : ℕ → Connection → Connection
-with_trigger task c = record c { trigger = Some task }
+with_trigger number c = record c { trigger = Some number }
 
 abbrev pub output : List ℕ → List ℕ → Connection
 output name text = record { name = name; tag = text; output = true; trigger = None }

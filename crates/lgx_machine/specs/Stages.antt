@@ -128,8 +128,10 @@ ends_whole t x (Some c) (Some y) = not (is_task t (sync_end y.answer) && is_apar
 ends_whole t x _ _ = true
 
 abbrev pub keeps_copy : Stage → List Stage → Bool
-keeps_copy x xs = elim (sync_start x.answer) [ None ↦ true
-  | Some t ↦ ends_whole t x (copy_in x.after t) (find (starts_or_ends t) xs) ]
+keeps_copy x xs = elim (sync_start x.answer) [
+  | None ↦ true
+  | Some t ↦ ends_whole t x (copy_in x.after t) (find (starts_or_ends t) xs)
+]
 
 -- Where a CPS has copied its last element and its ranges share no byte, the destination's bytes are the source's as they
 -- were right after the step that started it.

@@ -8,7 +8,7 @@ use Rattle.lgx_machine.specs.declared.reply.Mode.TheVariants.{Run}
 use Rattle.lgx_machine.specs.declared.answer.TickReport.{TickReport}
 use Rattle.lgx_machine.specs.Tasks.{rotate, expired, due}
 use Rattle.lgx_machine.specs.State.{State}
-use Rattle.lgx_machine.specs.Releases.{Released, task_fault, major_fault, release_or_overlap}
+use Rattle.lgx_machine.specs.Releases.{task_fault, major_fault, release_or_overlap}
 
 -- the state after a tick, and its report: the task whose watchdog ran out, and masks of the tasks that were released and
 -- of those that overlapped, bit t standing for task t

@@ -1,7 +1,8 @@
 -- Runs of timers and counters.
 use Rattle.std.specs.Prelude.{◌≡◌, [], ◌∷◌, codes, pos, negsuc}
+use Rattle.lgx_machine.specs.declared.types.Base.TheVariants.{Dint}
 use Rattle.lgx_machine.specs.Project.{Project}
-use Rattle.lgx_machine.specs.Samples.{bool, dint, timer, counter, continuous, plain, with_words, input, is_initially, lines, replay}
+use Rattle.lgx_machine.specs.Samples.{array, bool, dint, timer, counter, continuous, plain, with_words, input, is_initially, lines, replay}
 
 -- The first execution enables the timer; later ones add the ticks since the last.
 abbrev pub timer_over_ticks : Project
@@ -42,6 +43,8 @@ RetentiveTimer = replay retentive_timer (lines (codes "mode run"
     ∷ codes "cpu 4"
     ∷ codes "tick 2"
     ∷ codes "cpu 4"
+    ∷ codes "tick 3"
+    ∷ codes "cpu 4"
     ∷ codes "end"
     ∷ []))
     ≡ lines (codes "0 0 reply 31 ok"
@@ -55,7 +58,8 @@ RetentiveTimer = replay retentive_timer (lines (codes "mode run"
     ∷ codes "15 17 begin T P 0"
     ∷ codes "15 19 set t.ACC 5"
     ∷ codes "15 19 set t.DN 1"
-    ∷ codes "end 15 20 run lost 0"
+    ∷ codes "18 21 begin T P 0"
+    ∷ codes "end 18 24 run lost 0"
     ∷ [])
 
 -- TOF is done at once and no longer done when its condition has been false for the preset.
@@ -72,6 +76,8 @@ OffDelay = replay off_delay (lines (codes "mode run"
     ∷ codes "cpu 4"
     ∷ codes "tick 2"
     ∷ codes "cpu 8"
+    ∷ codes "tick 2"
+    ∷ codes "cpu 4"
     ∷ codes "end"
     ∷ []))
     ≡ lines (codes "0 0 reply 31 ok"
@@ -89,7 +95,8 @@ OffDelay = replay off_delay (lines (codes "mode run"
     ∷ codes "7 15 set t.TT 0"
     ∷ codes "7 15 set t.DN 0"
     ∷ codes "7 17 begin T P 0"
-    ∷ codes "end 7 20 run lost 0"
+    ∷ codes "9 21 begin T P 0"
+    ∷ codes "end 9 24 run lost 0"
     ∷ [])
 
 -- A timer with a negative preset is at fault.
@@ -105,6 +112,21 @@ NegativePreset = replay negative_preset (lines (codes "mode run"
     ∷ codes "0 1 begin T P 0"
     ∷ codes "0 2 fault major 4/34 T P"
     ∷ codes "end 0 3 faulted lost 0"
+    ∷ [])
+
+-- A timer that last counted at a later tick, as a copy may have it, gains nothing.
+abbrev pub time_backwards : Project
+time_backwards = plain (array (codes "w") Dint 4 ∷ timer (codes "t") ∷ []) (continuous (codes "COP(w[0],t,1)TON(t,?,?);" ∷ []) ∷ []) (is_initially (codes "w[0]") (negsuc 2147483647) ∷ is_initially (codes "w[1]") (pos 5) ∷ is_initially (codes "w[2]") (pos 1) ∷ is_initially (codes "w[3]") (pos 100) ∷ []) (codes "t.ACC" ∷ codes "t.DN" ∷ [])
+
+abbrev pub TimeBackwards : Type 0
+TimeBackwards = replay time_backwards (lines (codes "mode run"
+    ∷ codes "cpu 5"
+    ∷ codes "end"
+    ∷ []))
+    ≡ lines (codes "0 0 reply 31 ok"
+    ∷ codes "0 1 begin T P 0"
+    ∷ codes "0 3 set t.ACC 1"
+    ∷ codes "end 0 5 run lost 0"
     ∷ [])
 
 -- Behind the greatest value comes the least, with the overflow bit; the first scan counts nothing.

@@ -3,7 +3,7 @@ use Rattle.std.specs.Prelude.{◌≡◌, [], ◌∷◌, codes, pos}
 use Rattle.lgx_machine.specs.declared.types.Base.TheVariants.{Dint}
 use Rattle.lgx_machine.specs.declared.task.TaskKind.TheVariants.{Event as EventTask}
 use Rattle.lgx_machine.specs.Project.{Project}
-use Rattle.lgx_machine.specs.Samples.{array, dint, continuous, program, plain, with_words, with_trigger, input, output, is_initially, lines, replay}
+use Rattle.lgx_machine.specs.Samples.{array, dint, continuous, program, task, plain, with_words, with_trigger, input, output, is_initially, lines, replay}
 
 -- A force counts where forces are enabled, and the refusals of forces and words.
 abbrev pub forced_words : Project
@@ -65,7 +65,7 @@ Modes = replay modes (lines (codes "mode run"
 
 -- An input is forced as it arrives, and its last word triggers a task; while that is up it overlaps.
 abbrev pub forced_input : Project
-forced_input = with_words (array (codes "Local:1:I") Dint 2 ∷ []) (continuous [] ∷ program (codes "Q") [] (codes "E") EventTask 5 ∷ []) (with_trigger 1 (input (codes "In") (codes "Local:1:I")) ∷ []) [] (codes "Local:1:I[1]" ∷ [])
+forced_input = with_words (array (codes "Local:1:I") Dint 2 ∷ []) (continuous [] ∷ task (codes "E") EventTask 5 (program (codes "Q") [] ∷ []) ∷ []) (with_trigger 1 (input (codes "In") (codes "Local:1:I")) ∷ []) [] (codes "Local:1:I[1]" ∷ [])
 
 abbrev pub ForcedInput : Type 0
 ForcedInput = replay forced_input (lines (codes "mode run"
@@ -88,4 +88,30 @@ ForcedInput = replay forced_input (lines (codes "mode run"
     ∷ codes "0 1 fault minor 6/3 E -"
     ∷ codes "0 1 set Local:1:I[1] 7"
     ∷ codes "end 0 1 run lost 0"
+    ∷ [])
+
+-- In Program a word is taken and triggers nothing; after a cancel in mid-test the base runs.
+abbrev pub late_trigger : Project
+late_trigger = with_words (dint (codes "Local:1:I") ∷ dint (codes "n") ∷ []) (continuous (codes "MOV(1,n);" ∷ []) ∷ task (codes "E") EventTask 5 (program (codes "Q") [] ∷ []) ∷ []) (with_trigger 1 (input (codes "In") (codes "Local:1:I")) ∷ []) [] (codes "n" ∷ [])
+
+abbrev pub LateTrigger : Type 0
+LateTrigger = replay late_trigger (lines (codes "@0 in In 0 5"
+    ∷ codes "@0 accept P M r 0 MOV(2,n);"
+    ∷ codes "@0 test P"
+    ∷ codes "@0 cancel P"
+    ∷ codes "@0 accept P M i 1 MOV(3,n);"
+    ∷ codes "mode run"
+    ∷ codes "cpu 4"
+    ∷ codes "end"
+    ∷ []))
+    ≡ lines (codes "0 0 reply 0 ok"
+    ∷ codes "0 0 reply 0 ok 1"
+    ∷ codes "0 0 reply 0 ok"
+    ∷ codes "0 0 reply 0 ok"
+    ∷ codes "0 0 reply 0 ok 2"
+    ∷ codes "0 0 reply 31 ok"
+    ∷ codes "0 1 begin T P 0"
+    ∷ codes "0 2 set n 1"
+    ∷ codes "0 4 begin T P 0"
+    ∷ codes "end 0 4 run lost 0"
     ∷ [])

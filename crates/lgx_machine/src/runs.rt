@@ -3,17 +3,19 @@
 ghost use Rattle.lgx_machine.specs.ArithmeticRuns.{Limits, OverflowAndZeroDivisor, Results, SubscriptOutOfRange};
 ghost use Rattle.lgx_machine.specs.ConveyorRun.{ConveyorRun};
 ghost use Rattle.lgx_machine.specs.CopyRuns.{FillToTheEnd, HeldCommands, ShortSource, TornCopy, WholeCopy};
-ghost use Rattle.lgx_machine.specs.EditRuns.{EditRefusals, LostLabel, MergedOrder, Owners, SelectedAtBegin};
-ghost use Rattle.lgx_machine.specs.LadderRuns.{CallAndReturn, CallDepth, DisabledZone, EmptyLeg, EmptyProgram, JumpInZone, OneBitForBoth, OneRung, OneShotAfterPrescan, OneShots};
-ghost use Rattle.lgx_machine.specs.TaskRuns.{NestedRegions, Preemption, RegionAtScanEnd, ReleasedAgain, TurnsAtTicks, Watchdog};
-ghost use Rattle.lgx_machine.specs.TimerRuns.{CountDown, CounterRollover, NegativePreset, OffDelay, RetentiveTimer, TimerOverTicks};
-ghost use Rattle.lgx_machine.specs.WordRuns.{ForcedInput, ForcedWords, Modes};
+ghost use Rattle.lgx_machine.specs.EditRuns.{EditRefusals, EditsInMidScan, LostLabel, MergedOrder, Owners, SelectedAtBegin};
+ghost use Rattle.lgx_machine.specs.LadderRuns.{CallAndReturn, CallDepth, DisabledZone, EmptyLeg, EmptyLegFirst, EmptyProgram, FalseConditions, JumpInZone, OneBitForBoth, OneRung, OneShotAfterPrescan, OneShots};
+ghost use Rattle.lgx_machine.specs.TaskRuns.{NestedRegions, OpenAtTick, OpenLoop, Preemption, RegionAtScanEnd, ReleasedAgain, ThreeInTurn, TurnsAtTicks, TwoPrograms, Watchdog};
+ghost use Rattle.lgx_machine.specs.TimerRuns.{CountDown, CounterRollover, NegativePreset, OffDelay, RetentiveTimer, TimeBackwards, TimerOverTicks};
+ghost use Rattle.lgx_machine.specs.WordRuns.{ForcedInput, ForcedWords, LateTrigger, Modes};
 
 /// Rungs, legs and one-shots.
 pub fn ladder_runs()
     ensures empty_program { EmptyProgram }
     ensures one_rung { OneRung }
     ensures empty_leg { EmptyLeg }
+    ensures legs { EmptyLegFirst }
+    ensures false_conditions { FalseConditions }
     ensures first_scan { OneShotAfterPrescan }
     ensures one_shots { OneShots }
     ensures one_bit { OneBitForBoth }
@@ -33,6 +35,7 @@ pub fn timer_runs()
     ensures retentive { RetentiveTimer }
     ensures off_delay { OffDelay }
     ensures negative { NegativePreset }
+    ensures backwards { TimeBackwards }
     ensures rollover { CounterRollover }
     ensures down { CountDown }
 {}
@@ -59,14 +62,19 @@ pub fn task_runs()
     ensures preemption { Preemption }
     ensures regions { NestedRegions }
     ensures scan_end { RegionAtScanEnd }
+    ensures programs { TwoPrograms }
+    ensures at_tick { OpenAtTick }
     ensures turns { TurnsAtTicks }
     ensures watchdog { Watchdog }
+    ensures open_loop { OpenLoop }
+    ensures three { ThreeInTurn }
     ensures released_again { ReleasedAgain }
 {}
 
 /// Online edits: when they count, whose they are, what is merged, and each refusal.
 pub fn edit_runs()
     ensures selected { SelectedAtBegin }
+    ensures mid_scan { EditsInMidScan }
     ensures owners { Owners }
     ensures order { MergedOrder }
     ensures label { LostLabel }
@@ -77,6 +85,7 @@ pub fn edit_runs()
 pub fn word_runs()
     ensures words { ForcedWords }
     ensures input { ForcedInput }
+    ensures trigger { LateTrigger }
     ensures modes { Modes }
 {}
 

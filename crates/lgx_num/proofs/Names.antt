@@ -1,7 +1,9 @@
 -- A name read from left to right, with the byte before.
-use Rattle.std.proofs.Common.{◌≡◌, ◌≤◌, ◌<◌, ◌+◌, ℕ, List, [], ◌∷◌, length, drop, get_or, Bool, true, false, not, ◌&&◌, ◌||◌, arith, refl, suc, add-one, drop-cons}
+use Rattle.std.proofs.Common.{◌≡◌, ◌≤◌, ◌<◌, ◌+◌, ℕ, List, [], ◌∷◌, length, drop, get_or, Bool, true, false, not, ◌&&◌, ◌||◌, arith, rules, refl, suc, add-one, drop-cons}
 use Rattle.std.specs.List.{list_all}
 use Rattle.std.proofs.lemmas.Grind.{common_steps}
+use Rattle.std.proofs.lemmas.Slice.Eq.{bytes_eq-Decides}
+use Rattle.lgx_num.specs.Laws.{SameInLowerCase}
 use Rattle.lgx_num.specs.Name.{is_name_byte, is_underscore, has_double, ends_open, goes_on}
 
 -- the tests at the next byte and behind it are those on all that is left
@@ -22,3 +24,7 @@ goes_on_at before rest i below = rw (add-one, drop-cons rest i 0) (goes_on-cons 
 -- the end
 pub goes_on_past : (before : ℕ) (rest : List ℕ) (i : ℕ) → length rest ≤ i → goes_on before (drop i rest) ≡ not (is_underscore before)
 goes_on_past before rest i past = let e : drop i rest ≡ [] = grind (arith, common_steps) in rw e refl
+
+-- the comparison of names decides
+pub same_in_lower_case : SameInLowerCase
+same_in_lower_case a b = search (rules, bytes_eq-Decides)

@@ -3,7 +3,7 @@ use Rattle.std.proofs.Common.{◌≡◌, ℕ, ◌+◌, ◌*◌, ◌<◌, List, [
 use Rattle.std.specs.Prelude.{nat_lt}
 use Rattle.std.proofs.lemmas.Bool.{ltb-true}
 use Rattle.lgx_num.specs.declared.place.Index.{Index}
-use Rattle.lgx_num.specs.Image.{number, step_by, moved, steps_at, bit_of}
+use Rattle.lgx_num.specs.Image.{number, step_by, moved, steps_at}
 use Rattle.lgx_num.specs.Paths.{Leads}
 use Rattle.lgx_num.specs.Laws.{SubscriptsStayInRange}
 

@@ -1,9 +1,11 @@
 -- Laws of the definitions of numbers and of the image: what shows that they say what is meant.
-use Rattle.std.specs.Prelude.{◌≡◌, ℕ, ◌<◌, List, length, ℤ, IsTrue, FitsSigned, slice_index, EachIndex, Some}
+use Rattle.std.specs.Prelude.{◌≡◌, ℕ, ◌<◌, List, length, ℤ, IsTrue, FitsSigned, slice_index, EachIndex, Some, map, ◌↔◌}
+use Rattle.std.specs.Char.{to_ascii_lowercase}
 use Rattle.std.specs.Int.{w32}
 use Rattle.lgx_num.specs.declared.number.Kind.{Kind}
 use Rattle.lgx_num.specs.declared.place.Place.{Place}
 use Rattle.lgx_num.specs.declared.place.Path.{Path}
+use Rattle.lgx_num.specs.Name.{same}
 use Rattle.lgx_num.specs.Number.{store_low, fits, low_bits, bytes_of, dint_of}
 use Rattle.lgx_num.specs.Image.{number, write, bits_of, Lies, Apart, bit_of}
 use Rattle.lgx_num.specs.Paths.{Leads}
@@ -47,3 +49,9 @@ WriteKeepsLength = (image : List ℕ) (p : Place) (v : ℤ) → length (write im
 -- where a path's subscripts are worked out, they lead by numbers in range
 abbrev pub SubscriptsStayInRange : Type 0
 SubscriptsStayInRange = (image : List ℕ) (p : Path) (to : ℕ) → bit_of image p ≡ Some to → Leads p.steps p.at to
+
+-- ---- names
+
+-- names are compared by their spelling in lower case
+abbrev pub SameInLowerCase : Type 0
+SameInLowerCase = (a b : List ℕ) → IsTrue (same a b) ↔ (map to_ascii_lowercase a ≡ map to_ascii_lowercase b)

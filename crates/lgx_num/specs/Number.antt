@@ -2,12 +2,10 @@
 -- number 0 or 1, and a SINT, INT or DINT a signed number of 8, 16 or 32 bits in two's complement.
 use Rattle.std.specs.Prelude.{ℕ, ◌*◌, ◌^◌, Bool, ◌&&◌, List, ℤ, pos, negsuc, int_le, unsigned_abs}
 use Rattle.std.specs.Int.{Width, w8, w16, w32, cast_signed, int_rem_euclid, byte_len, to_le_bytes, from_le_bytes}
+-- whether two numbers are equal, passed on
+pub use Rattle.std.specs.Ordering.{int_eq}
 use Rattle.lgx_num.specs.declared.number.Kind.{Kind}
 use Rattle.lgx_num.specs.declared.number.Kind.TheVariants.{Bool as KBool, Sint, Int, Dint}
-
--- the same number
-abbrev pub int_eq : ℤ → ℤ → Bool
-int_eq a b = int_le a b && int_le b a
 
 -- the lowest bits of a number, as a number that isn't negative
 abbrev pub low_bits : ℕ → ℤ → ℕ

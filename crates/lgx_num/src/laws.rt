@@ -1,5 +1,5 @@
 // Laws of the definitions of numbers and of the image. Each is the contract of a function that does nothing.
-ghost use Rattle.lgx_num.specs.Laws.{KeptIsInRange, KeptHasTheLowBits, ValueInRangeIsKept, NumberOfItsBytes, BytesOfTheirNumber, ReadsWhatWasWritten, OtherPlacesStay, WriteKeepsLength, SubscriptsStayInRange};
+ghost use Rattle.lgx_num.specs.Laws.{KeptIsInRange, KeptHasTheLowBits, ValueInRangeIsKept, NumberOfItsBytes, BytesOfTheirNumber, ReadsWhatWasWritten, OtherPlacesStay, WriteKeepsLength, SubscriptsStayInRange, SameInLowerCase};
 
 /// What is kept of a value is the number in the kind's range that has the value's low bits, and a value in range is kept.
 pub fn law_of_low_bits()
@@ -24,4 +24,9 @@ pub fn law_of_writes()
 /// Subscripts that can be worked out lead by numbers from 0 and below their lengths.
 pub fn law_of_subscripts()
     ensures { SubscriptsStayInRange }
+{}
+
+/// Two names are one where they are spelled alike in lower case.
+pub fn law_of_names()
+    ensures { SameInLowerCase }
 {}

@@ -12,7 +12,7 @@ mod name;
 mod number;
 mod place;
 
-pub use laws::{law_of_bytes, law_of_low_bits, law_of_subscripts, law_of_writes};
+pub use laws::{law_of_bytes, law_of_low_bits, law_of_names, law_of_subscripts, law_of_writes};
 pub use list::List;
 pub use memory::Memory;
 pub use name::{Name, same};

@@ -1,16 +1,14 @@
 -- The reading of tokens answers the rung that they spell, or else the first fault.
-use Rattle.std.proofs.Common.{◌≡◌, ℕ, suc, ◌≤◌, ◌<◌, ◌+◌, ◌-◌, Bool, true, false, nat_lt, arith, inl, inr, List, [], ◌∷◌, ◌++◌, length, map, refl, ap, sym, ◌∙◌, subst, append_assoc, Result, Ok, Err, IfErr}
-use Rattle.std.proofs.lemmas.List.{append-nil}
+use Rattle.std.proofs.Common.{◌≡◌, ℕ, ◌≤◌, ◌+◌, Bool, true, false, nat_lt, arith, List, [], ◌∷◌, ◌++◌, length, refl, ap, sym, ◌∙◌, subst, Result, Ok, Err, IfErr}
 use Rattle.std.proofs.lemmas.Bool.{ltb-false}
-use Rattle.lgx_rung.specs.declared.op.Op.{Op}
 use Rattle.lgx_rung.specs.declared.op.Op.TheVariants.{Nop}
 use Rattle.lgx_rung.specs.declared.fault.TextFault.{TextFault}
 use Rattle.lgx_rung.specs.declared.fault.TextCode.{TextCode}
 use Rattle.lgx_rung.specs.declared.fault.TextCode.TheVariants.{T1, T2, T3, T4, T5}
-use Rattle.lgx_rung.specs.Text.{rung_tokens, IsNested, Begins, MayFollow, InElementPlace, kinds, IsWrong, StopsAt, IsCutShort, IsOpen, EndsByMnemonic, open_forks, in_parentheses, IsCause, IsTextCause, list_tokens, leg_tokens, operands, more_operands}
+use Rattle.lgx_rung.specs.Text.{rung_tokens, IsNested, MayFollow, InElementPlace, kinds, IsWrong, StopsAt, IsOpen, IsCause, IsTextCause}
 use Rattle.lgx_rung.specs.Tokens.{Token, Mnemonic, Letters, Operand, OpenFork, CloseFork, OpenParen, CloseParen, Comma, Semicolon, Stray, Placed, tokens, Place, Element, Named, First, Behind, Next, Fork, Reader, At, Done, open_fork, read_at, read_token, read_end, read_on, read_tokens, read_rung}
 use Rattle.lgx_rung.specs.Tree.{depth, Source}
-use Rattle.lgx_rung.proofs.Reading.{and_then, run, start, run-append, taken, taken_by_run, fit_by_run, runs_rung, goes_on, GoesOn, Ends, finished, fork_tokens, place_tokens}
+use Rattle.lgx_rung.proofs.Reading.{and_then, run, start, fit_by_run, goes_on}
 use Rattle.lgx_rung.proofs.Runs.{Runs, run_on, shorter, runs_before, ends_rung, rung_ends, cut_short, begins, runs_of_begins, one_more}
 use Rattle.lgx_rung.proofs.Open.{forks_of_run, open_of_run, closed_of_run, IsOpenAt}
 
@@ -175,16 +173,16 @@ found text f (stops before next behind s code split e k) h =
     let same : fault code next.at ≡ f = cc in
     let w : IsWrong code (kinds before) next.token = subst (λ q. IfErr q (λ c. IsWrong c (kinds before) next.token)) k (wrong (kinds before) s next.token e) in
     subst (IsTextCause text) same (stops_at text code next.at (kinds before) next.token w
-      (record {
-        before = before;
-        next = next;
-        behind = behind;
-        is_text = split;
-        begins = begins (kinds before) s e;
-        ends = refuses (kinds before) next.token s code e k;
-        is_wrong = w;
-        is_there = refl;
-      }))
+    (record {
+      before = before;
+      next = next;
+      behind = behind;
+      is_text = split;
+      begins = begins (kinds before) s e;
+      ends = refuses (kinds before) next.token s code e k;
+      is_wrong = w;
+      is_there = refl;
+    }))
 
 -- a fault that is read is the cause
 pub cause_of_read : (text : List ℕ) (f : TextFault) → read_rung text ≡ Err f → IsTextCause text f

@@ -1,8 +1,8 @@
 -- Neutral text as a whole.
-use Rattle.std.proofs.Common.{◌≡◌, ℕ, List, ap, sym, ◌∙◌, subst, Ok, Err}
+use Rattle.std.proofs.Common.{◌≡◌, ℕ, List, sym, subst, Ok, Err}
 use Rattle.lgx_rung.specs.declared.fault.TextFault.{TextFault}
-use Rattle.lgx_rung.specs.Text.{Spells, IsSourceRung, IsWritten, IsTextCause, canon, rung_tokens, kinds}
-use Rattle.lgx_rung.specs.Tokens.{tokens, read_rung}
+use Rattle.lgx_rung.specs.Text.{Spells, IsSourceRung, IsWritten, IsTextCause, canon}
+use Rattle.lgx_rung.specs.Tokens.{read_rung}
 use Rattle.lgx_rung.specs.Tree.{Source}
 use Rattle.lgx_rung.proofs.Causes.{tokens_of_read, read_of_tokens, cause_of_read, read_of_cause}
 use Rattle.lgx_rung.proofs.Lexing.{written_of_tokens, tokens_of_written, canon_written}

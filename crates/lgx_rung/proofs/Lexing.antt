@@ -1,13 +1,13 @@
 -- A text is written of its tokens, and the tokens of a text that is written of a rung's tokens are these.
-use Rattle.std.proofs.Common.{◌≡◌, ℕ, ◌+◌, Bool, true, false, ◌||◌, ◌&&◌, nat_eq, List, [], ◌∷◌, ◌++◌, length, map, reverse, refl, ap, sym, ◌∙◌, subst, append_assoc, Option, Some, None, IsTrue}
-use Rattle.std.specs.Prelude.{◌==◌, if◌then◌else◌, codes}
+use Rattle.std.proofs.Common.{◌≡◌, ℕ, ◌+◌, Bool, true, false, ◌||◌, List, [], ◌∷◌, ◌++◌, reverse, refl, ap, sym, ◌∙◌, subst, append_assoc, Option, Some, None, IsTrue}
+use Rattle.std.specs.Prelude.{◌==◌, if◌then◌else◌}
 use Rattle.std.specs.List.{list_all}
-use Rattle.std.proofs.lemmas.List.{append-nil, reverse-append, reverse-reverse}
+use Rattle.std.proofs.lemmas.List.{append-nil, reverse-append}
 use Rattle.std.proofs.lemmas.List.Folds.{list_all-append}
 use Rattle.std.proofs.lemmas.Bool.{and_from, and_parts, eqb-true}
 use Rattle.lgx_num.specs.Name.{is_letter}
 use Rattle.lgx_rung.specs.declared.op.Op.{Op}
-use Rattle.lgx_rung.specs.declared.op.Op.TheVariants.{Xic, Xio, Ote, Otl, Otu, Ons, Osr, Osf, Ton, Rto, Tof, Ctu, Ctd, Res, Equ, Neq, Les, Leq, Grt, Geq, Lim, Meq, Add, Sub, Mul, Div, Mod, Neg, Abs, Mov, And, Or, Xor, Not, Mvm, Clr, Cop, Cps, Fll, Jsr, Ret, Tnd, Jmp, Lbl, Mcr, Afi, Nop, Uid, Uie, Event}
+use Rattle.lgx_rung.specs.declared.op.Op.TheVariants.{Xic}
 use Rattle.lgx_rung.specs.Mnemonics.{op_of, text_of}
 use Rattle.lgx_rung.specs.Text.{IsSpelling, IsWritten, kinds, list_tokens, leg_tokens, rung_tokens, operands, more_operands, canon_token, canon_tokens, canon, has_operands}
 use Rattle.lgx_rung.specs.Tokens.{is_blank, is_operand_byte, is_operand, in_run, word, run_token, mark, inside_after, end_run, put_byte, put_mark, tokens_from, tokens, Token, Mnemonic, Letters, Operand, OpenFork, CloseFork, OpenParen, CloseParen, Comma, Semicolon, Stray, Placed}

@@ -5,3 +5,4 @@ pub mod Open
 pub mod Causes
 pub mod Lexing
 pub mod Laws
+pub mod Walks

@@ -1,16 +1,11 @@
 -- What is open behind the tokens of a run.
-use Rattle.std.proofs.Common.{◌≡◌, ℕ, suc, ◌≤◌, ◌<◌, ◌+◌, ◌-◌, Bool, true, false, nat_lt, arith, inl, inr, List, [], ◌∷◌, ◌++◌, length, map, refl, ap, sym, ◌∙◌, subst, append_assoc, Result, Ok, Err, IfErr}
+use Rattle.std.proofs.Common.{◌≡◌, ℕ, suc, ◌+◌, ◌-◌, Bool, true, false, arith, inl, inr, List, [], ◌∷◌, ◌++◌, length, refl, ap, sym, ◌∙◌, subst, append_assoc, Ok}
 use Rattle.std.proofs.lemmas.List.{append-nil}
-use Rattle.std.proofs.lemmas.Bool.{ltb-false}
 use Rattle.lgx_rung.specs.declared.op.Op.{Op}
-use Rattle.lgx_rung.specs.declared.op.Op.TheVariants.{Nop}
-use Rattle.lgx_rung.specs.declared.fault.TextFault.{TextFault}
-use Rattle.lgx_rung.specs.declared.fault.TextCode.{TextCode}
-use Rattle.lgx_rung.specs.declared.fault.TextCode.TheVariants.{T1, T2, T3, T4, T5}
-use Rattle.lgx_rung.specs.Text.{rung_tokens, IsNested, Begins, MayFollow, InElementPlace, kinds, IsWrong, StopsAt, IsCutShort, IsOpen, EndsByMnemonic, open_forks, in_parentheses, IsCause, IsTextCause, list_tokens, leg_tokens, operands, more_operands}
-use Rattle.lgx_rung.specs.Tokens.{Token, Mnemonic, Letters, Operand, OpenFork, CloseFork, OpenParen, CloseParen, Comma, Semicolon, Stray, Placed, tokens, Place, Element, Named, First, Behind, Next, Fork, Reader, At, Done, open_fork, read_at, read_token, read_end, read_on, read_tokens, read_rung}
-use Rattle.lgx_rung.specs.Tree.{end, one, fork, Legs, last, leg, depth, SourceIns, Source}
-use Rattle.lgx_rung.proofs.Reading.{and_then, run, start, run-append, taken, taken_by_run, fit_by_run, runs_rung, goes_on, GoesOn, Ends, finished, fork_tokens, place_tokens}
+use Rattle.lgx_rung.specs.Text.{IsOpen, open_forks, in_parentheses, list_tokens, leg_tokens, operands, more_operands}
+use Rattle.lgx_rung.specs.Tokens.{Token, Mnemonic, OpenFork, CloseFork, CloseParen, Comma, Place, Element, Named, First, Behind, Next, Fork, Reader, At, Done, read_token}
+use Rattle.lgx_rung.specs.Tree.{end, one, fork, Legs, last, leg, SourceIns, Source}
+use Rattle.lgx_rung.proofs.Reading.{and_then, run, taken_by_run, finished, fork_tokens, place_tokens}
 use Rattle.lgx_rung.proofs.Runs.{Runs, runs_before}
 
 -- ---- what is open

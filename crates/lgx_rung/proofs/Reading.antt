@@ -1,14 +1,13 @@
 -- What the reading of tokens takes, and that it takes the tokens of every rung.
-use Rattle.std.proofs.Common.{◌≡◌, ℕ, ◌≤◌, ◌<◌, ◌+◌, max, Bool, true, false, nat_lt, List, [], ◌∷◌, ◌++◌, length, refl, ap, sym, ◌∙◌, subst, arith, append_assoc, Result, Ok, Err, IfOk}
+use Rattle.std.proofs.Common.{◌≡◌, ℕ, ◌≤◌, ◌<◌, ◌+◌, max, Bool, true, false, nat_lt, List, [], ◌∷◌, ◌++◌, length, refl, ap, sym, ◌∙◌, arith, append_assoc, Result, Ok, Err, IfOk}
 use Rattle.std.proofs.lemmas.List.{append-nil}
 use Rattle.std.proofs.lemmas.Result.{IfOk-weaker, IfOk-at_ok}
 use Rattle.std.proofs.lemmas.Bool.{ltb-true, lt-ltb}
 use Rattle.lgx_rung.specs.declared.op.Op.{Op}
 use Rattle.lgx_rung.specs.declared.fault.TextCode.{TextCode}
-use Rattle.lgx_rung.specs.declared.fault.TextCode.TheVariants.{T1, T2, T3, T4, T5}
 use Rattle.lgx_rung.specs.Text.{list_tokens, leg_tokens, rung_tokens, operands, more_operands, IsNested}
-use Rattle.lgx_rung.specs.Tokens.{Token, Mnemonic, Letters, Operand, OpenFork, CloseFork, OpenParen, CloseParen, Comma, Semicolon, Stray, Place, Element, Named, First, Behind, Next, Fork, Reader, At, Done, instruction, open_fork, next_leg, close_fork, end_rung, read_element, read_at, read_token}
-use Rattle.lgx_rung.specs.Tree.{Tree, end, one, fork, Legs, last, leg, append, depth, leg_depth, legs_of, fork_of, SourceIns, Source}
+use Rattle.lgx_rung.specs.Tokens.{Token, Mnemonic, Operand, OpenFork, CloseFork, OpenParen, CloseParen, Comma, Semicolon, Place, Element, Named, First, Behind, Next, Fork, Reader, At, Done, instruction, open_fork, read_at, read_token}
+use Rattle.lgx_rung.specs.Tree.{end, one, fork, Legs, last, leg, append, depth, leg_depth, legs_of, fork_of, SourceIns, Source}
 use Rattle.lgx_rung.proofs.Trees.{append-end, append-append, depth-append}
 
 -- ---- a list of tokens

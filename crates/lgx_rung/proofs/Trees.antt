@@ -1,5 +1,5 @@
 -- Laws of rungs as trees.
-use Rattle.std.proofs.Common.{◌≡◌, ℕ, ◌≤◌, ◌+◌, max, Bool, true, ◌&&◌, List, [], ◌∷◌, ◌++◌, refl, ap, sym, ◌∙◌, subst, arith, append_assoc, IsTrue}
+use Rattle.std.proofs.Common.{◌≡◌, ℕ, ◌≤◌, max, true, List, [], ◌∷◌, ◌++◌, refl, ap, sym, ◌∙◌, arith, append_assoc, IsTrue}
 use Rattle.std.specs.List.{list_all}
 use Rattle.std.proofs.lemmas.List.Folds.{list_all-append}
 use Rattle.std.proofs.lemmas.Bool.{and_from, and_parts}
@@ -9,7 +9,7 @@ use Rattle.lgx_rung.specs.declared.rung.Element.TheVariants.{Ins, Fork}
 use Rattle.lgx_rung.specs.Elements.{tree_of}
 use Rattle.lgx_rung.specs.Text.{IsSourceRung, has_operands}
 use Rattle.lgx_rung.specs.Tokens.{is_operand}
-use Rattle.lgx_rung.specs.Tree.{Tree, end, one, fork, Legs, last, leg, append, depth, leg_depth, instructions, leg_instructions, legs_of, fork_of, SourceIns, Source}
+use Rattle.lgx_rung.specs.Tree.{Tree, end, one, fork, last, append, depth, instructions, leg_instructions, legs_of, fork_of, Source}
 
 pub append-end : {A : Type 0} (t : Tree A) → append t end ≡ t
 append-end end = refl
@@ -51,7 +51,7 @@ fork_operands [] a = refl
 fork_operands (t ∷ ts) a =
     list_all-append (λ i. list_all is_operand i.texts) (instructions t) (leg_instructions (legs_of ts) ++ [])
     ∙ and_from (has_operands t) _ (and_parts (has_operands t) (list_all has_operands ts) a).0
-        (list_all-append (λ i. list_all is_operand i.texts) (leg_instructions (legs_of ts)) [] ∙ and_from _ true (legs_operands ts (and_parts (has_operands t) (list_all has_operands ts) a).1) refl)
+    (list_all-append (λ i. list_all is_operand i.texts) (leg_instructions (legs_of ts)) [] ∙ and_from _ true (legs_operands ts (and_parts (has_operands t) (list_all has_operands ts) a).1) refl)
 
 -- a rung with one more instruction
 pub IsSourceRung-one : (t : Source) (op : Op) (texts : List (List ℕ)) → IsSourceRung t → IsTrue (list_all is_operand texts)

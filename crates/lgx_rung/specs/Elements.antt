@@ -2,7 +2,7 @@
 use Rattle.std.specs.Prelude.{List, [], ◌∷◌}
 use Rattle.lgx_rung.specs.declared.rung.Element.{Element}
 use Rattle.lgx_rung.specs.declared.rung.Element.TheVariants.{Ins, Fork}
-use Rattle.lgx_rung.specs.Tree.{Tree, end, one, fork_of, SourceIns, Source}
+use Rattle.lgx_rung.specs.Tree.{end, one, fork_of, Source}
 
 abbrev pub tree_of : List Element → Source
 tree_of [] = end

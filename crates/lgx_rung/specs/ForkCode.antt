@@ -1,6 +1,6 @@
 -- An open fork is told apart by its parts.
 use Rattle.std.specs.Prelude.{List, refl}
-use Rattle.std.specs.Coded.{Coded, codes, code_by, coded×, coded_list}
+use Rattle.std.specs.Coded.{Coded, code_by, coded×, coded_list}
 use Rattle.lgx_rung.specs.Coding.{coded_tree}
 use Rattle.lgx_rung.specs.Tokens.{Fork}
 use Rattle.lgx_rung.specs.Tree.{SourceIns, Source}

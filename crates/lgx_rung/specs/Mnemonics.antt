@@ -4,6 +4,7 @@ use Rattle.lgx_num.specs.Name.{same}
 use Rattle.lgx_rung.specs.declared.op.Op.{Op}
 use Rattle.lgx_rung.specs.declared.op.Op.TheVariants.{Xic, Xio, Ote, Otl, Otu, Ons, Osr, Osf, Ton, Rto, Tof, Ctu, Ctd, Res, Equ, Neq, Les, Leq, Grt, Geq, Lim, Meq, Add, Sub, Mul, Div, Mod, Neg, Abs, Mov, And, Or, Xor, Not, Mvm, Clr, Cop, Cps, Fll, Jsr, Ret, Tnd, Jmp, Lbl, Mcr, Afi, Nop, Uid, Uie, Event}
 
+-- the letters of each
 abbrev pub text_of : Op → List ℕ
 text_of Xic = codes "XIC"
 text_of Xio = codes "XIO"
@@ -63,6 +64,6 @@ mnemonics =
     ∷ Add ∷ Sub ∷ Mul ∷ Div ∷ Mod ∷ Neg ∷ Abs ∷ Mov ∷ And ∷ Or ∷ Xor ∷ Not ∷ Mvm ∷ Clr ∷ Cop ∷ Cps ∷ Fll
     ∷ Jsr ∷ Ret ∷ Tnd ∷ Jmp ∷ Lbl ∷ Mcr ∷ Afi ∷ Nop ∷ Uid ∷ Uie ∷ Event ∷ []
 
--- the instruction that letters name
+-- the instruction that letters name, in upper or lower case
 abbrev pub op_of : List ℕ → Option Op
 op_of letters = find (λ op. same (text_of op) letters) mnemonics

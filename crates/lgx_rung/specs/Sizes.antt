@@ -8,7 +8,7 @@ abbrev mutual
   pub tree_size : {A : Type 0} → Tree A → ℕ
   tree_size end = 0
   tree_size (one i rest) = tree_size rest + 1
-  tree_size (fork t legs rest) = tree_size t + legs_size legs + tree_size rest + 2
+  tree_size (fork t legs rest) = tree_size t + legs_size legs + tree_size rest + 3
 
   pub legs_size : {A : Type 0} → Legs A → ℕ
   legs_size last = 0

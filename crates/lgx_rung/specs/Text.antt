@@ -40,7 +40,7 @@ rung_tokens r = list_tokens r ++ Semicolon ∷ []
 
 -- ---- spelling
 
--- the bytes that a token may have: a mnemonic may stand in any case
+-- the bytes that a token may have: a mnemonic is letters in upper or lower case
 abbrev pub IsSpelling : Token → List ℕ → Type 0
 IsSpelling (Mnemonic op) bytes = IsTrue (list_all is_letter bytes) × (op_of bytes ≡ Some op)
 IsSpelling (Operand text) bytes = (bytes ≡ text) × IsTrue (is_operand text)
@@ -73,6 +73,7 @@ pub record IsSourceRung (r : Source) : Type 0 where
   pub nested : IsNested r
   pub operands : IsTrue (has_operands r)
 
+-- the text spells the rung: it is written of the rung's tokens
 abbrev pub Spells : List ℕ → Source → Type 0
 Spells text r = IsNested r × IsWritten text (rung_tokens r)
 

@@ -7,7 +7,7 @@ use Rattle.lgx_rung.specs.declared.fault.TextFault.{TextFault}
 use Rattle.lgx_rung.specs.declared.fault.TextCode.{TextCode}
 use Rattle.lgx_rung.specs.declared.fault.TextCode.TheVariants.{T1, T2, T3, T4, T5}
 use Rattle.lgx_rung.specs.Mnemonics.{op_of}
-use Rattle.lgx_rung.specs.Tree.{end, one, Legs, last, append, fork_of, SourceIns, Source}
+use Rattle.lgx_rung.specs.Tree.{end, one, append, fork_of, Source}
 
 -- space, tab, CR and LF
 abbrev pub is_blank : ℕ → Bool

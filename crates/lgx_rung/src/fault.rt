@@ -1,13 +1,21 @@
 // Faults of a rung: of its text, and of its operands.
+/// What is wrong with a rung's text, at the first fault from the left (profile).
 #[derive(Clone, Copy, PartialEq, Eq, Debug)]
 pub enum TextCode {
+    /// A byte continues no rung.
     T1,
+    /// Letters in an element's place are no mnemonic.
     T2,
+    /// The text ends while a fork or a parenthesis is open, or right behind a mnemonic.
     T3,
+    /// The text ends elsewhere without a semicolon.
     T4,
+    /// A fork would be the seventeenth open one.
     T5,
 }
 
+/// The first fault of a rung's text, and its place in bytes from the text's start: the letters' first byte, the byte, or
+/// where the text ends its length.
 #[derive(Clone, Copy, PartialEq, Eq, Debug)]
 pub struct TextFault {
     pub code: TextCode,

@@ -1,14 +1,21 @@
-//! Ladder rungs: mnemonics, rungs as lists of elements, and the neutral text that spells them.
+//! Ladder rungs (1756-PM008): mnemonics, rungs as lists of elements, and the neutral text that spells them.
+//!
+//! A rung is a list of elements and a semicolon; an element is an instruction or a fork, a branch of legs between brackets.
+//! That forks nest at most 16 deep, where blanks may stand and which fault comes first is our own profile.
 #![tactic(auto)]
 
 mod fault;
 mod op;
 mod rung;
+#[cfg(test)]
+mod tests;
 mod text;
 mod texts;
 
 pub use fault::{CheckCode, CheckFault, TextCode, TextFault};
 pub use op::{Op, mnemonics_are_read_back};
 pub use rung::{Element, Legs, OpenFork, SourceRung};
-pub use text::{canonical_text_spells_its_rung, text_spells_one_rung, texts_are_read, worked_texts};
+pub use text::{
+    canonical_text_spells_its_rung, text_spells_one_rung, texts_are_read, worked_texts,
+};
 pub use texts::Texts;

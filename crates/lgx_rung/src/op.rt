@@ -183,8 +183,8 @@ impl Op {
     }
 }
 
-/// Reading an instruction's mnemonic gives it back, so no two have the same.
+/// Reading an instruction's mnemonic gives it back, and no two instructions have the same.
 pub fn mnemonics_are_read_back()
-    ensures { (op : AnyOp) → op_of (text_of op) ≡ Some op }
-{
-}
+    ensures back { (op : AnyOp) → op_of (text_of op) ≡ Some op }
+    ensures distinct { (a b : AnyOp) → text_of a ≡ text_of b → a ≡ b }
+{}

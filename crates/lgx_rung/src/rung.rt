@@ -1,7 +1,6 @@
 // Rungs of source text.
 use crate::op::Op;
 use crate::texts::Texts;
-
 use lgx_num::Memory;
 use std::alloc::Global;
 use std::marker::Model;
@@ -115,6 +114,7 @@ impl SourceRung {
         ensures added { OnOk result (self.new ≡ append self.old (one (record { op = op; texts = texts }) end)) }
         ensures unchanged { OnErr result (self.new ≡ self.old) }
     {
+        // Read, the texts tell what their type keeps.
         let _ = texts.as_slice();
         self.elements.push(Element::Ins(op, texts))?;
         Ok(())
@@ -164,19 +164,21 @@ impl OpenFork {
         ensures added { OnOk result (self.new ≡ record self.old { legs = self.old.legs ++ leg ∷ [] }) }
         ensures unchanged { OnErr result (self.new ≡ self.old) }
     {
+        // Opened, the leg tells what its type keeps.
         let _ = &leg.elements;
         self.legs.push(leg)?;
         Ok(())
     }
 
-    /// Finishes the last leg: the leg before the fork, with the fork behind it.
-    pub fn close(self, leg: SourceRung) -> Result<SourceRung, Memory>
-        requires nested { depth (append self.before (fork_of (self.legs ++ leg ∷ []) end)) ≤ 16 }
-        ensures { IfOk result (λ r. r ≡ append self.before (fork_of (self.legs ++ leg ∷ []) end)) }
+    /// Finishes the last leg: the leg before the fork, with the fork behind its elements.
+    pub fn close(self, last: SourceRung) -> Result<SourceRung, Memory>
+        requires nested { depth (append self.before (fork_of (self.legs ++ last ∷ []) end)) ≤ 16 }
+        ensures { IfOk result (λ r. r ≡ append self.before (fork_of (self.legs ++ last ∷ []) end)) }
     {
-        let _ = &leg.elements;
+        // Opened, the leg tells what its type keeps.
+        let _ = &last.elements;
         let OpenFork { before, mut legs } = self;
-        legs.push(leg)?;
+        legs.push(last)?;
         let SourceRung { mut elements } = before;
         elements.push(Element::Fork(Legs { legs }))?;
         Ok(SourceRung { elements })

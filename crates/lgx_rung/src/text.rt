@@ -11,20 +11,17 @@ ghost use Rattle.lgx_rung.specs.Tree.{Source, end, fork, last, leg};
 pub fn texts_are_read()
     ensures rung { (text : List ℕ) (r : Source) → (read_rung text ≡ Ok r) ↔ Spells text r }
     ensures fault { (text : List ℕ) (f : TextFault) → (read_rung text ≡ Err f) ↔ IsTextCause text f }
-{
-}
+{}
 
 /// No text spells two rungs.
 pub fn text_spells_one_rung()
     ensures { (text : List ℕ) (a b : Source) → Spells text a → Spells text b → a ≡ b }
-{
-}
+{}
 
 /// A rung's canonical text spells it.
 pub fn canonical_text_spells_its_rung()
     ensures { (r : Source) → IsSourceRung r → Spells (canon r) r }
-{
-}
+{}
 
 /// Texts, and what they are read to.
 pub fn worked_texts()
@@ -38,14 +35,10 @@ pub fn worked_texts()
     ensures seventeenth_fork { read_rung (codes "[[[[[[[[[[[[[[[[[") ≡ faulty T5 16 }
     ensures no_element { read_rung (codes ";") ≡ Ok end }
 
-    ensures blanks {
-        read_rung (codes "xic( a ) [ XIC(b) , ] OTE(c) ;")
-        ≡ Ok (ins Xic (codes "a" ∷ []) (fork (ins Xic (codes "b" ∷ []) end) (leg end last) (ins Ote (codes "c" ∷ []) end)))
-    }
-    ensures canonical {
-        canon (ins Xic (codes "a" ∷ []) (fork (ins Xic (codes "b" ∷ []) end) (leg end last) (ins Ote (codes "c" ∷ []) end)))
-        ≡ codes "XIC(a)[XIC(b),]OTE(c);"
-    }
+    ensures blanks { read_rung (codes "xic( a ) [ XIC(b) , ] OTE(c) ;")
+        ≡ Ok (ins Xic (codes "a" ∷ []) (fork (ins Xic (codes "b" ∷ []) end) (leg end last) (ins Ote (codes "c" ∷ []) end))) }
+    ensures canonical { canon (ins Xic (codes "a" ∷ []) (fork (ins Xic (codes "b" ∷ []) end) (leg end last) (ins Ote (codes "c" ∷ []) end)))
+        ≡ codes "XIC(a)[XIC(b),]OTE(c);" }
 
     ensures mnemonic_at_end { read_rung (codes "XIC") ≡ faulty T3 3 }
     ensures mnemonic_and_blanks_at_end { read_rung (codes "XIC  ") ≡ faulty T3 5 }
@@ -55,5 +48,4 @@ pub fn worked_texts()
     ensures operand_missing { read_rung (codes "XIC(a,);") ≡ faulty T1 6 }
     ensures no_operands { read_rung (codes "XIC();") ≡ Ok (ins Xic [] end) }
     ensures closing_bracket { read_rung (codes "]") ≡ faulty T1 0 }
-{
-}
+{}

@@ -7,6 +7,10 @@ pub returns-clause-selected : goal.returns-clause-selected
 unfolding digits
 returns-clause-selected c = refl
 
+pub returns-clause-mid_scan : goal.returns-clause-mid_scan
+unfolding digits
+returns-clause-mid_scan c = refl
+
 pub returns-clause-owners : goal.returns-clause-owners
 unfolding digits
 returns-clause-owners c = refl

@@ -15,6 +15,14 @@ pub returns-clause-empty_leg : goal.returns-clause-empty_leg
 unfolding digits
 returns-clause-empty_leg c = refl
 
+pub returns-clause-legs : goal.returns-clause-legs
+unfolding digits
+returns-clause-legs c = refl
+
+pub returns-clause-false_conditions : goal.returns-clause-false_conditions
+unfolding digits
+returns-clause-false_conditions c = refl
+
 pub returns-clause-first_scan : goal.returns-clause-first_scan
 unfolding digits
 returns-clause-first_scan c = refl

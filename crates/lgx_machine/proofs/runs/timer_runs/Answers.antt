@@ -19,6 +19,10 @@ pub returns-clause-negative : goal.returns-clause-negative
 unfolding digits
 returns-clause-negative c = refl
 
+pub returns-clause-backwards : goal.returns-clause-backwards
+unfolding digits
+returns-clause-backwards c = refl
+
 pub returns-clause-rollover : goal.returns-clause-rollover
 unfolding digits
 returns-clause-rollover c = refl

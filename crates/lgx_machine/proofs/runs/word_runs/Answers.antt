@@ -11,6 +11,10 @@ pub returns-clause-input : goal.returns-clause-input
 unfolding digits
 returns-clause-input c = refl
 
+pub returns-clause-trigger : goal.returns-clause-trigger
+unfolding digits
+returns-clause-trigger c = refl
+
 pub returns-clause-modes : goal.returns-clause-modes
 unfolding digits
 returns-clause-modes c = refl

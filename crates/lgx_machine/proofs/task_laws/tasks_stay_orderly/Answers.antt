@@ -1,5 +1,4 @@
 -- The laws are those of an orderly table.
-use Rattle.std.proofs.Common.{◌≡◌, ℕ, Option, Some, None, refl, ap}
 use Rattle.lgx_machine.proofs.OrderlyLaws.{one_open, up_in_run, ranks_differ, ranks_below_next, step_of_up_task}
 use Rattle.lgx_machine.proofs.task_laws.tasks_stay_orderly.Goals as goal
 

@@ -1,4 +1,4 @@
-use Rattle.std.proofs.Common.{ap, sym, subst, ◌∙◌, [], ◌∷◌}
+use Rattle.std.proofs.Common.{ap, sym, subst, ◌∙◌}
 use Rattle.lgx_rung.specs.Tree.{end, one, append}
 use Rattle.lgx_rung.specs.Text.{IsSourceRung}
 use Rattle.lgx_rung.specs.Elements.{tree_of}
