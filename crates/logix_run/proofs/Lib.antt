@@ -1,0 +1,14 @@
+pub mod Split
+pub mod MemberKeys
+pub mod Items
+pub mod Elements
+pub mod Numbers
+pub mod JournalLines
+pub mod Runs
+pub mod Bounds
+pub mod Reports
+pub mod Values
+pub mod Puts
+pub mod Judged
+pub mod Endings
+pub mod Exactly

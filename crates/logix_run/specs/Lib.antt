@@ -1,0 +1,14 @@
+pub mod Status
+pub mod Pieces
+pub mod Rung
+pub mod Project
+pub mod Journal
+pub mod Kept
+pub mod Lines
+pub mod Recording
+pub mod Report
+pub mod Words
+pub mod Output
+pub mod Outside
+pub mod Where
+pub mod Judging
