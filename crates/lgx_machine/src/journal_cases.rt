@@ -67,5 +67,4 @@ pub fn journals_are_written()
 /// The runs of equal events in which a journal is written expand to its events.
 pub fn runs_expand()
     ensures { (journal : List Event) → events_of (joined journal) ≡ journal }
-{
-}
+{}

@@ -21,23 +21,20 @@ pub fn runs_are_legal()
     ensures turns { verdicts_on turns_at_ticks turning ≡ all_hold }
     ensures edits { verdicts_on selected_at_begin tested ≡ all_hold }
     ensures copy { verdicts_on whole_copy held_copy ≡ all_hold }
-{
-}
+{}
 
 /// A scan keeps the rungs that were selected at its begin, also where others are selected in its middle.
 pub fn scans_keep_rungs()
     ensures kept { rungs_at one_nop (take 5 emptied) ≡ begun_at one_nop (take 5 emptied) }
     ensures taken { rungs_at one_nop emptied ≡ begun_at one_nop emptied }
-{
-}
+{}
 
 /// A synchronous copy is whole, and what is held or refused changes nothing.
 pub fn copies_and_refusals()
     ensures copy { IsTrue (each_from keeps_copy (stages whole_copy held_copy)) }
     ensures held { AllByRecursion KeepsState (stages whole_copy held_copy) }
     ensures refused { AllByRecursion KeepsState (stages owners clients) }
-{
-}
+{}
 
 /// Journals of scripts, partial and complete.
 pub fn scripts_are_run()
@@ -45,8 +42,7 @@ pub fn scripts_are_run()
     ensures word { IsComplete torn_copy one_word word_at_end }
     ensures open { IsComplete whole_copy (script 3 10) (run_mode ∷ cpu 4) }
     ensures not_yet { IsPartial whole_copy (script 3 10) [] (run_mode ∷ cpu 3) }
-{
-}
+{}
 
 /// Journals that aren't of the script: a tick left out, a late one, steps beyond the script's, an action twice, and one
 /// before its tick.
@@ -57,5 +53,4 @@ pub fn scripts_are_not_run()
     ensures closed { is_held_over whole_copy 3 (run_mode ∷ cpu 5) ≡ false }
     ensures twice { IsPartial torn_copy one_word (1 ∷ []) (word_at_end ++ word 0 1 ∷ []) → ⊥ }
     ensures early { IsPartial torn_copy one_word (1 ∷ []) (run_mode ∷ cpu 5 ++ tick 1 ++ word 0 1 ∷ []) → ⊥ }
-{
-}
+{}
