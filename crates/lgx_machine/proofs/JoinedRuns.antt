@@ -1,5 +1,5 @@
 -- The runs of a journal expand to its events.
-use Rattle.std.proofs.Common.{◌≡◌, ℕ, ◌+◌, List, [], ◌∷◌, ◌++◌, Bool, true, false, cond, replicate, flat_map, refl, sym, ap, subst, ◌∙◌, add-one, true≢false}
+use Rattle.std.proofs.Common.{◌≡◌, ℕ, ◌+◌, List, [], ◌∷◌, ◌++◌, Bool, true, false, cond, replicate, refl, sym, ap, ◌∙◌, add-one, true≢false}
 use Rattle.lgx_machine.specs.declared.event.Event.{Event}
 use Rattle.lgx_machine.specs.declared.event.Event.TheVariants.{Cpu, Tick, Act}
 use Rattle.lgx_machine.specs.JournalText.{EventRun, events_of, runs_on, before_runs, joined}

@@ -1,5 +1,5 @@
 -- The text of an action: how its words are read, and how they are written.
-use Rattle.std.specs.Prelude.{ℕ, List, [], ◌∷◌, ◌++◌, map, length, Bool, true, false, ◌&&◌, ◌||◌, nat_le, if◌then◌else◌, ℤ, Option, Some, None, option_map, option_and_then, codes, decimal}
+use Rattle.std.specs.Prelude.{ℕ, List, [], ◌∷◌, map, length, if◌then◌else◌, Option, Some, None, option_map, option_and_then, codes, decimal}
 use Rattle.std.specs.Fmt.{signed_decimal}
 use Rattle.std.specs.List.{join_with_byte, join_by}
 use Rattle.std.specs.Str.{bytes_eq}

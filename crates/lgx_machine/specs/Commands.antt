@@ -1,5 +1,5 @@
 -- What an accept of rung edits is and keeps.
-use Rattle.std.specs.Prelude.{ℕ, List, length, Bool, ◌&&◌, nat_le}
+use Rattle.std.specs.Prelude.{ℕ, List, Bool, ◌&&◌, nat_le}
 use Rattle.lgx_machine.specs.declared.event.RungEdit.{RungEdit}
 
 -- the names of a program and of its routine, and the edits of it in order

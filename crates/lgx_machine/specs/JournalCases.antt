@@ -1,5 +1,5 @@
 -- Texts of journals and scripts with what they are.
-use Rattle.std.specs.Prelude.{ℕ, List, [], ◌∷◌, ◌++◌, map, replicate, take, codes, ℤ, pos, negsuc, Result}
+use Rattle.std.specs.Prelude.{ℕ, List, [], ◌∷◌, ◌++◌, map, replicate, take, codes, pos, negsuc, Result}
 use Rattle.std.specs.List.{range_with_len}
 use Rattle.lgx_machine.specs.declared.event.RungEdit.{RungEdit}
 use Rattle.lgx_machine.specs.declared.event.RungEdit.TheVariants.{Replace, Insert, Delete}
@@ -11,7 +11,6 @@ use Rattle.lgx_machine.specs.declared.script.Timed.{Timed}
 use Rattle.lgx_machine.specs.Scripts.{Script}
 use Rattle.lgx_machine.specs.declared.script.JournalFault.{JournalFault}
 use Rattle.lgx_machine.specs.Commands.{accept_command}
-use Rattle.lgx_machine.specs.JournalText.{journal_of}
 use Rattle.lgx_machine.specs.ScriptText.{script_of}
 
 abbrev pub cpu : ℕ → List Event

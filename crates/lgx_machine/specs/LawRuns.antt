@@ -1,14 +1,13 @@
 -- Runs of the machine, as the laws of the schedule and scripts see them.
-use Rattle.std.specs.Prelude.{◌≡◌, ℕ, List, [], ◌∷◌, ◌++◌, map, take, replicate, Bool, Option, Some, None, option_map, IsTrue, codes, ℤ, pos}
-use Rattle.lgx_machine.specs.declared.event.Action.{Action}
-use Rattle.lgx_machine.specs.declared.event.Action.TheVariants.{WordIn, Test, Untest, Cancel, ModeRun, ModeProgram}
+use Rattle.std.specs.Prelude.{ℕ, List, [], ◌∷◌, ◌++◌, Bool, Option, option_map, codes, pos}
+use Rattle.lgx_machine.specs.declared.event.Action.TheVariants.{WordIn, Test, ModeRun, ModeProgram}
 use Rattle.lgx_machine.specs.declared.event.RungEdit.TheVariants.{Replace}
 use Rattle.lgx_machine.specs.declared.event.Event.{Event}
-use Rattle.lgx_machine.specs.declared.event.Event.TheVariants.{Cpu, Tick, Act}
+use Rattle.lgx_machine.specs.declared.event.Event.TheVariants.{Act}
 use Rattle.lgx_machine.specs.Scripts.{Script}
 use Rattle.lgx_machine.specs.Position.{ProgramRungs}
 use Rattle.lgx_machine.specs.Project.{Project}
-use Rattle.lgx_machine.specs.State.{start, Scan}
+use Rattle.lgx_machine.specs.State.{start}
 use Rattle.lgx_machine.specs.Machine.{run}
 use Rattle.lgx_machine.specs.JournalCases.{cpu, tick, timed, accept}
 use Rattle.lgx_machine.specs.Samples.{plain, continuous}

@@ -6,7 +6,7 @@ use Rattle.lgx_machine.specs.declared.trace.TraceEvent.{TraceEvent}
 use Rattle.lgx_machine.specs.declared.trace.TraceEvent.TheVariants.{Idle, Began, Step, Left, Tick, Act}
 use Rattle.lgx_machine.specs.declared.trace.AuditTask.{AuditTask}
 use Rattle.lgx_machine.specs.declared.trace.Table.{Table}
-use Rattle.lgx_machine.specs.Counting.{Counted, uncounted, is_open, Numbers, unedited, selected, stepping, steps_here, Place, places}
+use Rattle.lgx_machine.specs.Counting.{Counted, uncounted, is_open, unedited, selected, stepping, steps_here, Place, places}
 
 abbrev pub no_task : AuditTask
 no_task = record { continuous = false; priority = 0; programs = 0 }

@@ -1,14 +1,13 @@
 -- A trace with its states, and the laws of the schedule that speak of them: the version law of the rungs, the copy law
 -- and the refusal law.
-use Rattle.std.specs.Prelude.{◌≡◌, ℕ, ◌+◌, ◌*◌, List, [], ◌∷◌, fold, slice_range, slice_index_or, Bool, true, false, not, ◌&&◌, ◌||◌, nat_le, nat_eq, if◌then◌else◌, Option, Some, None, option_map, Result, Ok, Err, IfSome, IsTrue, ⊤, find}
+use Rattle.std.specs.Prelude.{◌≡◌, ℕ, ◌+◌, ◌*◌, List, [], ◌∷◌, fold, slice_range, Bool, true, false, not, ◌&&◌, ◌||◌, nat_le, nat_eq, if◌then◌else◌, Option, Some, None, Result, Ok, Err, IfSome, IsTrue, ⊤, find}
 use Rattle.std.specs.List.{AllByRecursion}
 use Rattle.std.specs.Str.{bytes_eq}
 use Rattle.lgx_machine.specs.declared.event.Action.{Action}
 use Rattle.lgx_machine.specs.declared.event.Event.{Event}
-use Rattle.lgx_machine.specs.declared.event.Event.TheVariants.{Cpu, Tick, Act}
+use Rattle.lgx_machine.specs.declared.event.Event.TheVariants.{Act}
 use Rattle.lgx_machine.specs.declared.answer.What.{What}
 use Rattle.lgx_machine.specs.declared.answer.What.TheVariants.{Idle, Began, Ran, Copied, Left}
-use Rattle.lgx_machine.specs.declared.answer.Mark.{Mark}
 use Rattle.lgx_machine.specs.declared.answer.Mark.TheVariants.{CopyStart, CopyEnd}
 use Rattle.lgx_machine.specs.declared.bound.Copying.{Copying}
 use Rattle.lgx_machine.specs.declared.reply.EditFault.{EditFault}
@@ -19,7 +18,7 @@ use Rattle.lgx_machine.specs.Edits.{Book, Edited, edit, book_at, selected}
 use Rattle.lgx_machine.specs.Project.{Project}
 use Rattle.lgx_machine.specs.State.{State, Scan, progress_of, start}
 use Rattle.lgx_machine.specs.Legal.{each_from}
-use Rattle.lgx_machine.specs.Machine.{Answer, OfStep, OfTick, OfAction, step, run}
+use Rattle.lgx_machine.specs.Machine.{Answer, OfStep, OfAction, step, run}
 use Rattle.lgx_machine.specs.Refusals.{first_cause}
 
 -- an event with its answer, and the states before and after it
