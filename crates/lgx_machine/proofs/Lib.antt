@@ -3,3 +3,4 @@ pub mod OrderlyTables
 pub mod OrderlyRuns
 pub mod OrderlyLaws
 pub mod JoinedRuns
+pub mod KeptScripts

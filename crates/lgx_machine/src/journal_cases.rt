@@ -1,8 +1,9 @@
 // Texts of journals and scripts, computed by the definitions. Each function is a law: it does nothing, and its
 // contract is what is shown.
-ghost use Rattle.std.specs.Prelude.{◌≡◌, ◌∷◌, ◌++◌, [], codes, map, replicate, length, List, ℕ, Ok, Err};
+ghost use Rattle.std.specs.Prelude.{◌≡◌, ◌∷◌, ◌++◌, [], codes, map, replicate, length, List, ℕ, Ok, Err, IfOk, IsTrue};
 ghost use Rattle.lgx_machine.specs.JournalText.{EventRun, journal_of, journal_runs, text, refused, joined, events_of};
 ghost use Rattle.lgx_machine.specs.ScriptText.{script_of};
+ghost use Rattle.lgx_machine.specs.Scripts.{is_script};
 ghost use Rattle.lgx_machine.specs.JournalCases.{paced_text, paced, tested_text, tested, clients_text, clients, edits_text, edits, edits_canonical, words_text, words, formless, before_end, plain, cut_scripts, lanes_text, lanes};
 ghost use Rattle.lgx_machine.specs.declared.event.Event.{Event};
 ghost use Rattle.lgx_machine.specs.declared.event.Event.TheVariants.{Cpu, Tick, Act};
@@ -67,4 +68,9 @@ pub fn journals_are_written()
 /// The runs of equal events in which a journal is written expand to its events.
 pub fn runs_expand()
     ensures { (journal : List Event) → events_of (joined journal) ≡ journal }
+{}
+
+/// What a text is read to keeps what the type of scripts says.
+pub fn scripts_are_kept()
+    ensures { (bytes : List ℕ) → IfOk (script_of bytes) (λ s. IsTrue (is_script s)) }
 {}
