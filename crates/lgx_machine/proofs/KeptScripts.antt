@@ -34,15 +34,15 @@ and_true : {a b : Bool} → a ≡ true → b ≡ true → (a && b) ≡ true
 and_true {a = true} h k = k
 and_true {a = false} h k = absurd (true≢false (sym h))
 
-or_false : {a b : Bool} → (a || b) ≡ false → (a ≡ false) × (b ≡ false)
+pub or_false : {a b : Bool} → (a || b) ≡ false → (a ≡ false) × (b ≡ false)
 or_false {a = true} h = absurd (true≢false h)
 or_false {a = false} h = (refl, h)
 
-unless_keeps : {B : Type 0} (b : Bool) (e : JournalCode) (f : Unit {0} → Result B JournalCode) (P : B → Type 0) → (b ≡ false → IfOk (f tt) P) → IfOk (unless b e >>= f) P
+pub unless_keeps : {B : Type 0} (b : Bool) (e : JournalCode) (f : Unit {0} → Result B JournalCode) (P : B → Type 0) → (b ≡ false → IfOk (f tt) P) → IfOk (unless b e >>= f) P
 unless_keeps true e f P h = tt
 unless_keeps false e f P h = h refl
 
-some_keeps : {A B : Type 0} (o : Option A) (e : JournalCode) (f : A → Result B JournalCode) (Q : A → Type 0) (P : B → Type 0) → IfSome o Q → ((x : A) → Q x → IfOk (f x) P) → IfOk (some_or e o >>= f) P
+pub some_keeps : {A B : Type 0} (o : Option A) (e : JournalCode) (f : A → Result B JournalCode) (Q : A → Type 0) (P : B → Type 0) → IfSome o Q → ((x : A) → Q x → IfOk (f x) P) → IfOk (some_or e o >>= f) P
 some_keeps None e f Q P q h = tt
 some_keeps (Some x) e f Q P q h = h x q
 
@@ -83,7 +83,7 @@ header_keeps line =
 
 -- ---- the other lines
 
-any_some : {A : Type 0} (o : Option A) → IfSome o (λ x. Unit {0})
+pub any_some : {A : Type 0} (o : Option A) → IfSome o (λ x. Unit {0})
 any_some None = tt
 any_some (Some x) = tt
 

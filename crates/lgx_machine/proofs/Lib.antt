@@ -4,3 +4,4 @@ pub mod OrderlyRuns
 pub mod OrderlyLaws
 pub mod JoinedRuns
 pub mod KeptScripts
+pub mod WithinLimits

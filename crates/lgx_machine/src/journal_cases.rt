@@ -1,7 +1,7 @@
 // Texts of journals and scripts, computed by the definitions. Each function is a law: it does nothing, and its
 // contract is what is shown.
 ghost use Rattle.std.specs.Prelude.{◌≡◌, ◌∷◌, ◌++◌, [], codes, map, replicate, length, List, ℕ, Ok, Err, IfOk, IsTrue};
-ghost use Rattle.lgx_machine.specs.JournalText.{EventRun, journal_of, journal_runs, text, refused, joined, events_of};
+ghost use Rattle.lgx_machine.specs.JournalText.{EventRun, journal_of, journal_runs, text, refused, joined, events_of, IsWithin};
 ghost use Rattle.lgx_machine.specs.ScriptText.{script_of};
 ghost use Rattle.lgx_machine.specs.Scripts.{is_script};
 ghost use Rattle.lgx_machine.specs.JournalCases.{paced_text, paced, tested_text, tested, clients_text, clients, edits_text, edits, edits_canonical, words_text, words, formless, before_end, plain, cut_scripts, lanes_text, lanes};
@@ -73,4 +73,9 @@ pub fn runs_expand()
 /// What a text is read to keeps what the type of scripts says.
 pub fn scripts_are_kept()
     ensures { (bytes : List ℕ) → IfOk (script_of bytes) (λ s. IsTrue (is_script s)) }
+{}
+
+/// What a text is read to is within the limits of a journal.
+pub fn journals_are_within_limits()
+    ensures { (bytes : List ℕ) → IfOk (journal_of bytes) (λ journal. IsWithin journal) }
 {}
