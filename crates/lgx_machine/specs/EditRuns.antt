@@ -122,7 +122,7 @@ MergedOrder = replay merged_order (lines (codes "@0 accept P M i 1 MOV(7,n); | i
     ∷ codes "@0 assemble P"
     ∷ codes "@0 accept P M r 0 MOV(1,n);"
     ∷ codes "@0 cancel P"
-    ∷ codes "cpu 2"
+    ∷ codes "cpu 3"
     ∷ codes "end"
     ∷ []))
     ≡ lines (codes "0 0 reply 0 ok 1"
@@ -138,7 +138,8 @@ MergedOrder = replay merged_order (lines (codes "@0 accept P M i 1 MOV(7,n); | i
     ∷ codes "0 5 reply 0 ok 3"
     ∷ codes "0 5 reply 0 ok"
     ∷ codes "0 7 begin T P 2"
-    ∷ codes "end 0 7 run lost 0"
+    ∷ codes "0 8 set n 7"
+    ∷ codes "end 0 8 run lost 0"
     ∷ [])
 
 -- Edits between all steps: a scan runs the rungs that were selected at its beginning, whatever is assembled meanwhile.

@@ -1,8 +1,9 @@
 -- Runs of rungs, zones and calls.
 use Rattle.std.specs.Prelude.{◌≡◌, [], ◌∷◌, codes, pos}
+use Rattle.lgx_machine.specs.declared.types.Base.TheVariants.{Bool as OneBit}
 use Rattle.lgx_machine.specs.declared.task.TaskKind.TheVariants.{Continuous}
 use Rattle.lgx_machine.specs.Project.{Project}
-use Rattle.lgx_machine.specs.Samples.{bool, dint, continuous, routines, routine, task, plain, with_words, input, is_initially, lines, replay}
+use Rattle.lgx_machine.specs.Samples.{array, bool, dint, timer, counter, continuous, routines, routine, task, plain, with_words, input, is_initially, lines, replay}
 
 -- A program without rungs: each scan begins and leaves its main routine.
 abbrev pub empty_program : Project
@@ -124,6 +125,32 @@ FalseConditions = replay false_conditions (lines (codes "mode run"
     ∷ codes "0 1 begin T P 0"
     ∷ codes "0 9 set w 0"
     ∷ codes "end 0 10 run lost 0"
+    ∷ [])
+
+-- The change to Run prescans each routine that the main one reaches by the text of a JSR, whatever stands before it: M and N,
+-- and not K. A subscript out of range does nothing.
+abbrev pub prescanned : Project
+prescanned = plain (bool (codes "o") ∷ bool (codes "s") ∷ bool (codes "r") ∷ bool (codes "ro") ∷ bool (codes "f") ∷ bool (codes "fo") ∷ timer (codes "t1") ∷ timer (codes "t2") ∷ timer (codes "t3") ∷ counter (codes "c1") ∷ counter (codes "c2") ∷ array (codes "z") OneBit 32 ∷ dint (codes "i") ∷ bool (codes "n") ∷ bool (codes "k") ∷ []) (task (codes "T") Continuous 16 (routines (codes "P") (routine (codes "M") (codes "OTE(o)ONS(s)OSR(r,ro)OSF(f,fo);" ∷ codes "TON(t1,?,?)TOF(t2,?,?)RTO(t3,?,?)CTU(c1,?,?)CTD(c2,?,?);" ∷ codes "OTE(z[i])AFI()JSR(N,0);" ∷ []) ∷ routine (codes "K") (codes "OTE(k);" ∷ []) ∷ routine (codes "N") (codes "OTE(n);" ∷ []) ∷ []) ∷ []) ∷ []) (is_initially (codes "o") (pos 1) ∷ is_initially (codes "ro") (pos 1) ∷ is_initially (codes "f") (pos 1) ∷ is_initially (codes "fo") (pos 1) ∷ is_initially (codes "t1.ACC") (pos 3) ∷ is_initially (codes "t1.DN") (pos 1) ∷ is_initially (codes "t2.PRE") (pos 5) ∷ is_initially (codes "t3.ACC") (pos 3) ∷ is_initially (codes "t3.DN") (pos 1) ∷ is_initially (codes "z[3]") (pos 1) ∷ is_initially (codes "i") (pos 40) ∷ is_initially (codes "n") (pos 1) ∷ is_initially (codes "k") (pos 1) ∷ []) (codes "o" ∷ codes "s" ∷ codes "r" ∷ codes "ro" ∷ codes "f" ∷ codes "fo" ∷ codes "t1.ACC" ∷ codes "t1.DN" ∷ codes "t2.ACC" ∷ codes "t3.ACC" ∷ codes "t3.DN" ∷ codes "c1.CU" ∷ codes "c2.CD" ∷ codes "z[3]" ∷ codes "n" ∷ codes "k" ∷ [])
+
+abbrev pub Prescanned : Type 0
+Prescanned = replay prescanned (lines (codes "mode run"
+    ∷ codes "end"
+    ∷ []))
+    ≡ lines (codes "0 0 reply 31 ok"
+    ∷ codes "0 0 set o 0"
+    ∷ codes "0 0 set s 1"
+    ∷ codes "0 0 set r 1"
+    ∷ codes "0 0 set ro 0"
+    ∷ codes "0 0 set f 0"
+    ∷ codes "0 0 set fo 0"
+    ∷ codes "0 0 set t1.ACC 0"
+    ∷ codes "0 0 set t1.DN 0"
+    ∷ codes "0 0 set t2.ACC 5"
+    ∷ codes "0 0 set t3.DN 0"
+    ∷ codes "0 0 set c1.CU 1"
+    ∷ codes "0 0 set c2.CD 1"
+    ∷ codes "0 0 set n 0"
+    ∷ codes "end 0 0 run lost 0"
     ∷ [])
 
 -- A pulse where the condition becomes true, and one where it becomes false.

@@ -75,6 +75,8 @@ ForcedInput = replay forced_input (lines (codes "mode run"
     ∷ codes "@0 in In 1 -1"
     ∷ codes "cpu 1"
     ∷ codes "@0 in In 1 0"
+    ∷ codes "@0 force remove"
+    ∷ codes "@0 force enable"
     ∷ codes "end"
     ∷ []))
     ≡ lines (codes "0 0 reply 31 ok"
@@ -87,6 +89,8 @@ ForcedInput = replay forced_input (lines (codes "mode run"
     ∷ codes "0 1 reply 0 ok"
     ∷ codes "0 1 fault minor 6/3 E -"
     ∷ codes "0 1 set Local:1:I[1] 7"
+    ∷ codes "0 1 reply 0 ok"
+    ∷ codes "0 1 reply 0 refused F3"
     ∷ codes "end 0 1 run lost 0"
     ∷ [])
 

@@ -2,22 +2,28 @@
 use crate::fault::Fault;
 use crate::reply::Reply;
 
+/// What a processor step did. Tasks and programs are numbers in project order.
 #[derive(Clone, Copy, PartialEq, Eq, Debug)]
 pub enum What {
+    /// No task is up.
     Idle,
+    /// The task began its next program; `version` is the number of the rungs that it took.
     Began {
         task: u32,
         program: u32,
         version: u32,
     },
+    /// An instruction was executed.
     Ran {
         task: u32,
         program: u32,
     },
+    /// One element of a copy was copied.
     Copied {
         task: u32,
         program: u32,
     },
+    /// A routine was left; `ended` says that the program scan ended with it.
     Left {
         task: u32,
         program: u32,
@@ -25,6 +31,8 @@ pub enum What {
     },
 }
 
+/// What a processor step meant for tasks and copies: a region opened or closed, a task triggered, a copy started or ended.
+/// The flag of a copy says that it is synchronous (CPS).
 #[derive(Clone, Copy, PartialEq, Eq, Debug)]
 pub enum Mark {
     Plain,
@@ -35,6 +43,7 @@ pub enum Mark {
     CopyEnd(bool),
 }
 
+/// The answer to a processor step: `fault` is the one that it recorded.
 #[derive(Clone, Copy, PartialEq, Eq, Debug)]
 pub struct Moment {
     pub what: What,
@@ -42,6 +51,8 @@ pub struct Moment {
     pub fault: Option<Fault>,
 }
 
+/// The answer to a tick: the task whose watchdog ran out, and masks of the tasks that were released and of those that
+/// overlapped, bit t standing for task t.
 #[derive(Clone, Copy, PartialEq, Eq, Debug)]
 pub struct TickReport {
     pub watchdog: Option<u32>,
@@ -49,6 +60,7 @@ pub struct TickReport {
     pub overlapped: u32,
 }
 
+/// The answer to an action: its reply, the fault that it recorded, and the mask of the tasks that it released.
 #[derive(Clone, Copy, PartialEq, Eq, Debug)]
 pub struct Outcome {
     pub reply: Reply,

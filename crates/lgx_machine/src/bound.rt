@@ -2,7 +2,8 @@
 use lgx_num::{Flag, Place};
 use std::marker::Model;
 
-/// An operand with its place worked out.
+/// An operand with its place worked out: the numbers of a timer, a counter and a block are bytes, and a block's element has
+/// `size` bytes and its tag ends at `stop`. `Other` is any operand that names no place.
 #[derive(Clone, Copy)]
 pub enum Arg {
     Number(i32),
@@ -14,7 +15,7 @@ pub enum Arg {
     Other,
 }
 
-/// At most three.
+/// The operands of an instruction in order, at most three.
 #[derive(Drop)]
 pub struct Bound {
     list: Vec<Arg>,
@@ -29,6 +30,9 @@ impl Model for Bound {
     ghost view = { λ s. s.list.items };
 }
 
+/// A copy in progress: its next element is copied from byte `source` to byte `target`, and `left` elements of `size` bytes
+/// are to come. `sync` says that it is a CPS. A fill keeps the value that it read at its start, of which the low bits are
+/// stored.
 #[derive(Clone, Copy)]
 pub struct Copying {
     pub sync: bool,
@@ -39,7 +43,7 @@ pub struct Copying {
     pub left: u32,
 }
 
-/// What a step of the engine did.
+/// What a step of a program scan did. `Major` has the code of a major fault of type 4; `Minor` is the minor fault 4/4.
 #[derive(Clone, Copy)]
 pub enum Effect {
     Ran,

@@ -20,6 +20,7 @@ impl Model for Text {
     ghost invariant = { λ t. IsTrue (is_edit_text t.bytes.items) };
 }
 
+/// An edit of a rung, by its number in the base routine, from 0: another text, a rung before it (or behind the last), or none.
 #[derive(Drop)]
 pub enum RungEdit {
     Replace(u32, Text),
@@ -27,7 +28,7 @@ pub enum RungEdit {
     Delete(u32),
 }
 
-/// Edits of a routine that are accepted together: 1 to 16 of them.
+/// The accept of 1 to 16 edits of a routine.
 #[derive(Drop)]
 pub struct Accept {
     pub program: Name,
@@ -46,6 +47,8 @@ impl Model for Accept {
     ghost invariant = { λ a. IsTrue (is_edit_count (length a.edits)) };
 }
 
+/// What modules and engineers do: I/O words in and out, the five edit commands, the four on forces, and the modes. A word is
+/// 32 bits; its number counts from the connection's first, from 0.
 #[derive(Drop)]
 pub enum Action {
     WordIn {
@@ -76,6 +79,7 @@ pub enum Action {
     Clear,
 }
 
+/// An event of a run: a processor step, a tick, or an action of a lane.
 #[derive(Drop)]
 pub enum Event {
     Cpu,

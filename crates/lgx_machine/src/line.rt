@@ -2,6 +2,7 @@
 use crate::fault::Fault;
 use crate::reply::Reply;
 
+/// A line of the report. Tasks, programs and watched places are numbers in project order.
 #[derive(Clone, Copy, PartialEq, Eq, Debug)]
 pub enum Line {
     Begin {

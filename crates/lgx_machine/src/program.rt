@@ -2,7 +2,7 @@
 use lgx_num::{List, Operand};
 use lgx_rung::Op;
 
-/// An instruction with its operands.
+/// An instruction with its checked operands, at most three.
 #[derive(Drop)]
 pub struct Ins {
     pub op: Op,

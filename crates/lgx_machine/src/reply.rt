@@ -1,6 +1,10 @@
 // Replies to actions, with their refusals.
 use lgx_rung::{CheckFault, TextFault};
 
+/// Why an edit is refused: no program (E1), no routine (E2), another client owns the program's edits (E3, with the owner),
+/// it is tested (E4), the edit of a rung that isn't there (E5, with the edit's place from 0), of a rung that an edit replaced
+/// or deleted before (E6, likewise), with a text that is no rung (E7, likewise), a merged routine that is refused (E8), more
+/// than 131,072 instructions (E9), nothing accepted (E10), already tested (E11), not tested (E12).
 #[derive(Clone, Copy, PartialEq, Eq, Debug)]
 pub enum EditFault {
     E1,
@@ -17,6 +21,7 @@ pub enum EditFault {
     E12,
 }
 
+/// Why an I/O word is refused: unknown connection (N1), word out of range (N2), wrong direction (N3).
 #[derive(Clone, Copy, PartialEq, Eq, Debug)]
 pub enum ConnFault {
     N1,
@@ -24,6 +29,7 @@ pub enum ConnFault {
     N3,
 }
 
+/// Why a force is refused: no such word (F1), 256 other words have one (F2), none is installed (F3).
 #[derive(Clone, Copy, PartialEq, Eq, Debug)]
 pub enum ForceFault {
     F1,
@@ -31,6 +37,7 @@ pub enum ForceFault {
     F3,
 }
 
+/// Why a change of mode is refused: it is the present mode (M1), the controller is faulted (M2), it isn't (M3).
 #[derive(Clone, Copy, PartialEq, Eq, Debug)]
 pub enum ModeFault {
     M1,
@@ -38,6 +45,7 @@ pub enum ModeFault {
     M3,
 }
 
+/// Tasks run in `Run` alone.
 #[derive(Clone, Copy, PartialEq, Eq, Debug)]
 pub enum Mode {
     Program,
@@ -45,6 +53,7 @@ pub enum Mode {
     Faulted,
 }
 
+/// The answer to an action: done, the value of a word out, an accept's number, held while a CPS is in progress, or a refusal.
 #[derive(Clone, Copy, PartialEq, Eq, Debug)]
 pub enum Reply {
     Done,

@@ -4,7 +4,7 @@ ghost use Rattle.lgx_machine.specs.ArithmeticRuns.{Limits, OverflowAndZeroDiviso
 ghost use Rattle.lgx_machine.specs.ConveyorRun.{ConveyorRun};
 ghost use Rattle.lgx_machine.specs.CopyRuns.{FillToTheEnd, HeldCommands, ShortSource, TornCopy, WholeCopy};
 ghost use Rattle.lgx_machine.specs.EditRuns.{EditRefusals, EditsInMidScan, LostLabel, MergedOrder, Owners, SelectedAtBegin};
-ghost use Rattle.lgx_machine.specs.LadderRuns.{CallAndReturn, CallDepth, DisabledZone, EmptyLeg, EmptyLegFirst, EmptyProgram, FalseConditions, JumpInZone, OneBitForBoth, OneRung, OneShotAfterPrescan, OneShots};
+ghost use Rattle.lgx_machine.specs.LadderRuns.{CallAndReturn, CallDepth, DisabledZone, EmptyLeg, EmptyLegFirst, EmptyProgram, FalseConditions, JumpInZone, OneBitForBoth, OneRung, OneShotAfterPrescan, OneShots, Prescanned};
 ghost use Rattle.lgx_machine.specs.TaskRuns.{NestedRegions, OpenAtTick, OpenLoop, Preemption, RegionAtScanEnd, ReleasedAgain, ThreeInTurn, TurnsAtTicks, TwoPrograms, Watchdog};
 ghost use Rattle.lgx_machine.specs.TimerRuns.{CountDown, CounterRollover, NegativePreset, OffDelay, RetentiveTimer, TimeBackwards, TimerOverTicks};
 ghost use Rattle.lgx_machine.specs.WordRuns.{ForcedInput, ForcedWords, LateTrigger, Modes};
@@ -16,6 +16,7 @@ pub fn ladder_runs()
     ensures empty_leg { EmptyLeg }
     ensures legs { EmptyLegFirst }
     ensures false_conditions { FalseConditions }
+    ensures prescan { Prescanned }
     ensures first_scan { OneShotAfterPrescan }
     ensures one_shots { OneShots }
     ensures one_bit { OneBitForBoth }

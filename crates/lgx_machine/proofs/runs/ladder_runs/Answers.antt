@@ -23,6 +23,10 @@ pub returns-clause-false_conditions : goal.returns-clause-false_conditions
 unfolding digits
 returns-clause-false_conditions c = refl
 
+pub returns-clause-prescan : goal.returns-clause-prescan
+unfolding digits
+returns-clause-prescan c = refl
+
 pub returns-clause-first_scan : goal.returns-clause-first_scan
 unfolding digits
 returns-clause-first_scan c = refl
