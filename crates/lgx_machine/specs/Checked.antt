@@ -1,6 +1,6 @@
 -- Rungs with their operands checked and resolved: the same trees, or the first fault in order of instructions and, within
 -- one instruction, the least number that applies.
-use Rattle.std.specs.Prelude.{ℕ, zero, suc, ◌+◌, Bool, true, false, not, ◌&&◌, ◌==◌, nat_le, if◌then◌else◌, List, [], ◌∷◌, ◌++◌, length, map, filter_map, flat_map, find, position, pos, codes, bytes_eq, Option, Some, None, Result, Ok, Err, option_map, option_and_then}
+use Rattle.std.specs.Prelude.{ℕ, suc, ◌+◌, Bool, true, false, not, ◌&&◌, ◌==◌, nat_le, if◌then◌else◌, List, [], ◌∷◌, ◌++◌, length, map, filter_map, flat_map, find, position, pos, codes, bytes_eq, Option, Some, None, Result, Ok, Err, option_map, option_and_then}
 use Rattle.std.specs.List.{enumerate_from}
 use Rattle.std.specs.Result.{result_ok, result_err}
 use Rattle.lgx_num.specs.Name.{is_name, same}

@@ -1,23 +1,22 @@
 -- The conveyor's layout, what its names stand for, and its rungs checked.
-use Rattle.std.specs.Prelude.{◌≡◌, ℕ, ◌*◌, List, [], ◌∷◌, map, pos, codes, Option, Some, None, Result, Ok, Err}
+use Rattle.std.specs.Prelude.{◌≡◌, ℕ, ◌*◌, List, [], ◌∷◌, map, pos, codes, Some, None, Result, Ok}
 use Rattle.lgx_num.specs.declared.number.Kind.TheVariants.{Bool as KBool, Dint as KDint}
 use Rattle.lgx_num.specs.declared.place.Path.{Path}
 use Rattle.lgx_num.specs.declared.place.Operand.{Operand}
 use Rattle.lgx_num.specs.declared.place.Operand.TheVariants as operand
-use Rattle.lgx_rung.specs.Tree.{Tree, end, one, fork, Legs, last, leg}
+use Rattle.lgx_rung.specs.Tree.{fork, last, leg}
 use Rattle.lgx_rung.specs.declared.op.Op.{Op}
 use Rattle.lgx_rung.specs.declared.op.Op.TheVariants.{Xic, Xio, Ote, Ton, Ctu, Res, Sub, Mov, Add, Jsr}
 use Rattle.lgx_machine.specs.declared.program.Ins.{Ins}
 use Rattle.lgx_machine.specs.declared.types.Base.TheVariants.{Bool as OneBit, Dint, Timer, Counter, User}
 use Rattle.lgx_machine.specs.declared.types.DataType.{DataType}
-use Rattle.lgx_machine.specs.declared.types.Member.{Member}
 use Rattle.lgx_machine.specs.declared.tag.Scope.TheVariants.{Controller, Program}
 use Rattle.lgx_machine.specs.declared.tag.TagCode.{TagCode}
 use Rattle.lgx_machine.specs.declared.tag.Found.{Found}
-use Rattle.lgx_machine.specs.Layout.{find, size_of, member}
+use Rattle.lgx_machine.specs.Layout.{find, size_of, member, single}
 use Rattle.lgx_machine.specs.TypeFaults.{type_fault}
 use Rattle.lgx_machine.specs.Declarations.{bytes}
-use Rattle.lgx_machine.specs.Resolution.{single, found, seal_fault}
+use Rattle.lgx_machine.specs.Resolution.{found, seal_fault}
 use Rattle.lgx_machine.specs.Checked.{checked}
 use Rattle.lgx_machine.specs.ConveyorTags.{line, structures, conveyor, conveyor_scope, rungs}
 

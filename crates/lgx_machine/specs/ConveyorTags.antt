@@ -1,6 +1,6 @@
 -- The conveyor: its structures, tags and aliases, and the rungs of its three programs. Its cases stand behind them.
-use Rattle.std.specs.Prelude.{ℕ, Bool, true, false, List, [], ◌∷◌, codes}
-use Rattle.lgx_rung.specs.Tree.{Tree, end, one, fork, Legs, last, leg, Source, SourceIns}
+use Rattle.std.specs.Prelude.{ℕ, true, false, List, [], ◌∷◌, codes}
+use Rattle.lgx_rung.specs.Tree.{Tree, end, one, fork, last, leg, Source, SourceIns}
 use Rattle.lgx_rung.specs.declared.op.Op.{Op}
 use Rattle.lgx_rung.specs.declared.op.Op.TheVariants.{Xic, Xio, Ote, Ton, Ctu, Res, Sub, Mov, Add, Jsr}
 use Rattle.lgx_machine.specs.declared.types.Base.TheVariants.{Bool as OneBit, Dint, Timer, Counter, User}
@@ -9,7 +9,7 @@ use Rattle.lgx_machine.specs.declared.types.TypeDecl.{TypeDecl}
 use Rattle.lgx_machine.specs.declared.types.MemberDecl.{MemberDecl}
 use Rattle.lgx_machine.specs.declared.tag.Scope.TheVariants.{Controller}
 use Rattle.lgx_machine.specs.declared.task.TaskName.{TaskName}
-use Rattle.lgx_machine.specs.Resolution.{single}
+use Rattle.lgx_machine.specs.Layout.{single}
 use Rattle.lgx_machine.specs.Declarations.{Declarations, Entry, tag, alias}
 use Rattle.lgx_machine.specs.Checked.{CheckScope}
 

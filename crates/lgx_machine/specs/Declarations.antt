@@ -1,5 +1,5 @@
 -- Tags and aliases as they are declared, where each tag begins in the image, and what may not be declared.
-use Rattle.std.specs.Prelude.{ℕ, zero, suc, ◌+◌, ◌*◌, Bool, true, false, not, ◌&&◌, ◌||◌, ◌==◌, nat_lt, List, [], ◌∷◌, ◌++◌, filter, flat_map, find, Option, Some, None}
+use Rattle.std.specs.Prelude.{ℕ, ◌+◌, Bool, true, false, not, ◌&&◌, ◌==◌, nat_lt, List, [], ◌∷◌, ◌++◌, filter, flat_map, find, Option}
 use Rattle.std.specs.List.{list_any}
 use Rattle.lgx_num.specs.Name.{same, is_name}
 use Rattle.lgx_machine.specs.FirstCause.{where_true, first, numbers}

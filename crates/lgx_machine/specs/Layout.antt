@@ -1,5 +1,5 @@
 -- Layout of types (profile): sizes and alignments in bytes, and the members of a type by their first bit.
-use Rattle.std.specs.Prelude.{ℕ, zero, suc, ◌+◌, ◌-◌, ◌*◌, ◌/◌, Bool, true, false, ◌==◌, if◌then◌else◌, List, [], ◌∷◌, map, length, replicate, slice_get, slice_index, position, find as first_with, Option, Some, None, option_map, unwrap_or, codes}
+use Rattle.std.specs.Prelude.{ℕ, zero, suc, ◌+◌, ◌-◌, ◌*◌, ◌/◌, List, [], ◌∷◌, map, length, replicate, slice_get, slice_index, position, find as first_with, Option, option_map, unwrap_or, codes}
 use Rattle.std.specs.Option.{option_or}
 use Rattle.lgx_num.specs.Name.{same}
 use Rattle.lgx_machine.specs.declared.types.Base.{Base}
@@ -26,6 +26,10 @@ find decls name = option_or (looked_up name built_ins) (option_map User (positio
 -- the type of a member; BOOL stands for a type that isn't there
 abbrev pub type_of : List TypeDecl → MemberDecl → DataType
 type_of decls m = record { base = unwrap_or (find decls m.of) OneBit; dim = m.dim }
+
+-- a type that is no array
+abbrev pub single : Base → DataType
+single base = record { base = base; dim = 0 }
 
 -- ---- sizes
 
@@ -57,13 +61,14 @@ element_in sizes Timer = 16
 element_in sizes Counter = 12
 element_in sizes (User i) = slice_index sizes i
 
--- an array of BOOLs has a bit for each, and every other array its elements in order
-abbrev pub several_in : List ℕ → Base → ℕ → ℕ
-several_in sizes OneBit n = n / 8
-several_in sizes b n = n * element_in sizes b
+-- an element alone; of an array of BOOLs a bit for each, and of every other array its elements in order
+abbrev pub sized_in : List ℕ → Base → ℕ → ℕ
+sized_in sizes base zero = element_in sizes base
+sized_in sizes OneBit (suc n) = suc n / 8
+sized_in sizes base (suc n) = suc n * element_in sizes base
 
 abbrev pub size_in : List ℕ → DataType → ℕ
-size_in sizes t = if t.dim == 0 then element_in sizes t.base else several_in sizes t.base t.dim
+size_in sizes t = sized_in sizes t.base t.dim
 
 -- where a member or tag of a type begins, if what stands before it ends at this byte
 abbrev pub begin_after : ℕ → DataType → ℕ

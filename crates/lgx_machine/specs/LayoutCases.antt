@@ -6,11 +6,9 @@ use Rattle.lgx_machine.specs.declared.types.DataType.{DataType}
 use Rattle.lgx_machine.specs.declared.types.TypeDecl.{TypeDecl}
 use Rattle.lgx_machine.specs.declared.types.MemberDecl.{MemberDecl}
 use Rattle.lgx_machine.specs.declared.types.Member.{Member}
-use Rattle.lgx_machine.specs.declared.types.TypeFault.{TypeFault}
 use Rattle.lgx_machine.specs.declared.types.TypeCode.TheVariants.{Y1, Y2, Y3, Y4, Y5, Y6}
-use Rattle.lgx_machine.specs.Layout.{size_of, member}
+use Rattle.lgx_machine.specs.Layout.{size_of, member, single}
 use Rattle.lgx_machine.specs.TypeFaults.{of_structure, of_member, type_fault}
-use Rattle.lgx_machine.specs.Resolution.{single}
 use Rattle.lgx_machine.specs.ConveyorTags.{of_type}
 
 -- ---- words for samples

@@ -36,6 +36,11 @@ pub mod ConveyorCases
 pub mod LayoutCases
 pub mod ShopTags
 pub mod ResolutionCases
+pub mod CheckCases
+pub mod FormLaws
+pub mod LayoutLaws
+pub mod ResolutionLaws
+pub mod CheckedLaws
 pub mod TextLines
 pub mod Commands
 pub mod ActionText

@@ -1,5 +1,5 @@
 -- How operands are written: tag names, numbers, flags, and operand forms.
-use Rattle.std.specs.Prelude.{ℕ, zero, suc, ◌+◌, ◌-◌, ◌*◌, ◌^◌, Bool, true, false, not, ◌&&◌, ◌||◌, ◌==◌, nat_le, nat_lt, if◌then◌else◌, List, [], ◌∷◌, length, filter, fold, ℤ, pos, neg_ℤ, Option, Some, None, option_map, find, drop, codes, bytes_eq}
+use Rattle.std.specs.Prelude.{ℕ, ◌+◌, ◌*◌, ◌^◌, Bool, true, false, not, ◌&&◌, ◌||◌, ◌==◌, nat_le, nat_lt, if◌then◌else◌, List, [], ◌∷◌, length, filter, fold, ℤ, pos, neg_ℤ, Option, Some, None, option_map, find, drop, codes, bytes_eq, option_and_then}
 use Rattle.std.specs.List.{list_all}
 use Rattle.std.specs.Char.{is_digit, digit_value}
 use Rattle.std.specs.Int.{w32, cast_signed}
@@ -155,19 +155,18 @@ bracketed f w = if is_bit f then None else if are_digits 10 w then Some (element
 abbrev pub begun : Form → List ℕ → Option Form
 begun f w = if is_bit f || not (is_tag_name w) then None else Some (tag w)
 
--- the form that the tokens end, where one has been read so far, inside others whose brackets are open
-abbrev pub form_from : List Form → Option Form → List Token → Option Form
-form_from outer None ts = None
-form_from [] (Some f) [] = Some f
-form_from (g ∷ outer) (Some f) [] = None
-form_from outer (Some f) (dot ∷ word w ∷ ts) = form_from outer (dotted f w) ts
-form_from outer (Some f) (opening ∷ word w ∷ closing ∷ ts) = form_from outer (bracketed f w) ts
-form_from outer (Some f) (opening ∷ word w ∷ ts) = form_from (f ∷ outer) (begun f w) ts
-form_from (g ∷ outer) (Some f) (closing ∷ ts) = form_from outer (Some (indexed g f)) ts
+-- the form that tokens make of one that was read so far, inside others whose brackets are open
+abbrev pub form_from : List Token → List Form → Form → Option Form
+form_from [] [] f = Some f
+form_from [] (g ∷ outer) f = None
+form_from (dot ∷ word w ∷ ts) outer f = option_and_then (form_from ts outer) (dotted f w)
+form_from (opening ∷ word w ∷ closing ∷ ts) outer f = option_and_then (form_from ts outer) (bracketed f w)
+form_from (opening ∷ word w ∷ ts) outer f = option_and_then (form_from ts (f ∷ outer)) (begun f w)
+form_from (closing ∷ ts) (g ∷ outer) f = form_from ts outer (indexed g f)
 form_from _ _ _ = None
 
 abbrev pub form_of : List Token → Option Form
-form_of (word w ∷ ts) = form_from [] (if is_tag_name w then Some (tag w) else None) ts
+form_of (word w ∷ ts) = if is_tag_name w then form_from ts [] (tag w) else None
 form_of _ = None
 
 -- the operand form that a text is

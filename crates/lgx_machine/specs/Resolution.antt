@@ -1,20 +1,19 @@
 -- What an operand's text names: the first bit of a place in the image with the subscripts that move it, its type and the
 -- end of its tag; or the first cause, from left to right, why it names none.
-use Rattle.std.specs.Prelude.{ℕ, zero, suc, ◌+◌, ◌*◌, Bool, true, false, not, ◌&&◌, ◌==◌, nat_lt, if◌then◌else◌, List, [], ◌∷◌, ◌++◌, length, count_by, filter_map, Option, Some, None, Result, Ok, Err, option_map}
+use Rattle.std.specs.Prelude.{ℕ, zero, suc, ◌+◌, ◌*◌, Bool, not, ◌&&◌, ◌==◌, nat_lt, List, [], ◌∷◌, ◌++◌, length, filter_map, Option, Some, None, Result, Ok, Err, option_map}
 use Rattle.std.specs.Option.{option_or}
 use Rattle.std.specs.Result.{result_err}
 use Rattle.lgx_num.specs.declared.number.Kind.{Kind}
 use Rattle.lgx_num.specs.declared.number.Kind.TheVariants.{Bool as KBool, Sint as KSint, Int as KInt, Dint as KDint}
 use Rattle.lgx_num.specs.declared.place.Index.{Index}
 use Rattle.lgx_machine.specs.FirstCause.{◌>>=◌, unless, some_or}
-use Rattle.lgx_machine.specs.Layout.{member as member_of, size_of}
+use Rattle.lgx_machine.specs.Layout.{member as member_of, size_of, single}
 use Rattle.lgx_machine.specs.OperandForm.{Form, tag, member, element, indexed, bit, form}
 use Rattle.lgx_machine.specs.Declarations.{Meaning, Entry, Declarations, entry_of}
 use Rattle.lgx_machine.specs.Declarations.{tag as is_tag, alias as is_alias}
 use Rattle.lgx_machine.specs.declared.types.Base.{Base}
 use Rattle.lgx_machine.specs.declared.types.Base.TheVariants.{Bool as OneBit, Sint, Int, Dint, Timer, Counter, User}
 use Rattle.lgx_machine.specs.declared.types.DataType.{DataType}
-use Rattle.lgx_machine.specs.declared.types.Member.{Member}
 use Rattle.lgx_machine.specs.declared.types.TypeDecl.{TypeDecl}
 use Rattle.lgx_machine.specs.declared.tag.Scope.{Scope}
 use Rattle.lgx_machine.specs.declared.tag.Scope.TheVariants.{Controller, Program}
@@ -23,9 +22,6 @@ use Rattle.lgx_machine.specs.declared.tag.TagCode.TheVariants.{G3, G4, G5, G6, G
 use Rattle.lgx_machine.specs.declared.tag.Found.{Found}
 
 -- ---- types of what is found
-
-abbrev pub single : Base → DataType
-single base = record { base = base; dim = 0 }
 
 abbrev pub is_array : DataType → Bool
 is_array t = not (t.dim == 0)

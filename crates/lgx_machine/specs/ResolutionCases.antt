@@ -1,16 +1,17 @@
 -- Cases of resolution: what texts name, each cause, and causes whose order matters.
-use Rattle.std.specs.Prelude.{◌≡◌, ℕ, ◌*◌, List, [], ◌∷◌, map, codes, replicate, ◌++◌, Option, Some, None, Result, Ok, Err}
+use Rattle.std.specs.Prelude.{◌≡◌, ℕ, ◌*◌, List, [], ◌∷◌, map, codes, replicate, Some, None, Result, Ok, Err}
 use Rattle.lgx_num.specs.declared.number.Kind.{Kind}
 use Rattle.lgx_num.specs.declared.number.Kind.TheVariants.{Sint as KSint, Int as KInt, Dint as KDint}
 use Rattle.lgx_num.specs.declared.place.Index.{Index}
-use Rattle.lgx_machine.specs.declared.types.Base.TheVariants.{Bool as OneBit, Sint, Int, Dint, Timer, Counter, User}
+use Rattle.lgx_machine.specs.declared.types.Base.TheVariants.{Bool as OneBit, Int, Dint, Counter}
 use Rattle.lgx_machine.specs.declared.types.DataType.{DataType}
 use Rattle.lgx_machine.specs.declared.tag.Scope.TheVariants.{Controller, Program}
 use Rattle.lgx_machine.specs.declared.tag.TagCode.{TagCode}
 use Rattle.lgx_machine.specs.declared.tag.TagCode.TheVariants.{G1, G2, G3, G4, G5, G6, G7, G8, G9, G10}
 use Rattle.lgx_machine.specs.declared.tag.Found.{Found}
 use Rattle.lgx_machine.specs.Declarations.{Declarations, Entry, bytes, declare_fault, alias_fault}
-use Rattle.lgx_machine.specs.Resolution.{single, found, found_fixed, seal_fault}
+use Rattle.lgx_machine.specs.Layout.{single}
+use Rattle.lgx_machine.specs.Resolution.{found, found_fixed, seal_fault}
 use Rattle.lgx_machine.specs.ConveyorTags.{tag_of, alias_of}
 use Rattle.lgx_machine.specs.ConveyorCases.{bit_in, place_in}
 use Rattle.lgx_machine.specs.LayoutCases.{many}

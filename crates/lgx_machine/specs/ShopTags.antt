@@ -1,12 +1,11 @@
 -- A made set of tags: arrays of structures, arrays of BOOLs, a program's tag that hides the controller's, and aliases.
-use Rattle.std.specs.Prelude.{ℕ, Bool, true, false, List, [], ◌∷◌, ◌++◌, codes}
+use Rattle.std.specs.Prelude.{ℕ, true, false, List, [], ◌∷◌, ◌++◌, codes}
 use Rattle.lgx_machine.specs.declared.types.Base.TheVariants.{Bool as OneBit, Sint, Int, Dint, Timer, Counter, User}
 use Rattle.lgx_machine.specs.declared.types.DataType.{DataType}
 use Rattle.lgx_machine.specs.declared.types.TypeDecl.{TypeDecl}
-use Rattle.lgx_machine.specs.declared.tag.Scope.{Scope}
-use Rattle.lgx_machine.specs.declared.tag.Scope.TheVariants.{Controller, Program}
+use Rattle.lgx_machine.specs.declared.tag.Scope.TheVariants.{Program}
 use Rattle.lgx_machine.specs.declared.task.TaskName.{TaskName}
-use Rattle.lgx_machine.specs.Resolution.{single}
+use Rattle.lgx_machine.specs.Layout.{single}
 use Rattle.lgx_machine.specs.Declarations.{Declarations, Entry, tag, alias}
 use Rattle.lgx_machine.specs.Checked.{CheckScope}
 use Rattle.lgx_machine.specs.ConveyorTags.{tag_of, alias_of}

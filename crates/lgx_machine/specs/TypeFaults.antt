@@ -5,7 +5,7 @@ use Rattle.lgx_num.specs.Name.{same}
 use Rattle.lgx_machine.specs.FirstCause.{where_true, first, numbers}
 use Rattle.lgx_machine.specs.Layout.{built_ins, looked_up, find, members_of, sizes}
 use Rattle.lgx_machine.specs.declared.types.Base.{Base}
-use Rattle.lgx_machine.specs.declared.types.Base.TheVariants.{Bool as OneBit, Sint, Int, Dint, Timer, Counter, User}
+use Rattle.lgx_machine.specs.declared.types.Base.TheVariants.{Bool as OneBit, User}
 use Rattle.lgx_machine.specs.declared.types.TypeDecl.{TypeDecl}
 use Rattle.lgx_machine.specs.declared.types.MemberDecl.{MemberDecl}
 use Rattle.lgx_machine.specs.declared.types.TypeCode.{TypeCode}

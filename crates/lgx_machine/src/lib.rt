@@ -19,6 +19,7 @@ mod tag;
 mod task;
 mod task_laws;
 mod text_cases;
+mod text_laws;
 mod trace;
 mod types;
 
@@ -47,8 +48,12 @@ pub use tag::{Found, Scope, TagCode};
 pub use task::{TaskDef, TaskKind, TaskName};
 pub use task_laws::tasks_stay_orderly;
 pub use text_cases::{
-    cause_cases, conveyor_checked, conveyor_layout, conveyor_places, declare_cases, layout_cases,
-    resolution_cases, type_fault_cases,
+    cause_cases, check_code_cases, conveyor_checked, conveyor_layout, conveyor_places,
+    declare_cases, layout_cases, operand_cases, resolution_cases, routine_cases, type_fault_cases,
+};
+pub use text_laws::{
+    checked_lies_in_image, checking_keeps_outline, forms_are_read, found_lies_in_image,
+    ordered_types_have_no_rings, sizes_are_settled,
 };
 pub use trace::{AuditTask, StepFault, Table, TraceAnswer, TraceEvent, TraceMark, Verb};
 pub use types::{Base, DataType, Member, MemberDecl, TypeCode, TypeDecl, TypeFault};

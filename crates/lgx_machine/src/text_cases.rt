@@ -2,6 +2,7 @@
 ghost use Rattle.lgx_machine.specs.ConveyorCases.{ConveyorStructures, ConveyorSizes, ConveyorTypeNames, ConveyorMember, ConveyorBytes, ConveyorSealed, ConveyorBits, ConveyorPlaces, ConveyorChecked};
 ghost use Rattle.lgx_machine.specs.LayoutCases.{CellSizes, CellMembers, MarkMembers, TimerMembers, CounterMembers, NameFaults, FaultOrder, Rings, Lengths};
 ghost use Rattle.lgx_machine.specs.ResolutionCases.{ShopBytes, ShopScopes, ShopElements, ShopSubscripts, NoForms, UnknownTags, UnknownMembers, OutOfRange, NoSubscripts, FifthSubscript, FixedCauses, DeclareFaults, SealFaults, SealOrder};
+ghost use Rattle.lgx_machine.specs.CheckCases.{Numbers, FlagOperands, WholeOperands, Named, WrongCounts, WrongTypes, NoPlaces, NoTags, OutsideNumbers, NoNames, LeastCodes, FirstFaults, LabelFaults, LongRoutines};
 
 /// The conveyor's structures and the image that its tags fill.
 pub fn conveyor_layout()
@@ -65,4 +66,30 @@ pub fn declare_cases()
     ensures declare { DeclareFaults }
     ensures chain { SealFaults }
     ensures chain_order { SealOrder }
+{}
+
+/// Operands of checked instructions: numbers, flags, timers, counters, blocks and names.
+pub fn operand_cases()
+    ensures numbers { Numbers }
+    ensures flags { FlagOperands }
+    ensures whole { WholeOperands }
+    ensures named { Named }
+{}
+
+/// Each code of one instruction, and the least of several.
+pub fn check_code_cases()
+    ensures count { WrongCounts }
+    ensures type_ { WrongTypes }
+    ensures no_place { NoPlaces }
+    ensures no_tag { NoTags }
+    ensures range { OutsideNumbers }
+    ensures no_name { NoNames }
+    ensures least { LeastCodes }
+{}
+
+/// The first fault of a routine, its labels, and its length.
+pub fn routine_cases()
+    ensures order { FirstFaults }
+    ensures labels { LabelFaults }
+    ensures length { LongRoutines }
 {}
