@@ -7,7 +7,6 @@ use Rattle.std.proofs.lemmas.Bool.{ltb-false, leb-false, le-leb}
 use Rattle.std.proofs.lemmas.List.{length-set, length-append}
 use Rattle.std.proofs.lemmas.List.Folds.{list_all-append, sum_by-replicate}
 use Rattle.std.proofs.lemmas.List.Sums.{sum_by-set}
-use Rattle.lgx_machine.specs.declared.event.Action.{Action}
 use Rattle.lgx_machine.specs.declared.script.Timed.{Timed}
 use Rattle.lgx_machine.specs.declared.script.JournalCode.{JournalCode}
 use Rattle.lgx_machine.specs.declared.script.JournalCode.TheVariants.{J1, J2, J3, J4, J5}
@@ -15,7 +14,7 @@ use Rattle.lgx_machine.specs.declared.script.JournalFault.{JournalFault}
 use Rattle.lgx_machine.specs.TextLines.{lines, is_skipped, words, number_of}
 use Rattle.lgx_machine.specs.JournalText.{is_end, is_long, ◌>>=◌, some_or, unless, refused}
 use Rattle.lgx_machine.specs.Scripts.{Script, is_out, actions_in, last_tick, is_script}
-use Rattle.lgx_machine.specs.ScriptText.{bare, bare_of, header_of, read_header, Turn, turn_of, lane_at, with_turn, last_at, read_turn, turns_from, script_from, script_of}
+use Rattle.lgx_machine.specs.ScriptText.{bare_of, header_of, read_header, Turn, turn_of, lane_at, with_turn, last_at, read_turn, turns_from, script_from, script_of}
 
 -- no action of a lane waits for a tick after this one
 abbrev in_time : ℕ → List Timed → Bool
