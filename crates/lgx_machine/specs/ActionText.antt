@@ -1,5 +1,5 @@
 -- The text of an action: how its words are read, and how they are written.
-use Rattle.std.specs.Prelude.{ℕ, List, [], ◌∷◌, ◌++◌, map, length, Bool, true, false, ◌&&◌, ◌||◌, nat_le, if◌then◌else◌, ℤ, Option, Some, None, option_map, option_and_then, codes, decimal}
+use Rattle.std.specs.Prelude.{ℕ, List, [], ◌∷◌, map, length, if◌then◌else◌, Option, Some, None, option_map, option_and_then, codes, decimal}
 use Rattle.std.specs.Fmt.{signed_decimal}
 use Rattle.std.specs.List.{join_with_byte, join_by}
 use Rattle.std.specs.Str.{bytes_eq}
@@ -8,6 +8,7 @@ use Rattle.lgx_machine.specs.declared.event.RungEdit.{RungEdit}
 use Rattle.lgx_machine.specs.declared.event.RungEdit.TheVariants.{Replace, Insert, Delete}
 use Rattle.lgx_machine.specs.declared.event.Action.{Action}
 use Rattle.lgx_machine.specs.declared.event.Action.TheVariants.{WordIn, WordOut, Accept, Test, Untest, Assemble, Cancel, ForceInstall, ForceEnable, ForceDisable, ForceRemove, ModeRun, ModeProgram, Clear}
+use Rattle.lgx_machine.specs.Commands.{accept_command, is_edit_count}
 use Rattle.lgx_machine.specs.TextLines.{pieces, words, first_word, behind_word, trimmed, number_of, signed_of}
 
 infixl 10 ◌>>=◌
@@ -51,7 +52,7 @@ edit_of part =
 
 -- EDITS are 1 to 16 parts separated by `|`
 abbrev pub edits_of : List ℕ → Option (List RungEdit)
-edits_of text = let parts = pieces 124 text in if nat_le (length parts) 16 then each_some (map edit_of parts) else None
+edits_of text = let parts = pieces 124 text in if is_edit_count (length parts) then each_some (map edit_of parts) else None
 
 -- ---- actions
 
@@ -61,7 +62,7 @@ accept_of rest = do
   program ← name_of (first_word rest)
   routine ← name_of (first_word (behind_word rest))
   edits ← edits_of (behind_word (behind_word rest))
-  Some (Accept (record { program = program; routine = routine; edits = edits }))
+  Some (Accept (accept_command program routine edits))
 
 -- `test PROGRAM` and its kin, `force enable` and its kin, `mode run` and `mode program`
 abbrev pub one_word_of : List ℕ → List ℕ → Option Action

@@ -1,17 +1,16 @@
 -- What is counted along a trace: which tasks are up, their regions and synchronous copies, and the numbers that the
 -- accepted edits select. Ranks, queues and positions don't occur.
-use Rattle.std.specs.Prelude.{ℕ, zero, suc, ◌+◌, ◌-◌, List, [], ◌∷◌, map, replicate, slice_index_or, Bool, true, false, not, ◌&&◌, ◌||◌, nat_lt, nat_eq, if◌then◌else◌, Option, Some, None, is_some}
+use Rattle.std.specs.Prelude.{ℕ, ◌+◌, ◌-◌, List, [], ◌∷◌, map, replicate, Bool, true, false, ◌||◌, nat_lt, nat_eq, if◌then◌else◌, Option, Some, None}
 use Rattle.std.specs.Int.{bit_at}
 use Rattle.lgx_machine.specs.declared.trace.TraceMark.{TraceMark}
-use Rattle.lgx_machine.specs.declared.trace.TraceMark.TheVariants.{Plain as Unmarked, Up, Down, Trigger, Copy, Sync, CopyEnd, SyncEnd}
-use Rattle.lgx_machine.specs.declared.trace.StepFault.{StepFault}
-use Rattle.lgx_machine.specs.declared.trace.StepFault.TheVariants.{Plain as NoFault, Minor, Major}
+use Rattle.lgx_machine.specs.declared.trace.TraceMark.TheVariants.{Up, Down, Trigger, Sync, SyncEnd}
+use Rattle.lgx_machine.specs.declared.trace.StepFault.TheVariants.{Plain as NoFault, Major}
 use Rattle.lgx_machine.specs.declared.trace.Verb.{Verb}
 use Rattle.lgx_machine.specs.declared.trace.Verb.TheVariants.{Accept, Test, Untest, Assemble, Cancel, Program}
 use Rattle.lgx_machine.specs.declared.trace.TraceAnswer.{TraceAnswer}
 use Rattle.lgx_machine.specs.declared.trace.TraceAnswer.TheVariants.{Done, Number}
 use Rattle.lgx_machine.specs.declared.trace.TraceEvent.{TraceEvent}
-use Rattle.lgx_machine.specs.declared.trace.TraceEvent.TheVariants.{Idle, Began, Step, Left, Tick, Act}
+use Rattle.lgx_machine.specs.declared.trace.TraceEvent.TheVariants.{Began, Step, Left, Tick, Act}
 use Rattle.lgx_machine.specs.declared.trace.AuditTask.{AuditTask}
 use Rattle.lgx_machine.specs.declared.trace.Table.{Table}
 

@@ -5,7 +5,7 @@ use Rattle.lgx_num.specs.Name.{same}
 use Rattle.lgx_rung.specs.Tree.{instructions, Source}
 use Rattle.lgx_machine.specs.declared.event.RungEdit.{RungEdit}
 use Rattle.lgx_machine.specs.declared.event.RungEdit.TheVariants.{Replace, Insert, Delete}
-use Rattle.lgx_machine.specs.declared.event.Accept.{Accept as AcceptCommand}
+use Rattle.lgx_machine.specs.Commands.{AcceptCommand}
 use Rattle.lgx_machine.specs.declared.event.Action.{Action}
 use Rattle.lgx_machine.specs.declared.event.Action.TheVariants.{Accept, Test, Untest, Assemble, Cancel}
 use Rattle.lgx_machine.specs.declared.reply.EditFault.{EditFault}

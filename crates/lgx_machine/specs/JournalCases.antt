@@ -1,5 +1,5 @@
 -- Texts of journals and scripts with what they are.
-use Rattle.std.specs.Prelude.{ℕ, List, [], ◌∷◌, ◌++◌, map, replicate, take, codes, ℤ, pos, negsuc, Result}
+use Rattle.std.specs.Prelude.{ℕ, List, [], ◌∷◌, ◌++◌, map, replicate, take, codes, pos, negsuc, Result}
 use Rattle.std.specs.List.{range_with_len}
 use Rattle.lgx_machine.specs.declared.event.RungEdit.{RungEdit}
 use Rattle.lgx_machine.specs.declared.event.RungEdit.TheVariants.{Replace, Insert, Delete}
@@ -8,9 +8,9 @@ use Rattle.lgx_machine.specs.declared.event.Action.TheVariants.{WordIn, WordOut,
 use Rattle.lgx_machine.specs.declared.event.Event.{Event}
 use Rattle.lgx_machine.specs.declared.event.Event.TheVariants.{Cpu, Tick, Act}
 use Rattle.lgx_machine.specs.declared.script.Timed.{Timed}
-use Rattle.lgx_machine.specs.declared.script.Script.{Script}
+use Rattle.lgx_machine.specs.Scripts.{Script}
 use Rattle.lgx_machine.specs.declared.script.JournalFault.{JournalFault}
-use Rattle.lgx_machine.specs.JournalText.{journal_of}
+use Rattle.lgx_machine.specs.Commands.{accept_command}
 use Rattle.lgx_machine.specs.ScriptText.{script_of}
 
 abbrev pub cpu : ℕ → List Event
@@ -20,7 +20,7 @@ abbrev pub tick : ℕ → List Event
 tick n = replicate n Tick
 
 abbrev pub accept : List ℕ → List ℕ → List RungEdit → Action
-accept program routine edits = Accept (record { program = program; routine = routine; edits = edits })
+accept program routine edits = Accept (accept_command program routine edits)
 
 -- a run of a script with a tick after every second processor step
 abbrev pub paced_text : List ℕ

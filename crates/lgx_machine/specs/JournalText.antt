@@ -1,6 +1,6 @@
 -- The text of a journal: how its lines are read, with the first line that is refused and its first cause, and the
 -- canonical text of a list of events.
-use Rattle.std.specs.Prelude.{ℕ, ◌+◌, List, [], ◌∷◌, ◌++◌, length, replicate, flat_map, Bool, true, false, not, ◌&&◌, ◌||◌, nat_lt, nat_eq, if◌then◌else◌, Option, Some, None, option_map, Result, Ok, Err, codes, decimal}
+use Rattle.std.specs.Prelude.{ℕ, ◌+◌, ◌≤◌, count_by, List, [], ◌∷◌, ◌++◌, length, replicate, flat_map, Bool, true, false, not, ◌&&◌, ◌||◌, nat_lt, nat_eq, if◌then◌else◌, Option, Some, None, option_map, Result, Ok, Err, codes, decimal}
 use Rattle.std.specs.Str.{bytes_eq}
 use Rattle.lgx_machine.specs.declared.event.Action.{Action}
 use Rattle.lgx_machine.specs.declared.event.Event.{Event}
@@ -73,6 +73,24 @@ with_run t r = add r.event
 -- at most 4,000,000 processor steps, 4,000,000 ticks and 100,000 actions
 abbrev pub is_over : Tally → Bool
 is_over t = nat_lt 4000000 t.steps || nat_lt 4000000 t.ticks || nat_lt 100000 t.actions
+
+abbrev pub is_step : Event → Bool
+is_step Cpu = true
+is_step _ = false
+
+abbrev pub is_tick : Event → Bool
+is_tick Tick = true
+is_tick _ = false
+
+abbrev pub is_action : Event → Bool
+is_action (Act lane a) = true
+is_action _ = false
+
+-- the same of a list of events
+pub record IsWithin (journal : List Event) : Type 0 where
+  pub steps : count_by is_step journal ≤ 4000000
+  pub ticks : count_by is_tick journal ≤ 4000000
+  pub actions : count_by is_action journal ≤ 100000
 
 -- at most 65,536 bytes in a line
 abbrev pub is_long : List ℕ → Bool

@@ -4,7 +4,7 @@ use Rattle.lgx_machine.specs.declared.event.Action.TheVariants.{WordIn, Test, Mo
 use Rattle.lgx_machine.specs.declared.event.RungEdit.TheVariants.{Replace}
 use Rattle.lgx_machine.specs.declared.event.Event.{Event}
 use Rattle.lgx_machine.specs.declared.event.Event.TheVariants.{Act}
-use Rattle.lgx_machine.specs.declared.script.Script.{Script}
+use Rattle.lgx_machine.specs.Scripts.{Script}
 use Rattle.lgx_machine.specs.Position.{ProgramRungs}
 use Rattle.lgx_machine.specs.Project.{Project}
 use Rattle.lgx_machine.specs.State.{start}

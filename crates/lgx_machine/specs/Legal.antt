@@ -6,7 +6,7 @@ use Rattle.lgx_machine.specs.declared.trace.TraceEvent.{TraceEvent}
 use Rattle.lgx_machine.specs.declared.trace.TraceEvent.TheVariants.{Idle, Began, Step, Left, Tick, Act}
 use Rattle.lgx_machine.specs.declared.trace.AuditTask.{AuditTask}
 use Rattle.lgx_machine.specs.declared.trace.Table.{Table}
-use Rattle.lgx_machine.specs.Counting.{Counted, uncounted, is_open, Numbers, unedited, selected, stepping, steps_here, Place, places}
+use Rattle.lgx_machine.specs.Counting.{Counted, uncounted, is_open, unedited, selected, stepping, steps_here, Place, places}
 
 abbrev pub no_task : AuditTask
 no_task = record { continuous = false; priority = 0; programs = 0 }
@@ -51,6 +51,11 @@ another_open t u (c ∷ cs) = (is_open c && not (nat_eq u t)) || another_open t 
 
 abbrev pub keeps_region : Place → Bool
 keeps_region x = elim (stepping x.event) [ None ↦ true | Some t ↦ not (another_open t 0 x.tasks) ]
+
+-- each of a list with those behind it
+abbrev pub each_from : {A : Type 0} → (A → List A → Bool) → List A → Bool
+each_from test [] = true
+each_from test (x ∷ xs) = test x xs && each_from test xs
 
 -- ---- the turn law
 
@@ -114,11 +119,6 @@ after_tick table t x (k ∷ ys) = not (is_tick k.event && is_turn table t x k) |
 -- down.
 abbrev pub gives_way : Table → Place → List Place → Bool
 gives_way table x xs = elim (stepping x.event) [ None ↦ true | Some t ↦ after_tick table t x (behind_actions xs) ]
-
--- each place with those behind it
-abbrev pub each_from : (Place → List Place → Bool) → List Place → Bool
-each_from test [] = true
-each_from test (x ∷ xs) = test x xs && each_from test xs
 
 -- ---- the version law
 

@@ -1,8 +1,8 @@
 -- Traces with the laws that they keep or break. Each of the broken ones is a legal one with one or two events changed.
-use Rattle.std.specs.Prelude.{ℕ, List, [], ◌∷◌, ◌++◌, replicate, Bool, true, false, Option, Some, None}
+use Rattle.std.specs.Prelude.{ℕ, List, [], ◌∷◌, ◌++◌, replicate, Bool, true, false, Some, None}
 use Rattle.lgx_machine.specs.declared.trace.TraceMark.TheVariants.{Plain as Unmarked, Up, Down, Trigger, Sync, SyncEnd}
-use Rattle.lgx_machine.specs.declared.trace.StepFault.TheVariants.{Plain as NoFault, Minor, Major}
-use Rattle.lgx_machine.specs.declared.trace.Verb.TheVariants.{Accept, Test, Untest, Assemble, Cancel, Run, Program}
+use Rattle.lgx_machine.specs.declared.trace.StepFault.TheVariants.{Plain as NoFault, Minor}
+use Rattle.lgx_machine.specs.declared.trace.Verb.TheVariants.{Accept, Test, Untest, Assemble, Cancel, Run}
 use Rattle.lgx_machine.specs.declared.trace.TraceAnswer.TheVariants.{Done, Number, No}
 use Rattle.lgx_machine.specs.declared.trace.TraceEvent.{TraceEvent}
 use Rattle.lgx_machine.specs.declared.trace.TraceEvent.TheVariants.{Idle, Began, Step, Left, Tick, Act}

@@ -42,8 +42,10 @@ pub mod LayoutLaws
 pub mod ResolutionLaws
 pub mod CheckedLaws
 pub mod TextLines
+pub mod Commands
 pub mod ActionText
 pub mod JournalText
+pub mod Scripts
 pub mod ScriptText
 pub mod JournalCases
 pub mod Counting

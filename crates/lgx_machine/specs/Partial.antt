@@ -5,21 +5,13 @@ use Rattle.lgx_machine.specs.declared.event.Action.{Action}
 use Rattle.lgx_machine.specs.declared.event.Action.TheVariants.{ModeRun}
 use Rattle.lgx_machine.specs.declared.event.Event.{Event}
 use Rattle.lgx_machine.specs.declared.event.Event.TheVariants.{Cpu, Tick, Act}
-use Rattle.lgx_machine.specs.declared.reply.Reply.{Reply}
 use Rattle.lgx_machine.specs.declared.reply.Reply.TheVariants.{Held}
 use Rattle.lgx_machine.specs.declared.script.Timed.{Timed}
-use Rattle.lgx_machine.specs.declared.script.Script.{Script}
+use Rattle.lgx_machine.specs.JournalText.{is_step, is_tick}
+use Rattle.lgx_machine.specs.Scripts.{Script}
 use Rattle.lgx_machine.specs.Tasks.{held}
 use Rattle.lgx_machine.specs.Project.{Project}
-use Rattle.lgx_machine.specs.Machine.{Answer, OfAction, Entry, run, trace}
-
-abbrev pub is_step : Event → Bool
-is_step Cpu = true
-is_step _ = false
-
-abbrev pub is_tick : Event → Bool
-is_tick Tick = true
-is_tick _ = false
+use Rattle.lgx_machine.specs.Machine.{Answer, OfAction, run, trace}
 
 abbrev pub steps_in : List Event → ℕ
 steps_in journal = count_by is_step journal

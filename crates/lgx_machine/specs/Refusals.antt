@@ -1,12 +1,11 @@
 -- The causes for which an action is held or refused, in their order. Each stands beside its sentence; the first that
 -- applies is the answer.
-use Rattle.std.specs.Prelude.{ℕ, ◌+◌, List, [], ◌∷◌, ◌++◌, map, length, Bool, true, false, not, nat_lt, nat_le, nat_eq, count_by, Option, Some, None, option_map, is_none, is_some, unwrap_or, Result, Ok, Err, slice_set, slice_index_or, flat_map}
-use Rattle.std.specs.List.{position_from, list_any}
+use Rattle.std.specs.Prelude.{ℕ, List, [], ◌∷◌, ◌++◌, length, Bool, true, false, not, nat_lt, nat_le, nat_eq, Option, Some, None, option_map, is_none, unwrap_or, Result, Ok, Err, slice_set, slice_index_or, flat_map}
+use Rattle.std.specs.List.{position_from}
 use Rattle.lgx_num.specs.Name.{same}
 use Rattle.lgx_rung.specs.Tree.{Source}
 use Rattle.lgx_machine.specs.declared.conn.ConnDef.{ConnDef}
-use Rattle.lgx_machine.specs.declared.event.RungEdit.{RungEdit}
-use Rattle.lgx_machine.specs.declared.event.Accept.{Accept as AcceptCommand}
+use Rattle.lgx_machine.specs.Commands.{AcceptCommand}
 use Rattle.lgx_machine.specs.declared.event.Action.{Action}
 use Rattle.lgx_machine.specs.declared.event.Action.TheVariants.{WordIn, WordOut, Accept, Test, Untest, Assemble, Cancel, ForceInstall, ForceEnable, ForceDisable, ForceRemove, ModeRun, ModeProgram, Clear}
 use Rattle.lgx_machine.specs.declared.reply.Mode.{Mode as Modes}
@@ -15,9 +14,10 @@ use Rattle.lgx_machine.specs.declared.reply.ModeFault.TheVariants.{M1, M2, M3}
 use Rattle.lgx_machine.specs.declared.reply.ConnFault.TheVariants.{N1, N2, N3}
 use Rattle.lgx_machine.specs.declared.reply.ForceFault.TheVariants.{F1, F2, F3}
 use Rattle.lgx_machine.specs.declared.reply.EditFault.{EditFault}
-use Rattle.lgx_machine.specs.declared.reply.EditFault.TheVariants.{E1, E2, E3, E4, E5, E6, E7, E8, E9, E10, E11, E12}
+use Rattle.lgx_machine.specs.declared.reply.EditFault.TheVariants.{E1, E2, E3, E4, E5, E6, E8, E9, E10, E11, E12}
 use Rattle.lgx_machine.specs.declared.reply.Reply.{Reply}
 use Rattle.lgx_machine.specs.declared.reply.Reply.TheVariants.{Held, Mode, Conn, Force, Edit}
+use Rattle.lgx_machine.specs.Partial.{agree}
 use Rattle.lgx_machine.specs.Tasks.{held}
 use Rattle.lgx_machine.specs.Connections.{no_conn, conn_named, io_word}
 use Rattle.lgx_machine.specs.Forces.{force_room, installed}
@@ -46,10 +46,6 @@ conn_of s name = slice_index_or s.plan.conns (unwrap_or (conn_named s.plan.conns
 
 abbrev pub is_no_conn : State → List ℕ → Bool
 is_no_conn s name = is_none (conn_named s.plan.conns name)
-
-abbrev pub agree : Bool → Bool → Bool
-agree true b = b
-agree false b = not b
 
 abbrev pub word_causes : State → List ℕ → ℕ → Bool → List (Option Reply)
 word_causes s name word output =

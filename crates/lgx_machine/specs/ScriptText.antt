@@ -1,10 +1,10 @@
 -- The text of a script: how its lines are read, with the first line that is refused and its first cause.
-use Rattle.std.specs.Prelude.{ℕ, ◌+◌, ◌/◌, List, [], ◌∷◌, ◌++◌, length, replicate, slice_set, slice_index_or, sum_by, Bool, true, false, not, ◌&&◌, ◌||◌, nat_lt, nat_le, nat_eq, if◌then◌else◌, Option, Some, None, option_map, Result, Ok, Err, codes}
+use Rattle.std.specs.Prelude.{ℕ, ◌+◌, List, [], ◌∷◌, ◌++◌, length, replicate, slice_set, slice_index_or, true, false, not, ◌&&◌, ◌||◌, nat_lt, nat_le, if◌then◌else◌, Option, Some, None, Result, Ok, Err, codes}
 use Rattle.std.specs.List.{last_or}
 use Rattle.std.specs.Str.{bytes_eq}
 use Rattle.lgx_machine.specs.declared.event.Action.{Action}
 use Rattle.lgx_machine.specs.declared.script.Timed.{Timed}
-use Rattle.lgx_machine.specs.declared.script.Script.{Script}
+use Rattle.lgx_machine.specs.Scripts.{Script, script, is_out, actions_in, last_tick}
 use Rattle.lgx_machine.specs.declared.script.JournalCode.{JournalCode}
 use Rattle.lgx_machine.specs.declared.script.JournalCode.TheVariants.{J1, J2, J3, J4, J5}
 use Rattle.lgx_machine.specs.declared.script.JournalFault.{JournalFault}
@@ -16,7 +16,7 @@ use Rattle.lgx_machine.specs.JournalText.{lane_of, is_end, is_long, ◌>>=◌, s
 
 -- a script that has so many steps, such a pace and so many lanes, and no action yet
 abbrev pub bare : ℕ → ℕ → ℕ → Script
-bare steps pace lanes = record { steps = steps; pace = pace; lanes = replicate lanes [] }
+bare steps pace lanes = script steps pace (replicate lanes [])
 
 abbrev pub bare_of : Option ℕ → Option ℕ → Option ℕ → Option Script
 bare_of (Some steps) (Some pace) (Some lanes) = Some (bare steps pace lanes)
@@ -27,9 +27,6 @@ header_of (verb ∷ steps ∷ pace ∷ lanes ∷ []) = if bytes_eq verb (codes "
 header_of _ = None
 
 -- steps and pace are 1 to 1,000,000, and there are at most 31 lanes
-abbrev pub is_out : ℕ → Bool
-is_out n = nat_eq n 0 || nat_lt 1000000 n
-
 abbrev pub read_header : List ℕ → Result Script JournalCode
 read_header line = do
   _ ← unless (is_long line) J1
@@ -57,9 +54,6 @@ lane_at s lane = slice_index_or s.lanes lane []
 abbrev pub with_turn : Script → Turn → Script
 with_turn s t = record s { lanes = slice_set s.lanes t.lane (lane_at s t.lane ++ t.timed ∷ []) }
 
-abbrev pub actions_in : Script → ℕ
-actions_in s = sum_by (λ lane. length lane) s.lanes
-
 -- the tick of the lane's line before, or 0
 abbrev pub at_or_zero : Option Timed → ℕ
 at_or_zero None = 0
@@ -76,7 +70,7 @@ read_turn s line = do
   turn ← some_or J1 (turn_of line)
   _ ← unless (nat_le (length s.lanes) turn.lane) J2
   _ ← unless (nat_le 100000 (actions_in s)) J4
-  _ ← unless (nat_lt (s.steps / s.pace) turn.timed.at) J3
+  _ ← unless (nat_lt (last_tick s) turn.timed.at) J3
   _ ← unless (nat_lt turn.timed.at (last_at s turn.lane)) J5
   Ok (with_turn s turn)
 

@@ -1,14 +1,13 @@
 -- A trace with its states, and the laws of the schedule that speak of them: the version law of the rungs, the copy law
 -- and the refusal law.
-use Rattle.std.specs.Prelude.{◌≡◌, ℕ, ◌+◌, ◌*◌, List, [], ◌∷◌, fold, slice_range, slice_index_or, Bool, true, false, not, ◌&&◌, ◌||◌, nat_le, nat_eq, if◌then◌else◌, Option, Some, None, option_map, Result, Ok, Err, IfSome, IsTrue, ⊤, find}
+use Rattle.std.specs.Prelude.{◌≡◌, ℕ, ◌+◌, ◌*◌, List, [], ◌∷◌, fold, slice_range, Bool, true, false, not, ◌&&◌, ◌||◌, nat_le, nat_eq, if◌then◌else◌, Option, Some, None, Result, Ok, Err, IfSome, IsTrue, ⊤, find}
 use Rattle.std.specs.List.{AllByRecursion}
 use Rattle.std.specs.Str.{bytes_eq}
 use Rattle.lgx_machine.specs.declared.event.Action.{Action}
 use Rattle.lgx_machine.specs.declared.event.Event.{Event}
-use Rattle.lgx_machine.specs.declared.event.Event.TheVariants.{Cpu, Tick, Act}
+use Rattle.lgx_machine.specs.declared.event.Event.TheVariants.{Act}
 use Rattle.lgx_machine.specs.declared.answer.What.{What}
 use Rattle.lgx_machine.specs.declared.answer.What.TheVariants.{Idle, Began, Ran, Copied, Left}
-use Rattle.lgx_machine.specs.declared.answer.Mark.{Mark}
 use Rattle.lgx_machine.specs.declared.answer.Mark.TheVariants.{CopyStart, CopyEnd}
 use Rattle.lgx_machine.specs.declared.bound.Copying.{Copying}
 use Rattle.lgx_machine.specs.declared.reply.EditFault.{EditFault}
@@ -18,7 +17,8 @@ use Rattle.lgx_machine.specs.Position.{ProgramRungs}
 use Rattle.lgx_machine.specs.Edits.{Book, Edited, edit, book_at, selected}
 use Rattle.lgx_machine.specs.Project.{Project}
 use Rattle.lgx_machine.specs.State.{State, Scan, progress_of, start}
-use Rattle.lgx_machine.specs.Machine.{Answer, OfStep, OfTick, OfAction, step}
+use Rattle.lgx_machine.specs.Legal.{each_from}
+use Rattle.lgx_machine.specs.Machine.{Answer, OfStep, OfAction, step, run}
 use Rattle.lgx_machine.specs.Refusals.{first_cause}
 
 -- an event with its answer, and the states before and after it
@@ -80,10 +80,7 @@ scan_of s t = (progress_of s t).scan
 -- After each event, the rungs of a task's scan are those that the accepted commands before its begin select.
 abbrev pub ScansKeepRungs : Project → Type 0
 ScansKeepRungs p =
-    (journal : List Event) (t : ℕ) → IfSome (scan_of (after journal) t) (λ scan. begun_by t (start p).books (stages p journal) ≡ Some scan.rungs)
-  where
-    after : List Event → State
-    after journal = fold (λ s e. (step s e).state) (start p) journal
+    (journal : List Event) (t : ℕ) → IfSome (scan_of (run p journal) t) (λ scan. begun_by t (start p).books (stages p journal) ≡ Some scan.rungs)
 
 -- ---- the copy law
 
@@ -134,10 +131,6 @@ keeps_copy x xs = elim (sync_start x.answer) [
   | None ↦ true
   | Some t ↦ ends_whole t x (copy_in x.after t) (find (starts_or_ends t) xs)
 ]
-
-abbrev pub each_from : (Stage → List Stage → Bool) → List Stage → Bool
-each_from test [] = true
-each_from test (x ∷ xs) = test x xs && each_from test xs
 
 -- Where a CPS has copied its last element and its ranges share no byte, the destination's bytes are the source's as they
 -- were right after the step that started it.

@@ -1,6 +1,6 @@
 -- The lines of a text, the words of a line, and numbers. Each mark of a text is one byte.
-use Rattle.std.specs.Prelude.{ℕ, ◌-◌, ◌+◌, ◌*◌, ◌^◌, List, [], ◌∷◌, length, take, drop, fold, filter, Bool, true, false, not, ◌&&◌, ◌||◌, nat_lt, nat_le, nat_eq, if◌then◌else◌, ℤ, pos, neg_ℤ, int_le, Option, Some, None, option_map}
-use Rattle.std.specs.List.{list_any, list_all, prefix_len, suffix_len}
+use Rattle.std.specs.Prelude.{ℕ, ◌-◌, ◌+◌, ◌*◌, ◌^◌, List, [], ◌∷◌, length, take, drop, fold, filter, Bool, true, false, not, ◌&&◌, ◌||◌, nat_lt, nat_le, nat_eq, if◌then◌else◌, ℤ, pos, neg_ℤ, int_le, Option, Some, None}
+use Rattle.std.specs.List.{list_any, prefix_len, suffix_len}
 use Rattle.std.specs.Str.{bytes_eq, all_ascii_digits}
 
 -- what stands before, between and behind the marks of a text

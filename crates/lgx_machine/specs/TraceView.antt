@@ -1,5 +1,5 @@
 -- A trace of the machine as numbers alone.
-use Rattle.std.specs.Prelude.{ℕ, List, [], ◌∷◌, map, length, zip, Bool, true, false, Option, Some, None}
+use Rattle.std.specs.Prelude.{ℕ, List, [], ◌∷◌, map, length, true, false, Option, Some, None}
 use Rattle.std.specs.List.{position_from}
 use Rattle.lgx_num.specs.Name.{same}
 use Rattle.lgx_machine.specs.declared.fault.Fault.{Fault}
@@ -11,8 +11,6 @@ use Rattle.lgx_machine.specs.declared.answer.What.TheVariants as what
 use Rattle.lgx_machine.specs.declared.answer.Mark.{Mark}
 use Rattle.lgx_machine.specs.declared.answer.Mark.TheVariants as mark
 use Rattle.lgx_machine.specs.declared.answer.Moment.{Moment}
-use Rattle.lgx_machine.specs.declared.answer.TickReport.{TickReport}
-use Rattle.lgx_machine.specs.declared.answer.Outcome.{Outcome}
 use Rattle.lgx_machine.specs.declared.reply.Reply.{Reply}
 use Rattle.lgx_machine.specs.declared.reply.Reply.TheVariants as reply
 use Rattle.lgx_machine.specs.declared.event.Action.{Action}

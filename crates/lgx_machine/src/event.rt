@@ -1,4 +1,7 @@
 // Actions of modules and engineers, and the events of a run.
+ghost use Rattle.std.specs.Prelude.{◌≡◌, IsTrue};
+ghost use Rattle.lgx_machine.specs.TextLines.{is_edit_text};
+
 use lgx_num::{List, Name};
 use std::marker::Model;
 
@@ -20,6 +23,23 @@ impl Model for Text {
     ghost invariant = { λ t. IsTrue (is_edit_text t.bytes.items) };
 }
 
+impl Text {
+    /// The text of these bytes.
+    pub fn of(bytes: Vec<u8>) -> Text
+        requires form { IsTrue (is_edit_text bytes.items) }
+        ensures { result ≡ bytes.items }
+    {
+        Text { bytes }
+    }
+
+    pub fn bytes(&self) -> &[u8]
+        ensures bytes { result.now ≡ self.now }
+        ensures form { IsTrue (is_edit_text self.now) }
+    {
+        &self.bytes
+    }
+}
+
 /// An edit of a rung, by its number in the base routine, from 0: another text, a rung before it (or behind the last), or none.
 #[derive(Drop)]
 pub enum RungEdit {
@@ -34,6 +54,17 @@ pub struct Accept {
     pub program: Name,
     pub routine: Name,
     pub edits: List<RungEdit>,
+}
+
+impl Model for Accept {
+    ghost use Rattle.std.specs.Prelude.{IsTrue, length};
+    ghost use Rattle.lgx_machine.specs.Commands.{AcceptCommand, accept_command, is_edit_count};
+
+    ghost Value = { AcceptCommand };
+
+    ghost view = { λ a. accept_command a.program a.routine a.edits };
+
+    ghost invariant = { λ a. IsTrue (is_edit_count (length a.edits)) };
 }
 
 /// What modules and engineers do: I/O words in and out, the five edit commands, the four on forces, and the modes. A word is

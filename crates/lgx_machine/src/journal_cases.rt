@@ -1,11 +1,14 @@
 // Texts of journals and scripts, computed by the definitions. Each function is a law: it does nothing, and its
 // contract is what is shown.
-ghost use Rattle.std.specs.Prelude.{◌≡◌, ◌∷◌, ◌++◌, [], codes, map, replicate, length, List, ℕ, Ok, Err};
-ghost use Rattle.lgx_machine.specs.JournalText.{EventRun, journal_of, journal_runs, text, refused};
+ghost use Rattle.std.specs.Prelude.{◌≡◌, ◌∷◌, ◌++◌, [], codes, map, replicate, length, List, ℕ, Ok, Err, IfOk, IsTrue, pos};
+ghost use Rattle.lgx_machine.specs.JournalText.{EventRun, journal_of, journal_runs, text, refused, joined, events_of, IsWithin, read_line};
 ghost use Rattle.lgx_machine.specs.ScriptText.{script_of};
-ghost use Rattle.lgx_machine.specs.JournalCases.{paced_text, paced, tested_text, tested, clients_text, clients, edits_text, edits, edits_canonical, words_text, words, formless, before_end, plain, cut_scripts, lanes_text, lanes};
+ghost use Rattle.lgx_machine.specs.Scripts.{is_script};
+ghost use Rattle.lgx_machine.specs.JournalCases.{accept, paced_text, paced, tested_text, tested, clients_text, clients, edits_text, edits, edits_canonical, words_text, words, formless, before_end, plain, cut_scripts, lanes_text, lanes};
+ghost use Rattle.lgx_machine.specs.declared.event.Event.{Event};
 ghost use Rattle.lgx_machine.specs.declared.event.Event.TheVariants.{Cpu, Tick, Act};
-ghost use Rattle.lgx_machine.specs.declared.event.Action.TheVariants.{ModeRun};
+ghost use Rattle.lgx_machine.specs.declared.event.RungEdit.TheVariants.{Insert};
+ghost use Rattle.lgx_machine.specs.declared.event.Action.TheVariants.{WordIn};
 ghost use Rattle.lgx_machine.specs.declared.script.JournalCode.TheVariants.{J1, J2, J3, J4, J5};
 
 /// Journals are read to their events.
@@ -16,6 +19,9 @@ pub fn journals_are_read()
     ensures edits { journal_of edits_text ≡ Ok edits }
     ensures words { journal_of words_text ≡ Ok words }
     ensures empty { journal_of (codes " end \nend") ≡ Ok [] }
+    ensures long_comment { journal_of (replicate 65537 35 ++ codes "\nend") ≡ Ok [] }
+    ensures long_line { journal_of (codes "accept P M i 0 " ++ replicate 65521 65 ++ codes "\nend") ≡ Ok (Act 31 (accept (codes "P") (codes "M") (Insert 0 (replicate 65521 65) ∷ [])) ∷ []) }
+    ensures zeros { journal_of (codes "cpu 0000000002\n@00 in I 007 -0\nend") ≡ Ok (Cpu ∷ Cpu ∷ Act 0 (WordIn (codes "I") 7 (pos 0)) ∷ []) }
     ensures whole_count { journal_runs (codes "cpu 4000000\ntick 4000000\nend") ≡ Ok (record { event = Cpu; count = 4000000 } ∷ record { event = Tick; count = 4000000 } ∷ []) }
 {}
 
@@ -25,6 +31,8 @@ pub fn journals_are_refused()
     ensures no_end { journal_of (codes "mode run\n\n") ≡ refused 3 J1 }
     ensures nothing { journal_of [] ≡ refused 1 J1 }
     ensures return_kept { journal_of (codes "mode run\nend\r") ≡ refused 2 J1 }
+    ensures long { journal_of (replicate 65537 99 ++ codes "\nend\n") ≡ refused 1 J1 }
+    ensures actions { read_line (record { steps = 0; ticks = 0; actions = 100000 }) (codes "clear") ≡ Err J4 }
     ensures lane { journal_of (codes "# lane\n@31 mode run\nend\n") ≡ refused 2 J2 }
     ensures form_before_lane { journal_of (codes "@31 mode\nend\n") ≡ refused 1 J1 }
     ensures zero { journal_of (codes "mode run\ncpu 0\nend\n") ≡ refused 2 J4 }
@@ -61,4 +69,19 @@ pub fn journals_are_written()
     ensures edits_again { journal_of edits_canonical ≡ Ok edits }
     ensures words { text words ≡ words_text }
     ensures nothing { text [] ≡ codes "end\n" }
+{}
+
+/// The runs of equal events in which a journal is written expand to its events.
+pub fn runs_expand()
+    ensures { (journal : List Event) → events_of (joined journal) ≡ journal }
+{}
+
+/// What a text is read to keeps what the type of scripts says.
+pub fn scripts_are_kept()
+    ensures { (bytes : List ℕ) → IfOk (script_of bytes) (λ s. IsTrue (is_script s)) }
+{}
+
+/// What a text is read to is within the limits of a journal.
+pub fn journals_are_within_limits()
+    ensures { (bytes : List ℕ) → IfOk (journal_of bytes) (λ journal. IsWithin journal) }
 {}

@@ -1,6 +1,6 @@
 // Runs of the machine that keep the laws of the schedule, and journals of scripts. Each function is a law: it does
 // nothing, and its contract is what is shown.
-ghost use Rattle.std.specs.Prelude.{◌≡◌, ◌∷◌, ◌++◌, [], take, IsTrue, length};
+ghost use Rattle.std.specs.Prelude.{◌≡◌, ◌∷◌, ◌++◌, [], take, IsTrue, false};
 ghost use Rattle.std.specs.List.{AllByRecursion};
 ghost use Rattle.lgx_machine.specs.LegalCases.{all_hold};
 ghost use Rattle.lgx_machine.specs.JournalCases.{cpu, tick, paced, tested, clients};
@@ -8,9 +8,10 @@ ghost use Rattle.lgx_machine.specs.LadderRuns.{one_rung};
 ghost use Rattle.lgx_machine.specs.TaskRuns.{preemption, nested_regions, turns_at_ticks};
 ghost use Rattle.lgx_machine.specs.EditRuns.{selected_at_begin, owners};
 ghost use Rattle.lgx_machine.specs.CopyRuns.{torn_copy, whole_copy};
-ghost use Rattle.lgx_machine.specs.Partial.{IsPartial, IsComplete};
-ghost use Rattle.lgx_machine.specs.Stages.{stages, each_from, keeps_copy, KeepsState};
-ghost use Rattle.lgx_machine.specs.LawRuns.{verdicts_on, run_mode, preempted, nested, turning, rungs_at, begun_at, held_copy, script, one_word, word_at_end, one_nop, emptied};
+ghost use Rattle.lgx_machine.specs.Partial.{IsPartial, IsComplete, is_paced, is_held_over};
+ghost use Rattle.lgx_machine.specs.Legal.{each_from};
+ghost use Rattle.lgx_machine.specs.Stages.{stages, keeps_copy, KeepsState};
+ghost use Rattle.lgx_machine.specs.LawRuns.{verdicts_on, run_mode, preempted, nested, turning, rungs_at, begun_at, held_copy, script, one_word, word, word_at_end, one_nop, emptied};
 
 /// The laws that a trace shows by itself hold of runs with preemption, nested regions, turns at ticks, edits in
 /// mid-scan and a synchronous copy.
@@ -41,4 +42,15 @@ pub fn scripts_are_run()
     ensures word { IsComplete torn_copy one_word word_at_end }
     ensures open { IsComplete whole_copy (script 3 10) (run_mode ∷ cpu 4) }
     ensures not_yet { IsPartial whole_copy (script 3 10) [] (run_mode ∷ cpu 3) }
+{}
+
+/// Journals that aren't of the script: a tick left out, a late one, steps beyond the script's, an action twice, and one
+/// before its tick.
+pub fn scripts_are_not_run()
+    ensures no_tick { is_paced 2 (run_mode ∷ cpu 3) ≡ false }
+    ensures late_tick { is_paced 2 (run_mode ∷ cpu 3 ++ tick 1) ≡ false }
+    ensures more_steps { is_held_over one_rung 3 (run_mode ∷ cpu 2 ++ tick 1 ++ cpu 2) ≡ false }
+    ensures closed { is_held_over whole_copy 3 (run_mode ∷ cpu 5) ≡ false }
+    ensures twice { IsPartial torn_copy one_word (1 ∷ []) (word_at_end ++ word 0 1 ∷ []) → ⊥ }
+    ensures early { IsPartial torn_copy one_word (1 ∷ []) (run_mode ∷ cpu 5 ++ tick 1 ++ word 0 1 ∷ []) → ⊥ }
 {}

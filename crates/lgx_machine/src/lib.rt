@@ -29,10 +29,12 @@ pub use conn::{ConnDef, Slot};
 pub use event::{Accept, Action, Event, RungEdit, Text};
 pub use fault::{Fault, Severity};
 pub use journal_cases::{
-    journals_are_read, journals_are_refused, journals_are_written, scripts_are_read,
-    scripts_are_refused,
+    journals_are_read, journals_are_refused, journals_are_within_limits, journals_are_written,
+    runs_expand, scripts_are_kept, scripts_are_read, scripts_are_refused,
 };
-pub use law_runs::{copies_and_refusals, runs_are_legal, scans_keep_rungs, scripts_are_run};
+pub use law_runs::{
+    copies_and_refusals, runs_are_legal, scans_keep_rungs, scripts_are_not_run, scripts_are_run,
+};
 pub use legal_cases::{laws_are_broken, laws_hold};
 pub use line::Line;
 pub use program::Ins;

@@ -1,6 +1,7 @@
 // Scripts: what each lane does, and when; and the causes for which a text is no journal or script.
 use crate::event::Action;
 use lgx_num::List;
+use std::marker::Model;
 
 /// An action and the tick from which on it may be made.
 #[derive(Drop)]
@@ -10,12 +11,24 @@ pub struct Timed {
 }
 
 /// What a run has to do: at least so many processor steps, a tick after every `pace`-th of them, and for each lane
-/// its actions in order.
+/// its actions in order. Steps and pace are 1 to 1,000,000; there are at most 31 lanes and 100,000 actions; and no
+/// action waits for a tick after the last, which is `steps` divided by `pace`, cut.
 #[derive(Drop)]
 pub struct Script {
     pub steps: u32,
     pub pace: u32,
     pub lanes: List<List<Timed>>,
+}
+
+impl Model for Script {
+    ghost use Rattle.std.specs.Prelude.{IsTrue};
+    ghost use Rattle.lgx_machine.specs.Scripts.{Script as Seen, script, is_script};
+
+    ghost Value = { Seen };
+
+    ghost view = { λ s. script s.steps s.pace s.lanes };
+
+    ghost invariant = { λ s. IsTrue (is_script (script s.steps s.pace s.lanes)) };
 }
 
 /// Why a line is none of a journal or a script: J1 it has none of the forms, J2 its lane is none, J3 its tick lies
