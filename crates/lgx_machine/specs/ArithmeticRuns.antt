@@ -105,3 +105,25 @@ Results = replay results (lines (codes "mode run"
     ∷ codes "0 15 set z 1"
     ∷ codes "end 0 15 run lost 0"
     ∷ [])
+
+-- A task keeps its flags from scan to scan; the change to Run clears them.
+abbrev pub flags_at_run : Project
+flags_at_run = plain (dint (codes "n") ∷ bool (codes "z") ∷ []) (continuous (codes "XIC(S:Z)OTL(z);" ∷ codes "CLR(n);" ∷ []) ∷ []) [] (codes "z" ∷ [])
+
+abbrev pub FlagsAtRun : Type 0
+FlagsAtRun = replay flags_at_run (lines (codes "mode run"
+    ∷ codes "cpu 4"
+    ∷ codes "mode program"
+    ∷ codes "mode run"
+    ∷ codes "cpu 8"
+    ∷ codes "end"
+    ∷ []))
+    ≡ lines (codes "0 0 reply 31 ok"
+    ∷ codes "0 1 begin T P 0"
+    ∷ codes "0 4 reply 31 ok"
+    ∷ codes "0 4 reply 31 ok"
+    ∷ codes "0 5 begin T P 0"
+    ∷ codes "0 10 begin T P 0"
+    ∷ codes "0 12 set z 1"
+    ∷ codes "end 0 12 run lost 0"
+    ∷ [])

@@ -123,6 +123,8 @@ MergedOrder = replay merged_order (lines (codes "@0 accept P M i 1 MOV(7,n); | i
     ∷ codes "@0 accept P M r 0 MOV(1,n);"
     ∷ codes "@0 cancel P"
     ∷ codes "cpu 3"
+    ∷ codes "@0 accept P M d 3"
+    ∷ codes "@0 accept P M d 4"
     ∷ codes "end"
     ∷ []))
     ≡ lines (codes "0 0 reply 0 ok 1"
@@ -139,6 +141,8 @@ MergedOrder = replay merged_order (lines (codes "@0 accept P M i 1 MOV(7,n); | i
     ∷ codes "0 5 reply 0 ok"
     ∷ codes "0 7 begin T P 2"
     ∷ codes "0 8 set n 7"
+    ∷ codes "0 8 reply 0 ok 4"
+    ∷ codes "0 8 reply 0 refused E5 0"
     ∷ codes "end 0 8 run lost 0"
     ∷ [])
 

@@ -1,6 +1,6 @@
 // Worked runs: what the ladder machine reports of a journal on a small project, from declared tags and the texts of rungs
 // and journal to the text of the report.
-ghost use Rattle.lgx_machine.specs.ArithmeticRuns.{Limits, OverflowAndZeroDivisor, Results, SubscriptOutOfRange};
+ghost use Rattle.lgx_machine.specs.ArithmeticRuns.{FlagsAtRun, Limits, OverflowAndZeroDivisor, Results, SubscriptOutOfRange};
 ghost use Rattle.lgx_machine.specs.ConveyorRun.{ConveyorRun};
 ghost use Rattle.lgx_machine.specs.CopyRuns.{FillToTheEnd, HeldCommands, ShortSource, TornCopy, WholeCopy};
 ghost use Rattle.lgx_machine.specs.EditRuns.{EditRefusals, EditsInMidScan, LostLabel, MergedOrder, Owners, SelectedAtBegin};
@@ -47,6 +47,7 @@ pub fn arithmetic_runs()
     ensures subscript { SubscriptOutOfRange }
     ensures limits { Limits }
     ensures results { Results }
+    ensures flags { FlagsAtRun }
 {}
 
 /// Copies that I/O words may tear, and that they may not, and how many elements they have.

@@ -18,3 +18,7 @@ returns-clause-limits c = refl
 pub returns-clause-results : goal.returns-clause-results
 unfolding digits
 returns-clause-results c = refl
+
+pub returns-clause-flags : goal.returns-clause-flags
+unfolding digits
+returns-clause-flags c = refl
