@@ -1,9 +1,12 @@
 -- Grains and marks.
-use Rattle.std.proofs.Common.{◌≡◌, ◌≢◌, ℕ, zero, suc, ◌+◌, ◌-◌, ◌*◌, ◌/◌, ◌<◌, ◌≤◌, ◌⊎◌, inl, inr, Bool, true, false, List, [], ◌∷◌, length, get_or, set, refl, sym, ap, ◌∙◌, arith, length-set, get_or-set_same, get_or-set_other}
+use Rattle.std.proofs.Common.{◌≡◌, ◌≢◌, ℕ, zero, suc, ◌+◌, ◌-◌, ◌*◌, ◌/◌, ◌%◌, ◌<◌, ◌≤◌, ◌⊎◌, inl, inr, Bool, true, false, List, [], ◌∷◌, length, get_or, set, refl, sym, ap, ◌∙◌, arith, length-set, get_or-set_same, get_or-set_other}
 use Rattle.std.proofs.lemmas.Bool.{cases_eq, cases_lt, false≢true}
 use Rattle.std.proofs.lemmas.List.{get_or_past}
-use Rattle.lgx_image.specs.Grains.{grain_of, grains_in, is_marked, mark_piece}
-use Rattle.lgx_image.specs.Laws.{HoldsByte, PieceIsMarked, OtherMarksStay}
+use Rattle.lgx_num.specs.declared.number.Kind.{Kind}
+use Rattle.lgx_num.specs.declared.number.Kind.TheVariants.{Bool as KBool, Sint, Int, Dint}
+use Rattle.lgx_num.specs.declared.place.Place.{Place}
+use Rattle.lgx_image.specs.Grains.{grain_of, grains_in, bytes_in, is_marked, mark_piece}
+use Rattle.lgx_image.specs.Laws.{HoldsByte, PieceIsMarked, OtherMarksStay, AlignedPlaceInOneGrain}
 
 -- ---- grains
 
@@ -22,6 +25,17 @@ grain_of-below byte (suc n) below = omega arith
 pub grain_of-is : (byte : ℕ) → grain_of byte ≡ byte / 64
 unfolding grain_of
 grain_of-is byte = refl
+
+-- bytes of a piece whose size divides the size of a grain
+pub same_grain : (k : Kind) (at byte : ℕ) → at % bytes_in k ≡ 0 → at ≤ byte → byte < at + bytes_in k → grain_of byte ≡ grain_of at
+unfolding grain_of
+same_grain KBool at byte aligned above below = omega arith
+same_grain Sint at byte aligned above below = omega arith
+same_grain Int at byte aligned above below = omega arith
+same_grain Dint at byte aligned above below = omega arith
+
+pub aligned_place_in_one_grain : AlignedPlaceInOneGrain
+aligned_place_in_one_grain p byte aligned above below = same_grain p.kind (p.at / 8) byte aligned above below
 
 -- ---- marks
 

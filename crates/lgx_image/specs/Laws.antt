@@ -1,5 +1,5 @@
 -- Laws of marks: what shows that they say what is meant.
-use Rattle.std.specs.Prelude.{◌≡◌, ℕ, ◌/◌, ◌+◌, ◌<◌, ◌≤◌, true, false, List, Bool, length}
+use Rattle.std.specs.Prelude.{◌≡◌, ℕ, ◌/◌, ◌%◌, ◌+◌, ◌<◌, ◌≤◌, true, false, List, Bool, length}
 use Rattle.lgx_num.specs.declared.place.Place.{Place}
 use Rattle.lgx_num.specs.Image.{number, Lies}
 use Rattle.lgx_image.specs.Grains.{Marked, Spread, grain_of, bytes_in, is_marked, mark_piece}
@@ -27,3 +27,7 @@ PieceIsMarked = (marks : List Bool) (at size grain : ℕ) → grain < length mar
 
 abbrev pub OtherMarksStay : Type 0
 OtherMarksStay = (marks : List Bool) (at size grain : ℕ) → (HoldsByte grain at size → ⊥) → is_marked (mark_piece marks at size) grain ≡ is_marked marks grain
+
+-- the bytes of a place that is aligned to its size lie in one grain
+abbrev pub AlignedPlaceInOneGrain : Type 0
+AlignedPlaceInOneGrain = (p : Place) (byte : ℕ) → p.at / 8 % bytes_in p.kind ≡ 0 → p.at / 8 ≤ byte → byte < p.at / 8 + bytes_in p.kind → grain_of byte ≡ grain_of (p.at / 8)

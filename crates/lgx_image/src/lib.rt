@@ -15,3 +15,6 @@ pub use grain::{GRAIN, grain_of};
 pub use image::Image;
 pub use laws::{law_of_marks, law_of_spread};
 pub use lgx_machine::{Arg, Bound};
+
+#[cfg(test)]
+mod tests;
