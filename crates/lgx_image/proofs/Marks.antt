@@ -1,12 +1,11 @@
 -- Grains and marks.
-use Rattle.std.proofs.Common.{◌≡◌, ◌≢◌, ℕ, zero, suc, ◌+◌, ◌-◌, ◌*◌, ◌/◌, ◌%◌, ◌<◌, ◌≤◌, ◌⊎◌, inl, inr, Bool, true, false, List, [], ◌∷◌, length, get_or, set, refl, sym, ap, ◌∙◌, arith, length-set, get_or-set_same, get_or-set_other}
+use Rattle.std.proofs.Common.{◌≡◌, ℕ, zero, suc, ◌+◌, ◌/◌, ◌%◌, ◌<◌, ◌≤◌, inl, inr, Bool, true, false, List, length, set, refl, sym, ap, ◌∙◌, arith, length-set, get_or-set_same, get_or-set_other}
 use Rattle.std.proofs.lemmas.Bool.{cases_eq, cases_lt, false≢true}
 use Rattle.std.proofs.lemmas.List.{get_or_past}
 use Rattle.lgx_num.specs.declared.number.Kind.{Kind}
 use Rattle.lgx_num.specs.declared.number.Kind.TheVariants.{Bool as KBool, Sint, Int, Dint}
-use Rattle.lgx_num.specs.declared.place.Place.{Place}
 use Rattle.lgx_image.specs.Grains.{grain_of, grains_in, bytes_in, is_marked, mark_piece}
-use Rattle.lgx_image.specs.Laws.{HoldsByte, PieceIsMarked, OtherMarksStay, AlignedPlaceInOneGrain}
+use Rattle.lgx_image.specs.Laws.{PieceIsMarked, OtherMarksStay, AlignedPlaceInOneGrain}
 
 -- ---- grains
 

@@ -1,11 +1,10 @@
 -- Where paths lead.
-use Rattle.std.proofs.Common.{◌≡◌, ℕ, zero, suc, ◌+◌, ◌-◌, ◌*◌, ◌^◌, ◌<◌, ◌≤◌, min, inl, inr, List, [], ◌∷◌, length, get_or, drop, ℤ, Option, Some, None, refl, sym, ap, ◌∙◌, arith, drop-cons}
-use Rattle.std.specs.Prelude.{option_map}
+use Rattle.std.proofs.Common.{◌≡◌, ℕ, zero, suc, ◌+◌, ◌-◌, ◌*◌, ◌^◌, ◌<◌, ◌≤◌, min, List, [], ◌∷◌, length, get_or, drop, ℤ, Option, Some, None, refl, sym, ap, ◌∙◌, arith, drop-cons}
 use Rattle.std.proofs.lemmas.List.{drop_all}
 use Rattle.lgx_num.specs.declared.place.Index.{Index}
 use Rattle.lgx_num.specs.declared.place.Path.{Path}
 use Rattle.lgx_num.specs.Image.{number, step_by, moved, steps_at, bit_of, Lies}
-use Rattle.lgx_num.specs.Paths.{Leads, SubscriptsLie, PathLies}
+use Rattle.lgx_num.specs.Paths.{SubscriptsLie, PathLies}
 use Rattle.lgx_num.proofs.Subscripts.{subscripts_stay_in_range}
 use Rattle.lgx_image.specs.Words.{cut, cut_step}
 

@@ -1,7 +1,7 @@
 -- Laws of marks: what shows that they say what is meant.
 use Rattle.std.specs.Prelude.{◌≡◌, ℕ, ◌/◌, ◌%◌, ◌+◌, ◌<◌, ◌≤◌, true, false, List, Bool, length}
 use Rattle.lgx_num.specs.declared.place.Place.{Place}
-use Rattle.lgx_num.specs.Image.{number, Lies}
+use Rattle.lgx_num.specs.Image.{number}
 use Rattle.lgx_image.specs.Grains.{Marked, Spread, grain_of, bytes_in, is_marked, mark_piece}
 
 -- no change is spread, and one change after another is

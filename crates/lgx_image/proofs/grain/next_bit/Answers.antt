@@ -1,5 +1,5 @@
 use Rattle.std.proofs.Common.{◌/◌, arith}
-use Rattle.lgx_image.proofs.Words.{first_word_some, first_word_none, later_word_some, later_word_none, no_word_left, bit_past}
+use Rattle.lgx_image.proofs.Words.{first_word_some, first_word_none}
 use Rattle.lgx_image.proofs.grain.next_bit.Goals as goal
 
 pub returns-in-Some : goal.returns-in-Some

@@ -1,4 +1,4 @@
-use Rattle.std.proofs.Common.{◌≡◌, None, length, ap, arith}
+use Rattle.std.proofs.Common.{None, length, ap, arith}
 use Rattle.lgx_image.specs.Grains.{Marked, grains_in, NextMarked}
 use Rattle.lgx_image.proofs.Words.{next_mark, no_mark, mark_past}
 use Rattle.lgx_image.proofs.image.Image.next_marked.Goals as goal

@@ -1,7 +1,6 @@
-use Rattle.std.proofs.Common.{rules, sym, ap, ◌∙◌, ◌≡◌, length, arith}
+use Rattle.std.proofs.Common.{arith}
 use Rattle.std.proofs.lemmas.Grind.{common_steps}
-use Rattle.lgx_image.specs.Grains.{grains_in}
-use Rattle.lgx_image.proofs.Words.{length-marks_of, grains_of_view}
+use Rattle.lgx_image.proofs.Words.{grains_of_view}
 use Rattle.lgx_image.proofs.Spreads.{spread_write}
 use Rattle.lgx_image.proofs.image.Image.put.Goals as goal
 
