@@ -1,0 +1,6 @@
+pub mod Marks
+pub mod Words
+pub mod Pieces
+pub mod Spreads
+pub mod Paths
+pub mod Bindings

@@ -1,0 +1,102 @@
+-- Changes that are spread.
+use Rattle.std.proofs.Common.{◌≡◌, ℕ, ◌+◌, ◌/◌, ◌%◌, ◌<◌, ◌≤◌, ◌⊎◌, inl, inr, Bool, true, false, List, length, ℤ, pos, get_or, refl, sym, ap, ◌∙◌, arith, get_or-set_other}
+use Rattle.std.specs.Int.{w8, w16, w32, bit_at}
+use Rattle.std.proofs.lemmas.Bool.{cases_lt, false≢true}
+use Rattle.lgx_num.specs.declared.number.Kind.{Kind}
+use Rattle.lgx_num.specs.declared.number.Kind.TheVariants.{Bool as KBool, Sint, Int, Dint}
+use Rattle.lgx_num.specs.declared.place.Place.{Place}
+use Rattle.lgx_num.specs.Number.{signed_bytes, signed_of}
+use Rattle.lgx_num.specs.Image.{number_of, write, write_of, piece, splice, LiesAt, Lies}
+use Rattle.lgx_num.proofs.Images.{splice_before, splice_behind, length-splice, piece-same, write_keeps_length}
+use Rattle.lgx_image.specs.Grains.{Marked, grain_of, grains_in, bytes_in, is_marked, mark_piece, Spread}
+use Rattle.lgx_image.specs.Laws.{NoChangeIsSpread, ChangesAreSpread, UnmarkedPlacesStay}
+use Rattle.lgx_image.proofs.Marks.{grain_of-below, mark_piece-stays, piece_is_marked}
+use Rattle.lgx_image.proofs.Pieces.{length-piece}
+
+-- ---- how they compose
+
+pub no_change_is_spread : NoChangeIsSpread
+no_change_is_spread image = record { stays_marked = λ g is. is; same_bytes = λ b unmarked. refl; same_length = refl }
+
+pub changes_are_spread : ChangesAreSpread
+changes_are_spread first second third one two = record {
+  stays_marked = λ g is. two.stays_marked g (one.stays_marked g is);
+  same_bytes = λ b unmarked. two.same_bytes b unmarked ∙ one.same_bytes b (unmarked_before second.marks third.marks two.stays_marked (grain_of b) unmarked);
+  same_length = two.same_length ∙ one.same_length;
+}
+  where
+    unmarked_before : (old new : List Bool) → ((g : ℕ) → is_marked old g ≡ true → is_marked new g ≡ true) → (g : ℕ) → is_marked new g ≡ false → is_marked old g ≡ false
+    unmarked_before old new stays g unmarked = by_mark (is_marked old g) refl
+      where
+        by_mark : (m : Bool) → is_marked old g ≡ m → is_marked old g ≡ false
+        by_mark false is = is
+        by_mark true is = absurd (false≢true (sym unmarked ∙ stays g is))
+
+pub unmarked_place_stays : UnmarkedPlacesStay
+unmarked_place_stays old new p spread unmarked = same p.kind p.at unmarked
+  where
+    byte : (at b : ℕ) → is_marked new.marks (grain_of b) ≡ false → get_or new.bytes b 0 ≡ get_or old.bytes b 0
+    byte at b none = spread.same_bytes b none
+
+    same : (k : Kind) (at : ℕ) → ((b : ℕ) → at / 8 ≤ b → b < at / 8 + bytes_in k → is_marked new.marks (grain_of b) ≡ false) → number_of k new.bytes at ≡ number_of k old.bytes at
+    same KBool at none = ap (λ x. pos (bit_at x (at % 8))) (byte at (at / 8) (none (at / 8) (omega arith) (omega arith)))
+    same Sint at none = ap (signed_of w8) (piece-same old.bytes new.bytes (at / 8) 1 (λ b above below. byte at b (none b above below)))
+    same Int at none = ap (signed_of w16) (piece-same old.bytes new.bytes (at / 8) 2 (λ b above below. byte at b (none b above below)))
+    same Dint at none = ap (signed_of w32) (piece-same old.bytes new.bytes (at / 8) 4 (λ b above below. byte at b (none b above below)))
+
+-- ---- writes and copies
+
+-- a change of a piece whose grains are marked
+pub spread_piece : (old new : Marked) (at size : ℕ) → length old.marks ≡ grains_in (length old.bytes) → length new.bytes ≡ length old.bytes → at + size ≤ length old.bytes → new.marks ≡ mark_piece old.marks at size → ((b : ℕ) → (b < at) ⊎ (at + size ≤ b) → get_or new.bytes b 0 ≡ get_or old.bytes b 0) → Spread old new
+spread_piece old new at size grains len room marks outside = record {
+  stays_marked = λ g is. rw marks (mark_piece-stays old.marks at size g is);
+  same_bytes = λ b unmarked. elim (cases_lt b at) [
+    | inl before ↦ outside b (inl before)
+    | inr on ↦ elim (cases_lt b (at + size)) [
+      | inr behind ↦ outside b (inr behind)
+      | inl inside ↦
+          let there = grain_of-below b (length old.bytes) (omega arith) in
+          let is = piece_is_marked old.marks at size (grain_of b) (omega arith) (b, on, inside, λ i. grain_of b) in
+          absurd (false≢true (sym unmarked ∙ ap (λ m. is_marked m (grain_of b)) marks ∙ is))
+    ]
+  ];
+  same_length = len;
+}
+
+-- a write leaves the bytes beside the place
+outside_write : (k : Kind) (image : List ℕ) (at : ℕ) (v : ℤ) (b : ℕ) → (b < at / 8) ⊎ (at / 8 + bytes_in k ≤ b) → get_or (write_of k image at v) b 0 ≡ get_or image b 0
+outside_write KBool image at v b (inl before) = get_or-set_other image (at / 8) b _ 0 (omega arith)
+outside_write KBool image at v b (inr behind) = get_or-set_other image (at / 8) b _ 0 (omega arith)
+outside_write Sint image at v b (inl before) = splice_before image (at / 8) (signed_bytes w8 v) b before
+outside_write Sint image at v b (inr behind) = splice_behind image (at / 8) (signed_bytes w8 v) b behind
+outside_write Int image at v b (inl before) = splice_before image (at / 8) (signed_bytes w16 v) b before
+outside_write Int image at v b (inr behind) = splice_behind image (at / 8) (signed_bytes w16 v) b behind
+outside_write Dint image at v b (inl before) = splice_before image (at / 8) (signed_bytes w32 v) b before
+outside_write Dint image at v b (inr behind) = splice_behind image (at / 8) (signed_bytes w32 v) b behind
+
+-- the bytes of a place are in the image
+pub bytes_lie : (k : Kind) (at len : ℕ) → LiesAt k at len → at / 8 + bytes_in k ≤ len
+bytes_lie KBool at len lies = omega (arith, lies.1)
+bytes_lie Sint at len lies = omega (arith, lies.0, lies.1)
+bytes_lie Int at len lies = omega (arith, lies.0, lies.1)
+bytes_lie Dint at len lies = omega (arith, lies.0, lies.1)
+
+pub spread_write : (old new : Marked) (p : Place) (v : ℤ) → length old.marks ≡ grains_in (length old.bytes) → Lies p (length old.bytes) → new.bytes ≡ write old.bytes p v → new.marks ≡ mark_piece old.marks (p.at / 8) (bytes_in p.kind) → Spread old new
+spread_write old new p v grains lies bytes marks =
+    spread_piece old new (p.at / 8) (bytes_in p.kind) grains
+    (ap length bytes ∙ write_keeps_length old.bytes p v)
+    (bytes_lie p.kind p.at (length old.bytes) lies)
+    marks
+    (λ b apart. ap (λ m. get_or m b 0) bytes ∙ outside_write p.kind old.bytes p.at v b apart)
+
+pub spread_copy : (old new : Marked) (source target size : ℕ) → length old.marks ≡ grains_in (length old.bytes) → target + size ≤ length old.bytes → new.bytes ≡ splice old.bytes target (piece old.bytes source size) → new.marks ≡ mark_piece old.marks target size → Spread old new
+spread_copy old new source target size grains room bytes marks =
+    spread_piece old new target size grains
+    (ap length bytes ∙ length-splice old.bytes target (piece old.bytes source size))
+    room
+    marks
+    (λ b apart. ap (λ m. get_or m b 0) bytes ∙ beside b apart)
+  where
+    beside : (b : ℕ) → (b < target) ⊎ (target + size ≤ b) → get_or (splice old.bytes target (piece old.bytes source size)) b 0 ≡ get_or old.bytes b 0
+    beside b (inl before) = splice_before old.bytes target (piece old.bytes source size) b before
+    beside b (inr behind) = splice_behind old.bytes target (piece old.bytes source size) b (omega (arith, length-piece old.bytes source size))

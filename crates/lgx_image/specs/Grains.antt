@@ -1,0 +1,51 @@
+-- An image to its callers: its bytes, and a mark for each grain that was written. A grain is a run of bytes, counted from 0.
+-- How many bytes a grain has is said in `grain_of` alone; all else goes by the grains that hold bytes.
+use Rattle.std.specs.Prelude.{◌≡◌, ℕ, zero, suc, ◌+◌, ◌/◌, ◌<◌, ◌≤◌, Bool, true, false, List, length, slice_index, slice_index_or, slice_set, Option, Some, None}
+use Rattle.lgx_num.specs.declared.number.Kind.{Kind}
+use Rattle.lgx_num.specs.declared.number.Kind.TheVariants.{Bool as KBool, Sint, Int, Dint}
+use Rattle.lgx_image.specs.declared.grain.TheConstants.{GRAIN}
+
+-- the bytes of all tags, and for each grain whether it is marked
+pub record Marked : Type 0 where
+  pub bytes : List ℕ
+  pub marks : List Bool
+
+-- ---- grains
+
+-- the grain that holds a byte
+unfoldable pub grain_of : ℕ → ℕ
+grain_of byte = byte / GRAIN
+
+-- how many grains so many bytes have; the last may be shorter
+unfoldable pub grains_in : ℕ → ℕ
+grains_in zero = 0
+grains_in (suc last) = suc (grain_of last)
+
+-- how many bytes hold the bits of a kind
+abbrev pub bytes_in : Kind → ℕ
+bytes_in KBool = 1
+bytes_in Sint = 1
+bytes_in Int = 2
+bytes_in Dint = 4
+
+-- ---- marks
+
+abbrev pub is_marked : List Bool → ℕ → Bool
+is_marked marks grain = slice_index_or marks grain false
+
+-- the marks when the grains that hold bytes of a piece, from byte at on, are marked too
+abbrev pub mark_piece : List Bool → ℕ → ℕ → List Bool
+mark_piece marks at zero = marks
+mark_piece marks at (suc n) = mark_piece (slice_set marks (grain_of at) true) (at + 1) n
+
+-- the least marked grain that isn't below from, or none
+abbrev pub NextMarked : List Bool → ℕ → Option ℕ → Type 0
+NextMarked marks from None = (grain : ℕ) → from ≤ grain → is_marked marks grain ≡ false
+NextMarked marks from (Some next) = (from ≤ next) × (is_marked marks next ≡ true) × ((grain : ℕ) → from ≤ grain → grain < next → is_marked marks grain ≡ false)
+
+-- what every change of an image keeps: a mark that was set stays set, and the bytes of each grain that isn't marked
+-- afterwards are as before
+pub record Spread (old new : Marked) : Type 0 where
+  pub stays_marked : (grain : ℕ) → is_marked old.marks grain ≡ true → is_marked new.marks grain ≡ true
+  pub same_bytes : (byte : ℕ) → is_marked new.marks (grain_of byte) ≡ false → slice_index new.bytes byte ≡ slice_index old.bytes byte
+  pub same_length : length new.bytes ≡ length old.bytes

@@ -1,0 +1,4 @@
+pub mod Grains
+pub mod Words
+pub mod Args
+pub mod Laws

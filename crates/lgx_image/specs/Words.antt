@@ -1,0 +1,28 @@
+-- How an image keeps its marks: bit i of word k is the mark of grain 64k + i.
+use Rattle.std.specs.Prelude.{◌≡◌, ℕ, ◌/◌, ◌%◌, ◌^◌, ◌-◌, ◌<◌, ◌≤◌, min, Bool, true, false, List, map, slice_index, ◌==◌, Option, Some, None, option_map}
+use Rattle.std.specs.Int.{bit_at}
+use Rattle.std.specs.List.{range_with_len}
+
+abbrev pub bit_of_words : List ℕ → ℕ → Bool
+bit_of_words words grain = bit_at (slice_index words (grain / 64)) (grain % 64) == 1
+
+-- the marks of so many grains
+unfoldable pub marks_of : List ℕ → ℕ → List Bool
+marks_of words grains = map (bit_of_words words) (range_with_len 0 grains)
+
+-- the least bit that is set and not below from, or none
+abbrev pub NextBit : List ℕ → ℕ → Option ℕ → Type 0
+NextBit words from None = (k : ℕ) → from ≤ k → bit_of_words words k ≡ false
+NextBit words from (Some next) = (from ≤ next) × (bit_of_words words next ≡ true) × ((k : ℕ) → from ≤ k → k < next → bit_of_words words k ≡ false)
+
+-- the least bit of a word, or none
+abbrev pub LeastBit : ℕ → Option ℕ → Type 0
+LeastBit word None = (i : ℕ) → bit_at word i ≡ 0
+LeastBit word (Some least) = (least < 64) × (bit_at word least ≡ 1) × ((i : ℕ) → i < least → bit_at word i ≡ 0)
+
+-- a number of bits, cut to 32 bits
+abbrev pub cut : ℕ → ℕ
+cut n = min n (2 ^ 32 - 1)
+
+abbrev pub cut_step : Option ℕ → Option ℕ
+cut_step o = option_map cut o

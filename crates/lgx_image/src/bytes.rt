@@ -1,0 +1,94 @@
+// Numbers in the bytes of an image, and where subscripts lead.
+ghost use Rattle.std.specs.Prelude.{◌≡◌, ◌+◌, ◌*◌, ◌≤◌, length, IfSome};
+ghost use Rattle.lgx_num.specs.Image.{number, write, piece, splice, Lies, step_by, bit_of};
+ghost use Rattle.lgx_num.specs.Paths.{PathLies};
+ghost use Rattle.lgx_image.specs.Words.{cut_step};
+
+use lgx_num::{Index, Kind, Path, Place, bytes_of};
+
+/// The number at a place.
+pub(crate) fn number_at(bytes: &[u8], place: Place) -> i32
+    requires { Lies place (length bytes.now) }
+    ensures { result ≡ number bytes.now place }
+{
+    let at = (place.at / 8) as usize;
+    match place.kind {
+        Kind::Bool => i32::from((bytes[at] >> (place.at % 8)) & 1),
+        Kind::Sint => i32::from(i8::from_le_bytes([bytes[at]])),
+        Kind::Int => i32::from(i16::from_le_bytes([bytes[at], bytes[at + 1]])),
+        Kind::Dint => i32::from_le_bytes([bytes[at], bytes[at + 1], bytes[at + 2], bytes[at + 3]]),
+    }
+}
+
+/// Puts the low bits of a value at a place.
+pub(crate) fn write_at(bytes: &mut [u8], place: Place, value: i32)
+    requires { Lies place (length bytes.old) }
+    ensures after { bytes.new ≡ write bytes.old place value }
+    ensures len { length bytes.new ≡ length bytes.old }
+{
+    let at = (place.at / 8) as usize;
+    let low = bytes_of(value);
+    match place.kind {
+        Kind::Bool => {
+            let mask = 1u8 << (place.at % 8);
+            bytes[at] = if low[0] % 2 == 1 {
+                bytes[at] | mask
+            } else {
+                bytes[at] & !mask
+            };
+        }
+        Kind::Sint => bytes[at] = low[0],
+        Kind::Int => {
+            bytes[at] = low[0];
+            bytes[at + 1] = low[1];
+        }
+        Kind::Dint => {
+            bytes[at] = low[0];
+            bytes[at + 1] = low[1];
+            bytes[at + 2] = low[2];
+            bytes[at + 3] = low[3];
+        }
+    }
+}
+
+/// Copies bytes, read whole before they are written.
+pub(crate) fn copy_piece(bytes: &mut [u8], source: u32, target: u32, size: u32)
+    requires source { source + size ≤ length bytes.old }
+    requires target { target + size ≤ length bytes.old }
+    ensures after { bytes.new ≡ splice bytes.old target (piece bytes.old source size) }
+    ensures len { length bytes.new ≡ length bytes.old }
+{
+    let source = source as usize;
+    let size = size as usize;
+    bytes.copy_within(source..source + size, target as usize);
+}
+
+/// The first bit of what a path names; None where a subscript is negative or not below its length.
+///
+/// A sum that doesn't fit is cut off: it comes only where a later subscript is out of range.
+pub(crate) fn first_bit(bytes: &[u8], path: &Path) -> Option<u32>
+    requires room { length bytes.now ≤ 262144 }
+    requires lies { PathLies path.now (length bytes.now) (λ to. to ≤ 8 * length bytes.now) }
+    ensures value { result ≡ bit_of bytes.now path.now }
+{
+    let mut at = path.at;
+    for index in path.steps.as_slice() {
+        let step = distance(*index, number_at(bytes, index.of))?;
+        at = at.saturating_add(step);
+    }
+    Some(at)
+}
+
+/// How many bits a subscript leads on; None where it is negative or not below the number of elements.
+fn distance(index: Index, number: i32) -> Option<u32>
+    ensures { result ≡ cut_step (step_by index number) }
+{
+    if number < 0 {
+        return None;
+    }
+    let number = number.cast_unsigned();
+    if number >= index.length {
+        return None;
+    }
+    Some(number.saturating_mul(index.stride))
+}

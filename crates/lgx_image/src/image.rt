@@ -1,0 +1,145 @@
+// The image: the bytes of all tags, with the marks of what was written.
+ghost use Rattle.std.specs.Prelude.{◌≡◌, ◌+◌, ◌/◌, ◌≤◌, length, replicate, false, IfOk, IfSome, option_map};
+ghost use Rattle.lgx_num.specs.Image.{number, write, piece, splice, Lies, bit_of};
+ghost use Rattle.lgx_machine.specs.Arguments.{bind};
+ghost use Rattle.lgx_image.specs.Grains.{grains_in, bytes_in, mark_piece, NextMarked, Spread};
+ghost use Rattle.lgx_image.specs.Args.{place_at, PlaceLies, OperandsLie, ArgsLie};
+
+use crate::bytes::{copy_piece, first_bit, number_at, write_at};
+use crate::grain::{WORDS, grains_in, mark_piece, next_bit, no_marks};
+use crate::operands::bind_all;
+use lgx_machine::Bound;
+use lgx_num::{Kind, Memory, Operand, Path, Place};
+use std::alloc::Global;
+use std::marker::Model;
+
+/// The bytes of all tags, at most 262,144, and a mark for each grain of them that was written.
+///
+/// A grain is a run of `GRAIN` bytes, counted from 0; the last may be shorter.
+#[derive(Drop)]
+pub struct Image {
+    bytes: Vec<u8>,
+    marks: [u64; WORDS],
+}
+
+impl Model for Image {
+    ghost use Rattle.std.specs.Prelude.{◌≤◌, length};
+    ghost use Rattle.lgx_image.specs.Grains.{Marked, grains_in};
+    ghost use Rattle.lgx_image.specs.Words.{marks_of};
+
+    ghost Value = { Marked };
+
+    ghost view = { λ i. record { bytes = i.bytes.items; marks = marks_of i.marks (grains_in (length i.bytes.items)) } };
+
+    ghost invariant = { λ i. length i.bytes.items ≤ 262144 };
+}
+
+impl Image {
+    /// An image of `len` bytes, all 0, with no mark.
+    pub fn new(alloc: Global, len: u32) -> Result<Image, Memory>
+        requires { len ≤ 262144 }
+        ensures bytes { IfOk result (λ image. image.bytes ≡ replicate len 0) }
+        ensures marks { IfOk result (λ image. image.marks ≡ replicate (grains_in len) false) }
+    {
+        Ok(Image {
+            bytes: vec![in alloc; 0; len as usize]?,
+            marks: no_marks(),
+        })
+    }
+
+    /// The number of bytes.
+    pub fn len(&self) -> u32
+        ensures value { result ≡ length self.now.bytes }
+        ensures room { result ≤ 262144 }
+        ensures grains { length self.now.marks ≡ grains_in result }
+    {
+        self.bytes.len() as u32
+    }
+
+    /// The number at a place, which lies in the image.
+    pub fn get(&self, place: Place) -> i32
+        requires { Lies place (length self.now.bytes) }
+        ensures { result ≡ number self.now.bytes place }
+    {
+        number_at(&self.bytes, place)
+    }
+
+    /// Stores the low bits of a value at a place, which lies in the image, and marks the grains of its bytes.
+    pub fn put(&mut self, place: Place, value: i32)
+        requires { Lies place (length self.old.bytes) }
+        ensures bytes { self.new.bytes ≡ write self.old.bytes place value }
+        ensures marks { self.new.marks ≡ mark_piece self.old.marks (place.at / 8) (bytes_in place.kind) }
+        ensures spread { Spread self.old self.new }
+    {
+        write_at(&mut self.bytes, place, value);
+        mark_piece(&mut self.marks, place.at / 8, bytes_in(place.kind));
+    }
+
+    /// Copies `size` bytes from byte `source` to byte `target`, read whole before they are written, and marks the grains
+    /// of the bytes from `target` on.
+    pub fn copy_element(&mut self, source: u32, target: u32, size: u32)
+        requires source { source + size ≤ length self.old.bytes }
+        requires target { target + size ≤ length self.old.bytes }
+        ensures bytes { self.new.bytes ≡ splice self.old.bytes target (piece self.old.bytes source size) }
+        ensures marks { self.new.marks ≡ mark_piece self.old.marks target size }
+        ensures spread { Spread self.old self.new }
+    {
+        copy_piece(&mut self.bytes, source, target, size);
+        mark_piece(&mut self.marks, target, size);
+    }
+
+    /// The place that a path leads to; None where a subscript is negative or not below its length.
+    pub fn place(&self, path: &Path) -> Option<Place>
+        requires { PlaceLies path.now (length self.now.bytes) }
+        ensures value { result ≡ option_map (place_at path.now.kind) (bit_of self.now.bytes path.now) }
+        ensures lies { IfSome result (λ place. Lies place (length self.now.bytes)) }
+    {
+        let at = first_bit(&self.bytes, path)?;
+        Some(Place {
+            kind: path.kind,
+            at,
+        })
+    }
+
+    /// The operands of an instruction, at most three, with their places worked out; None where a subscript is negative or
+    /// not below its length.
+    pub fn bind(&self, args: &[Operand]) -> Option<Bound>
+        requires room { length args.now ≤ 3 }
+        requires lie { OperandsLie args.now (length self.now.bytes) }
+        ensures value { result ≡ bind self.now.bytes args.now }
+        ensures lie { IfSome result (λ bound. ArgsLie bound (length self.now.bytes)) }
+    {
+        bind_all(&self.bytes, args)
+    }
+
+    /// The least marked grain that isn't below `from`; None where there is none.
+    pub fn next_marked(&self, from: u32) -> Option<u32>
+        ensures { NextMarked self.now.marks from result }
+    {
+        let grain = next_bit(&self.marks, from)?;
+        if grain < grains_in(self.len()) {
+            Some(grain)
+        } else {
+            None
+        }
+    }
+
+    /// Takes every mark.
+    pub fn clear_marks(&mut self)
+        ensures bytes { self.new.bytes ≡ self.old.bytes }
+        ensures marks { self.new.marks ≡ replicate (length self.old.marks) false }
+    {
+        self.marks = no_marks();
+    }
+}
+
+/// How many bytes hold the bits of a kind.
+fn bytes_in(kind: Kind) -> u32
+    ensures { result ≡ bytes_in kind }
+{
+    match kind {
+        Kind::Bool | Kind::Sint => 1,
+        Kind::Int => 2,
+        Kind::Dint => 4,
+    }
+}

@@ -1,0 +1,18 @@
+// Laws of marks. Each is the contract of a function that does nothing.
+ghost use Rattle.lgx_image.specs.Laws.{NoChangeIsSpread, ChangesAreSpread, UnmarkedPlacesStay, PieceIsMarked, OtherMarksStay, AlignedPlaceInOneGrain};
+
+/// Changes that are spread compose: no change is one, and so is one after another. A place in grains without a mark has
+/// the number that it had before.
+pub fn law_of_spread()
+    ensures none { NoChangeIsSpread }
+    ensures chain { ChangesAreSpread }
+    ensures places { UnmarkedPlacesStay }
+{}
+
+/// A grain is marked by a write where it holds a byte of what is written, and no other mark changes. A place that is
+/// aligned to its size lies in one grain.
+pub fn law_of_marks()
+    ensures marked { PieceIsMarked }
+    ensures others { OtherMarksStay }
+    ensures aligned { AlignedPlaceInOneGrain }
+{}

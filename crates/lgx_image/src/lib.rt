@@ -1,0 +1,20 @@
+//! The image: one list of bytes under all tags, with marks of what was written.
+//!
+//! Contracts see an [`Image`] as its bytes and its marks, one truth value per grain of `GRAIN` bytes. What stands at a
+//! place and what a write makes of the bytes are `number` and `write` of `lgx_num`; where operands lie is `bind` of
+//! `lgx_machine`. `Spread` says what every change of an image keeps.
+#![tactic(auto)]
+
+mod bytes;
+mod grain;
+mod image;
+mod laws;
+mod operands;
+
+pub use grain::{GRAIN, grain_of};
+pub use image::Image;
+pub use laws::{law_of_marks, law_of_spread};
+pub use lgx_machine::{Arg, Bound};
+
+#[cfg(test)]
+mod tests;
