@@ -7,7 +7,8 @@ use Rattle.std.proofs.lemmas.Bool.{or_left}
 use Rattle.lgx_machine.proofs.Reaching.{or_right}
 use Rattle.std.proofs.lemmas.List.{append_assoc, append-nil}
 use Rattle.lgx_num.specs.Name.{is_name, is_name_byte, is_start, is_spelled, is_digit as is_digit_byte}
-use Rattle.lgx_machine.specs.OperandForm.{put_first, pieces, is_empty, is_part, may_lead, is_joined, is_tag_name, are_digits, Form, tag, member, element, indexed, bit, is_bit, Token, word, dot, opening, closing, put_byte, put_token, tokens, dotted, bracketed, begun, form_from, form_of, form}
+use Rattle.lgx_machine.specs.TextLines.{cut, pieces, is_empty}
+use Rattle.lgx_machine.specs.OperandForm.{is_part, may_lead, is_joined, is_tag_name, are_digits, Form, tag, member, element, indexed, bit, is_bit, Token, word, dot, opening, closing, put_byte, put_token, tokens, dotted, bracketed, begun, form_from, form_of, form}
 use Rattle.lgx_machine.specs.FormLaws.{SpellsForm, ReadsForms}
 use Rattle.lgx_machine.proofs.FormsSpelled.{form_spelled}
 use Rattle.lgx_machine.proofs.FoundLie.{and_left, and_right}
@@ -125,7 +126,7 @@ joined_bytes (p ∷ r ∷ ps) q =
 abbrev is_tag_byte : ℕ → Bool
 is_tag_byte c = (c == 58) || is_name_byte c
 
-pub put_bytes : (b : Bool) (c : ℕ) (ps : List (List ℕ)) → Each AreNameBytes (put_first b c ps) → Each AreNameBytes ps × (b ≡ false → is_name_byte c ≡ true)
+pub put_bytes : (b : Bool) (c : ℕ) (ps : List (List ℕ)) → Each AreNameBytes (cut b c ps) → Each AreNameBytes ps × (b ≡ false → is_name_byte c ≡ true)
 put_bytes true c ps h = (h.1, λ e. absurd (cc e))
 put_bytes false c [] h = (tt, λ e. and_left (is_name_byte c) _ h.0)
 put_bytes false c (p ∷ ps) h = ((and_right (is_name_byte c) _ h.0, h.1), λ e. and_left (is_name_byte c) _ h.0)
@@ -144,7 +145,7 @@ pub one_piece : (w : List ℕ) → list_all (λ c. is_digit c 10) w ≡ true →
 one_piece [] p = refl
 one_piece (c ∷ cs) p = go (c == 58) refl (one_piece cs (and_right (is_digit c 10) _ p))
   where
-    go : (b : Bool) → (c == 58) ≡ b → pieces 58 cs ≡ cs ∷ [] → put_first (c == 58) c (pieces 58 cs) ≡ (c ∷ cs) ∷ []
+    go : (b : Bool) → (c == 58) ≡ b → pieces 58 cs ≡ cs ∷ [] → cut (c == 58) c (pieces 58 cs) ≡ (c ∷ cs) ∷ []
     go true e r = absurd (omega (arith, eqb-true c 58 e, digit_bound c (and_left (is_digit c 10) _ p)))
     go false e r = rw (e, r) refl
 

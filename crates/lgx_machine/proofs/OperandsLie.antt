@@ -1,5 +1,5 @@
 -- Every operand of checked rungs lies in the image.
-use Rattle.std.specs.Prelude.{◌≡◌, ℕ, zero, suc, ◌+◌, ◌*◌, ◌<◌, ◌≤◌, Bool, true, false, not, ◌&&◌, nat_lt, ◌⊎◌, if◌then◌else◌, pos, codes, bytes_eq, position, List, [], ◌∷◌, ◌++◌, map, length, filter_map, Option, Some, None, option_map, ok_or, Result, Ok, Err, refl}
+use Rattle.std.specs.Prelude.{◌≡◌, ℕ, zero, suc, ◌+◌, ◌*◌, ◌<◌, ◌≤◌, Bool, true, false, not, ◌&&◌, nat_lt, ◌⊎◌, if◌then◌else◌, pos, codes, bytes_eq, position, List, [], ◌∷◌, ◌++◌, map, length, filter_map, Option, Some, None, option_map, Result, Ok, Err, refl}
 use Rattle.std.specs.Result.{result_ok}
 use Rattle.std.proofs.Common.{sym, subst, arith, ltb-true, inl, inr}
 use Rattle.lgx_num.specs.Name.{is_name, same}
@@ -11,6 +11,7 @@ use Rattle.lgx_num.specs.declared.place.Operand.TheVariants as operand
 use Rattle.lgx_rung.specs.Tree.{Tree, end, one, fork, Legs, last, leg, Source, SourceIns, instructions, leg_instructions}
 use Rattle.lgx_rung.specs.declared.fault.CheckCode.{CheckCode}
 use Rattle.lgx_rung.specs.declared.fault.CheckCode.TheVariants.{C2, C11, C12, C15}
+use Rattle.lgx_machine.specs.FirstCause.{some_or}
 use Rattle.lgx_machine.specs.declared.program.Ins.{Ins}
 use Rattle.lgx_machine.specs.declared.types.Base.{Base}
 use Rattle.lgx_machine.specs.declared.types.Base.TheVariants.{Bool as OneBit, Sint, Int, Dint, Timer, Counter, User}
@@ -163,7 +164,7 @@ data_lies d scope w text o s p = go (flag text) (number text) p
 pub name_lies : (len : ℕ) (text : List ℕ) (named : Option Operand) (cause : CheckCode) (o : Operand) → ((x : Operand) → named ≡ Some x → OperandLies x len) → name_operand text named cause ≡ Ok o → OperandLies o len
 name_lies len text named cause o known p = go (is_name text) named known p
   where
-    go : (b : Bool) (n : Option Operand) → ((x : Operand) → n ≡ Some x → OperandLies x len) → (if b then ok_or n cause else Err C2) ≡ Ok o → OperandLies o len
+    go : (b : Bool) (n : Option Operand) → ((x : Operand) → n ≡ Some x → OperandLies x len) → (if b then some_or n cause else Err C2) ≡ Ok o → OperandLies o len
     go false n k r = err_not_ok _ _ r
     go true None k r = err_not_ok _ _ r
     go true (Some x) k r = subst (λ (z : Operand). OperandLies z len) (ok_inj _ _ r) (k x refl)

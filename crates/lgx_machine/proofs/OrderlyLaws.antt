@@ -6,9 +6,9 @@ use Rattle.lgx_machine.specs.declared.bound.Effect.TheVariants.{Ran, Up, Down, T
 use Rattle.lgx_machine.specs.Scan.{advance}
 use Rattle.lgx_machine.specs.Tasks.{Turn, turn, is_up, is_open, chosen}
 use Rattle.lgx_machine.specs.State.{State, Scan, Progress, progress_of}
-use Rattle.lgx_machine.specs.ProcessorStep.{after_effect, scan_step, task_step, with_progress}
+use Rattle.lgx_machine.specs.ProcessorStep.{after_effect, scan_step, task_step, with_progress, task_of}
 use Rattle.lgx_machine.specs.Machine.{run}
-use Rattle.lgx_machine.specs.TaskLaws.{OneOpen, UpInRun, RanksDiffer, RanksBelowNext, StepOfUpTask, task_of}
+use Rattle.lgx_machine.specs.TaskLaws.{OneOpen, UpInRun, RanksDiffer, RanksBelowNext, StepOfUpTask}
 use Rattle.lgx_machine.proofs.TurnLists.{inner, chosen_up}
 use Rattle.lgx_machine.proofs.OrderlyRuns.{run_orderly}
 

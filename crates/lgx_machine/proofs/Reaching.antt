@@ -1,7 +1,7 @@
 -- Sets of structures as lists of numbers, and what a structure reaches.
 use Rattle.std.specs.Prelude.{◌≡◌, ℕ, zero, suc, ◌+◌, ◌<◌, ◌≤◌, ◌≢◌, ◌⊎◌, Bool, true, false, cond, ◌||◌, ◌==◌, nat_lt, List, [], ◌∷◌, length, filter, position, Option, Some, None, option_map, ⊤, refl}
 use Rattle.std.specs.Option.{option_or}
-use Rattle.std.specs.List.{list_any, position_or_len}
+use Rattle.std.specs.List.{list_any, position_or_len, range_with_len}
 use Rattle.std.proofs.Common.{sym, subst, arith, eqb-true, eq-eqb, ltb-true, inl, inr}
 use Rattle.std.proofs.lemmas.Bool.{or_left}
 use Rattle.std.proofs.lemmas.Option.{cond_some}
@@ -9,7 +9,6 @@ use Rattle.lgx_num.specs.Name.{same}
 use Rattle.lgx_machine.specs.declared.types.Base.{Base}
 use Rattle.lgx_machine.specs.declared.types.Base.TheVariants.{User}
 use Rattle.lgx_machine.specs.declared.types.TypeDecl.{TypeDecl}
-use Rattle.lgx_machine.specs.FirstCause.{numbers}
 use Rattle.lgx_machine.specs.Layout.{built_ins, looked_up, find, members_of}
 use Rattle.lgx_machine.specs.TypeFaults.{user_number, parts, among, reached_to}
 use Rattle.std.specs.List.{AllByRecursion as Each}
@@ -40,11 +39,11 @@ among_kept test (x ∷ xs) i p q = go (x == i) refl p (λ r. among_kept test xs 
     go true e r known = here (test x) (subst (λ (k : ℕ). test k ≡ true) (sym (eqb-true x i e)) q) e
     go false e r known = more (test x) (known r)
 
-pub among_numbers : (from n i : ℕ) → from ≤ i → i < from + n → among (numbers from n) i ≡ true
+pub among_numbers : (from n i : ℕ) → from ≤ i → i < from + n → among (range_with_len from n) i ≡ true
 among_numbers from zero i p q = absurd (omega arith)
-among_numbers from (suc n) i p q = go (from == i) refl (λ r. among_numbers (suc from) n i r (omega arith))
+among_numbers from (suc n) i p q = go (from == i) refl (λ r. among_numbers (from + 1) n i r (omega arith))
   where
-    go : (b : Bool) → (from == i) ≡ b → (suc from ≤ i → among (numbers (suc from) n) i ≡ true) → ((from == i) || among (numbers (suc from) n) i) ≡ true
+    go : (b : Bool) → (from == i) ≡ b → (from + 1 ≤ i → among (range_with_len (from + 1) n) i ≡ true) → ((from == i) || among (range_with_len (from + 1) n) i) ≡ true
     go true e known = or_left (from == i) _ e
     go false e known = or_right (from == i) _ (known (omega (arith, apart from i e)))
       where
@@ -100,10 +99,10 @@ parts_there types i j p = each_among (λ j. j < length types) (parts types i) j 
 -- ---- what a structure reaches
 
 pub reach_more : (types : List TypeDecl) (m u i j : ℕ) → among (reached_to m types u) i ≡ true → among (parts types i) j ≡ true → among (reached_to (suc m) types u) j ≡ true
-reach_more types m u i j p q = among_kept _ (numbers 0 (length types)) j (among_numbers 0 (length types) j (omega arith) (omega (arith, parts_there types i j q))) (or_right (among (reached_to m types u) j) _ (any_among (λ k. among (parts types k) j) (reached_to m types u) i p q))
+reach_more types m u i j p q = among_kept _ (range_with_len 0 (length types)) j (among_numbers 0 (length types) j (omega arith) (omega (arith, parts_there types i j q))) (or_right (among (reached_to m types u) j) _ (any_among (λ k. among (parts types k) j) (reached_to m types u) i p q))
 
 pub reach_still : (types : List TypeDecl) (m u j : ℕ) → j < length types → among (reached_to m types u) j ≡ true → among (reached_to (suc m) types u) j ≡ true
-reach_still types m u j h p = among_kept _ (numbers 0 (length types)) j (among_numbers 0 (length types) j (omega arith) (omega (arith, h))) (or_left (among (reached_to m types u) j) _ p)
+reach_still types m u j h p = among_kept _ (range_with_len 0 (length types)) j (among_numbers 0 (length types) j (omega arith) (omega (arith, h))) (or_left (among (reached_to m types u) j) _ p)
 
 pub le_cases : (m k : ℕ) → m ≤ suc k → (m ≤ k) ⊎ (m ≡ suc k)
 le_cases m k h = grind arith
@@ -144,7 +143,7 @@ pub all_lower : (types : List TypeDecl) (order : ℕ → ℕ) → ((i j : ℕ) �
 all_lower types order lower zero i = each_some (λ j. order j < order i) (parts types i) (lower i)
 all_lower types order lower (suc m) i =
     let before : Each (λ j. order j < order i) (reached_to m types i) = all_lower types order lower m i in
-    each_has _ (λ j. order j < order i) (numbers 0 (length types)) (λ j q. go before j (among (reached_to m types i) j) refl q)
+    each_has _ (λ j. order j < order i) (range_with_len 0 (length types)) (λ j q. go before j (among (reached_to m types i) j) refl q)
   where
     go : Each (λ j. order j < order i) (reached_to m types i) → (j : ℕ) (b : Bool) → among (reached_to m types i) j ≡ b → (b || list_any (λ k. among (parts types k) j) (reached_to m types i)) ≡ true → order j < order i
     go before j true e q = each_among (λ j. order j < order i) (reached_to m types i) j before e

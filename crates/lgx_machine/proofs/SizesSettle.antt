@@ -1,6 +1,6 @@
 -- The sizes of structures without a fault have settled.
 use Rattle.std.specs.Prelude.{map, ◌≡◌, ℕ, zero, suc, ◌+◌, ◌*◌, ◌%◌, ◌<◌, ◌≤◌, Bool, true, false, not, ◌&&◌, ◌||◌, ◌==◌, eqb, List, [], ◌∷◌, ◌++◌, length, flat_map, slice_get, slice_index, Option, Some, None, option_map, unwrap_or, is_none, refl}
-use Rattle.std.specs.List.{AllByRecursion as Each, IsDistinct, list_any, enumerate_from}
+use Rattle.std.specs.List.{AllByRecursion as Each, IsDistinct, list_any, enumerate_from, range_with_len}
 use Rattle.std.proofs.Common.{ap, sym, subst, arith, eqb-true, eq-eqb}
 use Rattle.std.proofs.lemmas.Map.Steps.{length-le_from_distinct_below}
 use Rattle.lgx_machine.specs.declared.types.Base.{Base}
@@ -8,7 +8,7 @@ use Rattle.lgx_machine.specs.declared.types.Base.TheVariants.{Bool as OneBit, Si
 use Rattle.lgx_machine.specs.declared.types.DataType.{DataType}
 use Rattle.lgx_machine.specs.declared.types.TypeDecl.{TypeDecl}
 use Rattle.lgx_machine.specs.declared.types.MemberDecl.{MemberDecl}
-use Rattle.lgx_machine.specs.FirstCause.{where_true, first, numbers}
+use Rattle.lgx_machine.specs.FirstCause.{where_true, first}
 use Rattle.lgx_machine.specs.Layout.{find, type_of, round_up, sized_in, size_in, begin_after, end_from, structure_in, sizes_to, sizes}
 use Rattle.std.proofs.lemmas.List.{ext_get_or, length-map}
 use Rattle.std.proofs.Math.ListN.{length-replicate}
@@ -221,8 +221,8 @@ even_none _ = tt
 pub no_rings : (types : List TypeDecl) → type_fault types ≡ None → NoRings types
 no_rings types p =
     let a = append_none (flat_map (structure_faults types) (enumerate_from 0 types)) _ (first_none (type_faults types) p) in
-    let b = append_none (flat_map (λ i. where_true (reaches_itself types i) (of_structure Y3 i)) (numbers 0 (length types))) _ a.1 in
-    λ j h. where_none _ _ (flat_none (λ i. where_true (reaches_itself types i) (of_structure Y3 i)) (numbers 0 (length types)) j b.0 (among_numbers 0 (length types) j (omega arith) (omega (arith, h))))
+    let b = append_none (flat_map (λ i. where_true (reaches_itself types i) (of_structure Y3 i)) (range_with_len 0 (length types))) _ a.1 in
+    λ j h. where_none _ _ (flat_none (λ i. where_true (reaches_itself types i) (of_structure Y3 i)) (range_with_len 0 (length types)) j b.0 (among_numbers 0 (length types) j (omega arith) (omega (arith, h))))
 
 pub faultless : FaultlessIsSound
 faultless types full p =

@@ -7,10 +7,9 @@ use Rattle.lgx_machine.specs.declared.types.TypeDecl.{TypeDecl}
 use Rattle.lgx_machine.specs.declared.tag.Scope.{Scope}
 use Rattle.lgx_machine.specs.declared.tag.Scope.TheVariants.{Controller, Program}
 use Rattle.lgx_machine.specs.Layout.{round_up, size_of}
-use Rattle.lgx_machine.specs.FirstCause.{numbers}
 use Rattle.lgx_machine.specs.Declarations.{Entry, Declarations, is_named, in_scope, in_order, entry_size, laid_from, laid, end_of, bytes, entry_of}
 use Rattle.lgx_machine.specs.Resolution.{seen_from, tag_found}
-use Rattle.std.specs.List.{AllByRecursion as Each}
+use Rattle.std.specs.List.{AllByRecursion as Each, range_with_len}
 use Rattle.lgx_machine.specs.LayoutLaws.{IsSoundType}
 use Rattle.lgx_machine.specs.ResolutionLaws.{EndsBy, IsSoundMeaning, Sound, LiesIn}
 use Rattle.lgx_machine.proofs.Subscripts.{each_append, each_filter, each_flat, each_find}
@@ -28,7 +27,7 @@ laid_well types at [] s = tt
 laid_well types at (e ∷ es) s = ((omega (arith, ends_grow types (round_up 4 (at + entry_size types e)) es), s.0), laid_well types (round_up 4 (at + entry_size types e)) es s.1)
 
 pub ordered_sound : (d : Declarations) → Sound d → Each (λ e. IsSoundMeaning d.types e.meaning) (in_order d)
-ordered_sound d s = each_append (λ e. IsSoundMeaning d.types e.meaning) (in_scope d.entries Controller) _ (each_filter (λ e. IsSoundMeaning d.types e.meaning) _ d.entries s.tags) (each_flat (λ e. IsSoundMeaning d.types e.meaning) (λ p. in_scope d.entries (Program p)) (numbers 0 d.programs) (λ p. each_filter (λ e. IsSoundMeaning d.types e.meaning) _ d.entries s.tags))
+ordered_sound d s = each_append (λ e. IsSoundMeaning d.types e.meaning) (in_scope d.entries Controller) _ (each_filter (λ e. IsSoundMeaning d.types e.meaning) _ d.entries s.tags) (each_flat (λ e. IsSoundMeaning d.types e.meaning) (λ p. in_scope d.entries (Program p)) (range_with_len 0 d.programs) (λ p. each_filter (λ e. IsSoundMeaning d.types e.meaning) _ d.entries s.tags))
 
 pub entry_well : (d : Declarations) (scope : Scope) (name : List ℕ) (x : ℕ × Entry) → Sound d → entry_of d scope name ≡ Some x → LaidWell d.types (bytes d) x
 entry_well d scope name x s p = each_find (LaidWell d.types (bytes d)) (λ e. is_named scope name e.1) (laid d) x (laid_well d.types 0 (in_order d) (ordered_sound d s)) p

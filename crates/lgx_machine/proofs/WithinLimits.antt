@@ -1,6 +1,6 @@
 -- What a text is read to is within the limits of a journal.
-use Rattle.std.proofs.Common.{◌≡◌, ℕ, ◌+◌, ◌*◌, ◌≤◌, List, [], ◌∷◌, Bool, true, false, cond, not, ◌&&◌, ◌||◌, Result, Ok, Err, IfOk, count_by, fold, replicate, nat_lt, nat_eq, refl, sym, ap, ◌∙◌, arith, add_assoc}
-use Rattle.std.proofs.lemmas.Bool.{ltb-false}
+use Rattle.std.proofs.Common.{◌≡◌, ℕ, ◌+◌, ◌*◌, ◌≤◌, List, [], ◌∷◌, Bool, true, false, cond, ◌&&◌, Result, Ok, Err, IfOk, count_by, fold, replicate, nat_lt, nat_le, refl, sym, ap, ◌∙◌, arith, add_assoc}
+use Rattle.std.proofs.lemmas.Bool.{leb-true}
 use Rattle.std.proofs.lemmas.List.Folds.{sum_by-replicate}
 use Rattle.std.proofs.lemmas.List.Sums.{sum_by-append}
 use Rattle.lgx_machine.specs.declared.event.Event.{Event}
@@ -8,38 +8,39 @@ use Rattle.lgx_machine.specs.declared.event.Event.TheVariants.{Cpu, Tick, Act}
 use Rattle.lgx_machine.specs.declared.script.JournalCode.{JournalCode}
 use Rattle.lgx_machine.specs.declared.script.JournalCode.TheVariants.{J1, J2, J4}
 use Rattle.lgx_machine.specs.declared.script.JournalFault.{JournalFault}
+use Rattle.lgx_machine.specs.Events.{is_step, is_tick, is_action}
 use Rattle.lgx_machine.specs.TextLines.{lines, is_skipped}
-use Rattle.lgx_machine.specs.JournalText.{EventRun, events_of, run_of, lane_of, is_end, is_long, is_no_lane, is_over, Tally, with_run, no_events, is_step, is_tick, is_action, IsWithin, read_line, runs_from, before_rest, refused, journal_runs, journal_of, all_events}
-use Rattle.lgx_machine.proofs.KeptScripts.{unless_keeps, some_keeps, any_some, or_false}
+use Rattle.lgx_machine.specs.JournalText.{EventRun, events_of, run_of, lane_of, is_end, is_line, is_lane, is_allowed, Tally, with_run, no_events, IsWithin, read_line, runs_from, before_rest, refused, journal_runs, journal_of, all_events}
+use Rattle.lgx_machine.proofs.KeptScripts.{unless_keeps, some_keeps, any_some, both_true}
 
 -- ---- tallies of runs
 
 abbrev Keeps : Tally → List EventRun → Type 0
-Keeps t rs = is_over (fold with_run t rs) ≡ false
+Keeps t rs = is_allowed (fold with_run t rs) ≡ true
 
-line_within : (t : Tally) (line : List ℕ) → IfOk (read_line t line) (λ r. is_over (with_run t r) ≡ false)
+line_within : (t : Tally) (line : List ℕ) → IfOk (read_line t line) (λ r. is_allowed (with_run t r) ≡ true)
 line_within t line =
-    let P : EventRun → Type 0 = λ r. is_over (with_run t r) ≡ false in
-    unless_keeps (is_long line) J1 _ P (λ l. some_keeps (run_of line) J1 _ (λ r. Unit {0}) P (any_some (run_of line)) (λ r u. unless_keeps (is_no_lane (lane_of line)) J2 _ P (λ lane. unless_keeps (nat_eq r.count 0 || is_over (with_run t r)) J4 (λ v. Ok r) P (λ h. (or_false h).1))))
+    let P : EventRun → Type 0 = λ r. is_allowed (with_run t r) ≡ true in
+    unless_keeps (is_line line) J1 _ P (λ l. some_keeps (run_of line) J1 _ (λ r. Unit {0}) P (any_some (run_of line)) (λ r u. unless_keeps (is_lane (lane_of line)) J2 _ P (λ lane. unless_keeps (nat_lt 0 r.count && is_allowed (with_run t r)) J4 (λ v. Ok r) P (λ h. (both_true h).1))))
 
 before_keeps : (t : Tally) (r : EventRun) (o : Result (List EventRun) JournalFault) → IfOk o (Keeps (with_run t r)) → IfOk (before_rest r o) (Keeps t)
 before_keeps t r (Err e) h = tt
 before_keeps t r (Ok rs) h = h
 
-module _ (n : ℕ) (t : Tally) (l : List ℕ) (ls : List (List ℕ)) (keep : (t' : Tally) → is_over t' ≡ false → IfOk (runs_from (n + 1) t' ls) (Keeps t')) where
-  line_keeps : (x : Result EventRun JournalCode) → IfOk x (λ r. is_over (with_run t r) ≡ false) → let o : Result (List EventRun) JournalFault = elim x [ Err code ↦ refused n code | Ok r ↦ before_rest r (runs_from (n + 1) (with_run t r) ls) ] in IfOk o (Keeps t)
+module _ (n : ℕ) (t : Tally) (l : List ℕ) (ls : List (List ℕ)) (keep : (t' : Tally) → is_allowed t' ≡ true → IfOk (runs_from (n + 1) t' ls) (Keeps t')) where
+  line_keeps : (x : Result EventRun JournalCode) → IfOk x (λ r. is_allowed (with_run t r) ≡ true) → let o : Result (List EventRun) JournalFault = elim x [ Err code ↦ refused n code | Ok r ↦ before_rest r (runs_from (n + 1) (with_run t r) ls) ] in IfOk o (Keeps t)
   line_keeps (Err code) h = tt
   line_keeps (Ok r) h = before_keeps t r (runs_from (n + 1) (with_run t r) ls) (keep (with_run t r) h)
 
-  end_keeps : (b : Bool) → is_over t ≡ false → let o : Result (List EventRun) JournalFault = elim b [ true ↦ Ok [] | false ↦ elim (read_line t l) [ Err code ↦ refused n code | Ok r ↦ before_rest r (runs_from (n + 1) (with_run t r) ls) ] ] in IfOk o (Keeps t)
+  end_keeps : (b : Bool) → is_allowed t ≡ true → let o : Result (List EventRun) JournalFault = elim b [ true ↦ Ok [] | false ↦ elim (read_line t l) [ Err code ↦ refused n code | Ok r ↦ before_rest r (runs_from (n + 1) (with_run t r) ls) ] ] in IfOk o (Keeps t)
   end_keeps true k = k
   end_keeps false k = line_keeps (read_line t l) (line_within t l)
 
-  skip_keeps : (b : Bool) → is_over t ≡ false → let o : Result (List EventRun) JournalFault = elim b [ true ↦ runs_from (n + 1) t ls | false ↦ elim (is_end l && not (is_long l)) [ true ↦ Ok [] | false ↦ elim (read_line t l) [ Err code ↦ refused n code | Ok r ↦ before_rest r (runs_from (n + 1) (with_run t r) ls) ] ] ] in IfOk o (Keeps t)
+  skip_keeps : (b : Bool) → is_allowed t ≡ true → let o : Result (List EventRun) JournalFault = elim b [ true ↦ runs_from (n + 1) t ls | false ↦ elim (is_end l && is_line l) [ true ↦ Ok [] | false ↦ elim (read_line t l) [ Err code ↦ refused n code | Ok r ↦ before_rest r (runs_from (n + 1) (with_run t r) ls) ] ] ] in IfOk o (Keeps t)
   skip_keeps true k = keep t k
-  skip_keeps false k = end_keeps (is_end l && not (is_long l)) k
+  skip_keeps false k = end_keeps (is_end l && is_line l) k
 
-runs_keep : (n : ℕ) (t : Tally) (ls : List (List ℕ)) → is_over t ≡ false → IfOk (runs_from n t ls) (Keeps t)
+runs_keep : (n : ℕ) (t : Tally) (ls : List (List ℕ)) → is_allowed t ≡ true → IfOk (runs_from n t ls) (Keeps t)
 runs_keep n t [] k = tt
 runs_keep n t (l ∷ ls) k = skip_keeps n t l ls (λ t' k'. runs_keep (n + 1) t' ls k') (is_skipped l) k
 
@@ -69,12 +70,12 @@ of_actions t Cpu n = search (arith)
 of_actions t Tick n = search (arith)
 of_actions t (Act l a) n = search (arith)
 
-bounded : {m k : ℕ} → m ≡ 0 + k → (n : ℕ) → nat_lt n m ≡ false → k ≤ n
-bounded {m = m} e n h = search (arith, e, ltb-false n m h)
+bounded : {m k : ℕ} → m ≡ 0 + k → (n : ℕ) → nat_le m n ≡ true → k ≤ n
+bounded {m = m} e n h = search (arith, e, leb-true m n h)
 
 within : (rs : List EventRun) → Keeps no_events rs → IsWithin (events_of rs)
 within rs h =
-    record { steps = bounded (total (λ t. t.steps) is_step of_steps rs no_events) 4000000 (or_false (or_false h).0).0; ticks = bounded (total (λ t. t.ticks) is_tick of_ticks rs no_events) 4000000 (or_false (or_false h).0).1; actions = bounded (total (λ t. t.actions) is_action of_actions rs no_events) 100000 (or_false h).1 }
+    record { steps = bounded (total (λ t. t.steps) is_step of_steps rs no_events) 4000000 (both_true (both_true h).0).0; ticks = bounded (total (λ t. t.ticks) is_tick of_ticks rs no_events) 4000000 (both_true (both_true h).0).1; actions = bounded (total (λ t. t.actions) is_action of_actions rs no_events) 100000 (both_true h).1 }
 
 expanded : (o : Result (List EventRun) JournalFault) → IfOk o (Keeps no_events) → IfOk (all_events o) IsWithin
 expanded (Err e) h = tt

@@ -1,7 +1,8 @@
 -- The text of an action: how its words are read, and how they are written.
 use Rattle.std.specs.Prelude.{ℕ, List, [], ◌∷◌, map, length, if◌then◌else◌, Option, Some, None, option_map, option_and_then, codes, decimal}
 use Rattle.std.specs.Fmt.{signed_decimal}
-use Rattle.std.specs.List.{join_with_byte, join_by}
+use Rattle.std.specs.List.{join_by}
+use Rattle.std.specs.Option.{option_or}
 use Rattle.std.specs.Str.{bytes_eq}
 use Rattle.lgx_num.specs.Name.{is_name}
 use Rattle.lgx_machine.specs.declared.event.RungEdit.{RungEdit}
@@ -9,15 +10,11 @@ use Rattle.lgx_machine.specs.declared.event.RungEdit.TheVariants.{Replace, Inser
 use Rattle.lgx_machine.specs.declared.event.Action.{Action}
 use Rattle.lgx_machine.specs.declared.event.Action.TheVariants.{WordIn, WordOut, Accept, Test, Untest, Assemble, Cancel, ForceInstall, ForceEnable, ForceDisable, ForceRemove, ModeRun, ModeProgram, Clear}
 use Rattle.lgx_machine.specs.Commands.{accept_command, is_edit_count}
-use Rattle.lgx_machine.specs.TextLines.{pieces, words, first_word, behind_word, trimmed, number_of, signed_of}
+use Rattle.lgx_machine.specs.TextLines.{pieces, words, first_word, behind_word, spaced, trimmed, number_of, signed_of}
 
 infixl 10 ◌>>=◌
 abbrev pub ◌>>=◌ : {A B : Type 0} → Option A → (A → Option B) → Option B
 o >>= f = option_and_then f o
-
-abbrev pub or_else : {A : Type 0} → Option A → Option A → Option A
-or_else None o = o
-or_else (Some x) o = Some x
 
 -- the answer where the word is this one
 abbrev pub at_word : {A : Type 0} → List ℕ → List ℕ → Option A → Option A
@@ -47,8 +44,8 @@ abbrev pub edit_of : List ℕ → Option RungEdit
 edit_of part =
     let verb = first_word part in
     let rest = behind_word part in
-    or_else (at_word verb (codes "r") (text_edit_of (λ n t. Replace n t) rest))
-    (or_else (at_word verb (codes "i") (text_edit_of (λ n t. Insert n t) rest)) (at_word verb (codes "d") (delete_of (words rest))))
+    option_or (at_word verb (codes "r") (text_edit_of (λ n t. Replace n t) rest))
+    (option_or (at_word verb (codes "i") (text_edit_of (λ n t. Insert n t) rest)) (at_word verb (codes "d") (delete_of (words rest))))
 
 -- EDITS are 1 to 16 parts separated by `|`
 abbrev pub edits_of : List ℕ → Option (List RungEdit)
@@ -67,12 +64,12 @@ accept_of rest = do
 -- `test PROGRAM` and its kin, `force enable` and its kin, `mode run` and `mode program`
 abbrev pub one_word_of : List ℕ → List ℕ → Option Action
 one_word_of verb word =
-    or_else (at_word verb (codes "test") (option_map (λ p. Test p) (name_of word)))
-    (or_else (at_word verb (codes "untest") (option_map (λ p. Untest p) (name_of word)))
-    (or_else (at_word verb (codes "assemble") (option_map (λ p. Assemble p) (name_of word)))
-    (or_else (at_word verb (codes "cancel") (option_map (λ p. Cancel p) (name_of word)))
-    (or_else (at_word verb (codes "force") (or_else (at_word word (codes "enable") (Some ForceEnable)) (or_else (at_word word (codes "disable") (Some ForceDisable)) (at_word word (codes "remove") (Some ForceRemove)))))
-    (at_word verb (codes "mode") (or_else (at_word word (codes "run") (Some ModeRun)) (at_word word (codes "program") (Some ModeProgram))))))))
+    option_or (at_word verb (codes "test") (option_map (λ p. Test p) (name_of word)))
+    (option_or (at_word verb (codes "untest") (option_map (λ p. Untest p) (name_of word)))
+    (option_or (at_word verb (codes "assemble") (option_map (λ p. Assemble p) (name_of word)))
+    (option_or (at_word verb (codes "cancel") (option_map (λ p. Cancel p) (name_of word)))
+    (option_or (at_word verb (codes "force") (option_or (at_word word (codes "enable") (Some ForceEnable)) (option_or (at_word word (codes "disable") (Some ForceDisable)) (at_word word (codes "remove") (Some ForceRemove)))))
+    (at_word verb (codes "mode") (option_or (at_word word (codes "run") (Some ModeRun)) (at_word word (codes "program") (Some ModeProgram))))))))
 
 -- `out CONN WORD`
 abbrev pub word_out_of : List ℕ → List ℕ → Option Action
@@ -108,13 +105,9 @@ command_of (verb ∷ a ∷ b ∷ c ∷ d ∷ []) = at_word verb (codes "force") 
 command_of _ = None
 
 abbrev pub action_of : List ℕ → Option Action
-action_of text = or_else (at_word (first_word text) (codes "accept") (accept_of (behind_word text))) (command_of (words text))
+action_of text = option_or (at_word (first_word text) (codes "accept") (accept_of (behind_word text))) (command_of (words text))
 
 -- ---- the canonical text
-
--- words are separated by one space
-abbrev pub spaced : List (List ℕ) → List ℕ
-spaced ws = join_with_byte 32 ws
 
 -- an empty TEXT leaves no space behind INDEX
 abbrev pub text_word : List ℕ → List (List ℕ)

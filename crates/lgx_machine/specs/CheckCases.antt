@@ -1,5 +1,5 @@
 -- Cases of checked text: operands resolved, each code, and codes whose order matters.
-use Rattle.std.specs.Prelude.{◌≡◌, ℕ, ◌*◌, List, [], ◌∷◌, map, codes, replicate, ℤ, pos, neg_ℤ, Option, Some, None, Result, Ok, option_map}
+use Rattle.std.specs.Prelude.{◌≡◌, ℕ, List, [], ◌∷◌, map, codes, replicate, ℤ, pos, neg_ℤ, Option, Some, None, Result, Ok, option_map}
 use Rattle.std.specs.Result.{result_err}
 use Rattle.lgx_num.specs.declared.number.Kind.{Kind}
 use Rattle.lgx_num.specs.declared.number.Kind.TheVariants.{Sint as KSint, Int as KInt, Dint as KDint}
@@ -16,7 +16,7 @@ use Rattle.lgx_rung.specs.declared.fault.CheckFault.{CheckFault}
 use Rattle.lgx_machine.specs.declared.program.Ins.{Ins}
 use Rattle.lgx_machine.specs.Checked.{checked, checked_from, instruction_of}
 use Rattle.lgx_machine.specs.ConveyorTags.{ins, line}
-use Rattle.lgx_machine.specs.ConveyorCases.{checked_ins}
+use Rattle.lgx_machine.specs.ConveyorCases.{checked_ins, words_at}
 use Rattle.lgx_machine.specs.ResolutionCases.{over}
 use Rattle.lgx_machine.specs.ShopTags.{shop_scope}
 
@@ -31,9 +31,6 @@ only_ins op args = Ok (line (checked_ins op args ∷ []) ∷ [])
 
 abbrev pub cell : Kind → ℕ → Operand
 cell kind bit = operand.Cell (record { kind = kind; at = bit; steps = [] })
-
-abbrev pub words : ℕ → Path
-words byte = record { kind = KDint; at = 8 * byte; steps = [] }
 
 abbrev pub block : Path → ℕ → ℕ → Operand
 block path size stop = operand.Block (record { path = path; size = size; stop = stop })
@@ -66,10 +63,10 @@ WholeOperands = map alone (
     ∷ ins Fll (codes "s" ∷ codes "arr" ∷ codes "16#2" ∷ [])
     ∷ [])
     ≡ only_ins Ton (operand.Timer (record { kind = KDint; at = 256; steps = over KInt 400 576 3 ∷ [] }) ∷ operand.Blank ∷ operand.Blank ∷ [])
-    ∷ only_ins Res (operand.Timer (words 244) ∷ []) ∷ only_ins Res (operand.Counter (words 260) ∷ [])
-    ∷ only_ins Cop (block (words 4) 4 16 ∷ block (words 28) 72 244 ∷ cell KInt 3200 ∷ [])
-    ∷ only_ins Cps (block (words 144) 12 244 ∷ block (words 244) 16 260 ∷ operand.Number (pos 4) ∷ [])
-    ∷ only_ins Fll (cell KSint 160 ∷ block (words 0) 4 16 ∷ operand.Number (pos 2) ∷ [])
+    ∷ only_ins Res (operand.Timer (words_at 244) ∷ []) ∷ only_ins Res (operand.Counter (words_at 260) ∷ [])
+    ∷ only_ins Cop (block (words_at 4) 4 16 ∷ block (words_at 28) 72 244 ∷ cell KInt 3200 ∷ [])
+    ∷ only_ins Cps (block (words_at 144) 12 244 ∷ block (words_at 244) 16 260 ∷ operand.Number (pos 4) ∷ [])
+    ∷ only_ins Fll (cell KSint 160 ∷ block (words_at 0) 4 16 ∷ operand.Number (pos 2) ∷ [])
     ∷ []
 
 -- routines and event tasks by number, labels by the number of their rung; names in any case

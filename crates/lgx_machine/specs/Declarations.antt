@@ -1,8 +1,8 @@
 -- Tags and aliases as they are declared, where each tag begins in the image, and what may not be declared.
 use Rattle.std.specs.Prelude.{ℕ, ◌+◌, Bool, true, false, not, ◌&&◌, ◌==◌, nat_lt, List, [], ◌∷◌, ◌++◌, filter, flat_map, find, Option}
-use Rattle.std.specs.List.{list_any}
+use Rattle.std.specs.List.{list_any, range_with_len}
 use Rattle.lgx_num.specs.Name.{same, is_name}
-use Rattle.lgx_machine.specs.FirstCause.{where_true, first, numbers}
+use Rattle.lgx_machine.specs.FirstCause.{where_true, first}
 use Rattle.lgx_machine.specs.Layout.{round_up, size_of}
 use Rattle.lgx_machine.specs.OperandForm.{is_tag_name}
 use Rattle.lgx_machine.specs.declared.types.DataType.{DataType}
@@ -46,7 +46,7 @@ in_scope entries scope = filter (λ e. same_scope e.scope scope) entries
 
 -- the controller's entries first, in order of declaration, then each program's, in order of programs
 abbrev pub in_order : Declarations → List Entry
-in_order d = in_scope d.entries Controller ++ flat_map (λ p. in_scope d.entries (Program p)) (numbers 0 d.programs)
+in_order d = in_scope d.entries Controller ++ flat_map (λ p. in_scope d.entries (Program p)) (range_with_len 0 d.programs)
 
 -- the bytes of an entry; an alias takes none
 abbrev pub size_for : List TypeDecl → Meaning → ℕ

@@ -3,12 +3,13 @@ use Rattle.std.specs.Prelude.{◌≡◌, [], ◌∷◌, codes}
 use Rattle.lgx_machine.specs.Project.{Project}
 use Rattle.lgx_machine.specs.Samples.{bool, dint, continuous, plain, lines, replay}
 
--- The merged rungs that are selected in mid-scan run from the next scan on, and so does the base again.
-abbrev pub selected_at_begin : Project
-selected_at_begin = plain (dint (codes "n") ∷ []) (continuous (codes "MOV(1,n);" ∷ codes "MOV(2,n);" ∷ []) ∷ []) [] (codes "n" ∷ [])
+-- two rungs that write one tag
+abbrev pub two_moves : Project
+two_moves = plain (dint (codes "n") ∷ []) (continuous (codes "MOV(1,n);" ∷ codes "MOV(2,n);" ∷ []) ∷ []) [] (codes "n" ∷ [])
 
+-- The merged rungs that are selected in mid-scan run from the next scan on, and so does the base again.
 abbrev pub SelectedAtBegin : Type 0
-SelectedAtBegin = replay selected_at_begin (lines (codes "mode run"
+SelectedAtBegin = replay two_moves (lines (codes "mode run"
     ∷ codes "cpu 2"
     ∷ codes "@0 accept P M r 1 MOV(3,n);"
     ∷ codes "@0 test P"
@@ -74,11 +75,8 @@ LostLabel = replay lost_label (lines (codes "@0 accept P M d 1"
     ∷ [])
 
 -- Each of the other causes; an edit is taken in Program too.
-abbrev pub edit_refusals : Project
-edit_refusals = plain (dint (codes "n") ∷ []) (continuous (codes "MOV(1,n);" ∷ codes "MOV(2,n);" ∷ []) ∷ []) [] (codes "n" ∷ [])
-
 abbrev pub EditRefusals : Type 0
-EditRefusals = replay edit_refusals (lines (codes "@0 accept Q M r 0 NOP();"
+EditRefusals = replay two_moves (lines (codes "@0 accept Q M r 0 NOP();"
     ∷ codes "@0 accept P Z r 0 NOP();"
     ∷ codes "@0 accept P M r 2 NOP();"
     ∷ codes "@0 accept P M r 0 NOP(); | d 0"
@@ -110,11 +108,8 @@ EditRefusals = replay edit_refusals (lines (codes "@0 accept Q M r 0 NOP();"
     ∷ [])
 
 -- Insertions stand in the order of acceptance; numbers go on behind an assemble and a cancel.
-abbrev pub merged_order : Project
-merged_order = plain (dint (codes "n") ∷ []) (continuous (codes "MOV(1,n);" ∷ codes "MOV(2,n);" ∷ []) ∷ []) [] (codes "n" ∷ [])
-
 abbrev pub MergedOrder : Type 0
-MergedOrder = replay merged_order (lines (codes "@0 accept P M i 1 MOV(7,n); | i 1 MOV(8,n); | d 0"
+MergedOrder = replay two_moves (lines (codes "@0 accept P M i 1 MOV(7,n); | i 1 MOV(8,n); | d 0"
     ∷ codes "@0 accept P M i 1 MOV(9,n);"
     ∷ codes "@0 test P"
     ∷ codes "mode run"
@@ -147,11 +142,8 @@ MergedOrder = replay merged_order (lines (codes "@0 accept P M i 1 MOV(7,n); | i
     ∷ [])
 
 -- Edits between all steps: a scan runs the rungs that were selected at its beginning, whatever is assembled meanwhile.
-abbrev pub edits_in_mid_scan : Project
-edits_in_mid_scan = plain (dint (codes "n") ∷ []) (continuous (codes "MOV(1,n);" ∷ codes "MOV(2,n);" ∷ []) ∷ []) [] (codes "n" ∷ [])
-
 abbrev pub EditsInMidScan : Type 0
-EditsInMidScan = replay edits_in_mid_scan (lines (codes "mode run"
+EditsInMidScan = replay two_moves (lines (codes "mode run"
     ∷ codes "cpu 1"
     ∷ codes "@0 accept P M r 0 MOV(0,n);"
     ∷ codes "@0 test P"

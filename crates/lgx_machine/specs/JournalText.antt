@@ -1,6 +1,7 @@
 -- The text of a journal: how its lines are read, with the first line that is refused and its first cause, and the
 -- canonical text of a list of events.
-use Rattle.std.specs.Prelude.{ℕ, ◌+◌, ◌≤◌, count_by, List, [], ◌∷◌, ◌++◌, length, replicate, flat_map, Bool, true, false, not, ◌&&◌, ◌||◌, nat_lt, nat_eq, if◌then◌else◌, Option, Some, None, option_map, Result, Ok, Err, codes, decimal}
+use Rattle.std.specs.Prelude.{ℕ, ◌+◌, ◌≤◌, count_by, List, [], ◌∷◌, ◌++◌, length, replicate, flat_map, Bool, true, false, ◌&&◌, nat_le, nat_lt, nat_eq, if◌then◌else◌, Option, Some, None, option_map, Result, Ok, Err, codes, decimal}
+use Rattle.std.specs.Option.{option_or}
 use Rattle.std.specs.Str.{bytes_eq}
 use Rattle.lgx_machine.specs.declared.event.Action.{Action}
 use Rattle.lgx_machine.specs.declared.event.Event.{Event}
@@ -8,8 +9,10 @@ use Rattle.lgx_machine.specs.declared.event.Event.TheVariants.{Cpu, Tick, Act}
 use Rattle.lgx_machine.specs.declared.script.JournalCode.{JournalCode}
 use Rattle.lgx_machine.specs.declared.script.JournalCode.TheVariants.{J1, J2, J4}
 use Rattle.lgx_machine.specs.declared.script.JournalFault.{JournalFault}
-use Rattle.lgx_machine.specs.TextLines.{lines, is_skipped, words, first_word, behind_word, number_of}
-use Rattle.lgx_machine.specs.ActionText.{or_else, at_word, action_of, action_words, spaced}
+use Rattle.lgx_machine.specs.Events.{is_step, is_tick, is_action}
+use Rattle.lgx_machine.specs.FirstCause.{◌>>=◌, unless, some_or}
+use Rattle.lgx_machine.specs.TextLines.{lines, is_skipped, words, first_word, behind_word, spaced, line_of, number_of}
+use Rattle.lgx_machine.specs.ActionText.{at_word, action_of, action_words}
 
 -- an event and how often it stands there; an action stands there once
 pub record EventRun : Type 0 where
@@ -38,7 +41,7 @@ times e None = None
 times e (Some n) = Some (record { event = e; count = n })
 
 abbrev pub counted_run : List (List ℕ) → Option EventRun
-counted_run (verb ∷ count ∷ []) = or_else (at_word verb (codes "cpu") (times Cpu (number_of count))) (at_word verb (codes "tick") (times Tick (number_of count)))
+counted_run (verb ∷ count ∷ []) = option_or (at_word verb (codes "cpu") (times Cpu (number_of count))) (at_word verb (codes "tick") (times Tick (number_of count)))
 counted_run _ = None
 
 -- `@LANE ACTION`
@@ -48,7 +51,7 @@ lane_run line (Some lane) = action_run lane (action_of (behind_word line))
 
 -- what a line of a journal says; an action without a lane is of lane 31
 abbrev pub run_of : List ℕ → Option EventRun
-run_of line = or_else (counted_run (words line)) (or_else (lane_run line (lane_of line)) (action_run 31 (action_of line)))
+run_of line = option_or (counted_run (words line)) (option_or (lane_run line (lane_of line)) (action_run 31 (action_of line)))
 
 -- the line `end` ends a text; what follows isn't read
 abbrev pub is_end : List ℕ → Bool
@@ -71,20 +74,8 @@ with_run t r = add r.event
     add (Act lane a) = record t { actions = t.actions + r.count }
 
 -- at most 4,000,000 processor steps, 4,000,000 ticks and 100,000 actions
-abbrev pub is_over : Tally → Bool
-is_over t = nat_lt 4000000 t.steps || nat_lt 4000000 t.ticks || nat_lt 100000 t.actions
-
-abbrev pub is_step : Event → Bool
-is_step Cpu = true
-is_step _ = false
-
-abbrev pub is_tick : Event → Bool
-is_tick Tick = true
-is_tick _ = false
-
-abbrev pub is_action : Event → Bool
-is_action (Act lane a) = true
-is_action _ = false
+abbrev pub is_allowed : Tally → Bool
+is_allowed t = nat_le t.steps 4000000 && nat_le t.ticks 4000000 && nat_le t.actions 100000
 
 -- the same of a list of events
 pub record IsWithin (journal : List Event) : Type 0 where
@@ -93,36 +84,23 @@ pub record IsWithin (journal : List Event) : Type 0 where
   pub actions : count_by is_action journal ≤ 100000
 
 -- at most 65,536 bytes in a line
-abbrev pub is_long : List ℕ → Bool
-is_long line = nat_lt 65536 (length line)
+abbrev pub is_line : List ℕ → Bool
+is_line line = nat_le (length line) 65536
 
--- a lane of modules and engineers is at most 30
-abbrev pub is_no_lane : Option ℕ → Bool
-is_no_lane None = false
-is_no_lane (Some lane) = nat_lt 30 lane
+-- a lane that a line names is one of modules and engineers, at most 30
+abbrev pub is_lane : Option ℕ → Bool
+is_lane None = true
+is_lane (Some lane) = nat_le lane 30
 
 -- ---- the first cause of a line, and the first line that has one
-
-infixl 10 ◌>>=◌
-abbrev pub ◌>>=◌ : {A B : Type 0} → Result A JournalCode → (A → Result B JournalCode) → Result B JournalCode
-(Err e) >>= f = Err e
-(Ok x) >>= f = f x
-
-abbrev pub some_or : {A : Type 0} → JournalCode → Option A → Result A JournalCode
-some_or e None = Err e
-some_or e (Some x) = Ok x
-
-abbrev pub unless : Bool → JournalCode → Result (Unit {0}) JournalCode
-unless true e = Err e
-unless false e = Ok tt
 
 -- what a line says behind a text with this tally, or its first cause
 abbrev pub read_line : Tally → List ℕ → Result EventRun JournalCode
 read_line t line = do
-  _ ← unless (is_long line) J1
-  run ← some_or J1 (run_of line)
-  _ ← unless (is_no_lane (lane_of line)) J2
-  _ ← unless (nat_eq run.count 0 || is_over (with_run t run)) J4
+  _ ← unless (is_line line) J1
+  run ← some_or (run_of line) J1
+  _ ← unless (is_lane (lane_of line)) J2
+  _ ← unless (nat_lt 0 run.count && is_allowed (with_run t run)) J4
   Ok run
 
 abbrev pub refused : {A : Type 0} → ℕ → JournalCode → Result A JournalFault
@@ -138,7 +116,7 @@ runs_from n t [] = refused n J1
 runs_from n t (l ∷ ls) =
     elim (is_skipped l) [
       | true ↦ runs_from (n + 1) t ls
-      | false ↦ elim (is_end l && not (is_long l)) [
+      | false ↦ elim (is_end l && is_line l) [
         | true ↦ Ok []
         | false ↦ elim (read_line t l) [ Err code ↦ refused n code | Ok r ↦ before_rest r (runs_from (n + 1) (with_run t r) ls) ]
       ]
@@ -183,9 +161,6 @@ event_words Cpu count = codes "cpu" ∷ decimal count ∷ []
 event_words Tick count = codes "tick" ∷ decimal count ∷ []
 event_words (Act lane a) count = lane_words lane ++ action_words a
 
-abbrev pub line_of : Event → ℕ → List ℕ
-line_of e count = spaced (event_words e count) ++ 10 ∷ []
-
 -- one line a run with its whole count, and the line `end` last
 abbrev pub text : List Event → List ℕ
-text journal = flat_map (λ r. line_of r.event r.count) (joined journal) ++ codes "end" ++ 10 ∷ []
+text journal = flat_map (λ r. line_of (event_words r.event r.count)) (joined journal) ++ codes "end" ++ 10 ∷ []

@@ -4,7 +4,7 @@ use Rattle.lgx_machine.specs.declared.event.Action.TheVariants.{WordIn, Test, Mo
 use Rattle.lgx_machine.specs.declared.event.RungEdit.TheVariants.{Replace}
 use Rattle.lgx_machine.specs.declared.event.Event.{Event}
 use Rattle.lgx_machine.specs.declared.event.Event.TheVariants.{Act}
-use Rattle.lgx_machine.specs.Scripts.{Script}
+use Rattle.lgx_machine.specs.Scripts.{Script, script}
 use Rattle.lgx_machine.specs.Position.{ProgramRungs}
 use Rattle.lgx_machine.specs.Project.{Project}
 use Rattle.lgx_machine.specs.State.{start}
@@ -56,11 +56,11 @@ held_copy = run_mode ∷ cpu 3 ++ word 0 7 ∷ Act 0 ModeProgram ∷ cpu 1 ++ wo
 
 -- ---- scripts
 
-abbrev pub script : ℕ → ℕ → Script
-script steps pace = record { steps = steps; pace = pace; lanes = [] }
+abbrev pub laneless : ℕ → ℕ → Script
+laneless steps pace = script steps pace []
 
 abbrev pub one_word : Script
-one_word = record { steps = 10; pace = 5; lanes = (timed 2 (WordIn (codes "In1") 0 (pos 1)) ∷ []) ∷ [] }
+one_word = script 10 5 ((timed 2 (WordIn (codes "In1") 0 (pos 1)) ∷ []) ∷ [])
 
 abbrev pub word_at_end : List Event
 word_at_end = run_mode ∷ cpu 5 ++ tick 1 ++ cpu 5 ++ tick 1 ++ word 0 1 ∷ []

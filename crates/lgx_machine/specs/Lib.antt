@@ -20,6 +20,7 @@ pub mod Releases
 pub mod ProcessorStep
 pub mod Ticks
 pub mod Actions
+pub mod Events
 pub mod Machine
 pub mod Report
 pub mod ReportText

@@ -6,22 +6,7 @@ use Rattle.std.specs.Int.{w32, cast_signed}
 use Rattle.lgx_num.specs.Name.{is_name, is_name_byte, same}
 use Rattle.lgx_num.specs.declared.place.Flag.{Flag}
 use Rattle.lgx_num.specs.declared.place.Flag.TheVariants.{First, Overflow, Zero, Negative}
-
--- ---- pieces of a text
-
-abbrev pub put_first : Bool → ℕ → List (List ℕ) → List (List ℕ)
-put_first true c ps = [] ∷ ps
-put_first false c [] = (c ∷ []) ∷ []
-put_first false c (p ∷ ps) = (c ∷ p) ∷ ps
-
--- what stands before, between and behind the bytes of this value
-abbrev pub pieces : ℕ → List ℕ → List (List ℕ)
-pieces mark [] = [] ∷ []
-pieces mark (c ∷ cs) = put_first (c == mark) c (pieces mark cs)
-
-abbrev pub is_empty : List ℕ → Bool
-is_empty [] = true
-is_empty (c ∷ cs) = false
+use Rattle.lgx_machine.specs.TextLines.{pieces, is_empty}
 
 -- ---- tag names
 

@@ -1,5 +1,6 @@
 -- Partial and complete journals of a script.
-use Rattle.std.specs.Prelude.{◌≡◌, ℕ, zero, suc, ◌+◌, ◌-◌, ◌%◌, ◌≤◌, List, [], ◌∷◌, ◌++◌, map, length, take, drop, Bool, true, false, not, ◌&&◌, nat_lt, nat_eq, if◌then◌else◌, Option, Some, None, IsTrue, IsFalse, ⊤, count_by}
+use Rattle.std.specs.Prelude.{◌≡◌, ℕ, zero, suc, ◌+◌, ◌-◌, ◌%◌, ◌≤◌, List, [], ◌∷◌, ◌++◌, map, length, take, drop, Bool, true, false, not, ◌&&◌, nat_lt, nat_eq, if◌then◌else◌, Option, Some, None, IsTrue, IsFalse, ⊤}
+use Rattle.std.specs.Bool.{beq as agree}
 use Rattle.std.specs.List.{AllZip, list_all, last_or, range_with_len}
 use Rattle.lgx_machine.specs.declared.event.Action.{Action}
 use Rattle.lgx_machine.specs.declared.event.Action.TheVariants.{ModeRun}
@@ -7,14 +8,11 @@ use Rattle.lgx_machine.specs.declared.event.Event.{Event}
 use Rattle.lgx_machine.specs.declared.event.Event.TheVariants.{Cpu, Tick, Act}
 use Rattle.lgx_machine.specs.declared.reply.Reply.TheVariants.{Held}
 use Rattle.lgx_machine.specs.declared.script.Timed.{Timed}
-use Rattle.lgx_machine.specs.JournalText.{is_step, is_tick}
+use Rattle.lgx_machine.specs.Events.{is_step, is_tick, steps_of}
 use Rattle.lgx_machine.specs.Scripts.{Script}
 use Rattle.lgx_machine.specs.Tasks.{held}
 use Rattle.lgx_machine.specs.Project.{Project}
 use Rattle.lgx_machine.specs.Machine.{Answer, OfAction, run, trace}
-
-abbrev pub steps_in : List Event → ℕ
-steps_in journal = count_by is_step journal
 
 -- a CPS is open after these events
 abbrev pub is_held_after : Project → List Event → Bool
@@ -76,11 +74,7 @@ is_some_step (Some e) = is_step e
 
 -- these events end with a processor step whose number the pace divides
 abbrev pub ends_pace : ℕ → List Event → Bool
-ends_pace pace events = is_some_step (last_or None events) && nat_eq (steps_in events % pace) 0
-
-abbrev pub agree : Bool → Bool → Bool
-agree true b = b
-agree false b = not b
+ends_pace pace events = is_some_step (last_or None events) && nat_eq (steps_of events % pace) 0
 
 -- a tick stands directly after each processor step whose number the pace divides, and nowhere else
 abbrev pub is_paced : ℕ → List Event → Bool
@@ -100,7 +94,7 @@ through_step (suc k) (e ∷ es) = e ∷ through_step (suc k) es
 -- for each k of at least `steps` that is less than the number of processor steps, a CPS is open after the k-th of them
 -- and its tick
 abbrev pub is_held_over : Project → ℕ → List Event → Bool
-is_held_over project steps journal = list_all (λ k. is_held_after project (through_step k journal)) (range_with_len steps (steps_in journal - steps))
+is_held_over project steps journal = list_all (λ k. is_held_after project (through_step k journal)) (range_with_len steps (steps_of journal - steps))
 
 -- ---- partial and complete
 
@@ -118,5 +112,5 @@ pub record IsPartial (project : Project) (script : Script) (counts : List ℕ) (
 -- It is complete where each count is the lane's length, the script's steps were made, and no CPS is open at its end.
 pub record IsComplete (project : Project) (script : Script) (journal : List Event) : Type 0 where
   pub partial : IsPartial project script (map (λ list. length list) script.lanes) journal
-  pub enough : script.steps ≤ steps_in journal
+  pub enough : script.steps ≤ steps_of journal
   pub closed : IsFalse (is_held_after project journal)

@@ -28,6 +28,14 @@ told s what mark fault = record { state = s; moment = record { what = what; mark
 abbrev pub plainly : State → What → Stepped
 plainly s what = told s what mark.Plain None
 
+-- the task that a processor step was of
+abbrev pub task_of : What → Option ℕ
+task_of what.Idle = None
+task_of (what.Began t n version) = Some t
+task_of (what.Ran t n) = Some t
+task_of (what.Copied t n) = Some t
+task_of (what.Left t n ended) = Some t
+
 abbrev pub with_progress : ℕ → Progress → State → State
 with_progress t p s = record s { progress = slice_set s.progress t p }
 

@@ -1,7 +1,10 @@
 -- The causes for which an action is held or refused, in their order. Each stands beside its sentence; the first that
 -- applies is the answer.
 use Rattle.std.specs.Prelude.{ℕ, List, [], ◌∷◌, ◌++◌, length, Bool, true, false, not, nat_lt, nat_le, nat_eq, Option, Some, None, option_map, is_none, unwrap_or, Result, Ok, Err, slice_set, slice_index_or, flat_map}
+use Rattle.std.specs.Bool.{beq as agree}
 use Rattle.std.specs.List.{position_from}
+-- a cause, where its test holds
+pub use Rattle.std.specs.Bool.{then_some as when}
 use Rattle.lgx_num.specs.Name.{same}
 use Rattle.lgx_rung.specs.Tree.{Source}
 use Rattle.lgx_machine.specs.declared.conn.ConnDef.{ConnDef}
@@ -17,7 +20,6 @@ use Rattle.lgx_machine.specs.declared.reply.EditFault.{EditFault}
 use Rattle.lgx_machine.specs.declared.reply.EditFault.TheVariants.{E1, E2, E3, E4, E5, E6, E8, E9, E10, E11, E12}
 use Rattle.lgx_machine.specs.declared.reply.Reply.{Reply}
 use Rattle.lgx_machine.specs.declared.reply.Reply.TheVariants.{Held, Mode, Conn, Force, Edit}
-use Rattle.lgx_machine.specs.Partial.{agree}
 use Rattle.lgx_machine.specs.Tasks.{held}
 use Rattle.lgx_machine.specs.Connections.{no_conn, conn_named, io_word}
 use Rattle.lgx_machine.specs.Forces.{force_room, installed}
@@ -28,10 +30,6 @@ use Rattle.lgx_rung.specs.declared.fault.CheckFault.{CheckFault}
 use Rattle.lgx_machine.specs.State.{State}
 
 -- ---- causes in order
-
-abbrev pub when : Bool → Reply → Option Reply
-when true r = Some r
-when false r = None
 
 -- the first that applies
 abbrev pub first_of : List (Option Reply) → Option Reply

@@ -1,5 +1,5 @@
 -- The lines of the report.
-use Rattle.std.specs.Prelude.{ℕ, ◌+◌, ◌-◌, List, [], ◌∷◌, ◌++◌, map, length, drop, take, if◌then◌else◌, count_by, Bool, true, false}
+use Rattle.std.specs.Prelude.{ℕ, ◌+◌, ◌-◌, List, [], ◌∷◌, ◌++◌, map, length, drop, take, if◌then◌else◌}
 use Rattle.lgx_num.specs.Number.{int_eq}
 use Rattle.lgx_num.specs.Image.{number}
 use Rattle.lgx_machine.specs.declared.reply.Mode.{Mode}
@@ -8,7 +8,9 @@ use Rattle.lgx_machine.specs.declared.answer.What.TheVariants.{Began}
 use Rattle.lgx_machine.specs.declared.line.Line.{Line}
 use Rattle.lgx_machine.specs.declared.line.Line.TheVariants.{Begin, Fault, Reply, Set}
 use Rattle.lgx_machine.specs.declared.event.Event.{Event}
-use Rattle.lgx_machine.specs.declared.event.Event.TheVariants.{Cpu, Act}
+use Rattle.lgx_machine.specs.declared.event.Event.TheVariants.{Act}
+-- the number of processor steps
+pub use Rattle.lgx_machine.specs.Events.{is_step, steps_of}
 use Rattle.lgx_machine.specs.Project.{Project, Watch}
 use Rattle.lgx_machine.specs.State.{State, start}
 use Rattle.lgx_machine.specs.Machine.{Answer, OfStep, OfTick, OfAction, step}
@@ -41,14 +43,6 @@ set_lines n (w ∷ ws) old new =
 abbrev pub event_lines : List Watch → State → Event → State → Answer → List Line
 event_lines watches old e new answer =
     answer_lines e answer ++ (map Fault (drop (length old.faults) new.faults) ++ set_lines 0 watches old.image new.image)
-
-abbrev pub is_step : Event → Bool
-is_step Cpu = true
-is_step _ = false
-
--- the number of processor steps
-abbrev pub steps_of : List Event → ℕ
-steps_of journal = count_by is_step journal
 
 abbrev pub stamp : ℕ → ℕ → List Line → List Stamped
 stamp tick step lines = map (λ l. record { tick = tick; step = step; line = l }) lines

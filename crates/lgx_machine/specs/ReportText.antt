@@ -1,7 +1,6 @@
 -- The report as text.
 use Rattle.std.specs.Prelude.{ℕ, List, [], ◌∷◌, ◌++◌, map, flat_map, Option, Some, None, codes, decimal, slice_index_or}
 use Rattle.std.specs.Fmt.{signed_decimal}
-use Rattle.std.specs.List.{join_with_byte}
 use Rattle.lgx_rung.specs.declared.fault.TextFault.{TextFault}
 use Rattle.lgx_rung.specs.declared.fault.TextCode.{TextCode}
 use Rattle.lgx_rung.specs.declared.fault.TextCode.TheVariants.{T1, T2, T3, T4, T5}
@@ -26,6 +25,7 @@ use Rattle.lgx_machine.specs.declared.reply.Reply.TheVariants.{Done, Word, Versi
 use Rattle.lgx_machine.specs.declared.line.Line.{Line}
 use Rattle.lgx_machine.specs.declared.line.Line.TheVariants.{Begin, Fault, Reply, Set}
 use Rattle.lgx_machine.specs.declared.event.Event.{Event}
+use Rattle.lgx_machine.specs.TextLines.{line_of}
 use Rattle.lgx_machine.specs.Project.{Project}
 use Rattle.lgx_machine.specs.Machine.{run}
 use Rattle.lgx_machine.specs.Report.{Stamped, Report, report_of, lines, steps_of}
@@ -41,10 +41,6 @@ names_of p = record { tasks = map (λ t. t.name) p.names; programs = map (λ q. 
 
 abbrev pub name : List (List ℕ) → ℕ → List ℕ
 name names n = slice_index_or names n []
-
--- words with a space between each two, and a line feed behind them
-abbrev pub line_of : List (List ℕ) → List ℕ
-line_of words = join_with_byte 32 words ++ 10 ∷ []
 
 -- ---- causes
 

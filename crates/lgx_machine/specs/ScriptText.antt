@@ -1,5 +1,5 @@
 -- The text of a script: how its lines are read, with the first line that is refused and its first cause.
-use Rattle.std.specs.Prelude.{ℕ, ◌+◌, List, [], ◌∷◌, ◌++◌, length, replicate, slice_set, slice_index_or, true, false, not, ◌&&◌, ◌||◌, nat_lt, nat_le, if◌then◌else◌, Option, Some, None, Result, Ok, Err, codes}
+use Rattle.std.specs.Prelude.{ℕ, ◌+◌, List, [], ◌∷◌, ◌++◌, length, replicate, slice_set, slice_index_or, true, false, not, ◌&&◌, nat_lt, nat_le, if◌then◌else◌, Option, Some, None, Result, Ok, Err, codes}
 use Rattle.std.specs.List.{last_or}
 use Rattle.std.specs.Str.{bytes_eq}
 use Rattle.lgx_machine.specs.declared.event.Action.{Action}
@@ -8,9 +8,10 @@ use Rattle.lgx_machine.specs.Scripts.{Script, script, is_out, actions_in, last_t
 use Rattle.lgx_machine.specs.declared.script.JournalCode.{JournalCode}
 use Rattle.lgx_machine.specs.declared.script.JournalCode.TheVariants.{J1, J2, J3, J4, J5}
 use Rattle.lgx_machine.specs.declared.script.JournalFault.{JournalFault}
+use Rattle.lgx_machine.specs.FirstCause.{◌>>=◌, unless, some_or}
 use Rattle.lgx_machine.specs.TextLines.{lines, is_skipped, words, first_word, behind_word, number_of}
 use Rattle.lgx_machine.specs.ActionText.{action_of}
-use Rattle.lgx_machine.specs.JournalText.{lane_of, is_end, is_long, ◌>>=◌, some_or, unless, refused}
+use Rattle.lgx_machine.specs.JournalText.{lane_of, is_end, is_line, refused}
 
 -- ---- the first line: `run STEPS PACE LANES`
 
@@ -29,9 +30,9 @@ header_of _ = None
 -- steps and pace are 1 to 1,000,000, and there are at most 31 lanes
 abbrev pub read_header : List ℕ → Result Script JournalCode
 read_header line = do
-  _ ← unless (is_long line) J1
-  script ← some_or J1 (header_of (words line))
-  _ ← unless (is_out script.steps || is_out script.pace || nat_lt 31 (length script.lanes)) J4
+  _ ← unless (is_line line) J1
+  script ← some_or (header_of (words line)) J1
+  _ ← unless (not (is_out script.steps) && not (is_out script.pace) && nat_le (length script.lanes) 31) J4
   Ok script
 
 -- ---- the other lines: `@LANE AT ACTION`
@@ -66,12 +67,12 @@ last_at s lane = at_or_zero (last_or None (lane_at s lane))
 -- no action waits for a tick that doesn't come, and none stands behind one of its lane that waits longer.
 abbrev pub read_turn : Script → List ℕ → Result Script JournalCode
 read_turn s line = do
-  _ ← unless (is_long line) J1
-  turn ← some_or J1 (turn_of line)
-  _ ← unless (nat_le (length s.lanes) turn.lane) J2
-  _ ← unless (nat_le 100000 (actions_in s)) J4
-  _ ← unless (nat_lt (last_tick s) turn.timed.at) J3
-  _ ← unless (nat_lt turn.timed.at (last_at s turn.lane)) J5
+  _ ← unless (is_line line) J1
+  turn ← some_or (turn_of line) J1
+  _ ← unless (nat_lt turn.lane (length s.lanes)) J2
+  _ ← unless (nat_lt (actions_in s) 100000) J4
+  _ ← unless (nat_le turn.timed.at (last_tick s)) J3
+  _ ← unless (nat_le (last_at s turn.lane) turn.timed.at) J5
   Ok (with_turn s turn)
 
 -- ---- the first line that has a cause
@@ -82,7 +83,7 @@ turns_from n s [] = refused n J1
 turns_from n s (l ∷ ls) =
     elim (is_skipped l) [
       | true ↦ turns_from (n + 1) s ls
-      | false ↦ elim (is_end l && not (is_long l)) [
+      | false ↦ elim (is_end l && is_line l) [
         | true ↦ Ok s
         | false ↦ elim (read_turn s l) [ Err code ↦ refused n code | Ok s' ↦ turns_from (n + 1) s' ls ]
       ]

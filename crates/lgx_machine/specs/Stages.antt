@@ -7,7 +7,7 @@ use Rattle.lgx_machine.specs.declared.event.Action.{Action}
 use Rattle.lgx_machine.specs.declared.event.Event.{Event}
 use Rattle.lgx_machine.specs.declared.event.Event.TheVariants.{Act}
 use Rattle.lgx_machine.specs.declared.answer.What.{What}
-use Rattle.lgx_machine.specs.declared.answer.What.TheVariants.{Idle, Began, Ran, Copied, Left}
+use Rattle.lgx_machine.specs.declared.answer.What.TheVariants.{Began}
 use Rattle.lgx_machine.specs.declared.answer.Mark.TheVariants.{CopyStart, CopyEnd}
 use Rattle.lgx_machine.specs.declared.bound.Copying.{Copying}
 use Rattle.lgx_machine.specs.declared.reply.EditFault.{EditFault}
@@ -15,6 +15,7 @@ use Rattle.lgx_machine.specs.declared.reply.Reply.{Reply}
 use Rattle.lgx_machine.specs.declared.reply.Reply.TheVariants as reply
 use Rattle.lgx_machine.specs.Position.{ProgramRungs}
 use Rattle.lgx_machine.specs.Edits.{Book, Edited, edit, book_at, selected}
+use Rattle.lgx_machine.specs.ProcessorStep.{task_of}
 use Rattle.lgx_machine.specs.Project.{Project}
 use Rattle.lgx_machine.specs.State.{State, Scan, progress_of, start}
 use Rattle.lgx_machine.specs.Legal.{each_from}
@@ -83,13 +84,6 @@ ScansKeepRungs p =
     (journal : List Event) (t : ℕ) → IfSome (scan_of (run p journal) t) (λ scan. begun_by t (start p).books (stages p journal) ≡ Some scan.rungs)
 
 -- ---- the copy law
-
-abbrev pub task_of : What → Option ℕ
-task_of Idle = None
-task_of (Began t g v) = Some t
-task_of (Ran t g) = Some t
-task_of (Copied t g) = Some t
-task_of (Left t g ended) = Some t
 
 -- the task that starts a CPS in this step, and the one that copies the last element of one
 abbrev pub sync_start : Answer → Option ℕ

@@ -1,13 +1,11 @@
 -- Laws of the tasks in every state that a journal leads to.
-use Rattle.std.specs.Prelude.{◌≡◌, ℕ, ◌<◌, IsTrue, List, Option, Some, None}
+use Rattle.std.specs.Prelude.{◌≡◌, ℕ, ◌<◌, IsTrue, List, Some}
 use Rattle.lgx_machine.specs.declared.event.Event.{Event}
-use Rattle.lgx_machine.specs.declared.answer.What.{What}
-use Rattle.lgx_machine.specs.declared.answer.What.TheVariants.{Idle, Began, Ran, Copied, Left}
 use Rattle.lgx_machine.specs.declared.reply.Mode.TheVariants.{Run}
 use Rattle.lgx_machine.specs.Tasks.{Turn, turn, is_up, is_open}
 use Rattle.lgx_machine.specs.Project.{Project}
 use Rattle.lgx_machine.specs.State.{State}
-use Rattle.lgx_machine.specs.ProcessorStep.{processor_step}
+use Rattle.lgx_machine.specs.ProcessorStep.{processor_step, task_of}
 use Rattle.lgx_machine.specs.Machine.{run}
 
 -- At most one task has something open.
@@ -28,14 +26,6 @@ RanksDiffer = (project : Project) (journal : List Event) (t q : ℕ) (u v : Turn
 
 abbrev pub RanksBelowNext : Type 0
 RanksBelowNext = (project : Project) (journal : List Event) (t : ℕ) (u : Turn) → turn (run project journal).table t ≡ Some u → u.rank < (run project journal).table.next
-
--- the task that a processor step was of
-abbrev pub task_of : What → Option ℕ
-task_of Idle = None
-task_of (Began t n version) = Some t
-task_of (Ran t n) = Some t
-task_of (Copied t n) = Some t
-task_of (Left t n ended) = Some t
 
 -- A step is of a task that was up before it.
 abbrev pub StepOfUpTask : Type 0

@@ -1,6 +1,8 @@
 -- The table of tasks: which are up, which one is chosen, and how they come up and go down (1756-PM005).
 use Rattle.std.specs.Prelude.{ℕ, ◌+◌, ◌-◌, ◌%◌, Bool, true, false, ◌&&◌, ◌||◌, List, [], ◌∷◌, ◌++◌, map, nat_lt, nat_le, nat_eq, if◌then◌else◌, Option, Some, None, is_some, slice_set, slice_index_or}
 use Rattle.std.specs.List.{list_any, position_from}
+-- the first of two that is there
+pub use Rattle.std.specs.Option.{option_or as or_else}
 use Rattle.lgx_machine.specs.declared.task.TaskKind.{TaskKind}
 use Rattle.lgx_machine.specs.declared.task.TaskKind.TheVariants.{Continuous, Periodic, Event}
 use Rattle.lgx_machine.specs.declared.task.TaskDef.{TaskDef}
@@ -73,10 +75,6 @@ least_of a (b ∷ bs) = least_of (if before b a then b else a) bs
 abbrev pub least : List Candidate → Option ℕ
 least [] = None
 least (a ∷ others) = Some ((least_of a others).task)
-
-abbrev pub or_else : Option ℕ → Option ℕ → Option ℕ
-or_else (Some t) other = Some t
-or_else None other = other
 
 -- The task that has something open, if there is one; else the up task that is least by priority and then by rank; else
 -- none.

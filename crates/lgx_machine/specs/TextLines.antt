@@ -1,7 +1,8 @@
 -- The lines of a text, the words of a line, and numbers. Each mark of a text is one byte.
-use Rattle.std.specs.Prelude.{ℕ, ◌-◌, ◌+◌, ◌*◌, ◌^◌, List, [], ◌∷◌, length, take, drop, fold, filter, Bool, true, false, not, ◌&&◌, ◌||◌, nat_lt, nat_le, nat_eq, if◌then◌else◌, ℤ, pos, neg_ℤ, int_le, Option, Some, None}
-use Rattle.std.specs.List.{list_any, prefix_len, suffix_len}
+use Rattle.std.specs.Prelude.{ℕ, ◌-◌, ◌+◌, ◌*◌, ◌^◌, List, [], ◌∷◌, ◌++◌, length, take, drop, fold, filter, Bool, true, false, not, ◌&&◌, ◌||◌, nat_lt, nat_le, nat_eq, if◌then◌else◌, ℤ, pos, neg_ℤ, int_le, Option, Some, None}
+use Rattle.std.specs.List.{list_any, prefix_len, suffix_len, join_with_byte}
 use Rattle.std.specs.Str.{bytes_eq, all_ascii_digits}
+use Rattle.lgx_rung.specs.Tokens.{is_blank}
 
 -- what stands before, between and behind the marks of a text
 abbrev pub cut : Bool → ℕ → List (List ℕ) → List (List ℕ)
@@ -14,7 +15,8 @@ pieces mark [] = [] ∷ []
 pieces mark (c ∷ cs) = cut (nat_eq c mark) c (pieces mark cs)
 
 abbrev pub is_empty : List ℕ → Bool
-is_empty text = nat_eq (length text) 0
+is_empty [] = true
+is_empty (c ∷ cs) = false
 
 -- ---- lines
 
@@ -59,13 +61,17 @@ first_word line = take (word_len (from_word line)) (from_word line)
 abbrev pub behind_word : List ℕ → List ℕ
 behind_word line = drop (word_len (from_word line)) (from_word line)
 
+-- words with a space between each two
+abbrev pub spaced : List (List ℕ) → List ℕ
+spaced ws = join_with_byte 32 ws
+
+-- the same, and a line feed behind them
+abbrev pub line_of : List (List ℕ) → List ℕ
+line_of ws = spaced ws ++ 10 ∷ []
+
 -- ---- the text of a rung edit
 
--- a blank of neutral text: space, tab, carriage return, line feed
-abbrev pub is_blank : ℕ → Bool
-is_blank c = is_space c || nat_eq c 9 || nat_eq c 13 || nat_eq c 10
-
--- a text without the blanks at its ends
+-- a text without the blanks of neutral text at its ends
 abbrev pub trimmed : List ℕ → List ℕ
 trimmed text = let front = drop (prefix_len is_blank text) text in take (length front - suffix_len is_blank front) front
 

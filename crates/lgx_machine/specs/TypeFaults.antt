@@ -1,8 +1,8 @@
 -- What is wrong with a list of declared structures.
 use Rattle.std.specs.Prelude.{ℕ, zero, suc, ◌%◌, Bool, true, false, not, ◌&&◌, ◌||◌, ◌==◌, nat_lt, List, [], ◌∷◌, ◌++◌, length, take, filter, flat_map, slice_index, Option, Some, None, is_some, is_none}
-use Rattle.std.specs.List.{list_any, enumerate_from}
+use Rattle.std.specs.List.{list_any, enumerate_from, range_with_len}
 use Rattle.lgx_num.specs.Name.{same}
-use Rattle.lgx_machine.specs.FirstCause.{where_true, first, numbers}
+use Rattle.lgx_machine.specs.FirstCause.{where_true, first}
 use Rattle.lgx_machine.specs.Layout.{built_ins, looked_up, find, members_of, sizes}
 use Rattle.lgx_machine.specs.declared.types.Base.{Base}
 use Rattle.lgx_machine.specs.declared.types.Base.TheVariants.{Bool as OneBit, User}
@@ -60,7 +60,7 @@ among set i = list_any (λ j. j == i) set
 
 -- the structures in the set, and those that members of these are of
 abbrev pub with_parts : List TypeDecl → List ℕ → List ℕ
-with_parts decls set = filter (λ i. among set i || list_any (λ j. among (parts decls j) i) set) (numbers 0 (length decls))
+with_parts decls set = filter (λ i. among set i || list_any (λ j. among (parts decls j) i) set) (range_with_len 0 (length decls))
 
 -- the structures that structure i reaches through members of members, at most so deep
 abbrev pub reached_to : ℕ → List TypeDecl → ℕ → List ℕ
@@ -76,8 +76,8 @@ reaches_itself decls i = among (reached_to (length decls) decls i) i
 -- those of names and members, by structures; then Y3 structures that reach themselves; then Y5 those over 4,096 bytes
 abbrev pub type_faults : List TypeDecl → List TypeFault
 type_faults decls = flat_map (structure_faults decls) (enumerate_from 0 decls)
-    ++ (flat_map (λ i. where_true (reaches_itself decls i) (of_structure Y3 i)) (numbers 0 (length decls))
-    ++ flat_map (λ i. where_true (nat_lt 4096 (slice_index (sizes decls) i)) (of_structure Y5 i)) (numbers 0 (length decls)))
+    ++ (flat_map (λ i. where_true (reaches_itself decls i) (of_structure Y3 i)) (range_with_len 0 (length decls))
+    ++ flat_map (λ i. where_true (nat_lt 4096 (slice_index (sizes decls) i)) (of_structure Y5 i)) (range_with_len 0 (length decls)))
 
 abbrev pub type_fault : List TypeDecl → Option TypeFault
 type_fault decls = first (type_faults decls)

@@ -6,12 +6,12 @@ ghost use Rattle.lgx_machine.specs.LegalCases.{all_hold};
 ghost use Rattle.lgx_machine.specs.JournalCases.{cpu, tick, paced, tested, clients};
 ghost use Rattle.lgx_machine.specs.LadderRuns.{one_rung};
 ghost use Rattle.lgx_machine.specs.TaskRuns.{preemption, nested_regions, turns_at_ticks};
-ghost use Rattle.lgx_machine.specs.EditRuns.{selected_at_begin, owners};
+ghost use Rattle.lgx_machine.specs.EditRuns.{two_moves, owners};
 ghost use Rattle.lgx_machine.specs.CopyRuns.{torn_copy, whole_copy};
 ghost use Rattle.lgx_machine.specs.Partial.{IsPartial, IsComplete, is_paced, is_held_over};
 ghost use Rattle.lgx_machine.specs.Legal.{each_from};
 ghost use Rattle.lgx_machine.specs.Stages.{stages, keeps_copy, KeepsState};
-ghost use Rattle.lgx_machine.specs.LawRuns.{verdicts_on, run_mode, preempted, nested, turning, rungs_at, begun_at, held_copy, script, one_word, word, word_at_end, one_nop, emptied};
+ghost use Rattle.lgx_machine.specs.LawRuns.{verdicts_on, run_mode, preempted, nested, turning, rungs_at, begun_at, held_copy, laneless, one_word, word, word_at_end, one_nop, emptied};
 
 /// The laws that a trace shows by itself hold of runs with preemption, nested regions, turns at ticks, edits in
 /// mid-scan and a synchronous copy.
@@ -19,7 +19,7 @@ pub fn runs_are_legal()
     ensures preemption { verdicts_on preemption preempted ≡ all_hold }
     ensures nested { verdicts_on nested_regions nested ≡ all_hold }
     ensures turns { verdicts_on turns_at_ticks turning ≡ all_hold }
-    ensures edits { verdicts_on selected_at_begin tested ≡ all_hold }
+    ensures edits { verdicts_on two_moves tested ≡ all_hold }
     ensures copy { verdicts_on whole_copy held_copy ≡ all_hold }
 {}
 
@@ -38,10 +38,10 @@ pub fn copies_and_refusals()
 
 /// Journals of scripts, partial and complete.
 pub fn scripts_are_run()
-    ensures paced { IsComplete one_rung (script 3 2) paced }
+    ensures paced { IsComplete one_rung (laneless 3 2) paced }
     ensures word { IsComplete torn_copy one_word word_at_end }
-    ensures open { IsComplete whole_copy (script 3 10) (run_mode ∷ cpu 4) }
-    ensures not_yet { IsPartial whole_copy (script 3 10) [] (run_mode ∷ cpu 3) }
+    ensures open { IsComplete whole_copy (laneless 3 10) (run_mode ∷ cpu 4) }
+    ensures not_yet { IsPartial whole_copy (laneless 3 10) [] (run_mode ∷ cpu 3) }
 {}
 
 /// Journals that aren't of the script: a tick left out, a late one, steps beyond the script's, an action twice, and one
