@@ -1,0 +1,26 @@
+//! Worked runs and cases: what the definitions of the ladder machine give on projects, texts and traces of our own. Each
+//! function is a law: it does nothing, and its contract is what is computed.
+#![tactic(auto)]
+
+mod journal_cases;
+mod law_runs;
+mod legal_cases;
+mod runs;
+mod text_cases;
+
+pub use journal_cases::{
+    journals_are_read, journals_are_refused, journals_are_written, scripts_are_read,
+    scripts_are_refused,
+};
+pub use law_runs::{
+    copies_and_refusals, runs_are_legal, scans_keep_rungs, scripts_are_not_run, scripts_are_run,
+};
+pub use legal_cases::{laws_are_broken, laws_hold};
+pub use runs::{
+    arithmetic_runs, conveyor_run, copy_runs, edit_runs, ladder_runs, routine_runs, task_runs,
+    timer_runs, word_runs,
+};
+pub use text_cases::{
+    cause_cases, check_code_cases, conveyor_checked, conveyor_layout, conveyor_places,
+    declare_cases, layout_cases, operand_cases, resolution_cases, routine_cases, type_fault_cases,
+};
