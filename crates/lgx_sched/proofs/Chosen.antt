@@ -35,19 +35,23 @@ before-rank a b e h = grind (arith, nat_tests)
 
 -- the better of two still loses to the best, which is it or among the others
 better : (a b c : Candidate) (cs : List Candidate) (t : Bool) → before c b ≡ t → (a ≡ b) ⊎ Among a (c ∷ cs) → Wins a b → Wins a c → ((a ≡ cond t c b) ⊎ Among a cs) × Wins a (cond t c b)
-better a b c cs true e i w wc =
-    (elim i [
-        inl a_b ↦ elim wc [ inl a_c ↦ inl a_c | inr l ↦ absurd (false≢true (sym (before_asym a c l) ∙ (ap (λ x. before c x) a_b ∙ e))) ]
-      | inr j ↦ elim j [ inl a_c ↦ inl a_c | inr k ↦ inr k ]
-      ], wc)
-better a b c cs false e i w wc =
-    (elim i [
-        inl a_b ↦ inl a_b
-      | inr j ↦ elim j [
-          inl a_c ↦ elim w [ inl a_b ↦ inl a_b | inr l ↦ absurd (false≢true (sym e ∙ (ap (λ x. before x b) (sym a_c) ∙ l))) ]
-        | inr k ↦ inr k
-        ]
-      ], w)
+better a b c cs true e i w wc = (
+  elim i [
+    | inl a_b ↦ elim wc [ inl a_c ↦ inl a_c | inr l ↦ absurd (false≢true (sym (before_asym a c l) ∙ (ap (λ x. before c x) a_b ∙ e))) ]
+    | inr j ↦ elim j [ inl a_c ↦ inl a_c | inr k ↦ inr k ]
+  ],
+  wc,
+)
+better a b c cs false e i w wc = (
+  elim i [
+    | inl a_b ↦ inl a_b
+    | inr j ↦ elim j [
+      | inl a_c ↦ elim w [ inl a_b ↦ inl a_b | inr l ↦ absurd (false≢true (sym e ∙ (ap (λ x. before x b) (sym a_c) ∙ l))) ]
+      | inr k ↦ inr k
+    ]
+  ],
+  w,
+)
 
 least_of-beats : (a b : Candidate) (cs : List Candidate) → (a ≡ b) ⊎ Among a cs → Wins a b → Beats a cs → least_of b cs ≡ a
 least_of-beats a b [] i w bs = elim i [ inl e ↦ sym e | inr x ↦ absurd x ]
@@ -72,9 +76,10 @@ Beats-candidates a n [] us h = tt
 Beats-candidates a n (d ∷ ds) [] h = tt
 Beats-candidates a n (d ∷ ds) (None ∷ us) h =
     Beats-candidates a (n + 1) ds us (λ k u e. subst (λ m. Wins a (up_candidate m (get_or ds k no_task) u)) (shift n k) (h (suc k) u e))
-Beats-candidates a n (d ∷ ds) (Some x ∷ us) h =
-    (subst (λ m. Wins a (up_candidate m d x)) (zero_more n) (h 0 x refl),
-     Beats-candidates a (n + 1) ds us (λ k u e. subst (λ m. Wins a (up_candidate m (get_or ds k no_task) u)) (shift n k) (h (suc k) u e)))
+Beats-candidates a n (d ∷ ds) (Some x ∷ us) h = (
+  subst (λ m. Wins a (up_candidate m d x)) (zero_more n) (h 0 x refl),
+  Beats-candidates a (n + 1) ds us (λ k u e. subst (λ m. Wins a (up_candidate m (get_or ds k no_task) u)) (shift n k) (h (suc k) u e)),
+)
   where
     zero_more : (m : ℕ) → m + 0 ≡ m
     zero_more m = omega arith
@@ -109,7 +114,7 @@ pub record FrontAt (qs : List (List ℕ)) (t p : ℕ) : Type 0 where
   pub starts : get_or qs p [] ≡ t ∷ rest
   pub earlier : (k : ℕ) → k < p → get_or qs k [] ≡ []
 
-front-some : (qs : List (List ℕ)) (t : ℕ) → front_of qs ≡ Some t → (p : ℕ) × FrontAt qs t p
+pub front-some : (qs : List (List ℕ)) (t : ℕ) → front_of qs ≡ Some t → (p : ℕ) × FrontAt qs t p
 front-some [] t e = absurd (cc)
 front-some ([] ∷ qs) t e =
     let later = front-some qs t e in
@@ -123,7 +128,7 @@ front-some ((u ∷ q) ∷ qs) t e = (0, record { rest = q; starts = ap (λ x. x 
     same : (a b : ℕ) → Some a ≡ Some b → a ≡ b
     same a b s = cc
 
-front-none : (qs : List (List ℕ)) → front_of qs ≡ None → (k : ℕ) → get_or qs k [] ≡ []
+pub front-none : (qs : List (List ℕ)) → front_of qs ≡ None → (k : ℕ) → get_or qs k [] ≡ []
 front-none [] e k = refl
 front-none ([] ∷ qs) e zero = refl
 front-none ([] ∷ qs) e (suc k) = front-none qs e k
@@ -153,6 +158,7 @@ position-is_it test d (x ∷ xs) n (Some (suc m)) shut h =
   where
     suc_zero : (i : ℕ) → suc i ≡ 0 → ⊥
     suc_zero i e = omega arith
+
     eq_suc : (i k : ℕ) → eqb (suc i) (suc k) ≡ eqb i k
     eq_suc i k = grind (arith, nat_tests)
 
@@ -197,22 +203,23 @@ front_wins v s sound h t p f x tx pr k u ku =
     let above : (task s k).priority ≡ place + 1 = placed v s sound h k w in
     let mine : In k (queue_at v place) = in_queue v s sound h k w in
     elim (cases_lt place p) [
-        inl l ↦ absurd (subst (λ q. In k q) (f.earlier place l) mine)
+      | inl l ↦ absurd (subst (λ q. In k q) (f.earlier place l) mine)
       | inr ge ↦ elim (cases_lt p place) [
-          inl l ↦ inr (before-priority (up_candidate t (task s t) x) (up_candidate k (task s k) u) (lower ((task s t).priority) ((task s k).priority) place p pr above l))
+        | inl l ↦ inr (before-priority (up_candidate t (task s t) x) (up_candidate k (task s k) u) (lower ((task s t).priority) ((task s k).priority) place p pr above l))
         | inr le ↦
-          let place_p : place ≡ p = omega arith in
-          let ahead : Ascends (λ i. rank_of (turn s i)) (t ∷ f.rest) = subst (λ q. Ascends (λ i. rank_of (turn s i)) q) f.starts ((h.queues p).by_rank) in
-          elim (subst (λ q. In k q) f.starts (subst (λ i. In k (queue_at v i)) place_p mine)) [
-              inl k_t ↦ inl (same_one t k x u (sym k_t) tx ku)
-            | inr i ↦ inr (before-rank (up_candidate t (task s t) x) (up_candidate k (task s k) u) (pr ∙ (ap (λ i'. i' + 1) (sym place_p) ∙ sym above))
-                (subst (λ r. r < u.rank) (ap rank_of tx) (subst (λ r. rank_of (turn s t) < r) (ap rank_of ku) (Each-in (λ j. rank_of (turn s t) < rank_of (turn s j)) f.rest k ahead.0 i))))
+            let place_p : place ≡ p = omega arith in
+            let ahead : Ascends (λ i. rank_of (turn s i)) (t ∷ f.rest) = subst (λ q. Ascends (λ i. rank_of (turn s i)) q) f.starts ((h.queues p).by_rank) in
+            elim (subst (λ q. In k q) f.starts (subst (λ i. In k (queue_at v i)) place_p mine)) [
+              | inl k_t ↦ inl (same_one t k x u (sym k_t) tx ku)
+              | inr i ↦ inr (before-rank (up_candidate t (task s t) x) (up_candidate k (task s k) u) (pr ∙ (ap (λ i'. i' + 1) (sym place_p) ∙ sym above))
+                  (subst (λ r. r < u.rank) (ap rank_of tx) (subst (λ r. rank_of (turn s t) < r) (ap rank_of ku) (Each-in (λ j. rank_of (turn s t) < rank_of (turn s j)) f.rest k ahead.0 i))))
             ]
-        ]
       ]
+    ]
   where
     lower : (a b i j : ℕ) → a ≡ j + 1 → b ≡ i + 1 → j < i → a < b
     lower a b i j e e' l = omega arith
+
     same_one : (a b : ℕ) (y z : Turn) → a ≡ b → turn s a ≡ Some y → turn s b ≡ Some z → up_candidate a (task s a) y ≡ up_candidate b (task s b) z
     same_one a b y z e ey ez =
         let e' : turn s b ≡ Some y = subst (λ i. turn s i ≡ Some y) e ey in
@@ -229,9 +236,9 @@ least-front v s sound h (Some t) e =
     let x = some_of (turn s t) here.0 in
     let l : t < length s.defs = subst (λ n. t < n) (same_length v s sound h) (within s.turns t here.0) in
     least-beats (up_candidate t (task s t) x.0) (candidates 0 s.defs s.turns)
-      (subst (λ i. Among (up_candidate i (task s t) x.0) (candidates 0 s.defs s.turns)) (add_zero t) (Among-candidates 0 s.defs s.turns t x.0 l x.1))
-      (Beats-candidates (up_candidate t (task s t) x.0) 0 s.defs s.turns
-        (λ k u ku. subst (λ i. Wins (up_candidate t (task s t) x.0) (up_candidate i (task s k) u)) (sym (add_zero k)) (front_wins v s sound h t p f.1 x.0 x.1 here.1 k u ku)))
+    (subst (λ i. Among (up_candidate i (task s t) x.0) (candidates 0 s.defs s.turns)) (add_zero t) (Among-candidates 0 s.defs s.turns t x.0 l x.1))
+    (Beats-candidates (up_candidate t (task s t) x.0) 0 s.defs s.turns
+    (λ k u ku. subst (λ i. Wins (up_candidate t (task s t) x.0) (up_candidate i (task s k) u)) (sym (add_zero k)) (front_wins v s sound h t p f.1 x.0 x.1 here.1 k u ku)))
   where
     add_zero : (n : ℕ) → 0 + n ≡ n
     add_zero n = omega arith
@@ -245,9 +252,9 @@ open_as_up (Some u) = refl
 pub turn_as_up : (v : Ready) (s : Table) → StandsFor v s → (t : ℕ) → up_of v t ≡ option_map without_rank (turn s t)
 turn_as_up v s h t =
     ap (λ (xs : List (Option Up)). get_or xs t None) h.ups ∙ elim (cases_lt t (length s.turns)) [
-        inl l ↦ get_or-map (option_map without_rank) s.turns t None None l
+      | inl l ↦ get_or-map (option_map without_rank) s.turns t None None l
       | inr past ↦ get_or_past (map (option_map without_rank) s.turns) t None (subst (λ n. n ≤ t) (sym (length-map s.turns (option_map without_rank))) past) ∙ ap (option_map without_rank) (sym (get_or_past s.turns t None past))
-      ]
+    ]
 
 pub first_open : (v : Ready) (s : Table) → IsSound v → StandsFor v s → position_from is_open 0 s.turns ≡ v.opened
 first_open v s sound h =

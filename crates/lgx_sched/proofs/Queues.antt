@@ -40,9 +40,10 @@ In-last t (x ∷ xs) = inr (In-last t xs)
 -- ranks that are the same for each task of the queue
 pub Ascends-same : (r r' : ℕ → ℕ) (q : List ℕ) → Each (λ t. r' t ≡ r t) q → Ascends r q → Ascends r' q
 Ascends-same r r' [] e a = tt
-Ascends-same r r' (t ∷ ts) e a =
-    (Each-given (λ u. r t < r u) (λ u. r' u ≡ r u) (λ u. r' t < r' u) (λ u l s. subst (λ n. n < r' u) (sym e.0) (subst (λ n. r t < n) (sym s) l)) ts a.0 e.1,
-     Ascends-same r r' ts e.1 a.1)
+Ascends-same r r' (t ∷ ts) e a = (
+  Each-given (λ u. r t < r u) (λ u. r' u ≡ r u) (λ u. r' t < r' u) (λ u l s. subst (λ n. n < r' u) (sym e.0) (subst (λ n. r t < n) (sym s) l)) ts a.0 e.1,
+  Ascends-same r r' ts e.1 a.1,
+)
 
 pub Ascends-append : (r : ℕ → ℕ) (q : List ℕ) (t : ℕ) → Ascends r q → Each (λ u. r u < r t) q → Ascends r (q ++ t ∷ [])
 Ascends-append r [] t a e = (tt, tt)
@@ -55,7 +56,7 @@ pub same_queue : (f g : Lookup) (pr : ℕ → ℕ) (p : ℕ) (q : List ℕ) → 
 same_queue f g pr p q keeps joins h = record {
   each = Each-weaker (IsUpAt f pr p) (IsUpAt g pr p) (λ t w. (keeps t w).0) q h.each;
   all = λ t w. h.all t (joins t w);
-  by_rank = Ascends-same (rank_in f) (rank_in g) q (Each-weaker (IsUpAt f pr p) (λ t. rank_in g t ≡ rank_in f t) (λ t w. (keeps t w).1) q h.each) h.by_rank
+  by_rank = Ascends-same (rank_in f) (rank_in g) q (Each-weaker (IsUpAt f pr p) (λ t. rank_in g t ≡ rank_in f t) (λ t w. (keeps t w).1) q h.each) h.by_rank;
 }
 
 -- a change of one task's turn, which is of another priority
@@ -73,15 +74,15 @@ queue-push f g pr t u q same down up below h =
     let kept : (k : ℕ) → IsUpAt f pr (pr t) k → g k ≡ f k = λ k w. same k (apart k w.0) in
     record {
       each = Each-append (IsUpAt g pr (pr t)) q t
-        (Each-weaker (IsUpAt f pr (pr t)) (IsUpAt g pr (pr t)) (λ k w. (subst (λ x. IsTrue (is_some x)) (sym (kept k w)) w.0, w.1)) q h.each)
-        (subst (λ x. IsTrue (is_some x)) (sym up) refl, refl);
+          (Each-weaker (IsUpAt f pr (pr t)) (IsUpAt g pr (pr t)) (λ k w. (subst (λ x. IsTrue (is_some x)) (sym (kept k w)) w.0, w.1)) q h.each)
+          (subst (λ x. IsTrue (is_some x)) (sym up) refl, refl);
       all = λ k w. elim (cases_eq k t) [
-          inl k_is ↦ subst (λ x. In x (q ++ t ∷ [])) (sym k_is) (In-last t q)
+        | inl k_is ↦ subst (λ x. In x (q ++ t ∷ [])) (sym k_is) (In-last t q)
         | inr ne ↦ In-append k t q (h.all k (subst (λ x. IsTrue (is_some x)) (same k ne) w.0, w.1))
-        ];
+      ];
       by_rank = Ascends-append (rank_in g) q t
-        (Ascends-same (rank_in f) (rank_in g) q (Each-weaker (IsUpAt f pr (pr t)) (λ k. rank_in g k ≡ rank_in f k) (λ k w. ap rank_of (kept k w)) q h.each) h.by_rank)
-        (Each-weaker (IsUpAt f pr (pr t)) (λ k. rank_in g k < rank_in g t) (λ k w. subst (λ n. n < rank_in g t) (sym (ap rank_of (kept k w))) (subst (λ n. rank_in f k < n) (sym (ap rank_of up)) (below k w.0))) q h.each)
+          (Ascends-same (rank_in f) (rank_in g) q (Each-weaker (IsUpAt f pr (pr t)) (λ k. rank_in g k ≡ rank_in f k) (λ k w. ap rank_of (kept k w)) q h.each) h.by_rank)
+          (Each-weaker (IsUpAt f pr (pr t)) (λ k. rank_in g k < rank_in g t) (λ k w. subst (λ n. n < rank_in g t) (sym (ap rank_of (kept k w))) (subst (λ n. rank_in f k < n) (sym (ap rank_of up)) (below k w.0))) q h.each);
     }
 
 -- the first task of the queue goes down
@@ -91,10 +92,10 @@ queue-pop f g pr t p q same down h =
     record {
       each = Each-given (λ k. g k ≡ f k) (IsUpAt f pr p) (IsUpAt g pr p) (λ k e w. (subst (λ x. IsTrue (is_some x)) (sym e) w.0, w.1)) q behind (h.each.1);
       all = λ k w. elim (cases_eq k t) [
-          inl k_is ↦ absurd (false≢true (subst (λ x. IsTrue (is_some x)) down (subst (λ x. IsTrue (is_some (g x))) k_is w.0)))
+        | inl k_is ↦ absurd (false≢true (subst (λ x. IsTrue (is_some x)) down (subst (λ x. IsTrue (is_some (g x))) k_is w.0)))
         | inr ne ↦ elim (h.all k (subst (λ x. IsTrue (is_some x)) (same k ne) w.0, w.1)) [ inl k_is ↦ absurd (ne k_is) | inr i ↦ i ]
-        ];
-      by_rank = Ascends-same (rank_in f) (rank_in g) q (Each-weaker (λ k. g k ≡ f k) (λ k. rank_in g k ≡ rank_in f k) (λ k e. ap rank_of e) q behind) (h.by_rank.1)
+      ];
+      by_rank = Ascends-same (rank_in f) (rank_in g) q (Each-weaker (λ k. g k ≡ f k) (λ k. rank_in g k ≡ rank_in f k) (λ k e. ap rank_of e) q behind) (h.by_rank.1);
     }
   where
     lt_irrefl : (n : ℕ) → n < n → ⊥

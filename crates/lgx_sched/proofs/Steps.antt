@@ -4,9 +4,9 @@ use Rattle.std.specs.List.{slice_get}
 use Rattle.std.proofs.lemmas.Bool.{cases_eq, cases_lt, false≢true}
 use Rattle.std.proofs.lemmas.List.{get_or-set_same, get_or-set_other, set-set, set-get_or, map-set, length-map, length-set}
 use Rattle.lgx_machine.specs.declared.task.TaskDef.{TaskDef}
-use Rattle.lgx_machine.specs.Tasks.{Turn, Table, turn, task, no_task}
+use Rattle.lgx_machine.specs.Tasks.{Turn, Table, turn, task, no_task, stop}
 use Rattle.lgx_sched.specs.declared.table.Up.{Up}
-use Rattle.lgx_sched.specs.Ready.{Ready, up_of, def_of, queue_at, place_of, pushed, popped}
+use Rattle.lgx_sched.specs.Ready.{Ready, up_of, def_of, queue_at, place_of, pushed, popped, all_down}
 use Rattle.lgx_sched.specs.StandsFor.{Each, In, Ascends, rank_of, without_rank, IsUpAt, IsQueueOf, StandsFor, IsSound}
 use Rattle.lgx_sched.proofs.Queues.{same_queue, other_queue, queue-push, queue-pop}
 use Rattle.lgx_sched.proofs.Chosen.{within, placed, same_length, turn_as_up}
@@ -68,13 +68,13 @@ stands-down v s o t sound h l head =
       below = λ k w. subst (λ x. rank_of x < s.next) (sym (was k w)) (h.below k (subst IsUp (was k w) w));
       differ = λ k i wk wi e. h.differ k i (subst IsUp (was k wk) wk) (subst IsUp (was i wi) wi) (sym (ap rank_of (was k wk)) ∙ (e ∙ ap rank_of (was i wi)));
       queues = λ k. elim (cases_eq k p) [
-          inl e ↦ subst (λ i. IsQueueOf (turn (lowered t s)) pr (i + 1) (get_or (popped v.queues p) i [])) (sym e)
+        | inl e ↦ subst (λ i. IsQueueOf (turn (lowered t s)) pr (i + 1) (get_or (popped v.queues p) i [])) (sym e)
             (subst (λ q. IsQueueOf (turn (lowered t s)) pr (p + 1) q) (sym (get_or-set_same v.queues p (drop 1 (queue_at v p)) [] fits))
-              (queue-pop (turn s) (turn (lowered t s)) pr t (p + 1) (drop 1 (queue_at v p)) same here
-                (subst (λ q. IsQueueOf (turn s) pr (p + 1) q) (starts_with (queue_at v p) t head) (h.queues p))))
+            (queue-pop (turn s) (turn (lowered t s)) pr t (p + 1) (drop 1 (queue_at v p)) same here
+            (subst (λ q. IsQueueOf (turn s) pr (p + 1) q) (starts_with (queue_at v p) t head) (h.queues p))))
         | inr ne ↦ subst (λ q. IsQueueOf (turn (lowered t s)) pr (k + 1) q) (sym (get_or-set_other v.queues p k (drop 1 (queue_at v p)) [] ne))
             (other_queue (turn s) (turn (lowered t s)) pr t (k + 1) (queue_at v k) same (λ e. ne (cancel k p (pr t) e (priority_is v s sound h t l))) (h.queues k))
-        ]
+      ];
     }
   where
     cancel : (i j n : ℕ) → n ≡ i + 1 → n ≡ j + 1 → i ≡ j
@@ -102,37 +102,40 @@ stands-up v s o t u sound h l down rank =
       ups = ap (λ (xs : List (Option Up)). set xs t (Some (without_rank u))) h.ups ∙ sym (map-set (option_map without_rank) s.turns t (Some u));
       ran_at = h.ran_at;
       below = λ k w. elim (cases_eq k t) [
-          inl e ↦ at_most (rank_of (new k)) s.next (ap (λ i. rank_of (new i)) e ∙ here_rank)
+        | inl e ↦ at_most (rank_of (new k)) s.next (ap (λ i. rank_of (new i)) e ∙ here_rank)
         | inr ne ↦ less (rank_of (new k)) s.next (old_below k ne w)
-        ];
+      ];
       differ = λ k i wk wi e. elim (cases_eq k t) [
-          inl k_t ↦ elim (cases_eq i t) [
-              inl i_t ↦ k_t ∙ sym i_t
-            | inr ne ↦ absurd (clash (rank_of (new i)) s.next (old_below i ne wi) (sym e ∙ (ap (λ j. rank_of (new j)) k_t ∙ here_rank)))
-            ]
+        | inl k_t ↦ elim (cases_eq i t) [
+          | inl i_t ↦ k_t ∙ sym i_t
+          | inr ne ↦ absurd (clash (rank_of (new i)) s.next (old_below i ne wi) (sym e ∙ (ap (λ j. rank_of (new j)) k_t ∙ here_rank)))
+        ]
         | inr nk ↦ elim (cases_eq i t) [
-              inl i_t ↦ absurd (clash (rank_of (new k)) s.next (old_below k nk wk) (e ∙ (ap (λ j. rank_of (new j)) i_t ∙ here_rank)))
-            | inr ni ↦ h.differ k i (subst IsUp (same k nk) wk) (subst IsUp (same i ni) wi) (sym (ap rank_of (same k nk)) ∙ (e ∙ ap rank_of (same i ni)))
-            ]
-        ];
+          | inl i_t ↦ absurd (clash (rank_of (new k)) s.next (old_below k nk wk) (e ∙ (ap (λ j. rank_of (new j)) i_t ∙ here_rank)))
+          | inr ni ↦ h.differ k i (subst IsUp (same k nk) wk) (subst IsUp (same i ni) wi) (sym (ap rank_of (same k nk)) ∙ (e ∙ ap rank_of (same i ni)))
+        ]
+      ];
       queues = λ k. elim (cases_eq k p) [
-          inl e ↦ subst (λ i. IsQueueOf new pr (i + 1) (get_or (pushed v.queues p t) i [])) (sym e)
+        | inl e ↦ subst (λ i. IsQueueOf new pr (i + 1) (get_or (pushed v.queues p t) i [])) (sym e)
             (subst (λ q. IsQueueOf new pr (p + 1) q) (sym (get_or-set_same v.queues p (queue_at v p ++ t ∷ []) [] fits))
-              (subst (λ i. IsQueueOf new pr i (queue_at v p ++ t ∷ [])) pr_t
-                (queue-push (turn s) new pr t u (queue_at v p) same down here
-                  (λ i w. subst (λ n. rank_of (turn s i) < n) (sym rank) (h.below i w))
-                  (subst (λ i. IsQueueOf (turn s) pr i (queue_at v p)) (sym pr_t) (h.queues p)))))
+            (subst (λ i. IsQueueOf new pr i (queue_at v p ++ t ∷ [])) pr_t
+            (queue-push (turn s) new pr t u (queue_at v p) same down here
+            (λ i w. subst (λ n. rank_of (turn s i) < n) (sym rank) (h.below i w))
+            (subst (λ i. IsQueueOf (turn s) pr i (queue_at v p)) (sym pr_t) (h.queues p)))))
         | inr ne ↦ subst (λ q. IsQueueOf new pr (k + 1) q) (sym (get_or-set_other v.queues p k (queue_at v p ++ t ∷ []) [] ne))
             (other_queue (turn s) new pr t (k + 1) (queue_at v k) same (λ e. ne (cancel k p (pr t) e pr_t)) (h.queues k))
-        ]
+      ];
     }
   where
     cancel : (i j n : ℕ) → n ≡ i + 1 → n ≡ j + 1 → i ≡ j
     cancel i j n e e' = omega arith
+
     at_most : (a b : ℕ) → a ≡ b → a < b + 1
     at_most a b e = omega arith
+
     less : (a b : ℕ) → a < b → a < b + 1
     less a b e = omega arith
+
     clash : (a b : ℕ) → a < b → a ≡ b → ⊥
     clash a b l e = omega arith
 
@@ -144,13 +147,13 @@ stands-changed v s o t x u sound h l was rank =
     let s' : Table = record s { turns = set s.turns t (Some u) } in
     let here : turn s' t ≡ Some u = get_or-set_same s.turns t (Some u) None l' in
     let ranks : (k : ℕ) → rank_of (turn s' k) ≡ rank_of (turn s k) = λ k. elim (cases_eq k t) [
-        inl e ↦ ap (λ i. rank_of (turn s' i)) e ∙ (ap rank_of here ∙ (rank ∙ (sym (ap rank_of was) ∙ sym (ap (λ i. rank_of (turn s i)) e))))
+      | inl e ↦ ap (λ i. rank_of (turn s' i)) e ∙ (ap rank_of here ∙ (rank ∙ (sym (ap rank_of was) ∙ sym (ap (λ i. rank_of (turn s i)) e))))
       | inr ne ↦ ap rank_of (get_or-set_other s.turns t k (Some u) None ne)
-      ] in
+    ] in
     let ups : (k : ℕ) → is_some (turn s' k) ≡ is_some (turn s k) = λ k. elim (cases_eq k t) [
-        inl e ↦ ap (λ i. is_some (turn s' i)) e ∙ (ap (λ y. is_some y) here ∙ (sym (ap (λ y. is_some y) was) ∙ sym (ap (λ i. is_some (turn s i)) e)))
+      | inl e ↦ ap (λ i. is_some (turn s' i)) e ∙ (ap (λ y. is_some y) here ∙ (sym (ap (λ y. is_some y) was) ∙ sym (ap (λ i. is_some (turn s i)) e)))
       | inr ne ↦ ap (λ y. is_some y) (get_or-set_other s.turns t k (Some u) None ne)
-      ] in
+    ] in
     let back : (k : ℕ) → IsUp (turn s' k) → IsUp (turn s k) = λ k w. subst IsTrue (ups k) w in
     record {
       defs = h.defs;
@@ -159,7 +162,7 @@ stands-changed v s o t x u sound h l was rank =
       below = λ k w. subst (λ n. n < s.next) (sym (ranks k)) (h.below k (back k w));
       differ = λ k i wk wi e. h.differ k i (back k wk) (back i wi) (sym (ranks k) ∙ (e ∙ ranks i));
       queues = λ k. same_queue (turn s) (turn s') (λ i. (task s i).priority) (k + 1) (queue_at v k)
-        (λ i w. ((subst IsTrue (sym (ups i)) w.0, w.1), ranks i)) (λ i w. (back i w.0, w.1)) (h.queues k)
+          (λ i w. ((subst IsTrue (sym (ups i)) w.0, w.1), ranks i)) (λ i w. (back i w.0, w.1)) (h.queues k);
     }
 
 -- ---- the first task of its queue goes to its end
@@ -173,7 +176,45 @@ stands-last v s t x sound h sound' l head was =
     let turns_are : set (set s.turns t None) t (Some u) ≡ set s.turns t (Some u) = set-set s.turns t None (Some u) in
     let up_is : up_of v t ≡ Some (without_rank u) = turn_as_up v s h t ∙ ap (option_map without_rank) was in
     let ups_are : set (set v.ups t None) t (Some (without_rank u)) ≡ v.ups =
-        set-set v.ups t None (Some (without_rank u)) ∙ (ap (λ y. set v.ups t y) (sym up_is) ∙ set-get_or v.ups t None) in
+    set-set v.ups t None (Some (without_rank u)) ∙ (ap (λ y. set v.ups t y) (sym up_is) ∙ set-get_or v.ups t None) in
     let qs = pushed (popped v.queues (place_of v t)) (place_of v t) t in
     subst (λ (xs : List (Option Up)). StandsFor (record v { ups = xs; queues = qs }) (raised t u s)) ups_are
-      (subst (λ (xs : List (Option Turn)). StandsFor (record v { ups = set (set v.ups t None) t (Some (without_rank u)); queues = qs }) (record s { turns = xs; next = s.next + 1 })) turns_are up)
+    (subst (λ (xs : List (Option Turn)). StandsFor (record v { ups = set (set v.ups t None) t (Some (without_rank u)); queues = qs }) (record s { turns = xs; next = s.next + 1 })) turns_are up)
+
+-- ---- every task goes down
+
+abbrev no_turns : List (Option Turn) → List (Option Turn)
+no_turns us = map (λ u. None) us
+
+abbrev no_ups : List (Option Up) → List (Option Up)
+no_ups us = map (λ u. None) us
+
+abbrev no_queues : List (List ℕ) → List (List ℕ)
+no_queues qs = map (λ q. []) qs
+
+nothing : (us : List (Option Turn)) (t : ℕ) → get_or (no_turns us) t None ≡ None
+nothing [] t = refl
+nothing (u ∷ us) zero = refl
+nothing (u ∷ us) (suc t) = nothing us t
+
+empty : (qs : List (List ℕ)) (k : ℕ) → get_or (no_queues qs) k [] ≡ []
+empty [] k = refl
+empty (q ∷ qs) zero = refl
+empty (q ∷ qs) (suc k) = empty qs k
+
+none_twice : (us : List (Option Turn)) → no_ups (map (option_map without_rank) us) ≡ map (option_map without_rank) (no_turns us)
+none_twice [] = refl
+none_twice (u ∷ us) = ap (λ xs. None ∷ xs) (none_twice us)
+
+pub stands-none : (v : Ready) (s : Table) (ran : ℕ) → StandsFor v s → StandsFor (record (all_down v) { ran_at = ran }) (record (stop s) { ran_at = ran })
+stands-none v s ran h =
+    let no_one : (k : ℕ) → IsUp (turn (stop s) k) → ⊥ = λ k w. false≢true (subst IsUp (nothing s.turns k) w) in
+    record {
+      defs = h.defs;
+      ups = ap no_ups h.ups ∙ none_twice s.turns;
+      ran_at = refl;
+      below = λ k w. absurd (no_one k w);
+      differ = λ k i wk wi e. absurd (no_one k wk);
+      queues = λ p. subst (λ q. IsQueueOf (turn (stop s)) (λ t. (task s t).priority) (p + 1) q) (sym (empty v.queues p))
+          (record { each = tt; all = λ k w. absurd (no_one k w.0); by_rank = tt });
+    }

@@ -5,6 +5,8 @@ use Rattle.lgx_machine.specs.declared.task.TaskKind.{TaskKind}
 use Rattle.lgx_machine.specs.declared.task.TaskKind.TheVariants.{Continuous, Periodic, Event}
 use Rattle.lgx_machine.specs.Tasks.{Turn, Table, turn, task}
 use Rattle.lgx_sched.specs.declared.table.Up.{Up}
+use Rattle.lgx_sched.specs.declared.table.Release.{Release}
+use Rattle.lgx_sched.specs.declared.table.Release.TheVariants.{Released, Overlap}
 use Rattle.lgx_sched.specs.Ready.{Ready, up_of, def_of, queue_at, place_of, has_open}
 
 abbrev pub Each : (ℕ → Type 0) → List ℕ → Type 0
@@ -49,6 +51,11 @@ pub record StandsFor (v : Ready) (s : Table) : Type 0 where
   pub below : (t : ℕ) → IsTrue (is_some (turn s t)) → rank_of (turn s t) < s.next
   pub differ : (t u : ℕ) → IsTrue (is_some (turn s t)) → IsTrue (is_some (turn s u)) → rank_of (turn s t) ≡ rank_of (turn s u) → t ≡ u
   pub queues : (p : ℕ) → IsQueueOf (turn s) (λ t. (task s t).priority) (p + 1) (queue_at v p)
+
+-- a release of a task that is up overlaps
+abbrev pub release_answer : Bool → Release
+release_answer true = Overlap
+release_answer false = Released
 
 -- ---- what is true of every table
 
