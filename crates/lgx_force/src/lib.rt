@@ -1,0 +1,7 @@
+//! Forces of I/O words: which bits of which words are held at which values, and whether forces are enabled.
+#![tactic(auto)]
+
+mod table;
+
+pub use lgx_machine::ForceFault;
+pub use table::ForceTable;
