@@ -2,6 +2,8 @@
 #![tactic(auto)]
 
 mod table;
+#[cfg(test)]
+mod tests;
 
 pub use lgx_machine::ForceFault;
 pub use table::ForceTable;

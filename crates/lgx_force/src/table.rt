@@ -44,7 +44,8 @@ impl Model for ForceTable {
 impl ForceTable {
     /// A table of so many I/O words, without a force and not enabled.
     pub fn new(alloc: Global, words: u32) -> Result<ForceTable, Memory>
-        ensures { IfOk result (λ table. table ≡ no_forces words) }
+        ensures exact { IfOk result (λ table. table ≡ no_forces words) }
+        ensures words { IfOk result (λ table. length table.words ≡ words) }
     {
         let mut kept = Vec::with_capacity(alloc, words as usize)?;
         for _word in 0..words {
@@ -61,7 +62,8 @@ impl ForceTable {
     ///
     /// F1 comes where there is no such word, and F2 where 256 other words have a force.
     pub fn install(&mut self, word: u32, mask: i32, value: i32) -> Result<(), ForceFault>
-        ensures { Answers (install self.old word mask value) self.old self.new result }
+        ensures exact { Answers (install self.old word mask value) self.old self.new result }
+        ensures words { length self.new.words ≡ length self.old.words }
     {
         if word as usize >= self.words.len() {
             return Err(ForceFault::F1);
@@ -77,7 +79,8 @@ impl ForceTable {
 
     /// Enables the forces. F3 comes where none is installed (profile).
     pub fn enable(&mut self) -> Result<(), ForceFault>
-        ensures { Answers (enable self.old) self.old self.new result }
+        ensures exact { Answers (enable self.old) self.old self.new result }
+        ensures words { length self.new.words ≡ length self.old.words }
     {
         if self.installed == 0 {
             return Err(ForceFault::F3);
@@ -88,14 +91,16 @@ impl ForceTable {
 
     /// Disables the forces. They stay installed.
     pub fn disable(&mut self)
-        ensures { self.new ≡ disable self.old }
+        ensures exact { self.new ≡ disable self.old }
+        ensures words { length self.new.words ≡ length self.old.words }
     {
         self.enabled = false;
     }
 
     /// Removes all forces, and disables (profile). F3 comes where none is installed.
     pub fn remove_all(&mut self) -> Result<(), ForceFault>
-        ensures { Answers (remove_all self.old) self.old self.new result }
+        ensures exact { Answers (remove_all self.old) self.old self.new result }
+        ensures words { length self.new.words ≡ length self.old.words }
     {
         if self.installed == 0 {
             return Err(ForceFault::F3);

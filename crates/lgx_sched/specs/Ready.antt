@@ -32,6 +32,10 @@ abbrev pub has_open : Option Up → Bool
 has_open None = false
 has_open (Some u) = nat_lt 0 u.region || u.copies
 
+abbrev pub regions_of : Option Up → ℕ
+regions_of None = 0
+regions_of (Some u) = u.region
+
 abbrev pub copies_of : Option Up → Bool
 copies_of None = false
 copies_of (Some u) = u.copies

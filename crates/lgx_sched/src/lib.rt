@@ -3,6 +3,8 @@
 
 mod queue;
 mod table;
+#[cfg(test)]
+mod tests;
 
 pub use lgx_machine::{TaskDef, TaskKind};
 pub use table::{Release, TaskTable, Up};

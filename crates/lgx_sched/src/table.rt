@@ -1,8 +1,8 @@
 // The table of tasks.
-ghost use Rattle.std.specs.Prelude.{◌≡◌, ℕ, ◌+◌, ◌-◌, ◌<◌, ◌≤◌, ◌^◌, Bool, List, [], ◌∷◌, length, drop, map, replicate, Option, Some, None, IfSome, IfOk, slice_set, slice_get, slice_index_or};
+ghost use Rattle.std.specs.Prelude.{◌≡◌, ℕ, ◌+◌, ◌-◌, ◌<◌, ◌≤◌, ◌^◌, Bool, List, [], ◌∷◌, length, drop, map, replicate, Option, Some, None, IfOk, slice_set, slice_get, slice_index_or};
 ghost use Rattle.std.specs.List.{All, position_from};
 ghost use Rattle.lgx_machine.specs.Tasks.{Table, no_task, chosen, is_up, release, start, stop, finish, rotate, is_continuous, expired, due, region_up, region_down, region_clear, set_copy, held};
-ghost use Rattle.lgx_sched.specs.Ready.{Ready, up_of, def_of, queue_at, place_of, next_task, ready_at, front_of, pushed, popped, up_last, out_of_line, to_the_end, with_up, all_down, opened_by, copies_of, has_run_out, run_out_from};
+ghost use Rattle.lgx_sched.specs.Ready.{Ready, up_of, def_of, queue_at, place_of, next_task, ready_at, front_of, pushed, popped, up_last, out_of_line, to_the_end, with_up, all_down, opened_by, regions_of, copies_of, has_run_out, run_out_from};
 ghost use Rattle.lgx_sched.specs.StandsFor.{StandsFor, IsTable, HasPeriod, none_up, release_answer};
 
 use crate::queue::Queues;
@@ -56,7 +56,8 @@ impl TaskTable {
         requires few { length defs.now < 33 }
         requires priorities { All (λ d. (0 < d.priority) × (d.priority ≤ 16)) defs.now }
         requires periods { All (λ d. HasPeriod d.kind) defs.now }
-        ensures { IfOk result (λ table. (next : ℕ) → StandsFor table (none_up defs.now next)) }
+        ensures stands { IfOk result (λ table. (next : ℕ) → StandsFor table (none_up defs.now next)) }
+        ensures defs { IfOk result (λ table. table.defs ≡ defs.now) }
     {
         let kept = Vec::from_slice(alloc, defs)?;
         let ups = none_up(alloc, defs.len())?;
@@ -100,6 +101,7 @@ impl TaskTable {
         requires task { t < length self.old.defs }
         ensures answer { (s : Table) → StandsFor self.old s → result ≡ release_answer (is_up s t) }
         ensures stands { (s : Table) → StandsFor self.old s → StandsFor self.new (release t now s) }
+        ensures defs { self.new.defs ≡ self.old.defs }
     {
         if self.ups[t as usize].is_some() {
             return Release::Overlap;
@@ -110,7 +112,8 @@ impl TaskTable {
 
     /// Puts the chosen task last in its queue, unless it has something open. So equal priorities take turns at ticks.
     pub fn rotate(&mut self)
-        ensures { (s : Table) → StandsFor self.old s → StandsFor self.new (rotate s) }
+        ensures stands { (s : Table) → StandsFor self.old s → StandsFor self.new (rotate s) }
+        ensures defs { self.new.defs ≡ self.old.defs }
     {
         if self.opened.is_none() {
             if let Some(t) = self.queues.front() {
@@ -122,7 +125,8 @@ impl TaskTable {
     /// Takes down the chosen task `t` after its last program; the continuous task is released again at once.
     pub fn finish(&mut self, t: u32, now: u32)
         requires chosen { next_task self.old ≡ Some t }
-        ensures { (s : Table) → StandsFor self.old s → StandsFor self.new (finish t now s) }
+        ensures stands { (s : Table) → StandsFor self.old s → StandsFor self.new (finish t now s) }
+        ensures defs { self.new.defs ≡ self.old.defs }
     {
         self.take_out(t);
         if is_continuous(self.defs.as_slice()[t as usize].kind) {
@@ -132,7 +136,8 @@ impl TaskTable {
 
     /// The change to Run at the tick `now`: every task goes down, and the continuous one is released.
     pub fn start(&mut self, now: u32)
-        ensures { (s : Table) → StandsFor self.old s → StandsFor self.new (start now s) }
+        ensures stands { (s : Table) → StandsFor self.old s → StandsFor self.new (start now s) }
+        ensures defs { self.new.defs ≡ self.old.defs }
     {
         self.put_all_down(now);
         if let Some(t) = continuous_task(self.defs.as_slice()) {
@@ -142,7 +147,8 @@ impl TaskTable {
 
     /// The change to Program, or to Faulted: every task goes down.
     pub fn stop(&mut self)
-        ensures { (s : Table) → StandsFor self.old s → StandsFor self.new (stop s) }
+        ensures stands { (s : Table) → StandsFor self.old s → StandsFor self.new (stop s) }
+        ensures defs { self.new.defs ≡ self.old.defs }
     {
         self.put_all_down(self.ran_at);
     }
@@ -165,11 +171,23 @@ impl TaskTable {
         first_expired(now, self.defs.as_slice(), &self.ups)
     }
 
-    /// Opens a region of the chosen task `t` (UID).
+    /// The number of open regions of a task; 0 where it is down.
+    pub fn region(&self, t: u32) -> u32
+        requires task { t < length self.now.defs }
+        ensures { result ≡ regions_of (up_of self.now t) }
+    {
+        match self.ups[t as usize] {
+            Some(up) => up.region,
+            None => 0,
+        }
+    }
+
+    /// Opens a region of the chosen task `t` (UID). It must have fewer than 4,294,967,295.
     pub fn region_up(&mut self, t: u32)
         requires chosen { next_task self.old ≡ Some t }
-        requires room { IfSome (up_of self.old t) (λ u. u.region + 1 < 2 ^ 32) }
-        ensures { (s : Table) → StandsFor self.old s → StandsFor self.new (region_up t s) }
+        requires room { regions_of (up_of self.old t) + 1 < 2 ^ 32 }
+        ensures stands { (s : Table) → StandsFor self.old s → StandsFor self.new (region_up t s) }
+        ensures defs { self.new.defs ≡ self.old.defs }
     {
         let up = self.up_now(t);
         self.change(
@@ -184,7 +202,8 @@ impl TaskTable {
     /// Closes a region of the chosen task `t` (UIE). Where none is open it does nothing.
     pub fn region_down(&mut self, t: u32)
         requires chosen { next_task self.old ≡ Some t }
-        ensures { (s : Table) → StandsFor self.old s → StandsFor self.new (region_down t s) }
+        ensures stands { (s : Table) → StandsFor self.old s → StandsFor self.new (region_down t s) }
+        ensures defs { self.new.defs ≡ self.old.defs }
     {
         let up = self.up_now(t);
         self.change(
@@ -199,7 +218,8 @@ impl TaskTable {
     /// Closes all regions of the chosen task `t`, as the end of a program scan does.
     pub fn region_clear(&mut self, t: u32)
         requires chosen { next_task self.old ≡ Some t }
-        ensures { (s : Table) → StandsFor self.old s → StandsFor self.new (region_clear t s) }
+        ensures stands { (s : Table) → StandsFor self.old s → StandsFor self.new (region_clear t s) }
+        ensures defs { self.new.defs ≡ self.old.defs }
     {
         let up = self.up_now(t);
         self.change(t, Up { region: 0, ..up });
@@ -208,7 +228,8 @@ impl TaskTable {
     /// A CPS of the chosen task `t` starts, or has copied its last element.
     pub fn set_copy(&mut self, t: u32, sync: bool)
         requires chosen { next_task self.old ≡ Some t }
-        ensures { (s : Table) → StandsFor self.old s → StandsFor self.new (set_copy t sync s) }
+        ensures stands { (s : Table) → StandsFor self.old s → StandsFor self.new (set_copy t sync s) }
+        ensures defs { self.new.defs ≡ self.old.defs }
     {
         let up = self.up_now(t);
         self.change(t, Up { copies: sync, ..up });

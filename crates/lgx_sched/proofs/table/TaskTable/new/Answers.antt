@@ -10,7 +10,7 @@ invariant_of-result c =
     subst IsTable (fresh_from c.args.defs.now _ _ _ (c.of.ensures ∙ c.in_ok-kept.ensures.items) c.in_ok-ups.ensures c.in_ok-queues.ensures)
     (table-fresh c.args.defs.now c.requires.few c.requires.priorities c.requires.periods)
 
-pub returns : goal.returns
-returns c = λ next.
+pub returns-clause-stands : goal.returns-clause-stands
+returns-clause-stands c = λ next.
     subst (λ (v : Ready). StandsFor v (none_up c.args.defs.now next)) (fresh_from c.args.defs.now _ _ _ (c.of.ensures ∙ c.in_ok-kept.ensures.items) c.in_ok-ups.ensures c.in_ok-queues.ensures)
     (stands-fresh c.args.defs.now next)

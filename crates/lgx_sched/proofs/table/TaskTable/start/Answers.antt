@@ -18,14 +18,14 @@ pub put_up-requires-clause-down : goal.put_up-requires-clause-down
 put_up-requires-clause-down c =
     ap (λ (v : Ready). up_of v c.in-Some.t) c.put_all_down.ensures.exact ∙ all_none c.args.self.now.ups c.in-Some.t
 
-pub returns-in-Some : goal.returns-in-Some
-returns-in-Some c = λ s h.
+pub returns-in-Some-clause-stands : goal.returns-in-Some-clause-stands
+returns-in-Some-clause-stands c = λ s h.
     stands-start_some c.args.self.now _ s c.args.now c.in-Some.t c.put_all_down.ensures.table h
     (ap (λ (v : Ready). first_continuous v.defs) (sym c.put_all_down.ensures.exact) ∙ (ap (λ (v : Ready). first_continuous v.defs) (sym c.self.view_is) ∙ (ap first_continuous (sym c.as_slice.ensures) ∙ (sym c.continuous_task.ensures ∙ c.in-Some.is))))
     (c.put_up.ensures ∙ ap (λ (v : Ready). up_last c.in-Some.t c.args.now v) c.put_all_down.ensures.exact)
 
-pub returns-in_default : goal.returns-in_default
-returns-in_default c = λ s h.
+pub returns-in_default-clause-stands : goal.returns-in_default-clause-stands
+returns-in_default-clause-stands c = λ s h.
     stands-start_none c.args.self.now _ s c.args.now h
     (ap (λ (v : Ready). first_continuous v.defs) (sym c.put_all_down.ensures.exact) ∙ (ap (λ (v : Ready). first_continuous v.defs) (sym c.self.view_is) ∙ (ap first_continuous (sym c.as_slice.ensures) ∙ (sym c.continuous_task.ensures ∙ c.in_default.is))))
     c.put_all_down.ensures.exact
