@@ -2,6 +2,8 @@
 #![tactic(auto)]
 
 mod conns;
+#[cfg(test)]
+mod tests;
 
 pub use conns::Conns;
 pub use lgx_machine::{ConnDef, ConnFault, Slot};
