@@ -1,0 +1,35 @@
+-- The slots and numbers of words.
+use Rattle.std.proofs.Common.{◌≡◌, ℕ, ◌+◌, ◌*◌, ◌<◌, ◌≤◌, ◌^◌, min, Bool, true, false, cond, not, ltb, List, length, take, get_or, Option, Some, None, Result, Ok, Err, refl, sym, ap, ◌∙◌, subst, arith, if◌then◌else◌, sum_by}
+use Rattle.std.specs.List.{All}
+use Rattle.std.proofs.lemmas.Bool.{lt-ltb, le-ltb, true≢false, false≢true}
+use Rattle.std.proofs.lemmas.List.{length-take, get_or_read}
+use Rattle.std.proofs.lemmas.List.Sums.{sum_by-le}
+use Rattle.std.proofs.lemmas.List.Elements.{All-take, All-weaker}
+use Rattle.lgx_machine.specs.declared.conn.ConnDef.{ConnDef}
+use Rattle.lgx_machine.specs.declared.conn.Slot.{Slot}
+use Rattle.lgx_machine.specs.declared.reply.ConnFault.{ConnFault}
+use Rattle.lgx_machine.specs.declared.reply.ConnFault.TheVariants.{N1, N2, N3}
+use Rattle.lgx_machine.specs.Connections.{no_conn, conn_named, words_of, trigger_at, slot_of, in_direction, slot_in, slot, io_in, io_word}
+use Rattle.lgx_conn.specs.Numbered.{IsSmall, IsNumbered}
+
+-- there are at most 8,192 words
+pub few_words : (conns : List ConnDef) (n : ℕ) → length conns ≤ 64 → All IsSmall conns → words_of (take n conns) ≤ 8192
+few_words conns n few small =
+    let most = sum_by-le (λ (c : ConnDef). c.words) 128 (take n conns) (All-take (λ (c : ConnDef). c.words ≤ 128) n conns (All-weaker IsSmall (λ (c : ConnDef). c.words ≤ 128) (λ c h. h.0) conns small)) in
+    bound (words_of (take n conns)) (length (take n conns)) (length conns) (subst (λ m. m ≤ length conns) (sym (length-take n conns)) (least n (length conns))) few most
+  where
+    least : (a b : ℕ) → min a b ≤ b
+    least a b = omega arith
+    bound : (s a b : ℕ) → a ≤ b → b ≤ 64 → s ≤ a * 128 → s ≤ 8192
+    bound s a b l l' h = omega arith
+
+pub is_small : (conns : List ConnDef) (n : ℕ) (c : ConnDef) → All IsSmall conns → n < length conns → c ≡ get_or conns n c → IsSmall c
+is_small conns n c small l e = subst IsSmall (sym e) (small n c l)
+
+-- the number of a word fits
+pub word_fits : (conns : List ConnDef) (firsts : List ℕ) (n word first words : ℕ) → IsNumbered conns firsts → n < length conns → first ≡ get_or firsts n first → word < words → words ≤ 128 → first + word < 2 ^ 32
+word_fits conns firsts n word first words is l e lw few =
+    let l' : n < length firsts = subst (λ m. n < m) (sym is.as_many) l in
+    let read : first ≡ words_of (take n conns) = get_or_read firsts n first l' e 0 ∙ is.first n l in
+    let most = few_words conns n is.few is.small in
+    omega arith

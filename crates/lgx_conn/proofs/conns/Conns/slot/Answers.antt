@@ -1,0 +1,14 @@
+-- There are few words.
+use Rattle.std.proofs.Common.{◌≡◌, ℕ, ◌<◌, List, length, get_or, sym, ap, ◌∙◌, subst, arith}
+use Rattle.lgx_machine.specs.declared.conn.ConnDef.{ConnDef}
+use Rattle.lgx_conn.proofs.Slots.{word_fits, is_small}
+use Rattle.lgx_conn.proofs.conns.Conns.slot.Goals as goal
+
+pub overflow_add-result-in-Some : goal.overflow_add-result-in-Some
+overflow_add-result-in-Some c =
+    let n = c.in-Some.n in
+    let within : n < length c.self.inside.defs = subst (λ (xs : List ConnDef). c.in-Some.n < length xs) c.as_slice-defs.ensures c.in-Some.ensures.within in
+    let read : c.index-defs-n.result ≡ get_or c.self.inside.defs n c.index-defs-n.result = c.index-defs-n.is ∙ ap (λ (xs : List ConnDef). get_or xs c.in-Some.n c.index-defs-n.result) c.as_slice-defs.ensures in
+    let small = is_small c.self.inside.defs n c.index-defs-n.result c.self.invariant.small within read in
+    let below : c.args.word < c.index-defs-n.result.words = omega arith in
+    record { fits = word_fits c.self.inside.defs c.self.inside.firsts.items n c.args.word c.index.result.now c.index-defs-n.result.words c.self.invariant within c.index.ensures below small.0 }

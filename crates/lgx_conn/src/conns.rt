@@ -1,0 +1,147 @@
+// The connections of a project.
+ghost use Rattle.std.specs.Prelude.{◌≡◌, ◌<◌, ◌≤◌, Bool, true, false, length, IfOk, IfSome, slice_index_or};
+ghost use Rattle.std.specs.List.{All, position_from};
+ghost use Rattle.lgx_num.specs.Name.{same};
+ghost use Rattle.lgx_machine.specs.Connections.{slot, io_word, no_conn, trigger_at};
+ghost use Rattle.lgx_conn.specs.Numbered.{IsSmall};
+
+use lgx_machine::{ConnDef, ConnFault, Slot};
+use lgx_num::{List as Items, Memory, Name};
+use std::alloc::Global;
+use std::marker::Model;
+
+/// The connections of a project in their order, seen as the list of their definitions.
+///
+/// A name is found by a walk over at most 64 names of at most 40 bytes: a map would have to take memory for a key
+/// without case at each call.
+#[derive(Drop)]
+pub struct Conns {
+    defs: Items<ConnDef>,
+    // for each the number of its first word among the words of all
+    firsts: Vec<u32>,
+}
+
+impl Model for Conns {
+    ghost use Rattle.std.specs.Prelude.{List};
+    ghost use Rattle.lgx_machine.specs.declared.conn.ConnDef.{ConnDef};
+    ghost use Rattle.lgx_conn.specs.Numbered.{IsNumbered};
+
+    ghost Value = { List ConnDef };
+
+    ghost view = { λ c. c.defs };
+
+    ghost invariant = { λ c. IsNumbered c.defs c.firsts.items };
+}
+
+impl Conns {
+    /// The connections of these definitions: at most 64, each of at most 128 words that lie in the image.
+    pub fn new(alloc: Global, defs: &[ConnDef]) -> Result<Conns, Memory>
+        requires few { length defs.now ≤ 64 }
+        requires small { All IsSmall defs.now }
+        ensures { IfOk result (λ conns. conns ≡ defs.now) }
+    {
+        let mut kept = Vec::with_capacity(alloc, defs.len())?;
+        let mut firsts = Vec::with_capacity(alloc, defs.len())?;
+        let mut next = 0;
+        for def in defs {
+            kept.push(copied(def))?;
+            firsts.push(next)?;
+            next += def.words;
+        }
+        Ok(Conns {
+            defs: Items::of(kept),
+            firsts,
+        })
+    }
+
+    /// The slot of word `word` of an input connection.
+    ///
+    /// N1 is an unknown connection, N2 a word out of range and N3 an output, the first of these in this order.
+    pub fn word_in(&self, conn: &Name, word: u32) -> Result<Slot, ConnFault>
+        ensures { result ≡ slot self.now conn.now word false }
+    {
+        self.slot(conn, word, false)
+    }
+
+    /// The slot of word `word` of an output connection, with the refusals of [`Conns::word_in`] but for N3, an input.
+    pub fn word_out(&self, conn: &Name, word: u32) -> Result<Slot, ConnFault>
+        ensures { result ≡ slot self.now conn.now word true }
+    {
+        self.slot(conn, word, true)
+    }
+
+    /// The number of a word among the words of all connections, in either direction.
+    pub fn io_word(&self, conn: &Name, word: u32) -> Option<u32>
+        ensures { result ≡ io_word self.now conn.now word }
+    {
+        let defs = self.defs.as_slice();
+        let n = find(defs, conn)?;
+        if word < defs[n].words {
+            Some(self.firsts[n] + word)
+        } else {
+            None
+        }
+    }
+
+    fn slot(&self, conn: &Name, word: u32, output: bool) -> Result<Slot, ConnFault>
+        ensures { result ≡ slot self.now conn.now word output }
+    {
+        let defs = self.defs.as_slice();
+        match find(defs, conn) {
+            None => Err(ConnFault::N1),
+            Some(n) => {
+                let def = &defs[n];
+                if word >= def.words {
+                    return Err(ConnFault::N2);
+                }
+                if def.output != output {
+                    return Err(ConnFault::N3);
+                }
+                Ok(Slot {
+                    byte: def.byte + 4 * word,
+                    io: self.firsts[n] + word,
+                    trigger: trigger_at(def, word),
+                })
+            }
+        }
+    }
+}
+
+// The number of a connection by its name.
+fn find(defs: &[ConnDef], name: &Name) -> Option<usize>
+    ensures place { result ≡ position_from (λ c. same c.name name.now) 0 defs.now }
+    ensures within { IfSome result (λ n. n < length defs.now) }
+{
+    for n in 0..defs.len() {
+        let def = &defs[n];
+        if def.name.same(name) {
+            return Some(n);
+        }
+    }
+    None
+}
+
+// The last word of an input triggers the connection's task.
+fn trigger_at(def: &ConnDef, word: u32) -> Option<u32>
+    requires { word < def.now.words }
+    ensures { result ≡ trigger_at def.now word }
+{
+    let words = def.words;
+    if !def.output && word + 1 == words {
+        def.trigger
+    } else {
+        None
+    }
+}
+
+fn copied(def: &ConnDef) -> ConnDef
+    ensures { result ≡ def.now }
+{
+    ConnDef {
+        name: def.name.copied(),
+        output: def.output,
+        byte: def.byte,
+        words: def.words,
+        trigger: def.trigger,
+    }
+}

@@ -1,0 +1,9 @@
+//! The connections of controller tags to modules: where their I/O words lie, and which task each triggers.
+#![tactic(auto)]
+
+mod conns;
+#[cfg(test)]
+mod tests;
+
+pub use conns::Conns;
+pub use lgx_machine::{ConnDef, ConnFault, Slot};

@@ -1,0 +1,17 @@
+-- What a table of forces is seen as.
+use Rattle.std.specs.Prelude.{◌≡◌, List, map, Option, option_map, Result, Ok, Err}
+use Rattle.lgx_machine.specs.Forces.{Force, Forces}
+use Rattle.lgx_machine.specs.declared.reply.ForceFault.{ForceFault}
+use Rattle.lgx_force.specs.declared.table.Kept.{Kept}
+
+-- a force as it is kept
+abbrev pub force_of : Kept → Force
+force_of k = record { mask = k.mask; value = k.value }
+
+abbrev pub forces_of : List (Option Kept) → List (Option Force)
+forces_of kept = map (option_map force_of) kept
+
+-- What a call answers and leaves is what the definition gives. After a refusal the table is as before.
+abbrev pub Answers : Result Forces ForceFault → Forces → Forces → Result (Unit {0}) ForceFault → Type 0
+Answers (Ok after) before new answer = (answer ≡ Ok tt) × (new ≡ after)
+Answers (Err fault) before new answer = (answer ≡ Err fault) × (new ≡ before)

@@ -1,0 +1,9 @@
+//! Forces of I/O words: which bits of which words are held at which values, and whether forces are enabled.
+#![tactic(auto)]
+
+mod table;
+#[cfg(test)]
+mod tests;
+
+pub use lgx_machine::ForceFault;
+pub use table::ForceTable;

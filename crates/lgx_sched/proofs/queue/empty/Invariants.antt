@@ -1,0 +1,5 @@
+use Rattle.std.proofs.Common.{◌≡◌, ◌≤◌, ◌++◌, ℕ, List, [], drop, take, map, length}
+use Rattle.lgx_sched.proofs.queue.empty.Given as goal
+
+abbrev pub invariant-loop-i : goal.invariant-loop-i
+invariant-loop-i l = (l.queues.items ≡ map (λ q. []) (take l.i l.fn.queues.items) ++ drop l.i l.fn.queues.items) × (l.queues.len ≡ l.fn.queues.len)

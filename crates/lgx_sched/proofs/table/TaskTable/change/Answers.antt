@@ -1,0 +1,19 @@
+-- The table stays one, and knows whether the task has something open.
+use Rattle.std.proofs.Common.{◌≡◌, ℕ, Bool, List, [], Option, Some, None, length, ◌<◌, ap, ◌∙◌, subst, sym, refl, arith, is_some}
+use Rattle.lgx_machine.specs.declared.task.TaskDef.{TaskDef}
+use Rattle.lgx_machine.specs.Tasks.{Table, no_task}
+use Rattle.lgx_sched.specs.declared.table.Up.{Up}
+use Rattle.lgx_sched.specs.Ready.{Ready, def_of, up_of, place_of, next_task, front_of, with_up, up_last, out_of_line, to_the_end, all_down}
+use Rattle.lgx_sched.specs.StandsFor.{StandsFor}
+use Rattle.lgx_sched.proofs.Tables.{known_task}
+use Rattle.lgx_sched.proofs.Calls.{with_from}
+use Rattle.lgx_sched.proofs.table.TaskTable.change.Goals as goal
+
+pub index_mut-requires : goal.index_mut-requires
+index_mut-requires c =
+    let l = known_task _ c.args.t c.self.invariant (subst (λ (v : Ready). next_task v ≡ Some c.args.t) (sym c.self.view_is) c.requires.chosen) in
+    let same = c.self.invariant.0.as_many in
+    omega arith
+
+pub invariant_of-self : goal.invariant_of-self
+invariant_of-self c = with_from _ c.args.t c.args.up _ c.self.invariant (subst (λ (v : Ready). next_task v ≡ Some c.args.t) (sym c.self.view_is) c.requires.chosen) c.opened_by-opened.ensures

@@ -1,0 +1,16 @@
+-- The first task that has run out is that of the list.
+use Rattle.std.proofs.Common.{◌≡◌, ℕ, Bool, List, [], Option, Some, None, length, ◌<◌, ap, ◌∙◌, subst, sym, refl, arith, is_some}
+use Rattle.lgx_machine.specs.declared.task.TaskDef.{TaskDef}
+use Rattle.lgx_machine.specs.Tasks.{Table, no_task}
+use Rattle.lgx_sched.specs.declared.table.Up.{Up}
+use Rattle.lgx_sched.specs.Ready.{Ready, def_of, up_of, place_of, next_task, front_of, with_up, up_last, out_of_line, to_the_end, all_down}
+use Rattle.lgx_sched.specs.StandsFor.{StandsFor}
+use Rattle.lgx_sched.specs.Ready.{run_out_from}
+use Rattle.lgx_sched.proofs.Calls.{stands-expired}
+use Rattle.lgx_sched.proofs.table.TaskTable.expired.Goals as goal
+
+pub returns : goal.returns
+returns c = λ s h.
+    c.first_expired.ensures ∙ (ap (λ (xs : List TaskDef). run_out_from c.args.now 0 xs c.deref.result.now) c.as_slice.ensures
+    ∙ (ap (λ (us : List (Option Up)). run_out_from c.args.now 0 c.self.inside.defs us) c.deref.ensures.value
+    ∙ stands-expired _ s c.args.now (subst (λ v. StandsFor v s) (sym c.self.view_is) h)))

@@ -1,0 +1,35 @@
+-- The task is down, and up again where it is the continuous one.
+use Rattle.std.proofs.Common.{◌≡◌, ℕ, Bool, List, [], Option, Some, None, length, ◌<◌, ap, ◌∙◌, subst, sym, refl, arith, is_some}
+use Rattle.lgx_machine.specs.declared.task.TaskDef.{TaskDef}
+use Rattle.lgx_machine.specs.Tasks.{Table, no_task, is_continuous, finish}
+use Rattle.lgx_sched.specs.declared.table.Up.{Up}
+use Rattle.lgx_sched.specs.Ready.{Ready, def_of, up_of, place_of, next_task, front_of, with_up, up_last, out_of_line, to_the_end, all_down}
+use Rattle.lgx_sched.specs.StandsFor.{StandsFor}
+use Rattle.std.proofs.lemmas.List.{get_or_default}
+use Rattle.lgx_sched.proofs.Tables.{known_task, stands-finish, stands-finish_other, down_after}
+use Rattle.lgx_sched.proofs.table.TaskTable.finish.Goals as goal
+
+pub bounds-as_slice-t : goal.bounds-as_slice-t
+bounds-as_slice-t c =
+    subst (λ (xs : List TaskDef). c.args.t < length xs) (sym c.as_slice.ensures)
+    (subst (λ (v : Ready). c.args.t < length v.defs) (sym (c.self.view_is ∙ c.take_out.ensures.exact)) (known_task c.args.self.now c.args.t c.take_out.ensures.table c.requires.chosen))
+
+pub put_up-requires-clause-task : goal.put_up-requires-clause-task
+put_up-requires-clause-task c =
+    subst (λ (v : Ready). c.args.t < length v.defs) (sym c.take_out.ensures.exact) (known_task c.args.self.now c.args.t c.take_out.ensures.table c.requires.chosen)
+
+pub put_up-requires-clause-down : goal.put_up-requires-clause-down
+put_up-requires-clause-down c =
+    ap (λ (v : Ready). up_of v c.args.t) c.take_out.ensures.exact ∙ down_after c.args.self.now c.args.t c.take_out.ensures.table c.requires.chosen
+
+pub returns-then-is_continuous-clause-stands : goal.returns-then-is_continuous-clause-stands
+returns-then-is_continuous-clause-stands c = λ s h.
+    let known : (ds : List TaskDef) → c.args.self.now.defs ≡ ds → c.args.t < length ds = λ ds e. subst (λ (xs : List TaskDef). c.args.t < length xs) e (known_task c.args.self.now c.args.t c.take_out.ensures.table c.requires.chosen) in
+    subst (λ (v : Ready). StandsFor v (finish c.args.t c.args.now s)) (sym (c.put_up.ensures ∙ ap (λ (v : Ready). up_last c.args.t c.args.now v) c.take_out.ensures.exact))
+    (stands-finish c.args.self.now s c.args.t c.args.now c.take_out.ensures.table h c.requires.chosen (ap (λ (xs : List TaskDef). is_continuous (def_of (record { defs = xs; ups = []; queues = []; opened = None; ran_at = 0 }) c.args.t).kind) (ap (λ (v : Ready). v.defs) (sym c.take_out.ensures.exact) ∙ (ap (λ (v : Ready). v.defs) (sym c.self.view_is) ∙ sym c.as_slice.ensures)) ∙ (sym (c.is_continuous.ensures ∙ ap (λ (d : TaskDef). is_continuous d.kind) (get_or_default c.as_slice.result.now c.args.t _ no_task (known c.as_slice.result.now (ap (λ (v : Ready). v.defs) (sym c.take_out.ensures.exact) ∙ (ap (λ (v : Ready). v.defs) (sym c.self.view_is) ∙ sym c.as_slice.ensures))))) ∙ c.if-is_continuous.true)))
+
+pub returns-else-is_continuous-clause-stands : goal.returns-else-is_continuous-clause-stands
+returns-else-is_continuous-clause-stands c = λ s h.
+    let known : (ds : List TaskDef) → c.args.self.now.defs ≡ ds → c.args.t < length ds = λ ds e. subst (λ (xs : List TaskDef). c.args.t < length xs) e (known_task c.args.self.now c.args.t c.take_out.ensures.table c.requires.chosen) in
+    subst (λ (v : Ready). StandsFor v (finish c.args.t c.args.now s)) (sym c.take_out.ensures.exact)
+    (stands-finish_other c.args.self.now s c.args.t c.args.now c.take_out.ensures.table h c.requires.chosen (ap (λ (xs : List TaskDef). is_continuous (def_of (record { defs = xs; ups = []; queues = []; opened = None; ran_at = 0 }) c.args.t).kind) (ap (λ (v : Ready). v.defs) (sym c.take_out.ensures.exact) ∙ (ap (λ (v : Ready). v.defs) (sym c.self.view_is) ∙ sym c.as_slice.ensures)) ∙ (sym (c.is_continuous.ensures ∙ ap (λ (d : TaskDef). is_continuous d.kind) (get_or_default c.as_slice.result.now c.args.t _ no_task (known c.as_slice.result.now (ap (λ (v : Ready). v.defs) (sym c.take_out.ensures.exact) ∙ (ap (λ (v : Ready). v.defs) (sym c.self.view_is) ∙ sym c.as_slice.ensures))))) ∙ c.if-is_continuous.false)))

@@ -1,0 +1,27 @@
+-- Only the open task can have a CPS in progress.
+use Rattle.std.proofs.Common.{◌≡◌, ℕ, Bool, List, [], Option, Some, None, length, ◌<◌, ap, ◌∙◌, subst, sym, refl, arith, is_some}
+use Rattle.lgx_machine.specs.declared.task.TaskDef.{TaskDef}
+use Rattle.lgx_machine.specs.Tasks.{Table, no_task}
+use Rattle.lgx_sched.specs.declared.table.Up.{Up}
+use Rattle.lgx_sched.specs.Ready.{Ready, def_of, up_of, place_of, next_task, front_of, with_up, up_last, out_of_line, to_the_end, all_down}
+use Rattle.lgx_sched.specs.StandsFor.{StandsFor}
+use Rattle.lgx_sched.specs.Ready.{copies_of}
+use Rattle.std.proofs.lemmas.List.{get_or_read}
+use Rattle.lgx_sched.proofs.Calls.{held-none, held-some, opened_task}
+use Rattle.lgx_sched.proofs.table.TaskTable.held.Goals as goal
+
+pub index-requires : goal.index-requires
+index-requires c =
+    let l = opened_task _ c.in-Some.t c.self.invariant c.in-Some.is in
+    let same = c.self.invariant.0.as_many in
+    omega arith
+
+pub returns-in-Some : goal.returns-in-Some
+returns-in-Some c = λ s h.
+    let l = opened_task _ c.in-Some.t c.self.invariant c.in-Some.is in
+    let same = c.self.invariant.0.as_many in
+    c.has_cps.ensures ∙ (ap copies_of (get_or_read c.self.inside.ups.items c.in-Some.t _ (omega arith) c.index.ensures None)
+    ∙ sym (held-some _ s c.in-Some.t c.self.invariant.0 (subst (λ v. StandsFor v s) (sym c.self.view_is) h) c.in-Some.is))
+
+pub returns-in-None : goal.returns-in-None
+returns-in-None c = λ s h. sym (held-none _ s c.self.invariant.0 (subst (λ v. StandsFor v s) (sym c.self.view_is) h) c.in-None.is)

@@ -1,0 +1,34 @@
+-- The task that is to run is up.
+use Rattle.std.proofs.Common.{◌≡◌, ℕ, Bool, List, [], Option, Some, None, length, ◌<◌, ap, ◌∙◌, subst, sym, refl, arith, is_some}
+use Rattle.lgx_machine.specs.declared.task.TaskDef.{TaskDef}
+use Rattle.lgx_machine.specs.Tasks.{Table, no_task}
+use Rattle.lgx_sched.specs.declared.table.Up.{Up}
+use Rattle.lgx_sched.specs.Ready.{Ready, def_of, up_of, place_of, next_task, front_of, with_up, up_last, out_of_line, to_the_end, all_down}
+use Rattle.lgx_sched.specs.StandsFor.{StandsFor}
+use Rattle.std.proofs.lemmas.List.{get_or_read}
+use Rattle.lgx_sched.proofs.Tables.{known_task}
+use Rattle.lgx_sched.proofs.Calls.{chosen_up}
+use Rattle.lgx_sched.proofs.table.TaskTable.up_now.Goals as goal
+
+pub index-requires : goal.index-requires
+index-requires c =
+    let l = known_task _ c.args.t c.self.invariant (subst (λ (v : Ready). next_task v ≡ Some c.args.t) (sym c.self.view_is) c.requires.chosen) in
+    let same = c.self.invariant.0.as_many in
+    omega arith
+
+pub unreachable-requires : goal.unreachable-requires
+unreachable-requires c =
+    let l = known_task _ c.args.t c.self.invariant (subst (λ (v : Ready). next_task v ≡ Some c.args.t) (sym c.self.view_is) c.requires.chosen) in
+    let same = c.self.invariant.0.as_many in
+    let u = chosen_up _ c.args.t c.self.invariant (subst (λ (v : Ready). next_task v ≡ Some c.args.t) (sym c.self.view_is) c.requires.chosen) in
+    let read : c.index.result.now ≡ up_of (record { defs = []; ups = c.self.inside.ups.items; queues = []; opened = None; ran_at = 0 }) c.args.t = get_or_read c.self.inside.ups.items c.args.t _ (omega arith) c.index.ensures None in
+    let none = c.in-None.is in
+    let some = u.1 in
+    cc
+
+pub returns-clause-up : goal.returns-clause-up
+returns-clause-up c =
+    let l = known_task _ c.args.t c.self.invariant (subst (λ (v : Ready). next_task v ≡ Some c.args.t) (sym c.self.view_is) c.requires.chosen) in
+    let same = c.self.invariant.0.as_many in
+    ap (λ (v : Ready). up_of v c.args.t) (sym c.self.view_is)
+    ∙ (sym (get_or_read c.self.inside.ups.items c.args.t _ (omega arith) c.index.ensures None) ∙ c.in-Some.is)

@@ -1,0 +1,12 @@
+-- The first that has run out, one task on.
+use Rattle.std.proofs.Common.{sym, ◌∙◌}
+use Rattle.lgx_sched.proofs.Calls.{run_out_found, run_out_later}
+use Rattle.lgx_sched.proofs.table.first_expired.Goals as goal
+
+pub returns-then-has_run_out : goal.returns-then-has_run_out
+returns-then-has_run_out c =
+    run_out_found c.args.now c.loop-t.t c.args.defs.now c.args.ups.now _ _ c.loop-t-test.true c.requires.as_many c.loop-t.invariant (sym c.has_run_out.ensures ∙ c.if-has_run_out.true)
+
+pub loop-t-preserved : goal.loop-t-preserved
+loop-t-preserved c =
+    run_out_later c.args.now c.loop-t.t c.args.defs.now c.args.ups.now _ _ c.loop-t-test.true c.requires.as_many c.loop-t.invariant (sym c.has_run_out.ensures ∙ c.if-has_run_out.false)

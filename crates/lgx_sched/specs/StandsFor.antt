@@ -1,0 +1,89 @@
+-- What it means that the table of tasks stands for a list of task states with ranks.
+use Rattle.std.specs.Prelude.{◌≡◌, ℕ, ◌+◌, ◌-◌, ◌<◌, ◌≤◌, Bool, true, false, IsTrue, nat_eq, nat_le, List, [], ◌∷◌, length, map, sum_by, count_by, Option, Some, None, IfSome, is_some, option_map, ◌⊎◌, slice_get, slice_index_or, replicate}
+use Rattle.lgx_machine.specs.declared.task.TaskDef.{TaskDef}
+use Rattle.lgx_machine.specs.declared.task.TaskKind.{TaskKind}
+use Rattle.lgx_machine.specs.declared.task.TaskKind.TheVariants.{Continuous, Periodic, Event}
+use Rattle.lgx_machine.specs.Tasks.{Turn, Table, turn, task}
+use Rattle.lgx_sched.specs.declared.table.Up.{Up}
+use Rattle.lgx_sched.specs.declared.table.Release.{Release}
+use Rattle.lgx_sched.specs.declared.table.Release.TheVariants.{Released, Overlap}
+use Rattle.lgx_sched.specs.Ready.{Ready, up_of, def_of, queue_at, place_of, has_open}
+
+abbrev pub Each : (ℕ → Type 0) → List ℕ → Type 0
+Each P [] = Unit {0}
+Each P (t ∷ ts) = P t × Each P ts
+
+abbrev pub In : ℕ → List ℕ → Type 0
+In t [] = ⊥
+In t (u ∷ us) = (t ≡ u) ⊎ In t us
+
+-- each task has a lower rank than all behind it
+abbrev pub Ascends : (ℕ → ℕ) → List ℕ → Type 0
+Ascends rank [] = Unit {0}
+Ascends rank (t ∷ ts) = Each (λ u. rank t < rank u) ts × Ascends rank ts
+
+-- the rank of a task that is up
+abbrev pub rank_of : Option Turn → ℕ
+rank_of None = 0
+rank_of (Some u) = u.rank
+
+-- a turn but for its rank
+abbrev pub without_rank : Turn → Up
+without_rank u = record { start = u.start; region = u.region; copies = u.copies }
+
+-- task t is up and has priority p
+abbrev pub IsUpAt : (ℕ → Option Turn) → (ℕ → ℕ) → ℕ → ℕ → Type 0
+IsUpAt turns priority p t = IsTrue (is_some (turns t)) × (priority t ≡ p)
+
+-- the tasks of priority p that are up, each once, by their ranks
+pub record IsQueueOf (turns : ℕ → Option Turn) (priority : ℕ → ℕ) (p : ℕ) (q : List ℕ) : Type 0 where
+  pub each : Each (IsUpAt turns priority p) q
+  pub all : (t : ℕ) → IsUpAt turns priority p t → In t q
+  pub by_rank : Ascends (λ t. rank_of (turns t)) q
+
+-- The same tasks are up, with the same starts, regions and open CPS; the tick of the last change to Run is the same; the
+-- ranks of the tasks that are up differ and are below the next; and the up tasks of each priority stand in their queue by
+-- rank. The numbers of the ranks don't matter.
+pub record StandsFor (v : Ready) (s : Table) : Type 0 where
+  pub defs : v.defs ≡ s.defs
+  pub ups : v.ups ≡ map (option_map without_rank) s.turns
+  pub ran_at : v.ran_at ≡ s.ran_at
+  pub below : (t : ℕ) → IsTrue (is_some (turn s t)) → rank_of (turn s t) < s.next
+  pub differ : (t u : ℕ) → IsTrue (is_some (turn s t)) → IsTrue (is_some (turn s u)) → rank_of (turn s t) ≡ rank_of (turn s u) → t ≡ u
+  pub queues : (p : ℕ) → IsQueueOf (turn s) (λ t. (task s t).priority) (p + 1) (queue_at v p)
+
+-- a release of a task that is up overlaps
+abbrev pub release_answer : Bool → Release
+release_answer true = Overlap
+release_answer false = Released
+
+-- ---- what is true of every table
+
+-- each period is at least 1
+abbrev pub HasPeriod : TaskKind → Type 0
+HasPeriod (Periodic n) = 0 < n
+HasPeriod _ = Unit {0}
+
+abbrev pub is_it : Option ℕ → ℕ → Bool
+is_it None t = false
+is_it (Some o) t = nat_eq o t
+
+-- There are at most 32 tasks, and a queue for each priority; what is open is known, is of one task alone, and this task
+-- is the first of its queue; and the queues have no more tasks than are up.
+pub record IsSound (v : Ready) : Type 0 where
+  pub few : length v.defs ≤ 32
+  pub as_many : length v.ups ≡ length v.defs
+  pub sixteen : length v.queues ≡ 16
+  pub priorities : (t : ℕ) → t < length v.defs → (0 < (def_of v t).priority) × ((def_of v t).priority ≤ 16)
+  pub periods : (t : ℕ) → t < length v.defs → HasPeriod ((def_of v t).kind)
+  pub alone : (t : ℕ) → has_open (up_of v t) ≡ is_it v.opened t
+  pub first : IfSome v.opened (λ t. slice_get (queue_at v (place_of v t)) 0 ≡ Some t)
+  pub room : sum_by (λ (q : List ℕ). length q) v.queues ≡ count_by is_some v.ups
+
+-- it is sound, and there is a list that it stands for
+abbrev pub IsTable : Ready → Type 0
+IsTable v = IsSound v × ((s : Table) × StandsFor v s)
+
+-- the list of a table that was just made: every task is down
+abbrev pub none_up : List TaskDef → ℕ → Table
+none_up defs next = record { defs = defs; turns = replicate (length defs) None; next = next; ran_at = 0 }

@@ -1,0 +1,10 @@
+//! The table of tasks: which are up, which one is chosen, and how they come up, take turns and go down (1756-PM005).
+#![tactic(auto)]
+
+mod queue;
+mod table;
+#[cfg(test)]
+mod tests;
+
+pub use lgx_machine::{TaskDef, TaskKind};
+pub use table::{Release, TaskTable, Up};

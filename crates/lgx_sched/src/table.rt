@@ -1,0 +1,402 @@
+// The table of tasks.
+ghost use Rattle.std.specs.Prelude.{◌≡◌, ℕ, ◌+◌, ◌-◌, ◌<◌, ◌≤◌, ◌^◌, Bool, List, [], ◌∷◌, length, drop, map, replicate, Option, Some, None, IfOk, slice_set, slice_get, slice_index_or};
+ghost use Rattle.std.specs.List.{All, position_from};
+ghost use Rattle.lgx_machine.specs.Tasks.{Table, no_task, chosen, is_up, release, start, stop, finish, rotate, is_continuous, expired, due, region_up, region_down, region_clear, set_copy, held};
+ghost use Rattle.lgx_sched.specs.Ready.{Ready, up_of, def_of, queue_at, place_of, next_task, ready_at, front_of, pushed, popped, up_last, out_of_line, to_the_end, with_up, all_down, opened_by, regions_of, copies_of, has_run_out, run_out_from};
+ghost use Rattle.lgx_sched.specs.StandsFor.{StandsFor, IsTable, HasPeriod, none_up, release_answer};
+
+use crate::queue::Queues;
+use lgx_machine::{TaskDef, TaskKind};
+use lgx_num::{List as Items, Memory};
+use std::alloc::{AllocError, Global};
+use std::marker::Model;
+
+/// What is kept of a task that is up: the tick of its start, the number of its open regions, and whether it has a CPS
+/// in progress.
+#[derive(Clone, Copy)]
+pub struct Up {
+    pub start: u32,
+    pub region: u32,
+    pub copies: bool,
+}
+
+/// What a release did.
+#[derive(Clone, Copy, PartialEq, Eq, Debug)]
+pub enum Release {
+    /// The task was down, and is up.
+    Released,
+    /// The task was up, and nothing changed.
+    Overlap,
+}
+
+#[derive(Drop)]
+pub struct TaskTable {
+    defs: Items<TaskDef>,
+    ups: Vec<Option<Up>>,
+    queues: Queues,
+    opened: Option<u32>,
+    ran_at: u32,
+}
+
+impl Model for TaskTable {
+    ghost use Rattle.lgx_sched.specs.Ready.{Ready};
+
+    ghost Value = { Ready };
+
+    ghost use Rattle.lgx_sched.specs.StandsFor.{IsTable};
+
+    ghost view = { λ t. record { defs = t.defs; ups = t.ups.items; queues = t.queues; opened = t.opened; ran_at = t.ran_at } };
+
+    ghost invariant = { λ t. IsTable (record { defs = t.defs; ups = t.ups.items; queues = t.queues; opened = t.opened; ran_at = t.ran_at }) };
+}
+
+impl TaskTable {
+    /// A table of these tasks in project order, at most 32, with all of them down.
+    pub fn new(alloc: Global, defs: &[TaskDef]) -> Result<TaskTable, Memory>
+        requires few { length defs.now < 33 }
+        requires priorities { All (λ d. (0 < d.priority) × (d.priority ≤ 16)) defs.now }
+        requires periods { All (λ d. HasPeriod d.kind) defs.now }
+        ensures stands { IfOk result (λ table. (next : ℕ) → StandsFor table (none_up defs.now next)) }
+        ensures defs { IfOk result (λ table. table.defs ≡ defs.now) }
+    {
+        let kept = Vec::from_slice(alloc, defs)?;
+        let ups = none_up(alloc, defs.len())?;
+        let queues = Queues::new(alloc)?;
+        Ok(TaskTable {
+            defs: Items::of(kept),
+            ups,
+            queues,
+            opened: None,
+            ran_at: 0,
+        })
+    }
+
+    /// The task that is to run: the one that has something open, else the first of the first queue that has one.
+    ///
+    /// It is None exactly where no task is up.
+    pub fn chosen(&self) -> Option<u32>
+        ensures front { result ≡ next_task self.now }
+        ensures stands { (s : Table) → StandsFor self.now s → result ≡ chosen s }
+    {
+        match self.opened {
+            Some(t) => Some(t),
+            None => self.queues.front(),
+        }
+    }
+
+    /// The task of a priority that has exactly `i` tasks of the same priority before it in line.
+    ///
+    /// It is None exactly where there is none.
+    pub fn ready(&self, priority: u8, i: u32) -> Option<u32>
+        ensures { result ≡ ready_at self.now priority i }
+    {
+        if priority == 0 {
+            return None;
+        }
+        self.queues.get(priority as usize - 1, i as usize)
+    }
+
+    /// Releases a task at the tick `now`: it is up, last in its queue. A task that is up overlaps, and stays as it is.
+    pub fn release(&mut self, t: u32, now: u32) -> Release
+        requires task { t < length self.old.defs }
+        ensures answer { (s : Table) → StandsFor self.old s → result ≡ release_answer (is_up s t) }
+        ensures stands { (s : Table) → StandsFor self.old s → StandsFor self.new (release t now s) }
+        ensures defs { self.new.defs ≡ self.old.defs }
+    {
+        if self.ups[t as usize].is_some() {
+            return Release::Overlap;
+        }
+        self.put_up(t, now);
+        Release::Released
+    }
+
+    /// Puts the chosen task last in its queue, unless it has something open. So equal priorities take turns at ticks.
+    pub fn rotate(&mut self)
+        ensures stands { (s : Table) → StandsFor self.old s → StandsFor self.new (rotate s) }
+        ensures defs { self.new.defs ≡ self.old.defs }
+    {
+        if self.opened.is_none() {
+            if let Some(t) = self.queues.front() {
+                self.put_last(t);
+            }
+        }
+    }
+
+    /// Takes down the chosen task `t` after its last program; the continuous task is released again at once.
+    pub fn finish(&mut self, t: u32, now: u32)
+        requires chosen { next_task self.old ≡ Some t }
+        ensures stands { (s : Table) → StandsFor self.old s → StandsFor self.new (finish t now s) }
+        ensures defs { self.new.defs ≡ self.old.defs }
+    {
+        self.take_out(t);
+        if is_continuous(self.defs.as_slice()[t as usize].kind) {
+            self.put_up(t, now);
+        }
+    }
+
+    /// The change to Run at the tick `now`: every task goes down, and the continuous one is released.
+    pub fn start(&mut self, now: u32)
+        ensures stands { (s : Table) → StandsFor self.old s → StandsFor self.new (start now s) }
+        ensures defs { self.new.defs ≡ self.old.defs }
+    {
+        self.put_all_down(now);
+        if let Some(t) = continuous_task(self.defs.as_slice()) {
+            self.put_up(t, now);
+        }
+    }
+
+    /// The change to Program, or to Faulted: every task goes down.
+    pub fn stop(&mut self)
+        ensures stands { (s : Table) → StandsFor self.old s → StandsFor self.new (stop s) }
+        ensures defs { self.new.defs ≡ self.old.defs }
+    {
+        self.put_all_down(self.ran_at);
+    }
+
+    /// Whether a periodic task is due at the tick `now`.
+    pub fn due(&self, t: u32, now: u32) -> bool
+        requires task { t < length self.now.defs }
+        ensures { (s : Table) → StandsFor self.now s → result ≡ due t now s }
+    {
+        match self.defs.as_slice()[t as usize].kind {
+            TaskKind::Periodic(period) => self.ran_at < now && (now - self.ran_at) % period == 0,
+            TaskKind::Continuous | TaskKind::Event => false,
+        }
+    }
+
+    /// The first task in project order that has been up for the ticks of its watchdog at the tick `now`.
+    pub fn expired(&self, now: u32) -> Option<u32>
+        ensures { (s : Table) → StandsFor self.now s → result ≡ expired now s }
+    {
+        first_expired(now, self.defs.as_slice(), &self.ups)
+    }
+
+    /// The number of open regions of a task; 0 where it is down.
+    pub fn region(&self, t: u32) -> u32
+        requires task { t < length self.now.defs }
+        ensures { result ≡ regions_of (up_of self.now t) }
+    {
+        match self.ups[t as usize] {
+            Some(up) => up.region,
+            None => 0,
+        }
+    }
+
+    /// Opens a region of the chosen task `t` (UID). It must have fewer than 4,294,967,295.
+    pub fn region_up(&mut self, t: u32)
+        requires chosen { next_task self.old ≡ Some t }
+        requires room { regions_of (up_of self.old t) + 1 < 2 ^ 32 }
+        ensures stands { (s : Table) → StandsFor self.old s → StandsFor self.new (region_up t s) }
+        ensures defs { self.new.defs ≡ self.old.defs }
+    {
+        let up = self.up_now(t);
+        self.change(
+            t,
+            Up {
+                region: up.region + 1,
+                ..up
+            },
+        );
+    }
+
+    /// Closes a region of the chosen task `t` (UIE). Where none is open it does nothing.
+    pub fn region_down(&mut self, t: u32)
+        requires chosen { next_task self.old ≡ Some t }
+        ensures stands { (s : Table) → StandsFor self.old s → StandsFor self.new (region_down t s) }
+        ensures defs { self.new.defs ≡ self.old.defs }
+    {
+        let up = self.up_now(t);
+        self.change(
+            t,
+            Up {
+                region: up.region.saturating_sub(1),
+                ..up
+            },
+        );
+    }
+
+    /// Closes all regions of the chosen task `t`, as the end of a program scan does.
+    pub fn region_clear(&mut self, t: u32)
+        requires chosen { next_task self.old ≡ Some t }
+        ensures stands { (s : Table) → StandsFor self.old s → StandsFor self.new (region_clear t s) }
+        ensures defs { self.new.defs ≡ self.old.defs }
+    {
+        let up = self.up_now(t);
+        self.change(t, Up { region: 0, ..up });
+    }
+
+    /// A CPS of the chosen task `t` starts, or has copied its last element.
+    pub fn set_copy(&mut self, t: u32, sync: bool)
+        requires chosen { next_task self.old ≡ Some t }
+        ensures stands { (s : Table) → StandsFor self.old s → StandsFor self.new (set_copy t sync s) }
+        ensures defs { self.new.defs ≡ self.old.defs }
+    {
+        let up = self.up_now(t);
+        self.change(t, Up { copies: sync, ..up });
+    }
+
+    /// Whether a CPS is in progress.
+    pub fn held(&self) -> bool
+        ensures { (s : Table) → StandsFor self.now s → result ≡ held s }
+    {
+        match self.opened {
+            Some(t) => has_cps(self.ups[t as usize]),
+            None => false,
+        }
+    }
+
+    fn put_up(&mut self, t: u32, now: u32)
+        requires task { t < length self.old.defs }
+        requires down { up_of self.old t ≡ None }
+        ensures { self.new ≡ up_last t now self.old }
+    {
+        let place = place(self.defs.as_slice(), t);
+        self.ups[t as usize] = Some(Up {
+            start: now,
+            region: 0,
+            copies: false,
+        });
+        self.queues.push_last(place, t);
+    }
+
+    fn put_last(&mut self, t: u32)
+        requires none_open { self.old.opened ≡ None }
+        requires front { front_of self.old.queues ≡ Some t }
+        ensures { self.new ≡ to_the_end t self.old }
+    {
+        let place = place(self.defs.as_slice(), t);
+        self.queues.pop_first(place);
+        self.queues.push_last(place, t);
+    }
+
+    fn put_all_down(&mut self, ran_at: u32)
+        ensures exact { self.new ≡ record (all_down self.old) { ran_at = ran_at } }
+        ensures table { IsTable self.old }
+    {
+        put_down(&mut self.ups);
+        self.queues.clear();
+        self.opened = None;
+        self.ran_at = ran_at;
+    }
+
+    fn up_now(&self, t: u32) -> Up
+        requires chosen { next_task self.now ≡ Some t }
+        ensures up { up_of self.now t ≡ Some result }
+        ensures table { IsTable self.now }
+    {
+        match self.ups[t as usize] {
+            Some(up) => up,
+            None => unreachable!(),
+        }
+    }
+
+    fn change(&mut self, t: u32, up: Up)
+        requires chosen { next_task self.old ≡ Some t }
+        ensures { self.new ≡ with_up t up self.old }
+    {
+        self.ups[t as usize] = Some(up);
+        let opened = opened_by(t, up);
+        self.opened = opened;
+    }
+
+    fn take_out(&mut self, t: u32)
+        requires chosen { next_task self.old ≡ Some t }
+        ensures exact { self.new ≡ out_of_line t self.old }
+        ensures table { IsTable self.old }
+    {
+        let place = place(self.defs.as_slice(), t);
+        self.ups[t as usize] = None;
+        self.queues.pop_first(place);
+        self.opened = None;
+    }
+}
+
+fn is_continuous(kind: TaskKind) -> bool
+    ensures { result ≡ is_continuous kind }
+{
+    match kind {
+        TaskKind::Continuous => true,
+        TaskKind::Periodic(_) | TaskKind::Event => false,
+    }
+}
+
+// The place of a task's queue among the queues.
+fn place(defs: &[TaskDef], t: u32) -> usize
+    requires task { t < length defs.now }
+    requires priority { 0 < (slice_index_or defs.now t no_task).priority }
+    ensures { result ≡ (slice_index_or defs.now t no_task).priority - 1 }
+{
+    defs[t as usize].priority as usize - 1
+}
+
+fn continuous_task(defs: &[TaskDef]) -> Option<u32>
+    requires { length defs.now < 33 }
+    ensures { result ≡ position_from (λ d. is_continuous d.kind) 0 defs.now }
+{
+    for t in 0..defs.len() {
+        if is_continuous(defs[t].kind) {
+            return Some(t as u32);
+        }
+    }
+    None
+}
+
+// The task, if this opens something.
+fn opened_by(t: u32, up: Up) -> Option<u32>
+    ensures { result ≡ opened_by t up }
+{
+    if up.region > 0 || up.copies {
+        Some(t)
+    } else {
+        None
+    }
+}
+
+fn has_cps(up: Option<Up>) -> bool
+    ensures { result ≡ copies_of up }
+{
+    match up {
+        Some(up) => up.copies,
+        None => false,
+    }
+}
+
+fn none_up(alloc: Global, tasks: usize) -> Result<Vec<Option<Up>>, AllocError>
+    ensures { IfOk result (λ ups. ups.items ≡ replicate tasks None) }
+{
+    let mut ups = Vec::with_capacity(alloc, tasks)?;
+    for _task in 0..tasks {
+        ups.push(None)?;
+    }
+    Ok(ups)
+}
+
+fn put_down(ups: &mut Vec<Option<Up>>)
+    ensures { ups.new.items ≡ map (λ u. None) ups.old.items }
+{
+    for t in 0..ups.len() {
+        ups[t] = None;
+    }
+}
+
+fn has_run_out(now: u32, def: TaskDef, up: Option<Up>) -> bool
+    ensures { result ≡ has_run_out now def up }
+{
+    match up {
+        Some(up) => now.saturating_sub(up.start) >= def.watchdog,
+        None => false,
+    }
+}
+
+fn first_expired(now: u32, defs: &[TaskDef], ups: &[Option<Up>]) -> Option<u32>
+    requires few { length defs.now < 33 }
+    requires as_many { length ups.now ≡ length defs.now }
+    ensures { result ≡ run_out_from now 0 defs.now ups.now }
+{
+    for t in 0..defs.len() {
+        if has_run_out(now, defs[t], ups[t]) {
+            return Some(t as u32);
+        }
+    }
+    None
+}
