@@ -1,0 +1,4 @@
+pub mod Answer
+pub mod Lexing
+pub mod Reading
+pub mod Taking
