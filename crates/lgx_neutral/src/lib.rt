@@ -11,6 +11,8 @@ mod forks;
 mod lexer;
 mod read;
 mod reader;
+mod write;
 
 pub use fault::RungError;
 pub use read::read_rung;
+pub use write::write_rung;
