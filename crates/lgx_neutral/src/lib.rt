@@ -11,6 +11,8 @@ mod forks;
 mod lexer;
 mod read;
 mod reader;
+#[cfg(test)]
+mod tests;
 mod write;
 
 pub use fault::RungError;
