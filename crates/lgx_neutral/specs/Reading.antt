@@ -1,0 +1,29 @@
+-- The rung that is read token by token, in the words of neutral text.
+use Rattle.std.specs.Prelude.{ℕ, List, [], ◌∷◌}
+use Rattle.lgx_rung.specs.declared.op.Op.{Op}
+use Rattle.lgx_neutral.specs.declared.reader.Place.{Place}
+use Rattle.lgx_neutral.specs.declared.reader.Place.TheVariants.{Element, Named, First, Behind, Next, End}
+use Rattle.lgx_neutral.specs.declared.reader.Reader.{Reader}
+use Rattle.lgx_rung.specs.Tokens as text
+use Rattle.lgx_rung.specs.Tree.{Source}
+
+-- behind operands, of which there is at least one
+abbrev pub behind : Op → List (List ℕ) → text.Place
+behind op [] = text.First op
+behind op (first ∷ others) = text.Behind op first others
+
+-- behind a comma
+abbrev pub next : Op → List (List ℕ) → text.Place
+next op [] = text.First op
+next op (first ∷ others) = text.Next op first others
+
+abbrev pub reading_at : Place → List text.Fork → Source → text.Reader
+reading_at Element forks leg = text.At text.Element forks leg
+reading_at (Named op) forks leg = text.At (text.Named op) forks leg
+reading_at (First op) forks leg = text.At (text.First op) forks leg
+reading_at (Behind call) forks leg = text.At (behind call.op call.texts) forks leg
+reading_at (Next call) forks leg = text.At (next call.op call.texts) forks leg
+reading_at End forks leg = text.Done leg
+
+abbrev pub reading : Reader → text.Reader
+reading r = reading_at r.place r.forks r.leg

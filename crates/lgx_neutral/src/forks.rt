@@ -1,0 +1,87 @@
+// The forks that are open while a rung is read.
+use arrayvec::ArrayVec;
+use lgx_rung::{OpenFork, SourceRung};
+use std::alloc::Global;
+use std::default::MadeWith;
+use std::marker::Model;
+
+const ROOM: usize = 16;
+
+// An open fork, as it lies in the stack.
+#[derive(Drop)]
+struct Open {
+    fork: OpenFork,
+}
+
+impl MadeWith<Global> for Open {
+    fn made_with(alloc: Global) -> Self {
+        Open {
+            fork: OpenFork::new(alloc, SourceRung::new(alloc)),
+        }
+    }
+}
+
+/// The open forks, at most 16, of which the innermost is closed first. They lie in the value itself.
+#[derive(Drop)]
+pub(crate) struct Forks {
+    open: ArrayVec<Open, ROOM, Global>,
+}
+
+impl Model for Forks {
+    ghost use Rattle.std.specs.Prelude.{List, ◌≤◌, length, map, reverse};
+    ghost use Rattle.std.specs.Coded.{codes, coded_list};
+    ghost use Rattle.lgx_rung.specs.ForkCode.{fork_code};
+    ghost use Rattle.lgx_rung.specs.Tokens.{Fork};
+
+    ghost Value = { List Fork };
+
+    ghost coded = { coded_list (fork_code (Prim.hlevel codes)) };
+
+    ghost view = { λ f. reverse (map (λ o. o.fork) f.open.items) };
+
+    ghost invariant = { λ f. length f.open.items ≤ 16 };
+}
+
+impl Forks {
+    ghost use Rattle.std.specs.Prelude.{◌≡◌, ◌<◌, ◌≤◌, ◌==◌, [], ◌∷◌, nat_lt, length, MatchOption, OnSome};
+
+    /// No fork is open.
+    pub(crate) fn new(alloc: Global) -> Self
+        ensures { result ≡ [] }
+    {
+        Forks {
+            open: ArrayVec::new_in(alloc),
+        }
+    }
+
+    /// Whether no fork is open.
+    pub(crate) fn is_empty(&self) -> bool
+        ensures { result ≡ (length self.now == 0) }
+    {
+        self.open.is_empty()
+    }
+
+    /// Whether one fork more may be open.
+    pub(crate) fn has_room(&self) -> bool
+        ensures { result ≡ nat_lt (length self.now) 16 }
+    {
+        self.open.len() < ROOM
+    }
+
+    /// Opens a fork inside the others.
+    pub(crate) fn push(&mut self, fork: OpenFork)
+        requires { length self.old < 16 }
+        ensures { self.new ≡ fork ∷ self.old }
+    {
+        self.open.push(Open { fork });
+    }
+
+    /// Takes the innermost fork out, or gives none where no fork is open.
+    pub(crate) fn pop(&mut self) -> Option<OpenFork>
+        ensures forks { MatchOption result (self.old ≡ [] × self.new ≡ []) (λ fork. self.old ≡ fork ∷ self.new) }
+        ensures room { OnSome result (length self.new < 16) }
+    {
+        let Open { fork } = self.open.pop()?;
+        Some(fork)
+    }
+}

@@ -1,0 +1,160 @@
+// The tokens of a text, from the first to the last.
+ghost use Rattle.std.specs.Prelude.{◌≡◌, ◌+◌, ◌≤◌, ◌<◌, ◌∷◌, [], Bool, true, false, IsTrue, IfSome, MatchOption, length, drop, reverse, slice_range, slice_index};
+ghost use Rattle.std.specs.List.{list_all};
+ghost use Rattle.lgx_rung.specs.Tokens.{is_blank, in_run as is_in_run, tokens_from, tokens, run_token, mark, inside_after};
+
+use crate::bytes::{in_run, is_blank};
+use lgx_rung::Op;
+
+/// A token of neutral text.
+#[derive(Clone, Copy)]
+pub(crate) enum Token<'a> {
+    Mnemonic(Op),
+    /// Letters that are no mnemonic.
+    Letters,
+    Operand(&'a [u8]),
+    OpenFork,
+    CloseFork,
+    OpenParen,
+    CloseParen,
+    Comma,
+    Semicolon,
+    /// A byte that is none of these.
+    Stray,
+}
+
+/// A token with the place of its first byte.
+#[derive(Clone, Copy)]
+pub(crate) struct Placed<'a> {
+    pub(crate) at: usize,
+    pub(crate) token: Token<'a>,
+}
+
+/// A text that is read up to a place, which stands inside parentheses or outside.
+#[derive(Drop)]
+pub(crate) struct Lexer<'a> {
+    text: &'a [u8],
+    at: usize,
+    inside: bool,
+    ghost within: { at ≤ length text.now },
+    ghost room: { length text.now ≤ 16777216 },
+}
+
+impl<'a> Lexer<'a> {
+    ghost use Rattle.lgx_neutral.specs.Lexing.{placed, left, IsFitToken};
+
+    /// The text from its start.
+    pub(crate) fn new(text: &'a [u8]) -> Self
+        requires { length text.now ≤ 16777216 }
+        ensures { left result ≡ tokens text.now }
+    {
+        Lexer {
+            text,
+            at: 0,
+            inside: false,
+        }
+    }
+
+    /// The next token, or none where only blanks are left.
+    pub(crate) fn next(&mut self) -> Option<Placed<'a>>
+        ensures tokens { MatchOption result (left self.old ≡ []) (λ t. left self.old ≡ placed t ∷ left self.new) }
+        ensures operand { IfSome result (λ t. IsFitToken t.token) }
+        ensures place { IfSome result (λ t. t.at < 16777216) }
+        ensures text { self.new.text.now ≡ self.old.text.now }
+        ensures goes_on { IfSome result (λ _. self.old.at < self.new.at) }
+    {
+        let at = behind_blanks(self.text, self.at);
+        if at == self.text.len() {
+            return None;
+        }
+        let byte = self.text[at];
+        if in_run(self.inside, byte) {
+            let end = behind_run(self.text, self.inside, at);
+            let token = Token::of_run(self.inside, &self.text[at..end]);
+            self.at = end;
+            Some(Placed { at, token })
+        } else {
+            let token = Token::of_byte(byte);
+            self.at = at + 1;
+            self.inside = token.inside_after(self.inside);
+            Some(Placed { at, token })
+        }
+    }
+}
+
+// The first place, from this one on, where no blank stands.
+fn behind_blanks(text: &[u8], from: usize) -> usize
+    requires { from ≤ length text.now }
+    ensures ahead { from ≤ result }
+    ensures within { result ≤ length text.now }
+    ensures stops { result < length text.now → is_blank (slice_index text.now result) ≡ false }
+    ensures tokens { (inside : Bool) → tokens_from (drop from text.now) inside from [] ≡ tokens_from (drop result text.now) inside result [] }
+{
+    let mut at = from;
+    while at < text.len() && is_blank(text[at]) {
+        at += 1;
+    }
+    at
+}
+
+// The first place, from this one on, where the run ends.
+fn behind_run(text: &[u8], inside: bool, from: usize) -> usize
+    requires { from ≤ length text.now }
+    ensures ahead { from ≤ result }
+    ensures within { result ≤ length text.now }
+    ensures stops { result < length text.now → is_in_run inside (slice_index text.now result) ≡ false }
+    ensures run { IsTrue (list_all (is_in_run inside) (slice_range text.now from result)) }
+    ensures tokens { tokens_from (drop from text.now) inside from [] ≡ tokens_from (drop result text.now) inside result (reverse (slice_range text.now from result)) }
+{
+    let mut at = from;
+    while at < text.len() && in_run(inside, text[at]) {
+        at += 1;
+    }
+    at
+}
+
+impl<'a> Token<'a> {
+    ghost use Rattle.lgx_neutral.specs.Lexing.{token_of, IsFitToken};
+
+    // The token of a run.
+    fn of_run(inside: bool, run: &'a [u8]) -> Self
+        requires some { 0 < length run.now }
+        requires run { IsTrue (list_all (is_in_run inside) run.now) }
+        ensures token { token_of result ≡ run_token inside run.now }
+        ensures operand { IsFitToken result }
+    {
+        if inside {
+            return Token::Operand(run);
+        }
+        match Op::read(run) {
+            Some(op) => Token::Mnemonic(op),
+            None => Token::Letters,
+        }
+    }
+
+    // The token of a byte that stands in no run.
+    fn of_byte(byte: u8) -> Self
+        ensures { token_of result ≡ mark byte }
+    {
+        match byte {
+            b'[' => Token::OpenFork,
+            b']' => Token::CloseFork,
+            b'(' => Token::OpenParen,
+            b')' => Token::CloseParen,
+            b',' => Token::Comma,
+            b';' => Token::Semicolon,
+            _ => Token::Stray,
+        }
+    }
+
+    // Whether what stands behind it is inside parentheses.
+    fn inside_after(self, inside: bool) -> bool
+        ensures { result ≡ inside_after inside (token_of self.entry) }
+    {
+        match self {
+            Token::OpenParen => true,
+            Token::CloseParen => false,
+            _ => inside,
+        }
+    }
+}
