@@ -1,7 +1,7 @@
 // Arithmetic, moves and operations bit by bit.
-ghost use Rattle.std.specs.Prelude.{◌≡◌, length, IsTrue};
+ghost use Rattle.std.specs.Prelude.{◌≡◌, length, IsTrue, pos, int_lt};
 ghost use Rattle.lgx_machine.specs.Arguments.{arg};
-ghost use Rattle.lgx_machine.specs.Arithmetic.{math, dest};
+ghost use Rattle.lgx_machine.specs.Arithmetic.{math, dest, is_zero};
 ghost use Rattle.lgx_image.specs.Args.{ArgsLie};
 ghost use Rattle.lgx_image.specs.Grains.{Spread};
 ghost use Rattle.lgx_math.specs.Families.{computes, is_place};
@@ -31,13 +31,20 @@ pub fn run_math(op: Op, args: &Bound, flags: &mut Flags, image: &mut Image) -> b
     let exact = result_of(op, a, b, image.get(place));
     let stored = store_low(place.kind, exact);
     let overflow = overflows(op, place.kind, b, exact);
-    *flags = Flags {
+    *flags = flags_of(overflow, stored);
+    image.put(place, stored);
+    overflow
+}
+
+/// The flags after a number was stored.
+fn flags_of(overflow: bool, stored: i32) -> Flags
+    ensures { result ≡ record { v = overflow; z = is_zero stored; n = int_lt stored (pos 0) } }
+{
+    Flags {
         v: overflow,
         z: stored == 0,
         n: stored < 0,
-    };
-    image.put(place, stored);
-    overflow
+    }
 }
 
 /// The number of the operand that is the destination.
