@@ -1,0 +1,26 @@
+use Rattle.std.proofs.Common.{◌≡◌, ℕ, length, IsTrue, ap, ◌∙◌}
+use Rattle.lgx_num.specs.Image.{Lies}
+use Rattle.lgx_machine.specs.declared.bound.Arg.{Arg}
+use Rattle.lgx_machine.specs.declared.bound.Arg.TheVariants.{Number, Cell, Timer, Counter, Block, FlagOf, Other}
+use Rattle.lgx_machine.specs.Arguments.{arg, place_of}
+use Rattle.lgx_machine.specs.Arithmetic.{dest}
+use Rattle.lgx_image.specs.Args.{ArgLies}
+use Rattle.lgx_math.specs.Families.{is_place}
+use Rattle.lgx_math.proofs.math.run_math.Goals as goal
+
+-- an operand that is a place and lies in the image is a place in the image
+place_lies : (a : Arg) (len : ℕ) → IsTrue (is_place a) → ArgLies a len → Lies (place_of a) len
+place_lies (Cell p) len is lies = lies
+place_lies (Number n) len is lies = cc
+place_lies (Timer at) len is lies = cc
+place_lies (Counter at) len is lies = cc
+place_lies (Block at size stop) len is lies = cc
+place_lies (FlagOf f) len is lies = cc
+place_lies Other len is lies = cc
+
+pub put-requires : goal.put-requires
+put-requires c =
+    let args = c.args.args.now in
+    let to = dest c.args.op in
+    let same : c.place_of-place.result ≡ place_of (arg args to) = c.place_of-place.ensures ∙ ap place_of (c.at.ensures ∙ ap (arg args) c.dest.ensures) in
+    rw same (place_lies (arg args to) (length c.args.image.now.bytes) c.requires.destination (c.requires.lie to))

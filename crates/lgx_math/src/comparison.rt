@@ -1,0 +1,60 @@
+// The comparisons.
+ghost use Rattle.std.specs.Prelude.{◌≡◌, length, IsTrue};
+ghost use Rattle.lgx_machine.specs.Comparisons.{compare, holds, is_within, is_equal_under};
+ghost use Rattle.lgx_image.specs.Args.{ArgsLie};
+ghost use Rattle.lgx_math.specs.Families.{compares};
+
+use crate::operands::value_of;
+use lgx_image::{Bound, Image};
+use lgx_rung::Op;
+
+/// Whether a comparison holds of its operands: EQU, NEQ, LES, LEQ, GRT, GEQ, LIM or MEQ (1756-RM003).
+///
+/// LIM has the low limit first, then the number to test, then the high limit; MEQ the source, the mask and the number to
+/// compare with.
+pub fn compare(op: Op, args: &Bound, image: &Image) -> bool
+    requires family { IsTrue (compares op) }
+    requires lie { ArgsLie args.now (length image.now.bytes) }
+    ensures { result ≡ compare op args.now image.now.bytes }
+{
+    let a = value_of(args.at(0), image);
+    let b = value_of(args.at(1), image);
+    let c = value_of(args.at(2), image);
+    holds(op, a, b, c)
+}
+
+/// Whether a comparison holds of its values.
+fn holds(op: Op, a: i32, b: i32, c: i32) -> bool
+    requires { IsTrue (compares op) }
+    ensures { result ≡ holds op a b c }
+{
+    match op {
+        Op::Equ => a == b,
+        Op::Neq => a != b,
+        Op::Les => a < b,
+        Op::Leq => a <= b,
+        Op::Grt => a > b,
+        Op::Geq => a >= b,
+        Op::Lim => is_within(a, b, c),
+        Op::Meq => is_equal_under(a, b, c),
+        _ => unreachable!(),
+    }
+}
+
+/// LIM: from the low limit to the high one. With the low limit above the high one all but what is strictly between them.
+fn is_within(low: i32, test: i32, high: i32) -> bool
+    ensures { result ≡ is_within low test high }
+{
+    if low <= high {
+        low <= test && test <= high
+    } else {
+        low <= test || test <= high
+    }
+}
+
+/// MEQ: equal in the bits where the mask has a 1.
+fn is_equal_under(source: i32, mask: i32, other: i32) -> bool
+    ensures { result ≡ is_equal_under source mask other }
+{
+    source & mask == other & mask
+}

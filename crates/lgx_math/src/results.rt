@@ -1,0 +1,88 @@
+// The exact results of arithmetic, and whether they overflow.
+ghost use Rattle.std.specs.Prelude.{◌≡◌, IsTrue};
+ghost use Rattle.lgx_machine.specs.Arithmetic.{result_of, quotient, remainder, masked_move, is_exact, divides, overflows};
+ghost use Rattle.lgx_math.specs.Families.{computes};
+
+use lgx_num::{Kind, fits};
+use lgx_rung::Op;
+
+/// The exact result of a first and a second source and of what stands at the destination.
+pub(crate) fn result_of(op: Op, a: i32, b: i32, dest: i32) -> i64
+    requires { IsTrue (computes op) }
+    ensures { result ≡ result_of op a b dest }
+{
+    match op {
+        Op::Add => i64::from(a) + i64::from(b),
+        Op::Sub => i64::from(a) - i64::from(b),
+        Op::Mul => i64::from(a) * i64::from(b),
+        Op::Div => quotient(a, b),
+        Op::Mod => remainder(a, b),
+        Op::Neg => -i64::from(a),
+        Op::Abs => i64::from(a.unsigned_abs()),
+        Op::Mov => i64::from(a),
+        Op::And => i64::from(a & b),
+        Op::Or => i64::from(a | b),
+        Op::Xor => i64::from(a ^ b),
+        Op::Not => i64::from(!a),
+        Op::Mvm => i64::from(masked_move(a, b, dest)),
+        Op::Clr => 0,
+        _ => unreachable!(),
+    }
+}
+
+/// DIV: the quotient, cut towards zero; the dividend where the divisor is 0.
+fn quotient(a: i32, b: i32) -> i64
+    ensures { result ≡ quotient a b }
+{
+    if b == 0 {
+        i64::from(a)
+    } else {
+        i64::from(a) / i64::from(b)
+    }
+}
+
+/// MOD: what the quotient leaves, with the sign of the dividend; 0 where the divisor is 0 (profile).
+fn remainder(a: i32, b: i32) -> i64
+    ensures { result ≡ remainder a b }
+{
+    if b == 0 {
+        0
+    } else {
+        i64::from(a) % i64::from(b)
+    }
+}
+
+/// MVM: the bits of the source where the mask has a 1, and those of the destination elsewhere.
+fn masked_move(source: i32, mask: i32, dest: i32) -> i32
+    ensures { result ≡ masked_move source mask dest }
+{
+    (source & mask) | (dest & !mask)
+}
+
+/// Whether the overflow flag comes on: the exact result doesn't fit the destination, or the divisor is 0 (profile).
+/// Operations bit by bit and CLR never overflow (profile).
+pub(crate) fn overflows(op: Op, kind: Kind, divisor: i32, exact: i64) -> bool
+    ensures { result ≡ overflows op kind divisor exact }
+{
+    is_exact(op) && (!fits(kind, exact) || (divides(op) && divisor == 0))
+}
+
+/// Whether an instruction overflows where its exact result doesn't fit the destination.
+fn is_exact(op: Op) -> bool
+    ensures { result ≡ is_exact op }
+{
+    match op {
+        Op::Add | Op::Sub | Op::Mul | Op::Div | Op::Mod | Op::Neg | Op::Abs | Op::Mov => true,
+        _ => false,
+    }
+}
+
+/// DIV and MOD.
+fn divides(op: Op) -> bool
+    ensures { result ≡ divides op }
+{
+    match op {
+        Op::Div | Op::Mod => true,
+        _ => false,
+    }
+}
