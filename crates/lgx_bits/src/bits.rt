@@ -1,0 +1,130 @@
+// The bit instructions. Each answers the condition that goes on.
+ghost use Rattle.std.specs.Prelude.{◌≡◌, ◌&&◌, not, false, true, if◌then◌else◌, length};
+ghost use Rattle.lgx_num.specs.Image.{number, write, Lies};
+ghost use Rattle.lgx_machine.specs.Arguments.{is_one, bit_number};
+ghost use Rattle.lgx_machine.specs.Bits.{bits};
+ghost use Rattle.lgx_image.specs.Args.{ArgsLie};
+ghost use Rattle.lgx_image.specs.Grains.{Spread};
+ghost use Rattle.lgx_bits.specs.Written.{WritesPlaces};
+
+use crate::operand::{is_on, is_set, place_at, put_bit};
+use lgx_image::Image;
+use lgx_machine::Bound;
+use lgx_num::{Flags, Place};
+use lgx_rung::Op;
+
+/// Executes a bit instruction, and answers the condition that goes on (1756-RM003).
+///
+/// `on` is the condition before it, `first` the flag `S:FS`, and `flags` are the task's. Any other instruction does
+/// nothing here, and the condition goes on as it is.
+pub fn run_bits(
+    op: Op,
+    args: &Bound,
+    on: bool,
+    first: bool,
+    flags: Flags,
+    image: &mut Image,
+) -> bool
+    requires places { WritesPlaces op args.now }
+    requires lie { ArgsLie args.now (length image.old.bytes) }
+    ensures goes_on { result ≡ (bits op args.now on first flags image.old.bytes).on }
+    ensures bytes { image.new.bytes ≡ (bits op args.now on first flags image.old.bytes).image }
+    ensures spread { Spread image.old image.new }
+{
+    match op {
+        Op::Xic => on && is_on(args.at(0), first, flags, image),
+        Op::Xio => on && !is_on(args.at(0), first, flags, image),
+        Op::Ote => ote(place_at(args, 0), on, image),
+        Op::Otl => otl(place_at(args, 0), on, image),
+        Op::Otu => otu(place_at(args, 0), on, image),
+        Op::Ons => ons(place_at(args, 0), on, image),
+        Op::Osr => osr(place_at(args, 0), place_at(args, 1), on, image),
+        Op::Osf => osf(place_at(args, 0), place_at(args, 1), on, image),
+        Op::Afi => false,
+        _ => on,
+    }
+}
+
+/// OTE: the bit is the condition.
+fn ote(bit: Place, on: bool, image: &mut Image) -> bool
+    requires { Lies bit (length image.old.bytes) }
+    ensures goes_on { result ≡ on }
+    ensures bytes { image.new.bytes ≡ write image.old.bytes bit (bit_number on) }
+    ensures spread { Spread image.old image.new }
+{
+    put_bit(bit, on, image);
+    on
+}
+
+/// OTL: a true condition sets the bit.
+fn otl(bit: Place, on: bool, image: &mut Image) -> bool
+    requires { Lies bit (length image.old.bytes) }
+    ensures goes_on { result ≡ on }
+    ensures bytes { image.new.bytes ≡ (if on then write image.old.bytes bit (bit_number true) else image.old.bytes) }
+    ensures spread { Spread image.old image.new }
+{
+    if on {
+        put_bit(bit, true, image);
+    }
+    on
+}
+
+/// OTU: a true condition clears the bit.
+fn otu(bit: Place, on: bool, image: &mut Image) -> bool
+    requires { Lies bit (length image.old.bytes) }
+    ensures goes_on { result ≡ on }
+    ensures bytes { image.new.bytes ≡ (if on then write image.old.bytes bit (bit_number false) else image.old.bytes) }
+    ensures spread { Spread image.old image.new }
+{
+    if on {
+        put_bit(bit, false, image);
+    }
+    on
+}
+
+/// ONS: the condition goes on in the scan in which it becomes true. The storage bit keeps it for the next scan.
+fn ons(storage: Place, on: bool, image: &mut Image) -> bool
+    requires { Lies storage (length image.old.bytes) }
+    ensures goes_on { result ≡ (on && not (is_one (number image.old.bytes storage))) }
+    ensures bytes { image.new.bytes ≡ write image.old.bytes storage (bit_number on) }
+    ensures spread { Spread image.old image.new }
+{
+    let was_on = is_set(storage, image);
+    put_bit(storage, on, image);
+    on && !was_on
+}
+
+/// OSR: the output is 1 in the scan in which the condition becomes true. The output is written before the storage bit.
+fn osr(storage: Place, output: Place, on: bool, image: &mut Image) -> bool
+    requires storage { Lies storage (length image.old.bytes) }
+    requires output { Lies output (length image.old.bytes) }
+    ensures goes_on { result ≡ on }
+    ensures bytes { image.new.bytes ≡ write (write image.old.bytes output (bit_number (on && not (is_one (number image.old.bytes storage))))) storage (bit_number on) }
+    ensures spread { Spread image.old image.new }
+{
+    let was_on = is_set(storage, image);
+    put_bit(output, on && !was_on, image);
+    put_bit(storage, on, image);
+    on
+}
+
+/// OSF: the output is 1 in the scan in which the condition becomes false. With a true condition the storage bit is written
+/// before the output, and with a false one behind it.
+fn osf(storage: Place, output: Place, on: bool, image: &mut Image) -> bool
+    requires storage { Lies storage (length image.old.bytes) }
+    requires output { Lies output (length image.old.bytes) }
+    ensures goes_on { result ≡ on }
+    ensures rises { on ≡ true → image.new.bytes ≡ write (write image.old.bytes storage (bit_number true)) output (bit_number false) }
+    ensures falls { on ≡ false → image.new.bytes ≡ write (write image.old.bytes output (bit_number (is_one (number image.old.bytes storage)))) storage (bit_number false) }
+    ensures spread { Spread image.old image.new }
+{
+    if on {
+        put_bit(storage, true, image);
+        put_bit(output, false, image);
+    } else {
+        let was_on = is_set(storage, image);
+        put_bit(output, was_on, image);
+        put_bit(storage, false, image);
+    }
+    on
+}
