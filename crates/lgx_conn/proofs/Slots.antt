@@ -20,6 +20,7 @@ few_words conns n few small =
   where
     least : (a b : ℕ) → min a b ≤ b
     least a b = omega arith
+
     bound : (s a b : ℕ) → a ≤ b → b ≤ 64 → s ≤ a * 128 → s ≤ 8192
     bound s a b l l' h = omega arith
 

@@ -1,5 +1,6 @@
 // The refusals in their order, and the slots of three connections.
 ghost use Rattle.std.specs.Prelude.{◌≡◌, Some};
+
 use super::*;
 use lgx_num::{Memory, Name};
 

@@ -21,7 +21,7 @@ written_more y [] i l = absurd (omega arith)
 written_more y (x ∷ old) zero l = refl
 written_more {X} y (x ∷ old) (suc i) l =
     subst (λ n. y ∷ set (map (λ (z : X). y) (take i old) ++ drop i old) i y ≡ map (λ (z : X). y) (take n (x ∷ old)) ++ drop n (x ∷ old)) (next i)
-      (ap (λ xs. y ∷ xs) (written_more y old i (omega arith)))
+    (ap (λ xs. y ∷ xs) (written_more y old i (omega arith)))
   where
     next : (j : ℕ) → suc (j + 1) ≡ suc j + 1
     next j = omega arith
@@ -98,13 +98,13 @@ pub install-full : (ws : List (Option Kept)) (e : Bool) (word : ℕ) (mask value
 install-full ws e word mask value now l full is =
     let s : Forces = record { words = forces_of ws; enabled = e } in
     subst (λ (x : Forces). Answers (install x word mask value) x x (Err F2)) is
-      (subst (λ (r : Result Forces ForceFault). Answers r s s (Err F2)) (sym (chosen_install ws e word mask value true l (le-leb 256 _ full))) (refl, refl))
+    (subst (λ (r : Result Forces ForceFault). Answers r s s (Err F2)) (sym (chosen_install ws e word mask value true l (le-leb 256 _ full))) (refl, refl))
 
 pub install-ok : (ws : List (Option Kept)) (e : Bool) (word : ℕ) (mask value : ℤ) (now : Forces) → word < length ws → count_of ws - one_if (get_or ws word None) < 256 → record { words = forces_of ws; enabled = e } ≡ now → Answers (install now word mask value) now (record { words = forces_of (set ws word (Some (record { mask = mask; value = value }))); enabled = e }) (Ok tt)
 install-ok ws e word mask value now l room is =
     let new : Forces = record { words = forces_of (set ws word (Some (record { mask = mask; value = value }))); enabled = e } in
     subst (λ (x : Forces). Answers (install x word mask value) x new (Ok tt)) is
-      (subst (λ (r : Result Forces ForceFault). Answers r (record { words = forces_of ws; enabled = e }) new (Ok tt)) (sym (chosen_install ws e word mask value false l (lt-leb 256 _ room))) (refl, refl))
+    (subst (λ (r : Result Forces ForceFault). Answers r (record { words = forces_of ws; enabled = e }) new (Ok tt)) (sym (chosen_install ws e word mask value false l (lt-leb 256 _ room))) (refl, refl))
 
 pub remove-ok : (ws us : List (Option Kept)) (e : Bool) (now : Forces) → (count_of ws ≡ 0 → ⊥) → us ≡ map (λ w. None) ws → record { words = forces_of ws; enabled = e } ≡ now → Answers (remove_all now) now (record { words = forces_of us; enabled = false }) (Ok tt)
 remove-ok ws us e now some cleared is =
@@ -112,7 +112,7 @@ remove-ok ws us e now some cleared is =
     let removed : remove_all s ≡ Ok (no_forces (length (forces_of ws))) = ap (λ b. if b then Err F3 else Ok (no_forces (length (forces_of ws)))) (ne_eqb (installed (forces_of ws)) 0 (λ z. some (sym (installed_is ws) ∙ z))) in
     let seen : record { words = forces_of us; enabled = false } ≡ no_forces (length (forces_of ws)) = ap (λ (x : List (Option Force)). record { words = x; enabled = false }) (ap forces_of cleared ∙ cleared_seen ws) in
     subst (λ (x : Forces). Answers (remove_all x) x (record { words = forces_of us; enabled = false }) (Ok tt)) is
-      (subst (λ (r : Result Forces ForceFault). Answers r s (record { words = forces_of us; enabled = false }) (Ok tt)) (sym removed) (refl, seen))
+    (subst (λ (r : Result Forces ForceFault). Answers r s (record { words = forces_of us; enabled = false }) (Ok tt)) (sym removed) (refl, seen))
 
 -- ---- bits
 
@@ -128,11 +128,12 @@ bits-masked mask held value f =
     let n : of_z w32 (to_z w32 (4294967295 - m)) ≡ 4294967295 - m = of_z-to_z w32 _ (no_more m) in
     let b : of_z w32 (to_z w32 (bit_and (of_z w32 value) (4294967295 - m))) ≡ bit_and (of_z w32 value) (4294967295 - m) = of_z-to_z w32 _ (less _ (4294967295 - m) (and_le_r (of_z w32 value) (4294967295 - m)) (no_more m)) in
     sym (ap (λ x. to_z w32 (bit_or (of_z w32 (to_z w32 (bit_and (of_z w32 held) m))) (of_z w32 (to_z w32 (bit_and (of_z w32 value) x))))) n
-      ∙ (ap (λ x. to_z w32 (bit_or x (of_z w32 (to_z w32 (bit_and (of_z w32 value) (4294967295 - m)))))) a
-      ∙ ap (λ x. to_z w32 (bit_or (bit_and (of_z w32 held) m) x)) b))
+    ∙ (ap (λ x. to_z w32 (bit_or x (of_z w32 (to_z w32 (bit_and (of_z w32 value) (4294967295 - m)))))) a
+    ∙ ap (λ x. to_z w32 (bit_or (bit_and (of_z w32 held) m) x)) b))
   where
     less : (x y : ℕ) → x ≤ y → y < 2 ^ 32 → x < 2 ^ 32
     less x y l l' = omega arith
+
     no_more : (x : ℕ) → 4294967295 - x < 2 ^ 32
     no_more x = omega arith
 
@@ -146,7 +147,7 @@ fits_seen ws e now word is l = subst (λ n. word < n) (ap (λ (x : Forces). leng
 pub forced-on : (ws : List (Option Kept)) (e : Bool) (now : Forces) (word : ℕ) (v : ℤ) → record { words = forces_of ws; enabled = e } ≡ now → e ≡ true → word < length ws → masked (option_map force_of (get_or ws word None)) v ≡ forced now word v
 forced-on ws e now word v is on l =
     sym (ap (λ (x : Forces). forced x word v) (sym is) ∙ (ap (λ b. if b then masked (get_or (forces_of ws) word None) v else v) on
-      ∙ ap (λ (f : Option Force). masked f v) (get_or-map (option_map force_of) ws word None None l)))
+    ∙ ap (λ (f : Option Force). masked f v) (get_or-map (option_map force_of) ws word None None l)))
 
 pub new_seen : (ws : List (Option Kept)) (n m : ℕ) → ws ≡ replicate n None → n ≡ m → record { words = forces_of ws; enabled = false } ≡ no_forces m
 new_seen ws n m e n_m =

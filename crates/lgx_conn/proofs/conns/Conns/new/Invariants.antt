@@ -7,5 +7,5 @@ invariant-loop-def l = record {
   kept : l.kept.items ≡ take l.def-index l.defs;
   many : length l.firsts.items ≡ l.def-index;
   next : l.next ≡ words_of (take l.def-index l.defs);
-  first : (n : ℕ) → n < l.def-index → get_or l.firsts.items n 0 ≡ words_of (take n l.defs)
+  first : (n : ℕ) → n < l.def-index → get_or l.firsts.items n 0 ≡ words_of (take n l.defs);
 }
