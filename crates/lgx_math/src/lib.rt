@@ -10,6 +10,8 @@ mod comparison;
 mod math;
 mod operands;
 mod results;
+#[cfg(test)]
+mod tests;
 
 pub use comparison::compare;
 pub use lgx_image::{Arg, Bound, Image};
