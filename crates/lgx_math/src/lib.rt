@@ -7,11 +7,15 @@
 #![tactic(auto)]
 
 mod comparison;
+mod laws;
 mod math;
 mod operands;
 mod results;
+#[cfg(test)]
+mod tests;
 
 pub use comparison::compare;
+pub use laws::{law_of_masks, law_of_overflow, law_of_quotients};
 pub use lgx_image::{Arg, Bound, Image};
 pub use lgx_num::{Flags, Kind, Place};
 pub use lgx_rung::Op;
