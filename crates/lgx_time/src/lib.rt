@@ -12,3 +12,6 @@ mod words;
 pub use counters::run_counter;
 pub use timers::{Negative, run_timer};
 pub use words::reset;
+
+#[cfg(test)]
+mod tests;
