@@ -1,0 +1,148 @@
+// What stands in a timer or a counter: bits of its status word, and its numbers.
+ghost use Rattle.std.specs.Prelude.{◌≡◌, ◌+◌, ◌*◌, ◌<◌, ◌≤◌, length};
+ghost use Rattle.lgx_machine.specs.StatusWords.{status, put_status, dint, put_dint, pre, acc, put_acc, last_tick, put_last_tick, is_reached, reset};
+ghost use Rattle.lgx_image.specs.Grains.{Spread};
+ghost use Rattle.lgx_time.specs.Families.{size_of};
+
+use lgx_image::Image;
+use lgx_num::{Kind, Place};
+
+// bits of a timer's status word: enabled, timing, done
+pub(crate) const EN: u32 = 31;
+
+pub(crate) const TT: u32 = 30;
+
+pub(crate) const DN: u32 = 29;
+
+// bits of a counter's: counting up, counting down, overflow, underflow; it is done by the same bit as a timer
+pub(crate) const CU: u32 = 31;
+
+pub(crate) const CD: u32 = 30;
+
+pub(crate) const OV: u32 = 28;
+
+pub(crate) const UN: u32 = 27;
+
+// bytes from the first one to the status word and the numbers
+const STATUS: u32 = 0;
+
+const PRE: u32 = 4;
+
+const ACC: u32 = 8;
+
+const LAST_TICK: u32 = 12;
+
+/// The place of a kind at a bit of a timer or counter, counted from its first one.
+fn place(kind: Kind, at: u32, bit: u32, image: &Image) -> Place
+    requires byte { at < length image.now.bytes }
+    requires bit { bit < 128 }
+    ensures { result ≡ record { kind = kind; at = 8 * at + bit } }
+{
+    prove!(at < image.len());
+    Place {
+        kind,
+        at: 8 * at + bit,
+    }
+}
+
+/// A bit of the status word.
+pub(crate) fn bit(at: u32, number: u32, image: &Image) -> bool
+    requires lies { at + 4 ≤ length image.now.bytes }
+    requires number { number < 32 }
+    ensures { result ≡ status image.now.bytes at number }
+{
+    image.get(place(Kind::Bool, at, number, image)) > 0
+}
+
+/// Sets or clears a bit of the status word.
+pub(crate) fn put_bit(at: u32, number: u32, on: bool, image: &mut Image)
+    requires lies { at + 4 ≤ length image.old.bytes }
+    requires number { number < 32 }
+    ensures bytes { image.new.bytes ≡ put_status at number on image.old.bytes }
+    ensures spread { Spread image.old image.new }
+{
+    let place = place(Kind::Bool, at, number, image);
+    image.put(place, i32::from(on));
+}
+
+/// The number that begins so many bytes behind the first one.
+fn number(at: u32, offset: u32, image: &Image) -> i32
+    requires lies { at + offset + 4 ≤ length image.now.bytes }
+    requires offset { offset < 16 }
+    ensures { result ≡ dint image.now.bytes (at + offset) }
+{
+    image.get(place(Kind::Dint, at, 8 * offset, image))
+}
+
+/// Stores a number so many bytes behind the first one.
+fn put_number(at: u32, offset: u32, value: i32, image: &mut Image)
+    requires lies { at + offset + 4 ≤ length image.old.bytes }
+    requires offset { offset < 16 }
+    ensures bytes { image.new.bytes ≡ put_dint (at + offset) value image.old.bytes }
+    ensures spread { Spread image.old image.new }
+{
+    let place = place(Kind::Dint, at, 8 * offset, image);
+    image.put(place, value);
+}
+
+/// The preset: at how much the timer or counter is done.
+pub(crate) fn preset(at: u32, image: &Image) -> i32
+    requires lies { at + 12 ≤ length image.now.bytes }
+    ensures { result ≡ pre image.now.bytes at }
+{
+    number(at, PRE, image)
+}
+
+/// The accumulator: how far the timer or counter has come.
+pub(crate) fn accumulator(at: u32, image: &Image) -> i32
+    requires lies { at + 12 ≤ length image.now.bytes }
+    ensures { result ≡ acc image.now.bytes at }
+{
+    number(at, ACC, image)
+}
+
+pub(crate) fn put_accumulator(at: u32, value: i32, image: &mut Image)
+    requires lies { at + 12 ≤ length image.old.bytes }
+    ensures bytes { image.new.bytes ≡ put_acc at value image.old.bytes }
+    ensures spread { Spread image.old image.new }
+{
+    put_number(at, ACC, value, image);
+}
+
+/// The tick at which a timer last counted, read as a signed number.
+pub(crate) fn last_tick(at: u32, image: &Image) -> i32
+    requires lies { at + 16 ≤ length image.now.bytes }
+    ensures { result ≡ last_tick image.now.bytes at }
+{
+    number(at, LAST_TICK, image)
+}
+
+/// Keeps the tick of a count by its low 32 bits.
+pub(crate) fn put_last_tick(at: u32, now: u32, image: &mut Image)
+    requires lies { at + 16 ≤ length image.old.bytes }
+    ensures bytes { image.new.bytes ≡ put_last_tick at now image.old.bytes }
+    ensures spread { Spread image.old image.new }
+{
+    put_number(at, LAST_TICK, now.cast_signed(), image);
+}
+
+/// Whether the accumulator has come up to the preset.
+pub(crate) fn is_reached(at: u32, image: &Image) -> bool
+    requires lies { at + 12 ≤ length image.now.bytes }
+    ensures { result ≡ is_reached image.now.bytes at }
+{
+    preset(at, image) <= accumulator(at, image)
+}
+
+/// RES on a timer or a counter: with a true condition its accumulator and its whole status word become 0, with a false
+/// one nothing happens. `at` is its first byte.
+pub fn reset(timer: bool, at: u32, on: bool, image: &mut Image)
+    requires lies { at + size_of timer ≤ length image.old.bytes }
+    ensures bytes { image.new.bytes ≡ reset at on image.old.bytes }
+    ensures spread { Spread image.old image.new }
+{
+    if on {
+        put_accumulator(at, 0, image);
+        put_number(at, STATUS, 0, image);
+    }
+}
