@@ -1,0 +1,89 @@
+// A step of a copy: one element.
+ghost use Rattle.std.specs.Prelude.{◌≡◌, ◌+◌, ◌^◌, ◌<◌, ◌≤◌, nat_lt, length, take};
+ghost use Rattle.std.specs.Int.{w32, to_le_bytes};
+ghost use Rattle.lgx_num.specs.Number.{low_bits};
+ghost use Rattle.lgx_num.specs.Image.{splice};
+ghost use Rattle.lgx_machine.specs.Copies.{copy_element, after_element};
+ghost use Rattle.lgx_image.specs.Grains.{Spread};
+ghost use Rattle.lgx_copy.specs.CopyLies.{IsFillSize, CopyLies};
+
+use lgx_image::Image;
+use lgx_machine::Copying;
+use lgx_num::{Kind, Place};
+
+/// Copies one element, read whole before it is written, and answers whether one is left.
+///
+/// There must be an element left, and what is left must lie in the image.
+pub fn next(copying: &mut Copying, image: &mut Image) -> bool
+    requires left { 0 < copying.old.left }
+    requires lies { CopyLies copying.old (length image.old.bytes) }
+    ensures more { result ≡ nat_lt 0 copying.new.left }
+    ensures copying { copying.new ≡ after_element copying.old }
+    ensures bytes { image.new.bytes ≡ copy_element copying.old image.old.bytes }
+    ensures spread { Spread image.old image.new }
+    ensures lies { CopyLies copying.new (length image.new.bytes) }
+{
+    prove!(copying.target <= image.len());
+    copy_element(*copying, image);
+    advance(copying);
+    copying.left > 0
+}
+
+/// Goes on behind an element.
+fn advance(copying: &mut Copying)
+    requires left { 0 < copying.old.left }
+    requires source { copying.old.source + copying.old.size < 2 ^ 32 }
+    requires target { copying.old.target + copying.old.size < 2 ^ 32 }
+    ensures { copying.new ≡ after_element copying.old }
+{
+    copying.source += copying.size;
+    copying.target += copying.size;
+    copying.left -= 1;
+}
+
+/// Writes one element: the value of a fill, or what the source has now.
+fn copy_element(copying: Copying, image: &mut Image)
+    requires left { 0 < copying.left }
+    requires lies { CopyLies copying (length image.old.bytes) }
+    ensures bytes { image.new.bytes ≡ copy_element copying image.old.bytes }
+    ensures spread { Spread image.old image.new }
+{
+    match copying.fill {
+        Some(value) => fill(value, copying.target, copying.size, image),
+        None => image.copy_element(copying.source, copying.target, copying.size),
+    }
+}
+
+/// Stores the low bits of a value from byte `target` on.
+fn fill(value: i32, target: u32, size: u32, image: &mut Image)
+    requires size { IsFillSize size }
+    requires target { target + size ≤ length image.old.bytes }
+    ensures bytes { image.new.bytes ≡ splice image.old.bytes target (take size (to_le_bytes w32 (low_bits 32 value))) }
+    ensures spread { Spread image.old image.new }
+{
+    prove!(target <= image.len());
+    let at = 8 * target;
+    match size {
+        1 => image.put(
+            Place {
+                kind: Kind::Sint,
+                at,
+            },
+            value,
+        ),
+        2 => image.put(
+            Place {
+                kind: Kind::Int,
+                at,
+            },
+            value,
+        ),
+        _ => image.put(
+            Place {
+                kind: Kind::Dint,
+                at,
+            },
+            value,
+        ),
+    }
+}

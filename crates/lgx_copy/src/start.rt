@@ -1,0 +1,98 @@
+// The beginning of a copy.
+ghost use Rattle.std.specs.Prelude.{◌≡◌, ◌<◌, ◌≤◌, length, IfSome};
+ghost use Rattle.lgx_machine.specs.Arguments.{arg as operand, size_of};
+ghost use Rattle.lgx_machine.specs.Copies.{positive, asked, elements, fill_of, is_sync, start_copy, elements_in};
+ghost use Rattle.lgx_image.specs.Args.{ArgsLie};
+ghost use Rattle.lgx_copy.specs.CopyLies.{CopyLies, BlocksLie};
+
+use crate::operand::{byte_of, room_of, size_of, value_of};
+use lgx_image::Image;
+use lgx_machine::{Arg, Bound, Copying};
+use lgx_rung::Op;
+
+/// The copy or fill that begins; None exactly where it has no element.
+///
+/// It has as many elements as the length asks for, but no more than lie whole up to the end of the destination's tag
+/// and, for COP and CPS, of the source's (profile). FLL keeps the value that its source has now.
+pub fn start_copy(op: Op, args: &Bound, image: &Image) -> Option<Copying>
+    requires { ArgsLie args.now (length image.now.bytes) }
+    ensures value { result ≡ start_copy op args.now image.now.bytes }
+    ensures left { IfSome result (λ copying. 0 < copying.left) }
+    ensures lies { BlocksLie op args.now (length image.now.bytes) → IfSome result (λ copying. CopyLies copying (length image.now.bytes)) }
+{
+    // The numbers of two bytes of an image have a sum of 32 bits.
+    prove!(image.len() <= 262_144);
+    let left = elements(op, args, image);
+    if left == 0 {
+        return None;
+    }
+    Some(Copying {
+        sync: is_sync(op),
+        fill: fill_of(op, args, image),
+        source: byte_of(args.at(0)),
+        target: byte_of(args.at(1)),
+        size: size_of(args.at(1)),
+        left,
+    })
+}
+
+/// Whether the task is held until all is copied: CPS alone.
+fn is_sync(op: Op) -> bool
+    ensures { result ≡ is_sync op }
+{
+    match op {
+        Op::Cps => true,
+        _ => false,
+    }
+}
+
+/// The value that a fill stores.
+fn fill_of(op: Op, args: &Bound, image: &Image) -> Option<i32>
+    requires { ArgsLie args.now (length image.now.bytes) }
+    ensures { result ≡ fill_of op args.now image.now.bytes }
+{
+    match op {
+        Op::Fll => Some(value_of(args.at(0), image)),
+        _ => None,
+    }
+}
+
+/// The number of elements.
+fn elements(op: Op, args: &Bound, image: &Image) -> u32
+    requires { ArgsLie args.now (length image.now.bytes) }
+    ensures { result ≡ elements op args.now image.now.bytes }
+{
+    let asked = asked(args, image);
+    match op {
+        Op::Fll => asked,
+        _ => asked.min(elements_in(args, args.at(0))),
+    }
+}
+
+/// The elements that the length asks for, none where it isn't positive, and the destination has room for.
+fn asked(args: &Bound, image: &Image) -> u32
+    requires { ArgsLie args.now (length image.now.bytes) }
+    ensures { result ≡ asked args.now image.now.bytes }
+{
+    let length = positive(value_of(args.at(2), image));
+    length.min(elements_in(args, args.at(1)))
+}
+
+/// A length, 0 where it isn't positive.
+fn positive(length: i32) -> u32
+    ensures { result ≡ positive length }
+{
+    if length > 0 {
+        length.cast_unsigned()
+    } else {
+        0
+    }
+}
+
+/// The whole elements of the destination's size up to the end of an operand's tag.
+fn elements_in(args: &Bound, arg: Arg) -> u32
+    requires { 1 ≤ size_of (operand args.now 1) }
+    ensures { result ≡ elements_in args.now arg }
+{
+    room_of(arg) / size_of(args.at(1))
+}
