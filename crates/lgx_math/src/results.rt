@@ -71,18 +71,15 @@ pub(crate) fn overflows(op: Op, kind: Kind, divisor: i32, exact: i64) -> bool
 fn is_exact(op: Op) -> bool
     ensures { result ≡ is_exact op }
 {
-    match op {
-        Op::Add | Op::Sub | Op::Mul | Op::Div | Op::Mod | Op::Neg | Op::Abs | Op::Mov => true,
-        _ => false,
-    }
+    matches!(
+        op,
+        Op::Add | Op::Sub | Op::Mul | Op::Div | Op::Mod | Op::Neg | Op::Abs | Op::Mov
+    )
 }
 
 /// DIV and MOD.
 fn divides(op: Op) -> bool
     ensures { result ≡ divides op }
 {
-    match op {
-        Op::Div | Op::Mod => true,
-        _ => false,
-    }
+    matches!(op, Op::Div | Op::Mod)
 }
