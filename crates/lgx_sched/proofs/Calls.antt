@@ -1,16 +1,16 @@
 -- The other calls by their definitions.
-use Rattle.std.proofs.Common.{◌≡◌, ℕ, ◌+◌, ◌-◌, ◌<◌, ◌≤◌, ◌++◌, zero, suc, Bool, true, false, cond, ◌||◌, List, [], ◌∷◌, length, get_or, set, map, take, drop, Option, Some, None, option_map, ◌⊎◌, inl, inr, IsTrue, is_some, refl, sym, ap, ◌∙◌, subst, arith, if◌then◌else◌}
+use Rattle.std.proofs.Common.{◌≡◌, ℕ, ◌+◌, ◌-◌, ◌<◌, ◌++◌, zero, suc, Bool, true, false, cond, ◌||◌, List, [], ◌∷◌, length, get_or, set, map, take, drop, Option, Some, None, option_map, is_some, refl, sym, ap, ◌∙◌, subst, arith}
 use Rattle.std.specs.List.{list_any, position_from}
-use Rattle.std.proofs.lemmas.Bool.{false≢true, ne_eqb, cases_eq}
-use Rattle.std.proofs.lemmas.List.{get_or-set_same, length-map, drop_more, get_or_default}
+use Rattle.std.proofs.lemmas.Bool.{false≢true, ne_eqb}
+use Rattle.std.proofs.lemmas.List.{drop_more, get_or_default}
 use Rattle.lgx_machine.specs.declared.task.TaskDef.{TaskDef}
-use Rattle.lgx_machine.specs.Tasks.{Turn, Table, turn, task, no_task, is_open, has_cps, held, region, with_region, set_region, region_up, region_down, region_clear, with_copies, set_copy, is_continuous, expired_from, expired, has_expired, this_or, put_up, put_up_if, start, stop}
+use Rattle.lgx_machine.specs.Tasks.{Turn, Table, turn, no_task, is_open, has_cps, held, region, with_region, set_region, region_up, region_down, region_clear, with_copies, set_copy, is_continuous, expired_from, expired, has_expired, this_or, put_up_if, start, stop}
 use Rattle.lgx_sched.specs.declared.table.Up.{Up}
-use Rattle.lgx_sched.specs.Ready.{Ready, up_of, def_of, queue_at, place_of, has_open, copies_of, opened_by, has_run_out, run_out_from, next_task, up_last, with_up, all_down}
+use Rattle.lgx_sched.specs.Ready.{Ready, up_of, has_open, copies_of, opened_by, has_run_out, run_out_from, next_task, up_last, with_up, all_down}
 use Rattle.lgx_sched.specs.StandsFor.{without_rank, StandsFor, IsSound, IsTable, is_it}
 use Rattle.lgx_sched.proofs.Chosen.{turn_as_up, some_of, open_as_up}
 use Rattle.lgx_sched.proofs.Steps.{stands-changed, stands-none}
-use Rattle.lgx_sched.proofs.Sound.{head-next, up-head, task-head, sound-with, sound-none, all_none}
+use Rattle.lgx_sched.proofs.Sound.{head-next, up-head, sound-with, sound-none, all_none}
 use Rattle.lgx_sched.proofs.Tables.{known_task, stands-put_up}
 
 -- ---- the chosen task's regions and CPS

@@ -1,14 +1,14 @@
 -- The task at the front of the first queue that has one is the least by priority and then by rank.
-use Rattle.std.proofs.Common.{◌≡◌, ℕ, ◌+◌, ◌-◌, ◌<◌, ◌≤◌, zero, suc, Bool, true, false, cond, eqb, List, [], ◌∷◌, ◌++◌, length, get_or, drop, map, Option, Some, None, IfSome, option_map, ◌⊎◌, inl, inr, IsTrue, is_some, refl, sym, ap, ◌∙◌, subst, arith, rules, tests}
+use Rattle.std.proofs.Common.{◌≡◌, ℕ, ◌+◌, ◌-◌, ◌<◌, ◌≤◌, zero, suc, Bool, true, false, cond, eqb, List, [], ◌∷◌, length, get_or, map, Option, Some, None, option_map, ◌⊎◌, inl, inr, IsTrue, is_some, refl, sym, ap, ◌∙◌, subst, arith}
 use Rattle.std.specs.List.{position_from}
-use Rattle.std.proofs.lemmas.Bool.{cases_eq, cases_lt, false≢true, eq-eqb, ne_eqb}
+use Rattle.std.proofs.lemmas.Bool.{cases_lt, false≢true, eq-eqb, ne_eqb}
 use Rattle.std.proofs.lemmas.Bool.Decides.{nat_tests}
 use Rattle.std.proofs.lemmas.List.{get_or_past, get_or-map, length-map}
 use Rattle.lgx_machine.specs.declared.task.TaskDef.{TaskDef}
-use Rattle.lgx_machine.specs.Tasks.{Turn, Table, Candidate, candidate, candidates, before, least_of, least, or_else, chosen, is_open, turn, task, no_task}
+use Rattle.lgx_machine.specs.Tasks.{Turn, Table, Candidate, candidates, before, least_of, least, or_else, chosen, is_open, turn, task, no_task}
 use Rattle.lgx_sched.specs.declared.table.Up.{Up}
-use Rattle.lgx_sched.specs.Ready.{Ready, up_of, def_of, queue_at, place_of, has_open, front_or, front_of, next_task}
-use Rattle.lgx_sched.specs.StandsFor.{Each, In, Ascends, rank_of, without_rank, IsUpAt, IsQueueOf, StandsFor, IsSound, is_it}
+use Rattle.lgx_sched.specs.Ready.{Ready, up_of, queue_at, has_open, front_of, next_task}
+use Rattle.lgx_sched.specs.StandsFor.{Each, In, Ascends, rank_of, without_rank, IsUpAt, StandsFor, IsSound, is_it}
 use Rattle.lgx_sched.proofs.Queues.{Each-in}
 
 -- ---- the least of candidates

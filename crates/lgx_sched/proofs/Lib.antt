@@ -5,3 +5,4 @@ pub mod Sound
 pub mod Tables
 pub mod Calls
 pub mod Made
+pub mod InLine

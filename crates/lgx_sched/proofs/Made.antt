@@ -1,14 +1,14 @@
 -- A table that was just made.
-use Rattle.std.proofs.Common.{◌≡◌, ℕ, ◌+◌, ◌-◌, ◌*◌, ◌<◌, ◌≤◌, zero, suc, Bool, true, false, cond, List, [], ◌∷◌, length, get_or, map, replicate, Option, Some, None, option_map, IsTrue, is_some, refl, sym, ap, ◌∙◌, subst, arith, sum_by, count_by}
+use Rattle.std.proofs.Common.{◌≡◌, ℕ, ◌+◌, ◌*◌, ◌<◌, ◌≤◌, zero, suc, cond, List, [], ◌∷◌, length, get_or, map, replicate, Option, None, option_map, is_some, refl, sym, ap, ◌∙◌, subst, arith, count_by}
 use Rattle.std.specs.List.{All}
 use Rattle.std.proofs.lemmas.Bool.{false≢true}
-use Rattle.std.proofs.lemmas.List.{length-replicate, get_or-replicate, get_or_past}
+use Rattle.std.proofs.lemmas.List.{length-replicate}
 use Rattle.std.proofs.lemmas.List.Folds.{sum_by-replicate}
 use Rattle.lgx_machine.specs.declared.task.TaskDef.{TaskDef}
-use Rattle.lgx_machine.specs.Tasks.{Turn, Table, turn, task, no_task}
+use Rattle.lgx_machine.specs.Tasks.{Turn, turn, task, no_task}
 use Rattle.lgx_sched.specs.declared.table.Up.{Up}
-use Rattle.lgx_sched.specs.Ready.{Ready, up_of, def_of, queue_at, has_open}
-use Rattle.lgx_sched.specs.StandsFor.{without_rank, IsQueueOf, StandsFor, IsSound, IsTable, HasPeriod, none_up}
+use Rattle.lgx_sched.specs.Ready.{Ready, has_open}
+use Rattle.lgx_sched.specs.StandsFor.{without_rank, IsQueueOf, StandsFor, IsTable, HasPeriod, none_up}
 use Rattle.lgx_sched.proofs.Steps.{IsUp}
 
 abbrev pub fresh : List TaskDef → Ready

@@ -1,16 +1,16 @@
 -- What is true of every table stays true at each step.
-use Rattle.std.proofs.Common.{◌≡◌, ℕ, ◌+◌, ◌-◌, ◌<◌, ◌≤◌, zero, suc, Bool, true, false, cond, List, [], ◌∷◌, ◌++◌, length, get_or, set, drop, map, Option, Some, None, IfSome, option_map, ◌⊎◌, inl, inr, IsTrue, is_some, refl, sym, ap, ◌∙◌, subst, arith, nat_eq, if◌then◌else◌, count_by, sum_by}
-use Rattle.std.specs.List.{slice_get, All}
+use Rattle.std.proofs.Common.{◌≡◌, ℕ, ◌+◌, ◌-◌, ◌<◌, ◌≤◌, zero, suc, Bool, true, false, cond, List, [], ◌∷◌, ◌++◌, length, get_or, set, drop, map, Option, Some, None, IfSome, option_map, inl, inr, is_some, refl, sym, ap, ◌∙◌, subst, arith, if◌then◌else◌, count_by, sum_by}
+use Rattle.std.specs.List.{slice_get}
 use Rattle.std.proofs.lemmas.Bool.{cases_eq, cases_lt, false≢true, eq-eqb, ne_eqb}
-use Rattle.std.proofs.lemmas.List.{get_or-set_same, get_or-set_other, set-set, set-get_or, map-set, length-map, length-set, get_or_past, get_or-map, length-append}
+use Rattle.std.proofs.lemmas.List.{get_or-set_same, get_or-set_other, length-set, get_or_past, length-append}
 use Rattle.std.proofs.lemmas.List.Sums.{sum_by-set, sum_by-cons, get_or-le-sum_by, count_by-le-length}
 use Rattle.lgx_machine.specs.declared.task.TaskDef.{TaskDef}
-use Rattle.lgx_machine.specs.Tasks.{Turn, Table, turn, task, no_task, or_else}
+use Rattle.lgx_machine.specs.Tasks.{Turn, Table, turn, task, or_else}
 use Rattle.lgx_sched.specs.declared.table.Up.{Up}
-use Rattle.lgx_sched.specs.Ready.{Ready, up_of, def_of, queue_at, place_of, has_open, front_of, next_task, pushed, popped, up_last, out_of_line, to_the_end, with_up, all_down}
-use Rattle.lgx_sched.specs.StandsFor.{Each, In, rank_of, without_rank, IsUpAt, IsQueueOf, StandsFor, IsSound, is_it}
-use Rattle.lgx_sched.proofs.Chosen.{within, same_length, front-some, FrontAt, up_at_front, turn_as_up}
-use Rattle.lgx_sched.proofs.Steps.{IsUp, IsHead, starts_with, place_is, priority_is, place_fits}
+use Rattle.lgx_sched.specs.Ready.{Ready, up_of, queue_at, place_of, has_open, front_of, next_task, pushed, popped, up_last, out_of_line, to_the_end, with_up, all_down}
+use Rattle.lgx_sched.specs.StandsFor.{Each, without_rank, IsUpAt, StandsFor, IsSound, is_it}
+use Rattle.lgx_sched.proofs.Chosen.{within, same_length, front-some, up_at_front, turn_as_up}
+use Rattle.lgx_sched.proofs.Steps.{IsUp, IsHead, starts_with, place_is, place_fits}
 
 -- ---- the task that is to run
 

@@ -1,15 +1,15 @@
 -- What each step of the table does to the list that it stands for.
-use Rattle.std.proofs.Common.{◌≡◌, ℕ, ◌+◌, ◌-◌, ◌<◌, ◌≤◌, zero, suc, Bool, true, false, cond, List, [], ◌∷◌, ◌++◌, length, get_or, set, drop, map, Option, Some, None, option_map, ◌⊎◌, inl, inr, IsTrue, is_some, refl, sym, ap, ◌∙◌, subst, arith}
+use Rattle.std.proofs.Common.{◌≡◌, ℕ, ◌+◌, ◌-◌, ◌<◌, ◌≤◌, zero, suc, List, [], ◌∷◌, ◌++◌, length, get_or, set, drop, map, Option, Some, None, option_map, inl, inr, IsTrue, is_some, refl, sym, ap, ◌∙◌, subst, arith}
 use Rattle.std.specs.List.{slice_get}
-use Rattle.std.proofs.lemmas.Bool.{cases_eq, cases_lt, false≢true}
-use Rattle.std.proofs.lemmas.List.{get_or-set_same, get_or-set_other, set-set, set-get_or, map-set, length-map, length-set}
+use Rattle.std.proofs.lemmas.Bool.{cases_eq, false≢true}
+use Rattle.std.proofs.lemmas.List.{get_or-set_same, get_or-set_other, set-set, set-get_or, map-set}
 use Rattle.lgx_machine.specs.declared.task.TaskDef.{TaskDef}
 use Rattle.lgx_machine.specs.Tasks.{Turn, Table, turn, task, no_task, stop}
 use Rattle.lgx_sched.specs.declared.table.Up.{Up}
 use Rattle.lgx_sched.specs.Ready.{Ready, up_of, def_of, queue_at, place_of, pushed, popped, all_down}
-use Rattle.lgx_sched.specs.StandsFor.{Each, In, Ascends, rank_of, without_rank, IsUpAt, IsQueueOf, StandsFor, IsSound}
+use Rattle.lgx_sched.specs.StandsFor.{rank_of, without_rank, IsQueueOf, StandsFor, IsSound}
 use Rattle.lgx_sched.proofs.Queues.{same_queue, other_queue, queue-push, queue-pop}
-use Rattle.lgx_sched.proofs.Chosen.{within, placed, same_length, turn_as_up}
+use Rattle.lgx_sched.proofs.Chosen.{same_length, turn_as_up}
 
 abbrev pub IsUp : Option Turn → Type 0
 IsUp o = IsTrue (is_some o)

@@ -1,16 +1,16 @@
 -- Each step leaves a table, which stands for the list that the definition gives.
-use Rattle.std.proofs.Common.{◌≡◌, ℕ, ◌+◌, ◌-◌, ◌<◌, ◌≤◌, zero, suc, Bool, true, false, cond, List, [], ◌∷◌, ◌++◌, length, get_or, set, drop, map, Option, Some, None, IfSome, option_map, ◌⊎◌, inl, inr, IsTrue, is_some, refl, sym, ap, ◌∙◌, subst, arith, if◌then◌else◌}
+use Rattle.std.proofs.Common.{◌≡◌, ℕ, ◌+◌, ◌<◌, true, false, List, [], length, get_or, set, drop, Option, Some, None, option_map, is_some, refl, sym, ap, ◌∙◌, subst, if◌then◌else◌}
 use Rattle.std.specs.List.{slice_get}
 use Rattle.std.proofs.lemmas.Bool.{false≢true, eq-eqb}
 use Rattle.lgx_machine.specs.declared.task.TaskDef.{TaskDef}
 use Rattle.lgx_machine.specs.Tasks.{Turn, Table, turn, task, no_task, or_else, chosen, is_open, is_up, put_up, release, last_in_line, unless_open, rotate, with_rank, finish, is_continuous, put_up_if}
 use Rattle.lgx_sched.specs.declared.table.Up.{Up}
-use Rattle.lgx_sched.specs.Ready.{Ready, up_of, def_of, queue_at, place_of, has_open, front_of, next_task, pushed, popped, up_last, out_of_line, to_the_end, with_up, all_down}
+use Rattle.lgx_sched.specs.Ready.{Ready, up_of, def_of, queue_at, place_of, has_open, front_of, next_task, pushed, popped, up_last, out_of_line, to_the_end}
 use Rattle.lgx_sched.specs.StandsFor.{without_rank, StandsFor, IsSound, IsTable, is_it}
 use Rattle.lgx_sched.proofs.Chosen.{turn_as_up, some_of, next_task-chosen, open_as_up}
 use Rattle.std.proofs.lemmas.List.{get_or-set_same}
-use Rattle.lgx_sched.proofs.Steps.{IsUp, IsHead, place_fits, lowered, stands-down, raised, stands-up, stands-changed, stands-last, stands-none}
-use Rattle.lgx_sched.proofs.Sound.{head-by, head-next, up-head, task-head, room-last, sound-up, sound-down, sound-last, sound-with, sound-none}
+use Rattle.lgx_sched.proofs.Steps.{place_fits, lowered, stands-down, stands-up, stands-last}
+use Rattle.lgx_sched.proofs.Sound.{head-next, up-head, task-head, room-last, sound-up, sound-down, sound-last}
 
 -- what is down in the table is down in the list
 pub down_too : (v : Ready) (s : Table) (t : ℕ) → StandsFor v s → up_of v t ≡ None → turn s t ≡ None

@@ -1,8 +1,8 @@
 -- What it means that the table of tasks stands for a list of task states with ranks.
-use Rattle.std.specs.Prelude.{◌≡◌, ℕ, ◌+◌, ◌-◌, ◌<◌, ◌≤◌, Bool, true, false, IsTrue, nat_eq, nat_le, List, [], ◌∷◌, length, map, sum_by, count_by, Option, Some, None, IfSome, is_some, option_map, ◌⊎◌, slice_get, slice_index_or, replicate}
+use Rattle.std.specs.Prelude.{◌≡◌, ℕ, ◌+◌, ◌<◌, ◌≤◌, Bool, true, false, IsTrue, nat_eq, List, [], ◌∷◌, length, map, sum_by, count_by, Option, Some, None, IfSome, is_some, option_map, ◌⊎◌, slice_get, replicate}
 use Rattle.lgx_machine.specs.declared.task.TaskDef.{TaskDef}
 use Rattle.lgx_machine.specs.declared.task.TaskKind.{TaskKind}
-use Rattle.lgx_machine.specs.declared.task.TaskKind.TheVariants.{Continuous, Periodic, Event}
+use Rattle.lgx_machine.specs.declared.task.TaskKind.TheVariants.{Periodic}
 use Rattle.lgx_machine.specs.Tasks.{Turn, Table, turn, task}
 use Rattle.lgx_sched.specs.declared.table.Up.{Up}
 use Rattle.lgx_sched.specs.declared.table.Release.{Release}
@@ -40,6 +40,21 @@ pub record IsQueueOf (turns : ℕ → Option Turn) (priority : ℕ → ℕ) (p :
   pub each : Each (IsUpAt turns priority p) q
   pub all : (t : ℕ) → IsUpAt turns priority p t → In t q
   pub by_rank : Ascends (λ t. rank_of (turns t)) q
+
+-- the tasks of priority p that are up with a rank below n, each once, by their ranks
+pub record IsAheadOf (turns : ℕ → Option Turn) (priority : ℕ → ℕ) (p n : ℕ) (q : List ℕ) : Type 0 where
+  pub each : Each (λ t. IsUpAt turns priority p t × (rank_of (turns t) < n)) q
+  pub all : (t : ℕ) → IsUpAt turns priority p t → rank_of (turns t) < n → In t q
+  pub by_rank : Ascends (λ t. rank_of (turns t)) q
+
+-- task t is up with priority p, and exactly i tasks of this priority that are up have a lower rank
+abbrev pub IsInLine : Table → ℕ → ℕ → ℕ → Type 0
+IsInLine s p i t =
+    IsUpAt (turn s) (λ k. (task s k).priority) p t × ((q : List ℕ) × (IsAheadOf (turn s) (λ k. (task s k).priority) p (rank_of (turn s t)) q × (length q ≡ i)))
+
+-- at most i tasks of priority p are up, so that none has i of them before it
+abbrev pub AtMostUp : Table → ℕ → ℕ → Type 0
+AtMostUp s p i = (q : List ℕ) × (IsQueueOf (turn s) (λ k. (task s k).priority) p q × (length q ≤ i))
 
 -- The same tasks are up, with the same starts, regions and open CPS; the tick of the last change to Run is the same; the
 -- ranks of the tasks that are up differ and are below the next; and the up tasks of each priority stand in their queue by

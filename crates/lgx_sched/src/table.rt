@@ -1,9 +1,9 @@
 // The table of tasks.
-ghost use Rattle.std.specs.Prelude.{◌≡◌, ℕ, ◌+◌, ◌-◌, ◌<◌, ◌≤◌, ◌^◌, Bool, List, [], ◌∷◌, length, drop, map, replicate, Option, Some, None, IfOk, slice_set, slice_get, slice_index_or};
+ghost use Rattle.std.specs.Prelude.{◌≡◌, ℕ, ◌+◌, ◌-◌, ◌<◌, ◌≤◌, ◌^◌, Bool, List, [], ◌∷◌, length, drop, map, replicate, Option, Some, None, IfOk, IfSome, IsNone, slice_set, slice_get, slice_index_or};
 ghost use Rattle.std.specs.List.{All, position_from};
 ghost use Rattle.lgx_machine.specs.Tasks.{Table, no_task, chosen, is_up, release, start, stop, finish, rotate, is_continuous, expired, due, region_up, region_down, region_clear, set_copy, held};
 ghost use Rattle.lgx_sched.specs.Ready.{Ready, up_of, def_of, queue_at, place_of, next_task, ready_at, front_of, pushed, popped, up_last, out_of_line, to_the_end, with_up, all_down, opened_by, regions_of, copies_of, has_run_out, run_out_from};
-ghost use Rattle.lgx_sched.specs.StandsFor.{StandsFor, IsTable, HasPeriod, none_up, release_answer};
+ghost use Rattle.lgx_sched.specs.StandsFor.{StandsFor, IsInLine, AtMostUp, IsTable, HasPeriod, none_up, release_answer};
 
 use crate::queue::Queues;
 use lgx_machine::{TaskDef, TaskKind};
@@ -84,15 +84,15 @@ impl TaskTable {
         }
     }
 
-    /// The task of a priority that has exactly `i` tasks of the same priority before it in line.
+    /// The task of a priority, 1 to 16, that has exactly `i` up tasks of the same priority before it in line.
     ///
-    /// It is None exactly where there is none.
+    /// It is None exactly where there is none: at most `i` tasks of that priority are up.
     pub fn ready(&self, priority: u8, i: u32) -> Option<u32>
-        ensures { result ≡ ready_at self.now priority i }
+        requires { (0 < priority) × (priority ≤ 16) }
+        ensures place { result ≡ ready_at self.now priority i }
+        ensures in_line { (s : Table) → StandsFor self.now s → IfSome result (IsInLine s priority i) }
+        ensures none { (s : Table) → StandsFor self.now s → IsNone result → AtMostUp s priority i }
     {
-        if priority == 0 {
-            return None;
-        }
         self.queues.get(priority as usize - 1, i as usize)
     }
 

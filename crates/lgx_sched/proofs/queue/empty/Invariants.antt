@@ -1,4 +1,4 @@
-use Rattle.std.proofs.Common.{◌≡◌, ◌≤◌, ◌++◌, ℕ, List, [], drop, take, map, length}
+use Rattle.std.proofs.Common.{◌≡◌, ◌++◌, [], drop, take, map}
 use Rattle.lgx_sched.proofs.queue.empty.Given as goal
 
 abbrev pub invariant-loop-i : goal.invariant-loop-i

@@ -1,4 +1,4 @@
-use Rattle.std.proofs.Common.{◌≡◌, ◌≤◌, ◌++◌, ℕ, List, None, drop, take, map, length}
+use Rattle.std.proofs.Common.{◌≡◌, ◌++◌, None, drop, take, map}
 use Rattle.lgx_sched.proofs.table.put_down.Given as goal
 
 abbrev pub invariant-loop-t : goal.invariant-loop-t

@@ -1,7 +1,7 @@
 -- The front of the queues is the chosen task.
-use Rattle.std.proofs.Common.{ℕ, List, Option, sym, ◌∙◌, ap, subst}
+use Rattle.std.proofs.Common.{ℕ, Option, sym, ◌∙◌, ap, subst}
 use Rattle.lgx_machine.specs.Tasks.{or_else}
-use Rattle.lgx_sched.specs.Ready.{front_of, next_task}
+use Rattle.lgx_sched.specs.Ready.{front_of}
 use Rattle.lgx_sched.specs.StandsFor.{StandsFor}
 use Rattle.lgx_sched.proofs.Chosen.{next_task-chosen}
 use Rattle.lgx_sched.proofs.table.TaskTable.chosen.Goals as goal

@@ -1,9 +1,8 @@
 -- The task is down, and up again where it is the continuous one.
-use Rattle.std.proofs.Common.{◌≡◌, ℕ, Bool, List, [], Option, Some, None, length, ◌<◌, ap, ◌∙◌, subst, sym, refl, arith, is_some}
+use Rattle.std.proofs.Common.{◌≡◌, List, [], None, length, ◌<◌, ap, ◌∙◌, subst, sym}
 use Rattle.lgx_machine.specs.declared.task.TaskDef.{TaskDef}
-use Rattle.lgx_machine.specs.Tasks.{Table, no_task, is_continuous, finish}
-use Rattle.lgx_sched.specs.declared.table.Up.{Up}
-use Rattle.lgx_sched.specs.Ready.{Ready, def_of, up_of, place_of, next_task, front_of, with_up, up_last, out_of_line, to_the_end, all_down}
+use Rattle.lgx_machine.specs.Tasks.{no_task, is_continuous, finish}
+use Rattle.lgx_sched.specs.Ready.{Ready, def_of, up_of, up_last}
 use Rattle.lgx_sched.specs.StandsFor.{StandsFor}
 use Rattle.std.proofs.lemmas.List.{get_or_default}
 use Rattle.lgx_sched.proofs.Tables.{known_task, stands-finish, stands-finish_other, down_after}

@@ -1,9 +1,5 @@
 -- Only the open task can have a CPS in progress.
-use Rattle.std.proofs.Common.{◌≡◌, ℕ, Bool, List, [], Option, Some, None, length, ◌<◌, ap, ◌∙◌, subst, sym, refl, arith, is_some}
-use Rattle.lgx_machine.specs.declared.task.TaskDef.{TaskDef}
-use Rattle.lgx_machine.specs.Tasks.{Table, no_task}
-use Rattle.lgx_sched.specs.declared.table.Up.{Up}
-use Rattle.lgx_sched.specs.Ready.{Ready, def_of, up_of, place_of, next_task, front_of, with_up, up_last, out_of_line, to_the_end, all_down}
+use Rattle.std.proofs.Common.{None, ap, ◌∙◌, subst, sym, arith}
 use Rattle.lgx_sched.specs.StandsFor.{StandsFor}
 use Rattle.lgx_sched.specs.Ready.{copies_of}
 use Rattle.std.proofs.lemmas.List.{get_or_read}

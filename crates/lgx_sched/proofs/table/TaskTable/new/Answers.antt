@@ -1,8 +1,8 @@
 -- A table that was just made stands for the list in which all tasks are down.
-use Rattle.std.proofs.Common.{ℕ, List, length, None, replicate, ap, ◌∙◌, subst, sym}
+use Rattle.std.proofs.Common.{◌∙◌, subst}
 use Rattle.lgx_sched.specs.Ready.{Ready}
 use Rattle.lgx_sched.specs.StandsFor.{StandsFor, IsTable, none_up}
-use Rattle.lgx_sched.proofs.Made.{table-fresh, stands-fresh, fresh_from, no_ups}
+use Rattle.lgx_sched.proofs.Made.{table-fresh, stands-fresh, fresh_from}
 use Rattle.lgx_sched.proofs.table.TaskTable.new.Goals as goal
 
 pub invariant_of-result : goal.invariant_of-result

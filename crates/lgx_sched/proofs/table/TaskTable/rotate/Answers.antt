@@ -1,9 +1,6 @@
 -- The front goes to the end of its queue, unless a task has something open.
-use Rattle.std.proofs.Common.{◌≡◌, ℕ, Bool, List, [], Option, Some, None, length, ◌<◌, ap, ◌∙◌, subst, sym, refl, arith, is_some}
-use Rattle.lgx_machine.specs.declared.task.TaskDef.{TaskDef}
-use Rattle.lgx_machine.specs.Tasks.{Table, no_task, is_continuous}
-use Rattle.lgx_sched.specs.declared.table.Up.{Up}
-use Rattle.lgx_sched.specs.Ready.{Ready, def_of, up_of, place_of, next_task, front_of, with_up, up_last, out_of_line, to_the_end, all_down}
+use Rattle.std.proofs.Common.{ap, ◌∙◌, subst, sym}
+use Rattle.lgx_sched.specs.Ready.{Ready, to_the_end}
 use Rattle.lgx_sched.specs.StandsFor.{StandsFor}
 use Rattle.lgx_machine.specs.Tasks.{rotate}
 use Rattle.lgx_sched.proofs.Calls.{none_of}

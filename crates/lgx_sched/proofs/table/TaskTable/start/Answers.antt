@@ -1,10 +1,6 @@
 -- All tasks are down, and the first continuous one is up.
-use Rattle.std.proofs.Common.{◌≡◌, ℕ, Bool, List, [], Option, Some, None, length, ◌<◌, ap, ◌∙◌, subst, sym, refl, arith, is_some}
-use Rattle.lgx_machine.specs.declared.task.TaskDef.{TaskDef}
-use Rattle.lgx_machine.specs.Tasks.{Table, no_task, is_continuous}
-use Rattle.lgx_sched.specs.declared.table.Up.{Up}
-use Rattle.lgx_sched.specs.Ready.{Ready, def_of, up_of, place_of, next_task, front_of, with_up, up_last, out_of_line, to_the_end, all_down}
-use Rattle.lgx_sched.specs.StandsFor.{StandsFor}
+use Rattle.std.proofs.Common.{length, ◌<◌, ap, ◌∙◌, subst, sym}
+use Rattle.lgx_sched.specs.Ready.{Ready, up_of, up_last}
 use Rattle.lgx_sched.proofs.Sound.{all_none}
 use Rattle.lgx_sched.proofs.Calls.{stands-start_some, stands-start_none, continuous_bound, first_continuous}
 use Rattle.lgx_sched.proofs.table.TaskTable.start.Goals as goal
