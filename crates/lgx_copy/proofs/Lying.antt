@@ -1,5 +1,5 @@
 -- Where a copy lies when it begins, and where one element of it does.
-use Rattle.std.proofs.Common.{◌≡◌, ℕ, zero, suc, ◌+◌, ◌-◌, ◌*◌, ◌/◌, ◌^◌, ◌<◌, ◌≤◌, List, length, ℤ, Option, Some, None, arith}
+use Rattle.std.proofs.Common.{◌≡◌, ℕ, zero, suc, ◌+◌, ◌-◌, ◌*◌, ◌/◌, ◌^◌, ◌<◌, ◌≤◌, List, [], ◌∷◌, length, ℤ, Option, Some, None, arith}
 use Rattle.std.proofs.Math.Nat.{suc-mul, mul-le-mul_right, div-mul-le_self}
 use Rattle.lgx_rung.specs.declared.op.Op.{Op}
 use Rattle.lgx_rung.specs.declared.op.Op.TheVariants.{Fll}
@@ -9,7 +9,7 @@ use Rattle.lgx_machine.specs.declared.bound.Copying.{Copying}
 use Rattle.lgx_machine.specs.Arguments.{arg, byte_of, size_of, room_of}
 use Rattle.lgx_machine.specs.Copies.{elements, elements_in, copy_of}
 use Rattle.lgx_image.specs.Args.{ArgLies, ArgsLie}
-use Rattle.lgx_copy.specs.CopyLies.{SourceLies, CopyLies, BlockEnds, BlocksLie}
+use Rattle.lgx_copy.specs.CopyLies.{IsFillSize, SourceLies, CopyLies, BlockEnds, StoresInteger, BlocksLie}
 
 -- ---- one element of those that are left
 
@@ -77,3 +77,18 @@ start_lies op args image room lie blocks = record {
 
 pub copy_lies : (op : Op) (args : List Arg) (image : List ℕ) (c : Copying) → c ≡ copy_of op args image (elements op args image) → length image ≤ 262144 → ArgsLie args (length image) → BlocksLie op args (length image) → CopyLies c (length image)
 copy_lies op args image c is room lie blocks = rw is (start_lies op args image room lie blocks)
+
+-- ---- operands that are given one by one
+
+stores : (op : Op) (source target : Arg) (n : ℤ) → IsFillSize (size_of target) → StoresInteger op (source ∷ target ∷ Number n ∷ [])
+stores Fll source target n integer = integer
+stores _ source target n integer = tt
+
+pub blocks_lie : (op : Op) (source target : Arg) (n : ℤ) (len : ℕ) → BlockEnds source len → BlockEnds target len → IsFillSize (size_of target) → BlocksLie op (source ∷ target ∷ Number n ∷ []) len
+blocks_lie op source target n len here there integer = record { ends = ends; integer = stores op source target n integer }
+  where
+    ends : (i : ℕ) → BlockEnds (arg (source ∷ target ∷ Number n ∷ []) i) len
+    ends zero = here
+    ends (suc zero) = there
+    ends (suc (suc zero)) = tt
+    ends (suc (suc (suc i))) = tt

@@ -1,5 +1,5 @@
 // A step of a copy: one element.
-ghost use Rattle.std.specs.Prelude.{◌≡◌, ◌+◌, ◌^◌, ◌<◌, ◌≤◌, nat_lt, length, take};
+ghost use Rattle.std.specs.Prelude.{◌≡◌, ◌+◌, ◌*◌, ◌^◌, ◌<◌, ◌≤◌, nat_lt, length, take};
 ghost use Rattle.std.specs.Int.{w32, to_le_bytes};
 ghost use Rattle.lgx_num.specs.Number.{low_bits};
 ghost use Rattle.lgx_num.specs.Image.{splice};
@@ -62,28 +62,17 @@ fn fill(value: i32, target: u32, size: u32, image: &mut Image)
     ensures spread { Spread image.old image.new }
 {
     prove!(target <= image.len());
-    let at = 8 * target;
     match size {
-        1 => image.put(
-            Place {
-                kind: Kind::Sint,
-                at,
-            },
-            value,
-        ),
-        2 => image.put(
-            Place {
-                kind: Kind::Int,
-                at,
-            },
-            value,
-        ),
-        _ => image.put(
-            Place {
-                kind: Kind::Dint,
-                at,
-            },
-            value,
-        ),
+        1 => image.put(place_at(Kind::Sint, target), value),
+        2 => image.put(place_at(Kind::Int, target), value),
+        _ => image.put(place_at(Kind::Dint, target), value),
     }
+}
+
+/// The place of a kind that begins at a byte.
+fn place_at(kind: Kind, byte: u32) -> Place
+    requires { byte ≤ 262144 }
+    ensures { result ≡ record { kind = kind; at = 8 * byte } }
+{
+    Place { kind, at: 8 * byte }
 }

@@ -10,3 +10,6 @@ mod start;
 pub use element::next;
 pub use lgx_machine::Copying;
 pub use start::start_copy;
+
+#[cfg(test)]
+mod tests;

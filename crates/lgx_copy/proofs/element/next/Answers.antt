@@ -1,4 +1,4 @@
-use Rattle.std.proofs.Common.{length, ◌≤◌, arith}
+use Rattle.std.proofs.Common.{length, arith}
 use Rattle.lgx_copy.proofs.Lying.{source_fits}
 use Rattle.lgx_copy.proofs.element.next.Goals as goal
 
