@@ -2,6 +2,8 @@
 #![tactic(auto)]
 
 mod queue;
+#[cfg(test)]
+mod slow;
 mod table;
 #[cfg(test)]
 mod tests;
