@@ -1,0 +1,7 @@
+pub mod Nodes
+pub mod LegsFall
+pub mod NodesFall
+pub mod Flat
+pub mod Depth
+pub mod FlatProgram
+pub mod Ready

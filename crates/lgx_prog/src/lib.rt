@@ -1,0 +1,13 @@
+//! Checked rungs, and the flat code that a program runs as (1756-PM008).
+//!
+//! A rung is a tree of instructions and forks, as an engineer reads it. A routine runs as one list of code: its instructions
+//! in the order of the text, and between them where a rung starts and where a branch starts, goes on to its next leg, and
+//! ends. Which code stands for which rungs is `IsFlat`, and which program for which rungs is `IsFlatProgram`.
+#![tactic(auto)]
+
+mod code;
+mod rung;
+
+pub use code::{Code, FlatRoutine};
+pub use lgx_machine::Ins;
+pub use rung::{Legs, Node, Rung, Rungs};
