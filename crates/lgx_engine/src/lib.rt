@@ -1,0 +1,10 @@
+//! The engine: one step of a program scan over flat code (1756-PM008, 1756-RM003).
+//!
+//! A step copies an element, leaves a routine or executes an instruction, takes no memory, and touches what it needs. It is
+//! `advance` of `lgx_machine`, where code and position stand for rungs and their position by `Runs`.
+#![tactic(auto)]
+
+mod frame;
+
+pub use frame::Position;
+pub use lgx_machine::Effect;
