@@ -6,8 +6,10 @@
 #![tactic(auto)]
 
 mod code;
+mod emit;
 mod rung;
 
 pub use code::{Code, FlatRoutine};
+pub use emit::flatten;
 pub use lgx_machine::Ins;
 pub use rung::{Legs, Node, Rung, Rungs};
