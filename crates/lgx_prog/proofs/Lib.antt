@@ -1,1 +1,4 @@
 pub mod Executes
+pub mod Searching
+pub mod Reaches
+pub mod Examined

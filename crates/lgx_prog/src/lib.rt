@@ -6,10 +6,13 @@
 #![tactic(auto)]
 
 mod code;
+mod emit;
 mod program;
+mod reach;
 mod rung;
 
 pub use code::{Code, FlatRoutine};
+pub use emit::flatten;
 pub use lgx_machine::Ins;
 pub use program::FlatProgram;
 pub use rung::{Legs, Node, Rung, Rungs};
