@@ -1,1 +1,2 @@
-pub mod Settles
+mod Settles
+pub mod Passes

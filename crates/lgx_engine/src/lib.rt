@@ -5,6 +5,7 @@
 #![tactic(auto)]
 
 mod frame;
+mod settling;
 
 pub use frame::Position;
 pub use lgx_machine::Effect;
