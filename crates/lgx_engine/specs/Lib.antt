@@ -1,2 +1,3 @@
 pub mod Cursor
 pub mod Stands
+pub mod Rows

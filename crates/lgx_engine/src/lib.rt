@@ -5,6 +5,7 @@
 #![tactic(auto)]
 
 mod frame;
+mod row;
 
 pub use frame::Position;
 pub use lgx_machine::Effect;
