@@ -1,3 +1,4 @@
 pub mod Cursor
 pub mod Stands
+pub mod Families
 pub mod Rows

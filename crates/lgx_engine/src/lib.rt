@@ -4,6 +4,7 @@
 //! `advance` of `lgx_machine`, where code and position stand for rungs and their position by `Runs`.
 #![tactic(auto)]
 
+mod family;
 mod frame;
 mod row;
 
