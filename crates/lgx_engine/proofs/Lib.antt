@@ -1,0 +1,2 @@
+pub mod FamilyRows
+pub mod Bound
