@@ -6,8 +6,10 @@
 #![tactic(auto)]
 
 mod code;
+mod program;
 mod rung;
 
 pub use code::{Code, FlatRoutine};
 pub use lgx_machine::Ins;
+pub use program::FlatProgram;
 pub use rung::{Legs, Node, Rung, Rungs};
