@@ -12,11 +12,11 @@ ghost use Rattle.lgx_image.specs.Grains.{Spread};
 ghost use Rattle.lgx_time.specs.Families.{is_timer};
 ghost use Rattle.lgx_math.specs.Families.{computes, is_place};
 ghost use Rattle.lgx_copy.specs.CopyLies.{BlocksLie};
-ghost use Rattle.lgx_prog.specs.Ready.{IsReady};
+ghost use Rattle.lgx_prog.specs.Ready.{IsReady, IsRoutine, KindsFit, operand_at};
 ghost use Rattle.lgx_engine.specs.Families.{family_of, CanBeReset};
 ghost use Rattle.lgx_engine.specs.Rows.{row_of, DoesInRows, StartsWell};
 
-use crate::family::{Family, acts_when_false, byte_of, family_of, target};
+use crate::family::{Family, acts_when_false, byte_of, family_of, routine_of, target, task_of};
 use crate::frame::FRAMES;
 use lgx_bits::run_bits;
 use lgx_copy::start_copy;
@@ -36,18 +36,17 @@ const TOO_DEEP: u8 = 84;
 
 /// What an instruction does beside the image and the flags.
 ///
-/// A routine, the rung of a label and a task go by their numbers, each as wide as the widest of the three, since an operand
-/// of any of these kinds may stand there. `MajorFault` has the code of a major fault of type 4.
+/// A routine, the rung of a label and a task go by their numbers. `MajorFault` has the code of a major fault of type 4.
 #[derive(Clone, Copy)]
 pub(crate) enum Does {
     Nothing,
-    Call(u64),
+    Call(u32),
     Return,
     Jump(u64),
     MarkZone,
     RegionUp,
     RegionDown,
-    TriggerTask(u64),
+    TriggerTask(u32),
     StartCopy(Copying),
     MinorFault,
     MajorFault(u8),
@@ -204,7 +203,8 @@ fn begin_copy(op: Op, bound: &Bound, image: &Image) -> Does
 
 /// Calls, jumps, zones, regions and triggers, and what does nothing.
 fn control(ins: &Ins, depth: usize) -> Does
-    requires { family_of ins.now.op ≡ Family.Control }
+    requires family { family_of ins.now.op ≡ Family.Control }
+    requires kinds { KindsFit ins.now.op ins.now.args }
     ensures { DoesInRows ins.now.op ins.now.args depth result }
 {
     match ins.op {
@@ -214,7 +214,7 @@ fn control(ins: &Ins, depth: usize) -> Does
         Op::Mcr => Does::MarkZone,
         Op::Uid => Does::RegionUp,
         Op::Uie => Does::RegionDown,
-        Op::Event => Does::TriggerTask(target(ins.args.as_slice())),
+        Op::Event => Does::TriggerTask(task_of(ins.args.as_slice())),
         Op::Lbl | Op::Nop => Does::Nothing,
         _ => unreachable!(),
     }
@@ -222,10 +222,11 @@ fn control(ins: &Ins, depth: usize) -> Does
 
 /// JSR: with all frames taken it is a major fault.
 fn call(ins: &Ins, depth: usize) -> Does
+    requires { IsRoutine (operand_at ins.now.args 0) }
     ensures { result ≡ (if nat_lt depth frame_room then Does.Call (target ins.now.args) else Does.MajorFault too_deep) }
 {
     if depth < FRAMES {
-        Does::Call(target(ins.args.as_slice()))
+        Does::Call(routine_of(ins.args.as_slice()))
     } else {
         Does::MajorFault(TOO_DEEP)
     }
