@@ -1,5 +1,5 @@
 // One instruction: what it does to the image and the flags, and what else it does.
-ghost use Rattle.std.specs.Prelude.{◌≡◌, ◌+◌, ◌≤◌, true, ◌||◌, List, length, nat_lt, if◌then◌else◌, IsTrue, IfSome, Some, None};
+ghost use Rattle.std.specs.Prelude.{◌≡◌, ℕ, ◌+◌, ◌≤◌, true, ◌||◌, List, length, nat_lt, if◌then◌else◌, IsTrue, IfSome, Some, None};
 ghost use Rattle.lgx_machine.specs.Arguments.{arg, bind, byte_of};
 ghost use Rattle.lgx_machine.specs.Timers.{timer};
 ghost use Rattle.lgx_machine.specs.StatusWords.{reset};
@@ -179,6 +179,7 @@ fn compute(op: Op, bound: &Bound, flags: &mut Flags, image: &mut Image) -> Does
     ensures due { result ≡ (if (math op bound.now image.old.bytes).flags.v then Does.MinorFault else Does.Nothing) }
     ensures flags { flags.new ≡ (math op bound.now image.old.bytes).flags }
     ensures bytes { image.new.bytes ≡ (math op bound.now image.old.bytes).image }
+    ensures copy { (len : ℕ) → StartsWell result len }
     ensures spread { Spread image.old image.new }
 {
     if run_math(op, bound, flags, image) {
@@ -205,7 +206,8 @@ fn begin_copy(op: Op, bound: &Bound, image: &Image) -> Does
 /// Calls, jumps, zones, regions and triggers, and what does nothing.
 fn control(ins: &Ins, depth: usize) -> Does
     requires { family_of ins.now.op ≡ Family.Control }
-    ensures { DoesInRows ins.now.op ins.now.args depth result }
+    ensures rows { DoesInRows ins.now.op ins.now.args depth result }
+    ensures copy { (len : ℕ) → StartsWell result len }
 {
     match ins.op {
         Op::Jsr => call(ins, depth),
