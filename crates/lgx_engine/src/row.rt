@@ -1,5 +1,5 @@
 // One instruction: what it does to the image and the flags, and what else it does.
-ghost use Rattle.std.specs.Prelude.{◌≡◌, ◌+◌, ◌≤◌, true, ◌||◌, List, length, nat_lt, if◌then◌else◌, IsTrue, IfSome, Some, None};
+ghost use Rattle.std.specs.Prelude.{◌≡◌, ℕ, ◌+◌, ◌≤◌, true, ◌||◌, List, length, nat_lt, if◌then◌else◌, IsTrue, IfSome, Some, None};
 ghost use Rattle.lgx_machine.specs.Arguments.{arg, bind, byte_of};
 ghost use Rattle.lgx_machine.specs.Timers.{timer};
 ghost use Rattle.lgx_machine.specs.StatusWords.{reset};
@@ -14,7 +14,7 @@ ghost use Rattle.lgx_math.specs.Families.{computes, is_place};
 ghost use Rattle.lgx_copy.specs.CopyLies.{BlocksLie};
 ghost use Rattle.lgx_prog.specs.Ready.{IsReady, IsRoutine, KindsFit, operand_at};
 ghost use Rattle.lgx_engine.specs.Families.{family_of, CanBeReset};
-ghost use Rattle.lgx_engine.specs.Rows.{row_of, DoesInRows, StartsWell};
+ghost use Rattle.lgx_engine.specs.Rows.{row_of, DoesInRows, CanFollow};
 
 use crate::family::{Family, acts_when_false, byte_of, family_of, routine_of, target, task_of};
 use crate::frame::FRAMES;
@@ -84,7 +84,7 @@ pub(crate) fn run_row(
 ) -> RowStep
     requires ready { IsReady (length image.old.bytes) ins.now }
     ensures row { (frames : List Frame) → length frames ≡ depth → row ins.now.op ins.now.args on now first frames flags.old image.old.bytes ≡ row_of result flags.new image.new.bytes }
-    ensures copy { StartsWell result.does (length image.new.bytes) }
+    ensures follows { CanFollow result.does depth (length image.new.bytes) }
     ensures spread { Spread image.old image.new }
 {
     if !on && !acts_when_false(ins.op) {
@@ -116,7 +116,7 @@ fn execute(ins: &Ins, bound: &Bound, scan: Scan, flags: &mut Flags, image: &mut 
     requires bound { bind image.old.bytes ins.now.args ≡ Some bound.now }
     requires lie { ArgsLie bound.now (length image.old.bytes) }
     ensures row { (frames : List Frame) → length frames ≡ scan.depth → row ins.now.op ins.now.args scan.on scan.now scan.first frames flags.old image.old.bytes ≡ row_of result flags.new image.new.bytes }
-    ensures copy { StartsWell result.does (length image.new.bytes) }
+    ensures follows { CanFollow result.does scan.depth (length image.new.bytes) }
     ensures spread { Spread image.old image.new }
 {
     let op = ins.op;
@@ -178,6 +178,7 @@ fn compute(op: Op, bound: &Bound, flags: &mut Flags, image: &mut Image) -> Does
     ensures due { result ≡ (if (math op bound.now image.old.bytes).flags.v then Does.MinorFault else Does.Nothing) }
     ensures flags { flags.new ≡ (math op bound.now image.old.bytes).flags }
     ensures bytes { image.new.bytes ≡ (math op bound.now image.old.bytes).image }
+    ensures follows { (depth len : ℕ) → CanFollow result depth len }
     ensures spread { Spread image.old image.new }
 {
     if run_math(op, bound, flags, image) {
@@ -193,7 +194,7 @@ fn begin_copy(op: Op, bound: &Bound, image: &Image) -> Does
     requires blocks { BlocksLie op bound.now (length image.now.bytes) }
     ensures starts { IfSome (start_copy op bound.now image.now.bytes) (λ copying. result ≡ Does.StartCopy copying) }
     ensures nothing { start_copy op bound.now image.now.bytes ≡ None → result ≡ Does.Nothing }
-    ensures lies { StartsWell result (length image.now.bytes) }
+    ensures follows { (depth : ℕ) → CanFollow result depth (length image.now.bytes) }
 {
     match start_copy(op, bound, image) {
         Some(copying) => Does::StartCopy(copying),
@@ -205,7 +206,8 @@ fn begin_copy(op: Op, bound: &Bound, image: &Image) -> Does
 fn control(ins: &Ins, depth: usize) -> Does
     requires family { family_of ins.now.op ≡ Family.Control }
     requires kinds { KindsFit ins.now.op ins.now.args }
-    ensures { DoesInRows ins.now.op ins.now.args depth result }
+    ensures rows { DoesInRows ins.now.op ins.now.args depth result }
+    ensures follows { (len : ℕ) → CanFollow result depth len }
 {
     match ins.op {
         Op::Jsr => call(ins, depth),
@@ -223,7 +225,8 @@ fn control(ins: &Ins, depth: usize) -> Does
 /// JSR: with all frames taken it is a major fault.
 fn call(ins: &Ins, depth: usize) -> Does
     requires { IsRoutine (operand_at ins.now.args 0) }
-    ensures { result ≡ (if nat_lt depth frame_room then Does.Call (target ins.now.args) else Does.MajorFault too_deep) }
+    ensures call { result ≡ (if nat_lt depth frame_room then Does.Call (target ins.now.args) else Does.MajorFault too_deep) }
+    ensures follows { (len : ℕ) → CanFollow result depth len }
 {
     if depth < FRAMES {
         Does::Call(routine_of(ins.args.as_slice()))
