@@ -6,6 +6,7 @@
 
 mod family;
 mod frame;
+mod frames;
 mod moves;
 mod row;
 mod settling;
