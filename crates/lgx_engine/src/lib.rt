@@ -4,12 +4,15 @@
 //! `advance` of `lgx_machine`, where code and position stand for rungs and their position by `Runs`.
 #![tactic(auto)]
 
+
 mod family;
 mod frame;
 mod frames;
 mod moves;
 mod row;
+mod scan;
 mod settling;
 
+pub use scan::advance;
 pub use frame::Position;
 pub use lgx_machine::Effect;
