@@ -1,2 +1,5 @@
+mod Settles
+pub mod Passes
+pub mod Moving
 pub mod FamilyRows
 pub mod Bound

@@ -1,4 +1,6 @@
 pub mod Cursor
 pub mod Stands
+pub mod Settling
 pub mod Families
 pub mod Rows
+pub mod Steps

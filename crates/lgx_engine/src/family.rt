@@ -2,6 +2,7 @@
 ghost use Rattle.std.specs.Prelude.{◌≡◌};
 ghost use Rattle.lgx_machine.specs.Arguments.{byte_of};
 ghost use Rattle.lgx_machine.specs.Instructions.{acts_when_false, target};
+ghost use Rattle.lgx_prog.specs.Ready.{IsRoutine, IsTask, operand_at};
 ghost use Rattle.lgx_engine.specs.Families.{family_of};
 
 use lgx_machine::Arg;
@@ -66,6 +67,28 @@ pub(crate) fn target(args: &[Operand]) -> u64
         [Operand::Label(rung), ..] => *rung,
         [Operand::Task(task), ..] => u64::from(*task),
         _ => 0,
+    }
+}
+
+/// The number of the routine that a call names.
+pub(crate) fn routine_of(args: &[Operand]) -> u32
+    requires { IsRoutine (operand_at args.now 0) }
+    ensures { result ≡ target args.now }
+{
+    match args {
+        [Operand::Routine(routine), ..] => *routine,
+        _ => unreachable!(),
+    }
+}
+
+/// The number of the task that a trigger names.
+pub(crate) fn task_of(args: &[Operand]) -> u32
+    requires { IsTask (operand_at args.now 0) }
+    ensures { result ≡ target args.now }
+{
+    match args {
+        [Operand::Task(task), ..] => *task,
+        _ => unreachable!(),
     }
 }
 

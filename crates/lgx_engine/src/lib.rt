@@ -6,7 +6,9 @@
 
 mod family;
 mod frame;
+mod moves;
 mod row;
+mod settling;
 
 pub use frame::Position;
 pub use lgx_machine::Effect;

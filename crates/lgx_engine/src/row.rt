@@ -12,11 +12,11 @@ ghost use Rattle.lgx_image.specs.Grains.{Spread};
 ghost use Rattle.lgx_time.specs.Families.{is_timer};
 ghost use Rattle.lgx_math.specs.Families.{computes, is_place};
 ghost use Rattle.lgx_copy.specs.CopyLies.{BlocksLie};
-ghost use Rattle.lgx_prog.specs.Ready.{IsReady};
+ghost use Rattle.lgx_prog.specs.Ready.{IsReady, IsRoutine, KindsFit, operand_at};
 ghost use Rattle.lgx_engine.specs.Families.{family_of, CanBeReset};
-ghost use Rattle.lgx_engine.specs.Rows.{row_of, DoesInRows, StartsWell};
+ghost use Rattle.lgx_engine.specs.Rows.{row_of, DoesInRows, CanFollow};
 
-use crate::family::{Family, acts_when_false, byte_of, family_of, target};
+use crate::family::{Family, acts_when_false, byte_of, family_of, routine_of, target, task_of};
 use crate::frame::FRAMES;
 use lgx_bits::run_bits;
 use lgx_copy::start_copy;
@@ -36,18 +36,17 @@ const TOO_DEEP: u8 = 84;
 
 /// What an instruction does beside the image and the flags.
 ///
-/// A routine, the rung of a label and a task go by their numbers, each as wide as the widest of the three, since an operand
-/// of any of these kinds may stand there. `MajorFault` has the code of a major fault of type 4.
+/// A routine, the rung of a label and a task go by their numbers. `MajorFault` has the code of a major fault of type 4.
 #[derive(Clone, Copy)]
 pub(crate) enum Does {
     Nothing,
-    Call(u64),
+    Call(u32),
     Return,
     Jump(u64),
     MarkZone,
     RegionUp,
     RegionDown,
-    TriggerTask(u64),
+    TriggerTask(u32),
     StartCopy(Copying),
     MinorFault,
     MajorFault(u8),
@@ -85,7 +84,7 @@ pub(crate) fn run_row(
 ) -> RowStep
     requires ready { IsReady (length image.old.bytes) ins.now }
     ensures row { (frames : List Frame) → length frames ≡ depth → row ins.now.op ins.now.args on now first frames flags.old image.old.bytes ≡ row_of result flags.new image.new.bytes }
-    ensures copy { StartsWell result.does (length image.new.bytes) }
+    ensures follows { CanFollow result.does depth (length image.new.bytes) }
     ensures spread { Spread image.old image.new }
 {
     if !on && !acts_when_false(ins.op) {
@@ -117,7 +116,7 @@ fn execute(ins: &Ins, bound: &Bound, scan: Scan, flags: &mut Flags, image: &mut 
     requires bound { bind image.old.bytes ins.now.args ≡ Some bound.now }
     requires lie { ArgsLie bound.now (length image.old.bytes) }
     ensures row { (frames : List Frame) → length frames ≡ scan.depth → row ins.now.op ins.now.args scan.on scan.now scan.first frames flags.old image.old.bytes ≡ row_of result flags.new image.new.bytes }
-    ensures copy { StartsWell result.does (length image.new.bytes) }
+    ensures follows { CanFollow result.does scan.depth (length image.new.bytes) }
     ensures spread { Spread image.old image.new }
 {
     let op = ins.op;
@@ -179,7 +178,7 @@ fn compute(op: Op, bound: &Bound, flags: &mut Flags, image: &mut Image) -> Does
     ensures due { result ≡ (if (math op bound.now image.old.bytes).flags.v then Does.MinorFault else Does.Nothing) }
     ensures flags { flags.new ≡ (math op bound.now image.old.bytes).flags }
     ensures bytes { image.new.bytes ≡ (math op bound.now image.old.bytes).image }
-    ensures copy { (len : ℕ) → StartsWell result len }
+    ensures follows { (depth len : ℕ) → CanFollow result depth len }
     ensures spread { Spread image.old image.new }
 {
     if run_math(op, bound, flags, image) {
@@ -195,7 +194,7 @@ fn begin_copy(op: Op, bound: &Bound, image: &Image) -> Does
     requires blocks { BlocksLie op bound.now (length image.now.bytes) }
     ensures starts { IfSome (start_copy op bound.now image.now.bytes) (λ copying. result ≡ Does.StartCopy copying) }
     ensures nothing { start_copy op bound.now image.now.bytes ≡ None → result ≡ Does.Nothing }
-    ensures lies { StartsWell result (length image.now.bytes) }
+    ensures follows { (depth : ℕ) → CanFollow result depth (length image.now.bytes) }
 {
     match start_copy(op, bound, image) {
         Some(copying) => Does::StartCopy(copying),
@@ -205,9 +204,10 @@ fn begin_copy(op: Op, bound: &Bound, image: &Image) -> Does
 
 /// Calls, jumps, zones, regions and triggers, and what does nothing.
 fn control(ins: &Ins, depth: usize) -> Does
-    requires { family_of ins.now.op ≡ Family.Control }
+    requires family { family_of ins.now.op ≡ Family.Control }
+    requires kinds { KindsFit ins.now.op ins.now.args }
     ensures rows { DoesInRows ins.now.op ins.now.args depth result }
-    ensures copy { (len : ℕ) → StartsWell result len }
+    ensures follows { (len : ℕ) → CanFollow result depth len }
 {
     match ins.op {
         Op::Jsr => call(ins, depth),
@@ -216,7 +216,7 @@ fn control(ins: &Ins, depth: usize) -> Does
         Op::Mcr => Does::MarkZone,
         Op::Uid => Does::RegionUp,
         Op::Uie => Does::RegionDown,
-        Op::Event => Does::TriggerTask(target(ins.args.as_slice())),
+        Op::Event => Does::TriggerTask(task_of(ins.args.as_slice())),
         Op::Lbl | Op::Nop => Does::Nothing,
         _ => unreachable!(),
     }
@@ -224,10 +224,12 @@ fn control(ins: &Ins, depth: usize) -> Does
 
 /// JSR: with all frames taken it is a major fault.
 fn call(ins: &Ins, depth: usize) -> Does
-    ensures { result ≡ (if nat_lt depth frame_room then Does.Call (target ins.now.args) else Does.MajorFault too_deep) }
+    requires { IsRoutine (operand_at ins.now.args 0) }
+    ensures call { result ≡ (if nat_lt depth frame_room then Does.Call (target ins.now.args) else Does.MajorFault too_deep) }
+    ensures follows { (len : ℕ) → CanFollow result depth len }
 {
     if depth < FRAMES {
-        Does::Call(target(ins.args.as_slice()))
+        Does::Call(routine_of(ins.args.as_slice()))
     } else {
         Does::MajorFault(TOO_DEEP)
     }

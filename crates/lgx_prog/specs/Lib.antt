@@ -5,3 +5,4 @@ pub mod Flat
 pub mod Depth
 pub mod FlatProgram
 pub mod Ready
+pub mod Executes

@@ -6,8 +6,12 @@
 #![tactic(auto)]
 
 mod code;
+mod emit;
+mod program;
 mod rung;
 
 pub use code::{Code, FlatRoutine};
+pub use emit::flatten;
 pub use lgx_machine::Ins;
+pub use program::FlatProgram;
 pub use rung::{Legs, Node, Rung, Rungs};

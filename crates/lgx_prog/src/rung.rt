@@ -15,14 +15,14 @@ pub enum Node {
 #[cycle(rung)]
 #[derive(Drop)]
 pub struct Legs {
-    legs: Vec<Rung>,
+    pub(crate) legs: Vec<Rung>,
 }
 
 /// A checked rung, or a leg of one, with at most 16 forks nested.
 #[cycle(rung)]
 #[derive(Drop)]
 pub struct Rung {
-    nodes: Vec<Node>,
+    pub(crate) nodes: Vec<Node>,
 }
 
 /// The rungs of a routine.
