@@ -17,7 +17,10 @@ use lgx_machine::Ins;
 use lgx_prog::{Code, FlatProgram};
 
 /// The instruction before which the innermost routine stands; None where it is at its end, or where there is none.
-pub(crate) fn next_ins<'a>(program: &'a FlatProgram, frames: &ArrayVec<Frame, FRAMES>) -> Option<&'a Ins>
+pub(crate) fn next_ins<'a>(
+    program: &'a FlatProgram,
+    frames: &ArrayVec<Frame, FRAMES>,
+) -> Option<&'a Ins>
     ensures next { (fs : List MachineFrame) → AllStand program.now (reverse frames.now.items) fs → NextIs fs (option_map (λ i. i.now) result) }
     ensures room { IsSome result → HasNext (reverse frames.now.items) }
 {

@@ -4,7 +4,6 @@
 //! `advance` of `lgx_machine`, where code and position stand for rungs and their position by `Runs`.
 #![tactic(auto)]
 
-
 mod family;
 mod frame;
 mod frames;
@@ -13,6 +12,6 @@ mod row;
 mod scan;
 mod settling;
 
-pub use scan::advance;
 pub use frame::Position;
 pub use lgx_machine::Effect;
+pub use scan::advance;
