@@ -1,0 +1,4 @@
+mod Settles
+pub mod Passes
+pub mod FamilyRows
+pub mod Bound

@@ -1,2 +1,5 @@
 pub mod Cursor
 pub mod Stands
+pub mod Settling
+pub mod Families
+pub mod Rows

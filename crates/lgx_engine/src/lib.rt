@@ -4,7 +4,10 @@
 //! `advance` of `lgx_machine`, where code and position stand for rungs and their position by `Runs`.
 #![tactic(auto)]
 
+mod family;
 mod frame;
+mod row;
+mod settling;
 
 pub use frame::Position;
 pub use lgx_machine::Effect;

@@ -1,3 +1,6 @@
 pub mod Depths
 pub mod Emitted
 pub mod Executes
+pub mod Searching
+pub mod Reaches
+pub mod Examined

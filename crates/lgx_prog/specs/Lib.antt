@@ -6,3 +6,4 @@ pub mod Depth
 pub mod FlatProgram
 pub mod Ready
 pub mod Executes
+pub mod Search

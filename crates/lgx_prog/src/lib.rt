@@ -8,6 +8,7 @@
 mod code;
 mod emit;
 mod program;
+mod reach;
 mod rung;
 
 pub use code::{Code, FlatRoutine};

@@ -1,0 +1,38 @@
+-- A search for the routines that are called.
+use Rattle.std.specs.Prelude.{ℕ, Bool, true, false, not, ◌&&◌, nat_lt, if◌then◌else◌, List, [], ◌∷◌, ◌++◌, length, slice_index_or, slice_set, slice_get, fold, Option, Some, None}
+use Rattle.lgx_machine.specs.Position.{Rungs}
+use Rattle.lgx_prog.specs.Flat.{Flat, IsFlat}
+use Rattle.lgx_prog.specs.FlatProgram.{no_code}
+use Rattle.lgx_prog.specs.Executes.{called_in}
+
+-- for each routine whether it was found, and those that were, in order
+pub record Found : Type 0 where
+  pub marks : List Bool
+  pub found : List ℕ
+
+-- a routine that wasn't found yet is found now
+abbrev pub noted : Found → ℕ → Found
+noted s n = if nat_lt n (length s.marks) && not (slice_index_or s.marks n false) then record { marks = slice_set s.marks n true; found = s.found ++ n ∷ [] } else s
+
+-- the calls of the routine that was found as number i are found, where so many were found
+abbrev pub examined : List Flat → Found → ℕ → Found
+examined routines s i = go (slice_get s.found i)
+  where
+    go : Option ℕ → Found
+    go None = s
+    go (Some n) = fold noted s (called_in (slice_index_or routines n no_code).code)
+
+abbrev pub kept_number : Bool → ℕ → List ℕ
+kept_number true n = n ∷ []
+kept_number false n = []
+
+-- these are the codes of these routines
+abbrev pub AreFlat : List Flat → List Rungs → Type 0
+AreFlat [] [] = Unit {0}
+AreFlat [] (r ∷ rs) = ⊥
+AreFlat (f ∷ fs) [] = ⊥
+AreFlat (f ∷ fs) (r ∷ rs) = IsFlat f r × AreFlat fs rs
+
+abbrev pub option_list : Option ℕ → List ℕ
+option_list None = []
+option_list (Some n) = n ∷ []
