@@ -16,3 +16,6 @@ pub use emit::flatten;
 pub use lgx_machine::Ins;
 pub use program::FlatProgram;
 pub use rung::{Legs, Node, Rung, Rungs};
+
+#[cfg(test)]
+mod tests;
