@@ -7,3 +7,4 @@ pub mod FlatProgram
 pub mod Ready
 pub mod Executes
 pub mod Search
+pub mod ReadyLaws

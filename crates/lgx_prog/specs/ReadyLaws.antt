@@ -1,0 +1,11 @@
+-- Checked rungs are ready for the image of their tags.
+use Rattle.std.specs.Prelude.{◌≡◌, List, Ok}
+use Rattle.lgx_rung.specs.Tree.{Source}
+use Rattle.lgx_machine.specs.Declarations.{bytes}
+use Rattle.lgx_machine.specs.ResolutionLaws.{Sound}
+use Rattle.lgx_machine.specs.Checked.{CheckScope, checked}
+use Rattle.lgx_machine.specs.Position.{Rungs}
+use Rattle.lgx_prog.specs.Ready.{AreReady}
+
+abbrev pub CheckedAreReady : Type 0
+CheckedAreReady = (scope : CheckScope) (rungs : List Source) (made : Rungs) → Sound scope.tags → checked scope rungs ≡ Ok made → AreReady (bytes scope.tags) made
