@@ -18,3 +18,6 @@ pub use laws::checked_rungs_are_ready;
 pub use lgx_machine::Ins;
 pub use program::FlatProgram;
 pub use rung::{Legs, Node, Rung, Rungs};
+
+#[cfg(test)]
+mod tests;

@@ -7,7 +7,7 @@
 
 mod counters;
 mod timers;
-mod words;
+pub mod words;
 
 pub use counters::run_counter;
 pub use timers::{Negative, run_timer};

@@ -1,4 +1,4 @@
-// What stands in a timer or a counter: bits of its status word, and its numbers.
+//! What stands in a timer or a counter: bits of its status word, and its numbers. `at` is the first byte of either.
 ghost use Rattle.std.specs.Prelude.{◌≡◌, ◌+◌, ◌*◌, ◌<◌, ◌≤◌, length};
 ghost use Rattle.lgx_machine.specs.StatusWords.{status, put_status, dint, put_dint, pre, acc, put_acc, last_tick, put_last_tick, is_reached, reset};
 ghost use Rattle.lgx_image.specs.Grains.{Spread};
@@ -7,18 +7,22 @@ ghost use Rattle.lgx_time.specs.Families.{size_of};
 use lgx_image::Image;
 use lgx_num::{Kind, Place};
 
-// bits of a timer's status word: enabled, timing, done
-pub(crate) const EN: u32 = 31;
+/// The bit of a timer's status word for enabled.
+pub const EN: u32 = 31;
 
-pub(crate) const TT: u32 = 30;
+/// A timer's bit for timing.
+pub const TT: u32 = 30;
 
-pub(crate) const DN: u32 = 29;
+/// A timer's and a counter's bit for done.
+pub const DN: u32 = 29;
 
-// bits of a counter's: counting up, counting down, overflow, underflow; it is done by the same bit as a timer
-pub(crate) const CU: u32 = 31;
+/// A counter's bit for counting up.
+pub const CU: u32 = 31;
 
-pub(crate) const CD: u32 = 30;
+/// A counter's bit for counting down.
+pub const CD: u32 = 30;
 
+// a counter's bits for overflow and underflow
 pub(crate) const OV: u32 = 28;
 
 pub(crate) const UN: u32 = 27;
@@ -54,8 +58,8 @@ pub(crate) fn bit(at: u32, number: u32, image: &Image) -> bool
     image.get(place(Kind::Bool, at, number, image)) > 0
 }
 
-/// Sets or clears a bit of the status word.
-pub(crate) fn put_bit(at: u32, number: u32, on: bool, image: &mut Image)
+/// Sets or clears a bit of the status word, by its number from 0 to 31.
+pub fn put_bit(at: u32, number: u32, on: bool, image: &mut Image)
     requires lies { at + 4 ≤ length image.old.bytes }
     requires number { number < 32 }
     ensures bytes { image.new.bytes ≡ put_status at number on image.old.bytes }
@@ -85,8 +89,8 @@ fn put_number(at: u32, offset: u32, value: i32, image: &mut Image)
     image.put(place, value);
 }
 
-/// The preset: at how much the timer or counter is done.
-pub(crate) fn preset(at: u32, image: &Image) -> i32
+/// The preset: at how much the timer or counter is done, a timer in ticks.
+pub fn preset(at: u32, image: &Image) -> i32
     requires lies { at + 12 ≤ length image.now.bytes }
     ensures { result ≡ pre image.now.bytes at }
 {
@@ -101,7 +105,8 @@ pub(crate) fn accumulator(at: u32, image: &Image) -> i32
     number(at, ACC, image)
 }
 
-pub(crate) fn put_accumulator(at: u32, value: i32, image: &mut Image)
+/// Stores the accumulator: how far the timer or counter has come, a timer in ticks.
+pub fn put_accumulator(at: u32, value: i32, image: &mut Image)
     requires lies { at + 12 ≤ length image.old.bytes }
     ensures bytes { image.new.bytes ≡ put_acc at value image.old.bytes }
     ensures spread { Spread image.old image.new }

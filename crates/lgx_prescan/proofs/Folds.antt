@@ -1,0 +1,47 @@
+-- The instructions in a program's code are those of its rungs, and they are ready.
+use Rattle.std.specs.Prelude.{flat_map, slice_index_or}
+use Rattle.std.proofs.Common.{◌≡◌, ℕ, zero, suc, List, [], ◌∷◌, ◌++◌, refl, ap, sym, subst, ◌∙◌}
+use Rattle.std.specs.List.{AllByRecursion as Each}
+use Rattle.lgx_rung.specs.Tree.{instructions}
+use Rattle.lgx_machine.specs.declared.program.Ins.{Ins}
+use Rattle.lgx_machine.specs.Position.{ProgramRungs, Rungs, routine_rungs}
+use Rattle.lgx_machine.specs.Prescan.{reached, reached_instructions}
+use Rattle.lgx_prog.specs.Executes.{executes}
+use Rattle.lgx_prog.specs.FlatProgram.{Program, IsFlatProgram, routine_at}
+use Rattle.lgx_prog.specs.Ready.{IsReady, AreReady, IsReadyProgram}
+use Rattle.lgx_prog.proofs.Executes.{executes_flat}
+
+abbrev pub code_instructions : Program → ℕ → List Ins
+code_instructions flat n = executes (routine_at flat n).code
+
+routine_instructions : (flat : Program) (rungs : ProgramRungs) → IsFlatProgram flat rungs → (n : ℕ) → code_instructions flat n ≡ flat_map instructions (routine_rungs rungs n)
+routine_instructions flat rungs is n = ap executes (is.routines n).code ∙ executes_flat (routine_rungs rungs n)
+
+same_parts : {A B : Type 0} (f g : A → List B) → ((x : A) → f x ≡ g x) → (xs : List A) → flat_map f xs ≡ flat_map g xs
+same_parts f g same [] = refl
+same_parts f g same (x ∷ xs) = ap (λ ys. ys ++ flat_map f xs) (same x) ∙ ap (λ ys. g x ++ ys) (same_parts f g same xs)
+
+pub reached_code : (flat : Program) (rungs : ProgramRungs) → IsFlatProgram flat rungs → flat_map (code_instructions flat) flat.reached ≡ reached_instructions rungs
+reached_code flat rungs is =
+    ap (flat_map (code_instructions flat)) is.reached
+    ∙ same_parts (code_instructions flat) (λ n. flat_map instructions (routine_rungs rungs n)) (routine_instructions flat rungs is) (reached rungs)
+
+-- ---- ready
+
+each_append : {A : Type 0} (P : A → Type 0) (xs ys : List A) → Each P xs → Each P ys → Each P (xs ++ ys)
+each_append P [] ys first second = second
+each_append P (x ∷ xs) ys first second = (first.0, each_append P xs ys first.1 second)
+
+each_at : {A : Type 0} (P : A → Type 0) (xs : List A) (d : A) → Each P xs → P d → (n : ℕ) → P (slice_index_or xs n d)
+each_at P [] d all other n = other
+each_at P (x ∷ xs) d all other zero = all.0
+each_at P (x ∷ xs) d all other (suc n) = each_at P xs d all.1 other n
+
+rungs_ready : (len : ℕ) (rungs : Rungs) → AreReady len rungs → Each (IsReady len) (flat_map instructions rungs)
+rungs_ready len [] all = tt
+rungs_ready len (r ∷ rs) all = each_append (IsReady len) (instructions r) (flat_map instructions rs) all.0 (rungs_ready len rs all.1)
+
+pub code_ready : (len : ℕ) (flat : Program) (rungs : ProgramRungs) → IsFlatProgram flat rungs → IsReadyProgram len rungs → (n : ℕ) → Each (IsReady len) (code_instructions flat n)
+code_ready len flat rungs is ready n =
+    subst (Each (IsReady len)) (sym (routine_instructions flat rungs is n))
+    (rungs_ready len (routine_rungs rungs n) (each_at (AreReady len) rungs.routines [] ready tt n))
