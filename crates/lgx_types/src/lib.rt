@@ -7,6 +7,7 @@
 mod built_in;
 mod error;
 mod layout;
+mod names;
 mod size;
 mod table;
 
