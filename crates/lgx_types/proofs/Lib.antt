@@ -1,2 +1,3 @@
 pub mod Members
 pub mod Indexes
+pub mod Found
