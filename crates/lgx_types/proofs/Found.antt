@@ -2,15 +2,21 @@
 use Rattle.std.specs.Prelude.{◌≡◌, ℕ, zero, suc, ◌+◌, ◌<◌, ◌≤◌, Bool, true, false, cond, ◌||◌, nat_lt, List, [], ◌∷◌, ◌++◌, map, slice_get, length, take, drop, flat_map, position, Option, Some, None, option_map, is_some, refl}
 use Rattle.std.specs.Option.{option_or, option_map_or}
 use Rattle.std.specs.List.{list_any, position_from, enumerate_from}
-use Rattle.std.proofs.Common.{ap, sym, subst, arith, ◌∙◌, get_or, rules}
+use Rattle.std.proofs.Common.{ap, sym, subst, arith, ◌∙◌, get_or, rules, drop-cons, length-take-le, add-one}
+use Rattle.std.proofs.lemmas.List.{length-map}
 use Rattle.std.proofs.lemmas.Iterator.Adapters.{position_from-zero}
 use Rattle.lgx_num.specs.Name.{same}
 use Rattle.lgx_machine.specs.declared.types.Base.{Base}
 use Rattle.lgx_machine.specs.declared.types.Base.TheVariants.{User}
 use Rattle.lgx_machine.specs.declared.types.TypeDecl.{TypeDecl}
+use Rattle.lgx_machine.specs.declared.types.MemberDecl.{MemberDecl}
+use Rattle.lgx_machine.specs.declared.types.TypeFault.{TypeFault}
+use Rattle.lgx_machine.specs.FirstCause.{first}
+use Rattle.lgx_types.specs.declared.error.TypeError.{TypeError}
+use Rattle.lgx_types.specs.declared.error.TypeError.TheVariants.{Fault, Memory}
 use Rattle.lgx_machine.specs.Layout.{find, built_ins, looked_up}
-use Rattle.lgx_machine.specs.TypeFaults.{name_taken}
-use Rattle.lgx_types.specs.Outlines.{names_of}
+use Rattle.lgx_machine.specs.TypeFaults.{name_taken, repeated}
+use Rattle.lgx_types.specs.Outlines.{names_of, member_names, IsFirst}
 use Rattle.lgx_types.proofs.Indexes.{any_some, position_low, position_end}
 
 -- ---- through a map
@@ -78,3 +84,45 @@ pub get_at : {A : Type 0} (xs : List A) (i : ℕ) (x d : A) → slice_get xs i �
 get_at [] i x d p = absurd (cc p)
 get_at (y ∷ ys) zero x d p = cc p
 get_at (y ∷ ys) (suc i) x d p = get_at ys i x d p
+
+-- ---- faults, one member or one structure on
+
+pub any_map_all : {A B : Type 0} (f : A → B) (test : B → Bool) (xs : List A) → list_any test (map f xs) ≡ list_any (λ x. test (f x)) xs
+any_map_all f test [] = refl
+any_map_all f test (x ∷ xs) = ap (λ (b : Bool). test (f x) || b) (any_map_all f test xs)
+
+pub taken_before : (ms : List MemberDecl) (names : List (List ℕ)) (k p : ℕ) (m : MemberDecl) → k ≤ length ms → names ≡ member_names (take k ms) → position_from (λ n. same n m.name) 0 (names ++ m.name ∷ []) ≡ Some p → nat_lt p k ≡ repeated ms k m
+taken_before ms names k p m h q e =
+    let long : length names ≡ k = rw q (length-map (take k ms) (λ (o : MemberDecl). o.name) ∙ length-take-le k ms h) in
+    let test : List ℕ → Bool = λ n. same n m.name in
+    let told : nat_lt p (length names) ≡ list_any test names = early test names m.name p e in
+    let all : list_any test names ≡ repeated ms k m = ap (λ (ns : List (List ℕ)). list_any test ns) q ∙ any_map_all (λ (o : MemberDecl). o.name) test (take k ms) in
+    sym (ap (λ (n : ℕ). nat_lt p n) long) ∙ told ∙ all
+
+-- the first fault of an element is the first of all, where those before have none
+pub first_more : {A : Type 0} (xs ys : List A) (x : A) → first xs ≡ Some x → first (xs ++ ys) ≡ Some x
+first_more [] ys x p = absurd (cc p)
+first_more (z ∷ zs) ys x p = p
+
+pub is_first_more : (xs ys : List TypeFault) (e : TypeError) → IsFirst xs e → IsFirst (xs ++ ys) e
+is_first_more xs ys (Fault f) p = first_more xs ys f p
+is_first_more xs ys Memory p = tt
+
+pub first_here : {A : Type 0} (F : ℕ × A → List TypeFault) (xs : List A) (k : ℕ) (x : A) (all : List TypeFault) → k < length xs → x ≡ get_or xs k x → flat_map F (enumerate_from k (drop k xs)) ≡ all → (e : TypeError) → IsFirst (F (k, x)) e → IsFirst all e
+first_here {A} F xs k x all h g p e q =
+    let split : flat_map F (enumerate_from k (x ∷ drop (suc k) xs)) ≡ all = subst (λ (l : List A). flat_map F (enumerate_from k l) ≡ all) (drop-cons xs k x h ∙ ap (λ (y : A). y ∷ drop (suc k) xs) (sym g)) p in
+    subst (λ (l : List TypeFault). IsFirst l e) split (is_first_more (F (k, x)) _ e q)
+
+pub none_here : {A : Type 0} (F : ℕ × A → List TypeFault) (xs : List A) (k : ℕ) (x : A) (all : List TypeFault) → k < length xs → x ≡ get_or xs k x → flat_map F (enumerate_from k (drop k xs)) ≡ all → F (k, x) ≡ [] → flat_map F (enumerate_from (k + 1) (drop (k + 1) xs)) ≡ all
+none_here {A} F xs k x all h g p q =
+    let split : flat_map F (enumerate_from k (x ∷ drop (suc k) xs)) ≡ all = subst (λ (l : List A). flat_map F (enumerate_from k l) ≡ all) (drop-cons xs k x h ∙ ap (λ (y : A). y ∷ drop (suc k) xs) (sym g)) p in
+    let one : suc k ≡ k + 1 = omega arith in
+    subst (λ (n : ℕ). flat_map F (enumerate_from (k + 1) (drop n xs)) ≡ all) one (subst (λ (l : List TypeFault). (l ++ flat_map F (enumerate_from (k + 1) (drop (suc k) xs))) ≡ all) q split)
+
+take_map_suc : {A B : Type 0} (f : A → B) (xs : List A) (k : ℕ) (x : A) → k < length xs → x ≡ get_or xs k x → map f (take (suc k) xs) ≡ map f (take k xs) ++ f x ∷ []
+take_map_suc f [] k x h g = absurd (omega arith)
+take_map_suc f (y ∷ xs) zero x h g = ap (λ z. f z ∷ []) (sym g)
+take_map_suc f (y ∷ xs) (suc k) x h g = ap (λ l. f y ∷ l) (take_map_suc f xs k x (omega arith) g)
+
+pub take_map_more : {A B : Type 0} (f : A → B) (xs : List A) (k : ℕ) (x : A) → k < length xs → x ≡ get_or xs k x → map f (take (k + 1) xs) ≡ map f (take k xs) ++ f x ∷ []
+take_map_more f xs k x h g = rw add-one (take_map_suc f xs k x h g)

@@ -91,8 +91,9 @@ fn members_of(
     let mut types = Vec::with_capacity(alloc, members.len())?;
     for k in 0..members.len() {
         let number = k as u32;
-        let first = names.add(alloc, &members[k].name)?;
-        let of = resolve(structures, &members[k], first < number, i, number)?;
+        let member = &members[k];
+        let first = names.add(alloc, &member.name)?;
+        let of = resolve(structures, member, first < number, i, number)?;
         types.push(of)?;
     }
     Ok((names, List::of(types)))
