@@ -15,8 +15,9 @@ use Rattle.lgx_machine.specs.FirstCause.{first}
 use Rattle.lgx_types.specs.declared.error.TypeError.{TypeError}
 use Rattle.lgx_types.specs.declared.error.TypeError.TheVariants.{Fault, Memory}
 use Rattle.lgx_machine.specs.Layout.{find, built_ins, looked_up}
-use Rattle.lgx_machine.specs.TypeFaults.{name_taken, repeated}
-use Rattle.lgx_types.specs.Outlines.{names_of, member_names, IsFirst}
+use Rattle.lgx_machine.specs.TypeFaults.{name_taken, repeated, structure_faults, of_structure}
+use Rattle.lgx_machine.specs.declared.types.TypeCode.TheVariants.{Y6}
+use Rattle.lgx_types.specs.Outlines.{names_of, member_names, faults_in, IsFirst}
 use Rattle.lgx_types.proofs.Indexes.{any_some, position_low, position_end}
 
 -- ---- through a map
@@ -126,3 +127,15 @@ take_map_suc f (y ∷ xs) (suc k) x h g = ap (λ l. f y ∷ l) (take_map_suc f x
 
 pub take_map_more : {A B : Type 0} (f : A → B) (xs : List A) (k : ℕ) (x : A) → k < length xs → x ≡ get_or xs k x → map f (take (k + 1) xs) ≡ map f (take k xs) ++ f x ∷ []
 take_map_more f xs k x h g = rw add-one (take_map_suc f xs k x h g)
+
+pub get_some : {A : Type 0} (xs : List A) (i : ℕ) (x : A) → i < length xs → x ≡ get_or xs i x → slice_get xs i ≡ Some x
+get_some [] i x h g = absurd (omega arith)
+get_some (y ∷ xs) zero x h g = ap Some (sym g)
+get_some (y ∷ xs) (suc i) x h g = get_some xs i x (omega arith) g
+
+-- the faults of a structure begin with its name's
+pub taken_first : (types : List TypeDecl) (i : ℕ) (d : TypeDecl) → name_taken types i d ≡ true → IsFirst (structure_faults types (i, d)) (Fault (of_structure Y6 i))
+taken_first types i d p = rw p refl
+
+pub not_taken : (types : List TypeDecl) (i : ℕ) (d : TypeDecl) → name_taken types i d ≡ false → structure_faults types (i, d) ≡ faults_in types i d.members
+not_taken types i d p = rw p refl

@@ -48,11 +48,12 @@ impl Resolved {
         let mut members = Vec::with_capacity(alloc, decls.len())?;
         let mut outlines = Vec::with_capacity(alloc, decls.len())?;
         for i in 0..decls.len() {
+            let decl = &decls[i];
+            let number = i as u32;
             if structures.is_taken(i) {
-                return Err(fault_of(i as u32));
+                return Err(fault_of(number));
             }
-            let (names, types) =
-                members_of(alloc, &structures, i as u32, decls[i].members.as_slice())?;
+            let (names, types) = members_of(alloc, &structures, number, decl.members.as_slice())?;
             members.push(names)?;
             outlines.push(types)?;
         }
