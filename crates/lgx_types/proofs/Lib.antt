@@ -2,3 +2,5 @@ pub mod Members
 pub mod Indexes
 pub mod Found
 pub mod Rings
+pub mod Sizing
+pub mod Walks

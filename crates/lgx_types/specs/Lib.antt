@@ -1,3 +1,4 @@
 pub mod Tables
 pub mod Names
 pub mod Outlines
+pub mod Walk

@@ -12,6 +12,7 @@ mod resolved;
 mod size;
 mod structures;
 mod table;
+mod walk;
 
 pub use error::TypeError;
 pub use lgx_machine::{Base, DataType, Member, MemberDecl, TypeCode, TypeDecl, TypeFault};

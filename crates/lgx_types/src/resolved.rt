@@ -6,6 +6,7 @@ ghost use Rattle.lgx_machine.specs.TypeFaults.{of_structure};
 ghost use Rattle.lgx_types.specs.declared.error.TypeError.TheVariants.{Fault};
 ghost use Rattle.lgx_machine.specs.Layout.{type_of};
 ghost use Rattle.lgx_types.specs.Tables.{HasMembers};
+ghost use Rattle.lgx_types.specs.Walk.{types_at};
 ghost use Rattle.lgx_types.specs.Outlines.{IsFirst, first_wrong, faults_by, faults_in, name_faults, member_names, outline};
 
 use crate::error::TypeError;
@@ -62,6 +63,22 @@ impl Resolved {
             members,
             outlines,
         })
+    }
+
+    pub fn decls(&self) -> &[TypeDecl]
+        ensures value { result.now ≡ self.now }
+        ensures few { length self.now < 4294967296 }
+    {
+        self.structures.decls()
+    }
+
+    /// The types of the members of structure `i`.
+    pub fn types_at(&self, i: u32) -> &[DataType]
+        requires { i < length self.now }
+        ensures value { result.now ≡ types_at self.now i }
+        ensures few { length result.now < 4294967296 }
+    {
+        self.outlines[i as usize].as_slice()
     }
 }
 
