@@ -1,6 +1,6 @@
 -- Sizes that are worked out member by member.
 use Rattle.std.specs.Prelude.{◌≡◌, ℕ, zero, suc, ◌+◌, ◌*◌, ◌/◌, ◌<◌, ◌≤◌, ◌⊎◌, min, Bool, true, false, ◌||◌, ◌==◌, List, [], ◌∷◌, ◌++◌, length, map, drop, flat_map, slice_get, slice_index, Option, Some, None, option_map, unwrap_or, Result, Ok, Err, refl}
-use Rattle.std.proofs.Common.{ap, sym, subst, arith, ◌∙◌, get_or, drop-cons, inl, inr, eqb-true}
+use Rattle.std.proofs.Common.{ap, sym, subst, arith, ◌∙◌, get_or, drop-cons, inl, inr, eqb-true, eq-eqb}
 use Rattle.lgx_machine.proofs.Reaching.{or_right}
 use Rattle.std.proofs.lemmas.Bool.{or_left}
 use Rattle.lgx_machine.specs.declared.types.Base.{Base}
@@ -18,7 +18,7 @@ use Rattle.lgx_machine.proofs.SizesSettle.{get_there}
 use Rattle.lgx_types.specs.declared.walk.Mark.{Mark}
 use Rattle.lgx_types.specs.declared.walk.Mark.TheVariants.{Fresh, Open, Done}
 use Rattle.lgx_types.specs.declared.walk.Frame.{Frame}
-use Rattle.lgx_types.specs.Outlines.{outline}
+use Rattle.lgx_types.specs.Outlines.{outline, outlines_of}
 use Rattle.lgx_types.specs.Walk.{capped, sized_by, end_of, number_of, users, types_at, IsSized, by_mark, element_of, IsBegun, AreMarks}
 use Rattle.lgx_types.proofs.Rings.{alone_by_parts}
 
@@ -135,6 +135,48 @@ among_both (x ∷ xs) ys P f g j p = go (x == j) refl p (among_both xs ys P (λ 
     go true e q known = f j (or_left (x == j) _ e)
     go false e q known = known q
 
+frame_is : (g : Frame) (s n a : ℕ) → g.structure ≡ s → g.next ≡ n → g.at ≡ a → record { structure = s; next = n; at = a } ≡ g
+frame_is g s n a p q r = rw (← p, ← q, ← r) refl
+
+-- a structure whose size isn't known yet is a part
+err_is : (marks : List Mark) (base : Base) (j : ℕ) → element_of marks base ≡ Err j → among (number_of base) j ≡ true
+err_is marks OneBit j p = absurd (cc p)
+err_is marks Sint j p = absurd (cc p)
+err_is marks Int j p = absurd (cc p)
+err_is marks Dint j p = absurd (cc p)
+err_is marks Timer j p = absurd (cc p)
+err_is marks Counter j p = absurd (cc p)
+err_is marks (User i) j p = go (slice_get marks i) p
+  where
+    same : i ≡ j → ((i == j) || false) ≡ true
+    same e = or_left (i == j) false (eq-eqb i j e)
+
+    go : (o : Option Mark) → by_mark i o ≡ Err j → ((i == j) || false) ≡ true
+    go None q = same (cc q)
+    go (Some Fresh) q = same (cc q)
+    go (Some Open) q = same (cc q)
+    go (Some (Done s)) q = absurd (cc q)
+
+among_left : (xs ys : List ℕ) (j : ℕ) → among xs j ≡ true → among (xs ++ ys) j ≡ true
+among_left [] ys j p = absurd (cc p)
+among_left (x ∷ xs) ys j p = go (x == j) p (among_left xs ys j)
+  where
+    go : (b : Bool) → (b || among xs j) ≡ true → (among xs j ≡ true → among (xs ++ ys) j ≡ true) → (b || among (xs ++ ys) j) ≡ true
+    go true q known = refl
+    go false q known = known q
+
+among_right : (xs ys : List ℕ) (j : ℕ) → among ys j ≡ true → among (xs ++ ys) j ≡ true
+among_right [] ys j p = p
+among_right (x ∷ xs) ys j p = or_right (x == j) _ (among_right xs ys j p)
+
+among_at : (ts : List DataType) (k : ℕ) (t : DataType) (j : ℕ) → k < length ts → t ≡ get_or ts k t → among (number_of t.base) j ≡ true → among (users ts) j ≡ true
+among_at [] k t j h g p = absurd (omega (arith, h))
+among_at (x ∷ ts) zero t j h g p = among_left (number_of x.base) (users ts) j (subst (λ (y : DataType). among (number_of y.base) j ≡ true) g p)
+among_at (x ∷ ts) (suc k) t j h g p = among_right (number_of x.base) (users ts) j (among_at ts k t j (omega (arith, h)) g p)
+
+pub inner_part : (types : List TypeDecl) (marks : List Mark) (i k : ℕ) (t : DataType) (j : ℕ) → k < length (types_at types i) → t ≡ get_or (types_at types i) k t → element_of marks t.base ≡ Err j → among (parts types i) j ≡ true
+inner_part types marks i k t j h g p = subst (λ (l : List ℕ). among l j ≡ true) (sym (parts_are types i)) (among_at (types_at types i) k t j h g (err_is marks t.base j p))
+
 pub begun_more : (types : List TypeDecl) (marks : List Mark) (f : Frame) (t : DataType) (e : ℕ) → AreMarks types marks → IsBegun types f → f.next < length (types_at types f.structure) → t ≡ get_or (types_at types f.structure) f.next t → element_of marks t.base ≡ Ok e → (g : Frame) → g.structure ≡ f.structure → g.next ≡ suc f.next → g.at ≡ capped (begin_after f.at t + sized_by e t.base t.dim) → IsBegun types g
 begun_more types marks f t e h b long here p g same next at =
     let ts : List DataType = types_at types f.structure in
@@ -143,8 +185,36 @@ begun_more types marks f t e h b long here p g same next at =
     let alone : ((j : ℕ) → among (users (drop (suc f.next) ts)) j ≡ true → reaches_itself types j ≡ false) → (j : ℕ) → among (users ts) j ≡ true → reaches_itself types j ≡ false = λ rest. b.alone (subst (λ (l : List DataType). (j : ℕ) → among (users l) j ≡ true → reaches_itself types j ≡ false) (sym one) (among_both (number_of t.base) (users (drop (suc f.next) ts)) (λ j. reaches_itself types j ≡ false) known.alone rest)) in
     let rounds : (k : ℕ) → b.start + known.start ≤ k → capped (end_of (sizes_to k types) (capped (begin_after f.at t + sized_by e t.base t.dim)) (drop (suc f.next) ts)) ≡ capped (end_of (sizes_to k types) 0 ts) = λ k q. next_end (sizes_to k types) f.at e t (drop (suc f.next) ts) (known.rounds k (omega (arith, q))) ∙ subst (λ (l : List DataType). capped (end_of (sizes_to k types) f.at l) ≡ capped (end_of (sizes_to k types) 0 ts)) one (b.rounds k (omega (arith, q))) in
     let x : Frame = record { structure = f.structure; next = suc f.next; at = capped (begin_after f.at t + sized_by e t.base t.dim) } in
-    let is : x ≡ g = cc (same, next, at) in
+    let is : x ≡ g = frame_is g f.structure (suc f.next) (capped (begin_after f.at t + sized_by e t.base t.dim)) same next at in
     subst (λ (y : Frame). IsBegun types y) is (record { there = b.there; low = omega arith; alone = alone; start = b.start + known.start; rounds = rounds })
+
+-- ---- as the loop has it
+
+get_default : {A : Type 0} (xs : List A) (k : ℕ) (d e : A) → k < length xs → get_or xs k d ≡ get_or xs k e
+get_default [] k d e h = absurd (omega (arith, h))
+get_default (x ∷ xs) zero d e h = refl
+get_default (x ∷ xs) (suc k) d e h = get_default xs k d e (omega (arith, h))
+
+here_is : (ts us : List DataType) (k n : ℕ) (d : DataType) → us ≡ ts → n ≡ k → k < length us → get_or us k d ≡ get_or ts n (get_or us k d)
+here_is ts us k n d p q h = rw (q, ← p) (get_default us k d (get_or us k d) h)
+
+pub begun_next : (types : List TypeDecl) (marks : List Mark) (us : List DataType) (f : Frame) (k : ℕ) (d : DataType) (e : ℕ) → AreMarks types marks → IsBegun types f → us ≡ types_at types f.structure → f.next ≡ k → k < length us → element_of marks (get_or us k d).base ≡ Ok e → (at : ℕ) → at ≡ capped (begin_after f.at (get_or us k d) + sized_by e (get_or us k d).base (get_or us k d).dim) → IsBegun types (record { structure = f.structure; next = k + 1; at = at })
+begun_next types marks us f k d e h b is place long p at q =
+    let low : f.next < length (types_at types f.structure) = rw (place, ← is) long in
+    begun_more types marks f (get_or us k d) e h b low (here_is (types_at types f.structure) us k f.next d is place long) p (record { structure = f.structure; next = k + 1; at = at }) refl (omega (arith, place)) q
+
+pub inner_next : (types : List TypeDecl) (marks : List Mark) (us : List DataType) (i k : ℕ) (d : DataType) (j : ℕ) → us ≡ types_at types i → k < length us → element_of marks (get_or us k d).base ≡ Err j → among (parts types i) j ≡ true
+inner_next types marks us i k d j is long p =
+    let low : k < length (types_at types i) = rw (← is) long in
+    inner_part types marks i k (get_or us k d) j low (here_is (types_at types i) us k k d is refl long) p
+
+pub typed_at : (types : List TypeDecl) (outlines : List (List DataType)) (i : ℕ) (d : List DataType) → outlines ≡ outlines_of types → i < length types → get_or outlines i d ≡ types_at types i
+typed_at types outlines i d p h = rw p (go types types i h)
+  where
+    go : (all ds : List TypeDecl) (i : ℕ) → i < length ds → get_or (map (λ d. outline all d.members) ds) i d ≡ outline all (unwrap_or (option_map (λ d. d.members) (slice_get ds i)) [])
+    go all [] i h = absurd (omega (arith, h))
+    go all (x ∷ ds) zero h = refl
+    go all (x ∷ ds) (suc i) h = go all ds i (omega (arith, h))
 
 -- ---- all members
 

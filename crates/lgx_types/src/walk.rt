@@ -110,9 +110,10 @@ fn go_on(resolved: &Resolved, marks: &[Mark], frame: &mut Frame) -> Option<u32>
 {
     let types = resolved.types_at(frame.structure);
     for k in frame.next as usize..types.len() {
-        match element_of(marks, types[k].base) {
+        let of = types[k];
+        match element_of(marks, of.base) {
             Ok(size) => {
-                frame.at = end_behind(frame.at, types[k], size);
+                frame.at = end_behind(frame.at, of, size);
                 frame.next = k as u32 + 1;
             }
             Err(inner) => return Some(inner),
