@@ -1,5 +1,5 @@
 -- The stack of structures that are being worked out.
-use Rattle.std.specs.Prelude.{◌≡◌, ◌≢◌, ℕ, zero, suc, ◌+◌, ◌-◌, ◌<◌, ◌≤◌, ◌⊎◌, Bool, true, false, List, [], ◌∷◌, ◌++◌, length, map, slice_get, slice_set, slice_index, sum_by, Option, Some, None, IfSome, refl}
+use Rattle.std.specs.Prelude.{◌≡◌, ◌≢◌, ℕ, zero, suc, ◌+◌, ◌-◌, ◌<◌, ◌≤◌, ◌⊎◌, Bool, true, false, List, [], ◌∷◌, ◌++◌, length, map, replicate, drop, slice_get, slice_set, slice_index, sum_by, Option, Some, None, IfSome, refl}
 use Rattle.std.proofs.Common.{ap, sym, subst, arith, ◌∙◌, inl, inr, get_or, length-append}
 use Rattle.std.proofs.lemmas.List.Sums.{sum_by-set}
 use Rattle.lgx_machine.specs.declared.types.TypeDecl.{TypeDecl}
@@ -9,9 +9,12 @@ use Rattle.lgx_machine.proofs.Reaching.{parts_there, reach_more}
 use Rattle.lgx_types.specs.declared.walk.Mark.{Mark}
 use Rattle.lgx_types.specs.declared.walk.Mark.TheVariants.{Fresh, Open, Done}
 use Rattle.lgx_types.specs.declared.walk.Frame.{Frame}
-use Rattle.lgx_types.specs.Walk.{types_at, IsSized, IsBegun, AreMarks, IsWalk, IsPassed, IsRing, weight, spent}
+use Rattle.lgx_types.specs.Walk.{types_at, IsSized, IsBegun, AreMarks, IsWalk, IsPassed, IsRing, size_of_mark, weight, spent}
+use Rattle.std.proofs.Math.ListN.{length-replicate}
+use Rattle.std.proofs.lemmas.List.{length-map}
 use Rattle.lgx_types.proofs.Rings.{reach_bounded, reach_there}
 use Rattle.lgx_types.proofs.Sizing.{sized_at_end}
+use Rattle.lgx_types.proofs.Found.{get_at}
 
 -- ---- elements of lists
 
@@ -185,3 +188,101 @@ ring_found types marks stack f j w h q = (parts_there types f.structure j q, go 
         let far : p + (length stack - p) ≡ length stack = omega (arith, low, length-append stack (f ∷ [])) in
         let last : slice_get (stack ++ f ∷ []) (p + (length stack - p)) ≡ Some f = subst (λ (n : ℕ). slice_get (stack ++ f ∷ []) n ≡ Some f) (sym far) (get_last stack f) in
         close x s (reaches_on types (stack ++ f ∷ []) w.leads (length stack - p) p x f r last)
+
+-- ---- each step has less left
+
+pub spent_done : (marks : List Mark) (stack : List Frame) (f : Frame) (i size : ℕ) → i < length marks → spent (slice_set marks i (Done size)) stack < spent marks (stack ++ f ∷ [])
+spent_done marks stack f i size h = omega (arith, sum_by-set weight marks i (Done size) Open h, length-append stack (f ∷ []))
+
+pub spent_open : (marks : List Mark) (stack : List Frame) (f g b : Frame) (i : ℕ) → i < length marks → slice_get marks i ≡ Some Fresh → spent (slice_set marks i Open) ((stack ++ g ∷ []) ++ b ∷ []) < spent marks (stack ++ f ∷ [])
+spent_open marks stack f g b i h p =
+    let fresh : weight (get_or marks i Open) ≡ 2 = ap weight (get_at marks i Fresh Open p) in
+    omega (arith, fresh, sum_by-set weight marks i Open Open h, length-append stack (f ∷ []), length-append stack (g ∷ []), length-append (stack ++ g ∷ []) (b ∷ []))
+
+pub passed_set : (marks : List Mark) (i : ℕ) (y : Mark) → (y ≡ Fresh → ⊥) → (j : ℕ) → IsPassed marks j → IsPassed (slice_set marks i y) j
+passed_set marks i y other j p q = go (get_set marks i j y Fresh q)
+  where
+    go : ((i ≡ j) × (y ≡ Fresh)) ⊎ ((i ≢ j) × (slice_get marks j ≡ Some Fresh)) → ⊥
+    go (inl (e, f)) = other f
+    go (inr (e, f)) = p f
+
+pub fresh_else : (marks : List Mark) (i : ℕ) → i < length marks → ((size : ℕ) → slice_get marks i ≡ Some (Done size) → ⊥) → (slice_get marks i ≡ Some Open → ⊥) → slice_get marks i ≡ Some Fresh
+fresh_else [] i h p q = absurd (omega (arith, h))
+fresh_else (Fresh ∷ ms) zero h p q = refl
+fresh_else (Open ∷ ms) zero h p q = absurd (q refl)
+fresh_else (Done s ∷ ms) zero h p q = absurd (p s refl)
+fresh_else (m ∷ ms) (suc i) h p q = fresh_else ms i (omega (arith, h)) p q
+
+pub get_is : {A : Type 0} (xs : List A) (i : ℕ) (d x : A) → i < length xs → get_or xs i d ≡ x → slice_get xs i ≡ Some x
+get_is [] i d x h p = absurd (omega (arith, h))
+get_is (y ∷ xs) zero d x h p = ap Some p
+get_is (y ∷ xs) (suc i) d x h p = get_is xs i d x (omega (arith, h)) p
+
+pub get_of : {A : Type 0} (xs : List A) (i : ℕ) (d x : A) → slice_get xs i ≡ Some x → get_or xs i d ≡ x
+get_of xs i d x p = get_at xs i x d p
+
+-- ---- a step
+
+pub top_begun : (types : List TypeDecl) (marks : List Mark) (stack : List Frame) (f : Frame) → IsWalk types marks (stack ++ f ∷ []) → IsBegun types f
+top_begun types marks stack f w = w.begun (length stack) f (get_last stack f)
+
+pub step_done : (types : List TypeDecl) (marks : List Mark) (stack : List Frame) (f g : Frame) (size : ℕ) → IsWalk types marks (stack ++ f ∷ []) → IsBegun types g → g.structure ≡ f.structure → drop g.next (types_at types g.structure) ≡ [] → size ≡ round_up 4 g.at → IsWalk types (slice_set marks g.structure (Done size)) stack
+step_done types marks stack f g size w b same none e = top_done types marks stack g size (frame_on types marks stack f g w b same) (rw e (sized_at_end types g b none))
+
+pub step_on : (types : List TypeDecl) (marks : List Mark) (stack : List Frame) (f g : Frame) (j : ℕ) → IsWalk types marks (stack ++ f ∷ []) → IsBegun types g → g.structure ≡ f.structure → among (parts types g.structure) j ≡ true → IsWalk types (slice_set marks j Open) ((stack ++ g ∷ []) ++ begin j ∷ [])
+step_on types marks stack f g j w b same p = begun_inside types marks (stack ++ g ∷ []) j (frame_on types marks stack f g w b same) (parts_there types g.structure j p) (λ q x h k. inside q x (get_split stack g q x h) k)
+  where
+    inside : (q : ℕ) (x : Frame) → (slice_get stack q ≡ Some x) ⊎ ((q ≡ length stack) × (g ≡ x)) → suc q ≡ length (stack ++ g ∷ []) → among (parts types x.structure) j ≡ true
+    inside q x (inl r) k = absurd (omega (arith, k, get_low stack q x r, length-append stack (g ∷ [])))
+    inside q x (inr (r, s)) k = subst (λ (z : Frame). among (parts types z.structure) j ≡ true) s p
+
+pub step_ring : (types : List TypeDecl) (marks : List Mark) (stack : List Frame) (f g : Frame) (j : ℕ) → IsWalk types marks (stack ++ f ∷ []) → g.structure ≡ f.structure → among (parts types g.structure) j ≡ true → slice_get marks j ≡ Some Open → IsRing types j
+step_ring types marks stack f g j w same p o = ring_found types marks stack f j w o (subst (λ (n : ℕ). among (parts types n) j ≡ true) same p)
+
+pub inner_there : (types : List TypeDecl) (marks : List Mark) (i j : ℕ) → AreMarks types marks → among (parts types i) j ≡ true → j < length marks
+inner_there types marks i j m p = rw m.many (parts_there types i j p)
+
+-- ---- all structures
+
+pub none_marked : (n i : ℕ) (m : Mark) → slice_get (replicate n Fresh) i ≡ Some m → m ≡ Fresh
+none_marked zero i m h = absurd (cc h)
+none_marked (suc n) zero m h = cc h
+none_marked (suc n) (suc i) m h = none_marked n i m h
+
+-- nothing is begun
+pub all_fresh : (types : List TypeDecl) (marks : List Mark) → marks ≡ replicate (length types) Fresh → IsWalk types marks []
+all_fresh types marks e = record {
+    marked = record { many = rw e (length-replicate (length types) Fresh); done = λ i s h. absurd (cc (none_marked (length types) i (Done s) (rw e at h))) };
+    begun = λ p f h. absurd (cc h);
+    opened = λ i h. absurd (cc (none_marked (length types) i Open (rw e at h)));
+    leads = λ p f g h k. absurd (cc h);
+  }
+
+mapped_mark : (ms : List Mark) (i : ℕ) (m : Mark) → slice_get ms i ≡ Some m → slice_index (map size_of_mark ms) i ≡ size_of_mark m
+mapped_mark [] i m h = absurd (cc h)
+mapped_mark (x ∷ ms) zero m h = let e : x ≡ m = cc h in ap size_of_mark e
+mapped_mark (x ∷ ms) (suc i) m h = mapped_mark ms i m h
+
+mark_there : (ms : List Mark) (i : ℕ) → i < length ms → (m : Mark) × (slice_get ms i ≡ Some m)
+mark_there [] i h = absurd (omega (arith, h))
+mark_there (m ∷ ms) zero h = (m, refl)
+mark_there (m ∷ ms) (suc i) h = mark_there ms i (omega (arith, h))
+
+-- every structure was looked at, and none is open: each has a size
+pub all_done : (types : List TypeDecl) (marks : List Mark) (sizes : List ℕ) → IsWalk types marks [] → ((i : ℕ) → i < length types → IsPassed marks i) → sizes ≡ map size_of_mark marks → (length sizes ≡ length types) × ((i : ℕ) → i < length types → IsSized types i (slice_index sizes i))
+all_done types marks sizes w passed e = (ap length e ∙ length-map marks size_of_mark ∙ w.marked.many, λ i h. one i h (mark_there marks i (rw w.marked.many h)))
+  where
+    one : (i : ℕ) → i < length types → (m : Mark) × (slice_get marks i ≡ Some m) → IsSized types i (slice_index sizes i)
+    one i h (Fresh, q) = absurd (passed i h q)
+    one i h (Open, q) = let (p, (f, (r, s))) = w.opened i q in absurd (cc r)
+    one i h (Done size, q) = subst (λ (n : ℕ). IsSized types i n) (sym (mapped_mark marks i (Done size) q) ∙ ap (λ (l : List ℕ). slice_index l i) (sym e)) (w.marked.done i size q)
+
+pub passed_self : (marks : List Mark) (i : ℕ) (y : Mark) → (y ≡ Fresh → ⊥) → IsPassed (slice_set marks i y) i
+passed_self marks i y other q = go (get_set marks i i y Fresh q)
+  where
+    go : ((i ≡ i) × (y ≡ Fresh)) ⊎ ((i ≢ i) × (slice_get marks i ≡ Some Fresh)) → ⊥
+    go (inl (e, f)) = other f
+    go (inr (e, f)) = e refl
+
+pub first_begun : (types : List TypeDecl) (marks : List Mark) (i : ℕ) → IsWalk types marks [] → i < length types → IsWalk types (slice_set marks i Open) (begin i ∷ [])
+first_begun types marks i w h = begun_inside types marks [] i w h (λ p f g k. absurd (cc g))

@@ -88,6 +88,11 @@ pub record IsWalk (types : List TypeDecl) (marks : List Mark) (stack : List Fram
 abbrev pub IsPassed : List Mark → ℕ → Type 0
 IsPassed marks i = slice_get marks i ≡ Some Fresh → ⊥
 
+abbrev pub size_of_mark : Mark → ℕ
+size_of_mark Fresh = 0
+size_of_mark Open = 0
+size_of_mark (Done size) = size
+
 -- what is left to be done at least
 abbrev pub weight : Mark → ℕ
 weight Fresh = 2

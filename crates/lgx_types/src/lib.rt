@@ -9,6 +9,7 @@ mod error;
 mod layout;
 mod names;
 mod resolved;
+mod ring;
 mod size;
 mod structures;
 mod table;

@@ -1,10 +1,11 @@
 // The types of all members, found by their names, and what is wrong with names and members.
 ghost use Rattle.std.specs.Prelude.{◌≡◌, ◌<◌, [], length, IfOk, IfErr};
-ghost use Rattle.std.specs.List.{AllByRecursion as Each};
+ghost use Rattle.std.specs.List.{AllByRecursion as Each, position_from};
 ghost use Rattle.lgx_machine.specs.declared.types.TypeCode.TheVariants.{Y6};
 ghost use Rattle.lgx_machine.specs.TypeFaults.{of_structure};
 ghost use Rattle.lgx_types.specs.declared.error.TypeError.TheVariants.{Fault};
-ghost use Rattle.lgx_machine.specs.Layout.{type_of};
+ghost use Rattle.lgx_num.specs.Name.{same};
+ghost use Rattle.lgx_machine.specs.Layout.{find, members_of, type_of};
 ghost use Rattle.lgx_types.specs.Tables.{HasMembers};
 ghost use Rattle.lgx_types.specs.Walk.{types_at};
 ghost use Rattle.lgx_types.specs.Outlines.{IsFirst, first_wrong, faults_by, faults_in, name_faults, member_names, outline};
@@ -13,7 +14,7 @@ use crate::error::TypeError;
 use crate::names::Names;
 use crate::structures::Structures;
 use lgx_machine::{Base, DataType, MemberDecl, TypeCode, TypeDecl, TypeFault};
-use lgx_num::List;
+use lgx_num::{List, Name};
 use std::alloc::Global;
 use std::marker::Model;
 
@@ -70,6 +71,25 @@ impl Resolved {
         ensures few { length self.now < 4294967296 }
     {
         self.structures.decls()
+    }
+
+    /// The type of a name: a built-in one, or the first structure declared with it.
+    pub fn find(&self, name: &Name) -> Option<Base>
+        ensures { result ≡ find self.now name.now }
+    {
+        self.structures.find(name)
+    }
+
+    /// The number of the first member of a name in structure `i`, if there is that structure.
+    pub fn member_number(&self, i: u32, name: &Name) -> Option<u32>
+        ensures { result ≡ position_from (λ n. same n name.now) 0 (member_names (members_of self.now i)) }
+    {
+        if (i as usize) < self.members.len() {
+            let names = &self.members[i as usize];
+            names.find(name)
+        } else {
+            None
+        }
     }
 
     /// The types of the members of structure `i`.

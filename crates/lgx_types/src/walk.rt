@@ -1,9 +1,9 @@
 // The sizes of structures, each worked out behind those inside it.
-ghost use Rattle.std.specs.Prelude.{◌≡◌, ℕ, ◌+◌, ◌*◌, ◌<◌, ◌≤◌, true, [], ◌∷◌, ◌++◌, length, drop, slice_get, slice_set, Some, IfOk, IfSome, IfNone, OnOk};
+ghost use Rattle.std.specs.Prelude.{◌≡◌, ℕ, ◌+◌, ◌*◌, ◌<◌, ◌≤◌, true, [], ◌∷◌, ◌++◌, length, drop, slice_get, slice_set, map, replicate, Some, IfOk, IfSome, IfNone, OnOk};
 ghost use Rattle.lgx_machine.specs.Layout.{begin_after, round_up, alignment};
 ghost use Rattle.lgx_machine.specs.TypeFaults.{among, parts, reaches_itself};
-ghost use Rattle.lgx_types.specs.declared.walk.Mark.TheVariants.{Done, Open};
-ghost use Rattle.lgx_types.specs.Walk.{capped, sized_by, element_of, IsSized, IsBegun, AreMarks, IsWalk, IsPassed, IsRing, IsSettled, spent, types_at};
+ghost use Rattle.lgx_types.specs.declared.walk.Mark.TheVariants.{Done, Fresh, Open};
+ghost use Rattle.lgx_types.specs.Walk.{capped, sized_by, element_of, IsSized, IsBegun, AreMarks, IsWalk, IsPassed, IsRing, IsSettled, size_of_mark, spent, types_at};
 
 use crate::resolved::Resolved;
 use lgx_machine::{Base, DataType};
@@ -53,7 +53,7 @@ fn element_of(marks: &[Mark], base: Base) -> Result<u32, u32>
     }
 }
 
-fn alignment(of: DataType) -> u32
+pub fn alignment(of: DataType) -> u32
     ensures value { result ≡ alignment of }
     ensures some { 0 < result }
     ensures low { result ≤ 4 }
@@ -66,7 +66,7 @@ fn alignment(of: DataType) -> u32
     }
 }
 
-fn round_up(step: u32, n: u32) -> u32
+pub fn round_up(step: u32, n: u32) -> u32
     requires some { 0 < step }
     requires low { step ≤ 4 }
     requires small { n ≤ 65536 }
@@ -185,4 +185,71 @@ fn finish(
         }
     }
     Ok(None)
+}
+
+// Works out structure `i`, unless it was worked out before.
+fn visit(
+    resolved: &Resolved,
+    marks: &mut [Mark],
+    stack: &mut Vec<Frame>,
+    i: u32,
+) -> Result<Option<u32>, Memory>
+    requires walk { IsWalk resolved.now marks.old [] }
+    requires stack { stack.old.items ≡ [] }
+    requires there { i < length resolved.now }
+    ensures walk { IfOk result (λ o. IfNone o (IsWalk resolved.now marks.new [])) }
+    ensures stack { IfOk result (λ o. IfNone o (stack.new.items ≡ [])) }
+    ensures passed { IfOk result (λ o. (j : ℕ) → IsPassed marks.old j → IsPassed marks.new j) }
+    ensures own { IfOk result (λ o. IsPassed marks.new i) }
+    ensures ring { IfOk result (λ o. IfSome o (IsRing resolved.now)) }
+{
+    if let Mark::Fresh = marks[i as usize] {
+        open(marks, stack, i)?;
+        return finish(resolved, marks, stack);
+    }
+    Ok(None)
+}
+
+/// The sizes of all structures, or one that reaches itself. Each structure is begun once and each member gone over once.
+pub fn settle(alloc: Global, resolved: &Resolved) -> Result<Settled, Memory>
+    ensures { IfOk result (IsSettled resolved.now) }
+{
+    let count = resolved.decls().len();
+    let mut marks = fresh(alloc, count)?;
+    let mut stack = Vec::new(alloc);
+    for i in 0..count {
+        if let Some(ring) = visit(resolved, &mut marks, &mut stack, i as u32)? {
+            return Ok(Settled::Ring(ring));
+        }
+    }
+    Ok(Settled::Sizes(sizes_of(alloc, &marks)?))
+}
+
+fn fresh(alloc: Global, count: usize) -> Result<Vec<Mark>, Memory>
+    ensures { IfOk result (λ marks. marks.items ≡ replicate count Fresh) }
+{
+    let mut marks = Vec::with_capacity(alloc, count)?;
+    for _i in 0..count {
+        marks.push(Mark::Fresh)?;
+    }
+    Ok(marks)
+}
+
+fn size_of(mark: Mark) -> u32
+    ensures { result ≡ size_of_mark mark }
+{
+    match mark {
+        Mark::Done(size) => size,
+        Mark::Fresh | Mark::Open => 0,
+    }
+}
+
+fn sizes_of(alloc: Global, marks: &[Mark]) -> Result<Vec<u32>, Memory>
+    ensures { IfOk result (λ sizes. sizes.items ≡ map size_of_mark marks.now) }
+{
+    let mut sizes = Vec::with_capacity(alloc, marks.len())?;
+    for i in 0..marks.len() {
+        sizes.push(size_of(marks[i]))?;
+    }
+    Ok(sizes)
 }
