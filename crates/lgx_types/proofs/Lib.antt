@@ -3,3 +3,5 @@ pub mod Found
 pub mod Rings
 pub mod Sizing
 pub mod Walks
+pub mod Placed
+pub mod Verdicts

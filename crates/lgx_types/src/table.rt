@@ -142,17 +142,17 @@ fn too_large(sizes: &[u32]) -> Option<u32>
     None
 }
 
-// The places of the members of each structure.
-fn all_places(alloc: Global, resolved: &Resolved, sizes: &[u32]) -> Result<Vec<List<Member>>, Memory>
-    requires sized { sizes.now ≡ sizes resolved.now }
-    requires small { Each IsSmall sizes.now }
+// The places of the members of each structure, where the structures have these sizes.
+fn all_places(alloc: Global, resolved: &Resolved, bytes: &[u32]) -> Result<Vec<List<Member>>, Memory>
+    requires sized { bytes.now ≡ sizes resolved.now }
+    requires small { Each IsSmall bytes.now }
     requires sound { SoundTypes resolved.now }
     ensures { IfOk result (λ places. places.items ≡ places_of resolved.now) }
 {
     let count = resolved.decls().len();
     let mut all = Vec::with_capacity(alloc, count)?;
     for i in 0..count {
-        all.push(places(alloc, resolved.types_at(i as u32), sizes)?)?;
+        all.push(places(alloc, resolved.types_at(i as u32), bytes)?)?;
     }
     Ok(all)
 }
