@@ -1,5 +1,5 @@
 -- Where members lie.
-use Rattle.std.specs.Prelude.{map, ◌≡◌, ℕ, zero, suc, ◌+◌, ◌*◌, ◌<◌, ◌≤◌, Bool, true, false, cond, List, [], ◌∷◌, ◌++◌, length, drop, slice_get, slice_index, slice_index_or, find as first_with, Option, Some, None, IfSome, option_map, option_and_then, unwrap_or, refl}
+use Rattle.std.specs.Prelude.{map, ◌≡◌, ℕ, zero, suc, ◌+◌, ◌*◌, ◌<◌, ◌≤◌, Bool, true, false, cond, List, [], ◌∷◌, ◌++◌, length, take, drop, slice_get, slice_index, slice_index_or, find as first_with, Option, Some, None, IfSome, option_map, option_and_then, unwrap_or, refl}
 use Rattle.std.specs.List.{AllByRecursion as Each, position_from}
 use Rattle.std.proofs.Common.{ap, sym, subst, arith, ◌∙◌, get_or, drop-cons, append_assoc}
 use Rattle.std.proofs.Math.Nat.{mul-le-mul_right}
@@ -12,13 +12,14 @@ use Rattle.lgx_machine.specs.declared.types.MemberDecl.{MemberDecl}
 use Rattle.lgx_machine.specs.declared.types.Member.{Member}
 use Rattle.lgx_machine.specs.Layout.{looked_up, type_of, round_up, alignment_of, begin_after, element_in, sized_in, size_in, size_of, structure_in, placed_from, sizes, members_of, member}
 use Rattle.lgx_machine.specs.LayoutLaws.{SoundTypes}
-use Rattle.lgx_machine.proofs.SizesSettle.{faultless}
+use Rattle.lgx_machine.proofs.SizesSettle.{faultless, get_there}
 use Rattle.lgx_machine.proofs.TypesFit.{members_within, looked_up_has, rounded}
 use Rattle.lgx_machine.proofs.Subscripts.{each_map, get_mapped}
 use Rattle.lgx_types.specs.Outlines.{outline, member_names}
-use Rattle.lgx_types.specs.Walk.{end_of}
+use Rattle.lgx_types.specs.Walk.{end_of, types_at}
 use Rattle.lgx_types.specs.Tables.{IsSmall, IsTable, HasMembers, HasSize, places_from, places_of}
 use Rattle.lgx_types.proofs.Sizing.{end_is}
+use Rattle.lgx_types.proofs.Found.{get_at, take_map_more}
 
 -- ---- member by member
 
@@ -132,3 +133,24 @@ ends_small types bytes i p h s = go (slice_get types i) refl
         let same_size : slice_index bytes i ≡ slice_index (sizes types) i = ap (λ (l : List ℕ). slice_index l i) p in
         let end : end_of bytes 0 (outline types d.members) ≡ end_of (sizes types) 0 (outline types d.members) = ap (λ (l : List ℕ). end_of l 0 (outline types d.members)) p in
         omega (arith, total, same_size, end, end_is types (sizes types) 0 d.members, small_index bytes i h)
+
+-- ---- structure by structure
+
+take_all : {A : Type 0} (xs : List A) (i : ℕ) → length xs ≤ i → take i xs ≡ xs
+take_all [] zero h = refl
+take_all [] (suc i) h = refl
+take_all (x ∷ xs) zero h = absurd (omega (arith, h))
+take_all (x ∷ xs) (suc i) h = ap (λ l. x ∷ l) (take_all xs i (omega (arith, h)))
+
+abbrev pub placed_by : List ℕ → List TypeDecl → TypeDecl → List Member
+placed_by bytes types d = places_from bytes 0 (outline types d.members)
+
+pub all_next : (bytes : List ℕ) (types : List TypeDecl) (i : ℕ) → i < length types → map (placed_by bytes types) (take i types) ++ places_from bytes 0 (types_at types i) ∷ [] ≡ map (placed_by bytes types) (take (i + 1) types)
+all_next bytes types i h =
+    let (d, got) = get_there types i h in
+    let here : d ≡ get_or types i d = sym (get_at types i d d got) in
+    let of : types_at types i ≡ outline types d.members = ap (λ (o : Option TypeDecl). outline types (unwrap_or (option_map (λ d. d.members) o) [])) got in
+    ap (λ (l : List DataType). map (placed_by bytes types) (take i types) ++ places_from bytes 0 l ∷ []) of ∙ sym (take_map_more (placed_by bytes types) types i d h here)
+
+pub all_end : (bytes : List ℕ) (types : List TypeDecl) (i : ℕ) → length types ≤ i → bytes ≡ sizes types → map (placed_by bytes types) (take i types) ≡ places_of types
+all_end bytes types i h p = ap (λ (l : List TypeDecl). map (placed_by bytes types) l) (take_all types i h) ∙ ap (λ (b : List ℕ). map (placed_by b types) types) p
