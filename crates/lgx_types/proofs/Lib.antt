@@ -5,3 +5,4 @@ pub mod Sizing
 pub mod Walks
 pub mod Placed
 pub mod Verdicts
+pub mod Seen

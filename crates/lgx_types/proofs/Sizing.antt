@@ -127,7 +127,7 @@ element_is types marks (User i) e h p = go (slice_get marks i) refl p
         let known : IsSized types i s = h.done i s g in
         record { alone = only known.alone; start = known.start; rounds = λ k b. ap capped (sym same) ∙ known.rounds k b }
 
-among_both : (xs ys : List ℕ) (P : ℕ → Type 0) → ((j : ℕ) → among xs j ≡ true → P j) → ((j : ℕ) → among ys j ≡ true → P j) → (j : ℕ) → among (xs ++ ys) j ≡ true → P j
+pub among_both : (xs ys : List ℕ) (P : ℕ → Type 0) → ((j : ℕ) → among xs j ≡ true → P j) → ((j : ℕ) → among ys j ≡ true → P j) → (j : ℕ) → among (xs ++ ys) j ≡ true → P j
 among_both [] ys P f g j p = g j p
 among_both (x ∷ xs) ys P f g j p = go (x == j) refl p (among_both xs ys P (λ i r. f i (or_right (x == i) _ r)) g j)
   where

@@ -19,6 +19,10 @@ pub record IsSearch (types : List TypeDecl) (i j : ℕ) (seen : List Bool) (wait
   pub waits : (p x : ℕ) → slice_get waiting p ≡ Some x → slice_get seen x ≡ Some true
   pub gone : (x : ℕ) → slice_get seen x ≡ Some true → (x ≡ j) ⊎ (((p : ℕ) × (slice_get waiting p ≡ Some x)) ⊎ AllSeen types seen x)
 
+-- what was seen is seen
+abbrev pub Keeps : List Bool → List Bool → Type 0
+Keeps old new = (x : ℕ) → slice_get old x ≡ Some true → slice_get new x ≡ Some true
+
 -- what is left to be done at least
 abbrev pub left : List Bool → List ℕ → ℕ
 left seen waiting = sum_by (λ b. cond b 0 2) seen + length waiting

@@ -1,8 +1,10 @@
 // Structures that reach themselves.
-ghost use Rattle.std.specs.Prelude.{◌≡◌, ℕ, ◌<◌, ◌≤◌, ◌++◌, ◌∷◌, [], ◌⊎◌, true, false, length, replicate, slice_get, Some, IfOk};
+ghost use Rattle.std.specs.Prelude.{◌≡◌, ℕ, ◌<◌, ◌≤◌, ◌++◌, ◌∷◌, [], ◌⊎◌, true, false, List, length, replicate, slice_get, Some, IfOk};
 ghost use Rattle.lgx_machine.specs.TypeFaults.{among, parts, reaches_itself};
-ghost use Rattle.lgx_types.specs.Walk.{IsRing};
-ghost use Rattle.lgx_types.specs.Rings.{Reaches, AllSeen, IsSearch, IsFirstRing, left};
+ghost use Rattle.lgx_machine.specs.declared.types.TypeDecl.{TypeDecl};
+ghost use Rattle.lgx_types.specs.Tables.{IsNumbered};
+ghost use Rattle.lgx_types.specs.Walk.{IsRing, number_of};
+ghost use Rattle.lgx_types.specs.Rings.{Reaches, AllSeen, IsSearch, IsFirstRing, Keeps, left};
 
 use crate::resolved::Resolved;
 use lgx_machine::Base;
@@ -56,19 +58,43 @@ fn see_parts(
 ) -> Result<(), Memory>
     requires there { j < length resolved.now }
     requires many { length seen.old ≡ length resolved.now }
-    ensures search { IfOk result (λ u. (i : ℕ) → IsSearch resolved.now i j seen.old waiting.old.items → (i ≡ j) ⊎ Reaches resolved.now i j → IsSearch resolved.now i (length resolved.now) seen.new waiting.new.items) }
+    ensures search { IfOk result (λ u. (i : ℕ) → IsSearch resolved.now i j seen.old waiting.old.items → (i ≡ j) ⊎ Reaches resolved.now i j → IsSearch resolved.now i j seen.new waiting.new.items) }
     ensures parts { IfOk result (λ u. AllSeen resolved.now seen.new j) }
-    ensures kept { IfOk result (λ u. (x : ℕ) → slice_get seen.old x ≡ Some true → slice_get seen.new x ≡ Some true) }
+    ensures kept { IfOk result (λ u. Keeps seen.old seen.new) }
     ensures less { IfOk result (λ u. left seen.new waiting.new.items ≤ left seen.old waiting.old.items) }
 {
     let types = resolved.types_at(j);
     for k in 0..types.len() {
-        if let Base::User(x) = types[k].base {
-            if !seen[x as usize] {
-                seen[x as usize] = true;
-                waiting.push(x)?;
-            }
-        }
+        see(seen, waiting, types[k].base)?;
     }
+    Ok(())
+}
+
+// A structure is seen.
+fn see(seen: &mut [bool], waiting: &mut Vec<u32>, base: Base) -> Result<(), Memory>
+    requires { IsNumbered (length seen.old) base }
+    ensures search { IfOk result (λ u. (types : List TypeDecl) (i j : ℕ) → IsSearch types i j seen.old waiting.old.items → ((y : ℕ) → among (number_of base) y ≡ true → Reaches types i y) → IsSearch types i j seen.new waiting.new.items) }
+    ensures own { IfOk result (λ u. (y : ℕ) → among (number_of base) y ≡ true → slice_get seen.new y ≡ Some true) }
+    ensures kept { IfOk result (λ u. Keeps seen.old seen.new) }
+    ensures less { IfOk result (λ u. left seen.new waiting.new.items ≤ left seen.old waiting.old.items) }
+{
+    match base {
+        Base::User(x) => see_structure(seen, waiting, x),
+        _ => Ok(()),
+    }
+}
+
+fn see_structure(seen: &mut [bool], waiting: &mut Vec<u32>, x: u32) -> Result<(), Memory>
+    requires { x < length seen.old }
+    ensures search { IfOk result (λ u. (types : List TypeDecl) (i j : ℕ) → IsSearch types i j seen.old waiting.old.items → Reaches types i x → IsSearch types i j seen.new waiting.new.items) }
+    ensures own { IfOk result (λ u. slice_get seen.new x ≡ Some true) }
+    ensures kept { IfOk result (λ u. Keeps seen.old seen.new) }
+    ensures less { IfOk result (λ u. left seen.new waiting.new.items ≤ left seen.old waiting.old.items) }
+{
+    if seen[x as usize] {
+        return Ok(());
+    }
+    seen[x as usize] = true;
+    waiting.push(x)?;
     Ok(())
 }
