@@ -1,11 +1,11 @@
 -- The search for what a structure reaches.
-use Rattle.std.specs.Prelude.{◌≡◌, ◌≢◌, ℕ, zero, suc, ◌+◌, ◌*◌, ◌<◌, ◌≤◌, ◌⊎◌, Bool, true, false, cond, ◌||◌, ◌==◌, List, [], ◌∷◌, ◌++◌, length, drop, replicate, sum_by, slice_get, slice_set, Option, Some, None, refl}
-use Rattle.std.proofs.Common.{ap, sym, subst, arith, ◌∙◌, inl, inr, get_or, length-append, drop-cons, eqb-true, eq-eqb}
+use Rattle.std.specs.Prelude.{◌≡◌, ◌≢◌, ℕ, zero, suc, ◌+◌, ◌*◌, ◌<◌, ◌≤◌, ◌⊎◌, Bool, true, false, cond, ◌||◌, ◌==◌, List, [], ◌∷◌, ◌++◌, length, take, replicate, sum_by, slice_get, slice_set, Option, Some, None, refl}
+use Rattle.std.proofs.Common.{ap, sym, subst, arith, ◌∙◌, inl, inr, get_or, length-append, append_assoc, eqb-true, eq-eqb}
 use Rattle.std.proofs.lemmas.Bool.{or_left}
 use Rattle.std.proofs.lemmas.List.Sums.{sum_by-set}
 use Rattle.std.proofs.Math.ListN.{length-replicate}
 use Rattle.lgx_machine.specs.declared.types.Base.{Base}
-use Rattle.lgx_machine.specs.declared.types.Base.TheVariants.{User}
+use Rattle.lgx_machine.specs.declared.types.Base.TheVariants.{Bool as OneBit, Sint, Int, Dint, Timer, Counter, User}
 use Rattle.lgx_machine.specs.declared.types.DataType.{DataType}
 use Rattle.lgx_machine.specs.declared.types.TypeDecl.{TypeDecl}
 use Rattle.lgx_machine.specs.TypeFaults.{among, parts, reached_to, reaches_itself}
@@ -13,7 +13,8 @@ use Rattle.lgx_machine.proofs.Reaching.{parts_there, reach_more, or_right}
 use Rattle.lgx_types.specs.Walk.{number_of, users, types_at}
 use Rattle.lgx_types.specs.Rings.{Reaches, AllSeen, Keeps, IsSearch, left}
 use Rattle.lgx_types.proofs.Rings.{reach_bounded, reach_there, reach_back, first_step}
-use Rattle.lgx_types.proofs.Sizing.{parts_are, among_both}
+use Rattle.lgx_types.proofs.Sizing.{parts_are, among_both, among_at, get_default}
+use Rattle.lgx_types.specs.Tables.{IsNumbered}
 use Rattle.lgx_types.proofs.Found.{get_at}
 use Rattle.lgx_types.proofs.Walks.{get_split, get_early, get_last, get_low, get_set, length_set, get_is}
 
@@ -166,5 +167,73 @@ part_reached types i j y (inr (m, r)) p = (suc m, reach_more types m i j y r p)
 pub own_set : (seen : List Bool) (x : ℕ) → x < length seen → slice_get (slice_set seen x true) x ≡ Some true
 own_set seen x h = get_set_same seen x true h
 
+base_part : (types : List TypeDecl) (j k : ℕ) (d : DataType) (us : List DataType) (y : ℕ) → us ≡ types_at types j → k < length us → among (number_of (get_or us k d).base) y ≡ true → among (parts types j) y ≡ true
+base_part types j k d us y is long p = subst (λ (l : List ℕ). among l y ≡ true) (sym (parts_are types j)) (subst (λ (l : List DataType). among (users l) y ≡ true) is (among_at us k (get_or us k d) y long (get_default us k d (get_or us k d) long) p))
+
 pub own_there : (x : ℕ) → among (number_of (User x)) x ≡ true
 own_there x = or_left (x == x) false (eq-eqb x x refl)
+
+pub not_user : (base : Base) (y : ℕ) → ((x : ℕ) → base ≡ User x → ⊥) → among (number_of base) y ≡ true → ⊥
+not_user OneBit y n p = cc p
+not_user Sint y n p = cc p
+not_user Int y n p = cc p
+not_user Dint y n p = cc p
+not_user Timer y n p = cc p
+not_user Counter y n p = cc p
+not_user (User x) y n p = n x refl
+
+-- members of structure j are of structures that there are
+pub numbered_at : (types : List TypeDecl) (j k : ℕ) (d : DataType) (us : List DataType) → us ≡ types_at types j → k < length us → IsNumbered (length types) (get_or us k d).base
+numbered_at types j k d us is long = go (get_or us k d) refl
+  where
+    go : (t : DataType) → get_or us k d ≡ t → IsNumbered (length types) t.base
+    go t e = base t.base refl
+      where
+        base : (b : Base) → t.base ≡ b → IsNumbered (length types) b
+        base OneBit q = tt
+        base Sint q = tt
+        base Int q = tt
+        base Dint q = tt
+        base Timer q = tt
+        base Counter q = tt
+        base (User x) q = parts_there types j x (base_part types j k d us x is long (subst (λ (b : Base). among (number_of b) x ≡ true) (sym q ∙ sym (ap (λ (z : DataType). z.base) e)) (own_there x)))
+
+-- the members before one are of structures that are seen
+abbrev pub SeenTo : List DataType → List Bool → ℕ → Type 0
+SeenTo us seen k = (y : ℕ) → among (users (take k us)) y ≡ true → slice_get seen y ≡ Some true
+
+users_more : (xs ys : List DataType) → users (xs ++ ys) ≡ users xs ++ users ys
+users_more [] ys = refl
+users_more (x ∷ xs) ys = ap (λ (l : List ℕ). number_of x.base ++ l) (users_more xs ys) ∙ sym (append_assoc (number_of x.base) (users xs) (users ys))
+
+take_more : {A : Type 0} (xs : List A) (k : ℕ) (d : A) → k < length xs → take (suc k) xs ≡ take k xs ++ get_or xs k d ∷ []
+take_more [] k d h = absurd (omega (arith, h))
+take_more (x ∷ xs) zero d h = refl
+take_more (x ∷ xs) (suc k) d h = ap (λ l. x ∷ l) (take_more xs k d (omega (arith, h)))
+
+pub seen_next : (us : List DataType) (old new : List Bool) (k : ℕ) (d : DataType) → k < length us → SeenTo us old k → Keeps old new → ((y : ℕ) → among (number_of (get_or us k d).base) y ≡ true → slice_get new y ≡ Some true) → SeenTo us new (k + 1)
+seen_next us old new k d h before keeps own =
+    let one : suc k ≡ k + 1 = omega arith in
+    let t : DataType = get_or us k d in
+    let of : users (take (suc k) us) ≡ users (take k us) ++ (number_of t.base ++ []) = ap users (take_more us k d h) ∙ users_more (take k us) (t ∷ []) in
+    subst (λ (n : ℕ). SeenTo us new n) one (subst (λ (l : List ℕ). (y : ℕ) → among l y ≡ true → slice_get new y ≡ Some true) (sym of) (among_both (users (take k us)) (number_of t.base ++ []) (λ y. slice_get new y ≡ Some true) (λ y p. keeps y (before y p)) (among_both (number_of t.base) [] (λ y. slice_get new y ≡ Some true) own (λ y p. absurd (cc p)))))
+
+take_all : {A : Type 0} (xs : List A) (i : ℕ) → length xs ≤ i → take i xs ≡ xs
+take_all [] zero h = refl
+take_all [] (suc i) h = refl
+take_all (x ∷ xs) zero h = absurd (omega (arith, h))
+take_all (x ∷ xs) (suc i) h = ap (λ l. x ∷ l) (take_all xs i (omega (arith, h)))
+
+pub seen_all : (types : List TypeDecl) (j k : ℕ) (us : List DataType) (seen : List Bool) → us ≡ types_at types j → length us ≤ k → SeenTo us seen k → AllSeen types seen j
+seen_all types j k us seen is long h = λ y p. h y (subst (λ (l : List ℕ). among l y ≡ true) (parts_are types j ∙ ap users (sym is ∙ sym (take_all us k long))) p)
+
+pub part_at : (types : List TypeDecl) (i j k : ℕ) (d : DataType) (us : List DataType) → us ≡ types_at types j → k < length us → (i ≡ j) ⊎ Reaches types i j → (y : ℕ) → among (number_of (get_or us k d).base) y ≡ true → Reaches types i y
+part_at types i j k d us is long r y p = part_reached types i j y r (base_part types j k d us y is long p)
+
+pub waits_there : (types : List TypeDecl) (i e : ℕ) (seen : List Bool) (waiting : List ℕ) (j : ℕ) → IsSearch types i e seen (waiting ++ j ∷ []) → (j < length types) × Reaches types i j
+waits_there types i e seen waiting j s =
+    let there : slice_get seen j ≡ Some true = s.waits (length waiting) j (get_last waiting j) in
+    (omega (arith, get_low seen j true there, s.many), s.reached j there)
+
+pub left_less : (seen new : List Bool) (waiting rest : List ℕ) (j : ℕ) → left new rest ≤ left seen waiting → left new rest < left seen (waiting ++ j ∷ [])
+left_less seen new waiting rest j h = omega (arith, h, length-append waiting (j ∷ []))

@@ -169,7 +169,7 @@ among_right : (xs ys : List ℕ) (j : ℕ) → among ys j ≡ true → among (xs
 among_right [] ys j p = p
 among_right (x ∷ xs) ys j p = or_right (x == j) _ (among_right xs ys j p)
 
-among_at : (ts : List DataType) (k : ℕ) (t : DataType) (j : ℕ) → k < length ts → t ≡ get_or ts k t → among (number_of t.base) j ≡ true → among (users ts) j ≡ true
+pub among_at : (ts : List DataType) (k : ℕ) (t : DataType) (j : ℕ) → k < length ts → t ≡ get_or ts k t → among (number_of t.base) j ≡ true → among (users ts) j ≡ true
 among_at [] k t j h g p = absurd (omega (arith, h))
 among_at (x ∷ ts) zero t j h g p = among_left (number_of x.base) (users ts) j (subst (λ (y : DataType). among (number_of y.base) j ≡ true) g p)
 among_at (x ∷ ts) (suc k) t j h g p = among_right (number_of x.base) (users ts) j (among_at ts k t j (omega (arith, h)) g p)
@@ -190,7 +190,7 @@ begun_more types marks f t e h b long here p g same next at =
 
 -- ---- as the loop has it
 
-get_default : {A : Type 0} (xs : List A) (k : ℕ) (d e : A) → k < length xs → get_or xs k d ≡ get_or xs k e
+pub get_default : {A : Type 0} (xs : List A) (k : ℕ) (d e : A) → k < length xs → get_or xs k d ≡ get_or xs k e
 get_default [] k d e h = absurd (omega (arith, h))
 get_default (x ∷ xs) zero d e h = refl
 get_default (x ∷ xs) (suc k) d e h = get_default xs k d e (omega (arith, h))

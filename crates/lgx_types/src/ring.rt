@@ -30,11 +30,12 @@ fn reaches_itself(alloc: Global, resolved: &Resolved, i: u32) -> Result<bool, Me
     requires { i < length resolved.now }
     ensures { IfOk result (λ b. b ≡ reaches_itself resolved.now i) }
 {
-    let mut seen = unseen(alloc, resolved.decls().len())?;
+    let mut all = unseen(alloc, resolved.decls().len())?;
+    let seen = all.as_mut_slice();
     let mut waiting = Vec::new(alloc);
-    see_parts(resolved, i, &mut seen, &mut waiting)?;
+    see_parts(resolved, i, seen, &mut waiting)?;
     while let Some(j) = waiting.pop() {
-        see_parts(resolved, j, &mut seen, &mut waiting)?;
+        see_parts(resolved, j, seen, &mut waiting)?;
     }
     Ok(seen[i as usize])
 }
