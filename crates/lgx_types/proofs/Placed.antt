@@ -12,6 +12,7 @@ use Rattle.lgx_machine.specs.declared.types.MemberDecl.{MemberDecl}
 use Rattle.lgx_machine.specs.declared.types.Member.{Member}
 use Rattle.lgx_machine.specs.Layout.{looked_up, type_of, round_up, alignment_of, begin_after, element_in, sized_in, size_in, size_of, structure_in, placed_from, sizes, members_of, member}
 use Rattle.lgx_machine.specs.LayoutLaws.{SoundTypes}
+use Rattle.lgx_machine.specs.TypeFaults.{type_fault}
 use Rattle.lgx_machine.proofs.SizesSettle.{faultless, get_there}
 use Rattle.lgx_machine.proofs.TypesFit.{members_within, looked_up_has, rounded}
 use Rattle.lgx_machine.proofs.Subscripts.{each_map, get_mapped}
@@ -86,8 +87,11 @@ small_index [] i h = omega arith
 small_index (x ∷ xs) zero h = h.0
 small_index (x ∷ xs) (suc i) h = small_index xs i h.1
 
+pub sound_of : (types : List TypeDecl) → Each HasMembers types → type_fault types ≡ None → SoundTypes types
+sound_of types full none = faultless types (each_map HasMembers (λ d. 0 < length d.members) types (λ d h. h.0) full) none
+
 pub sound : (types : List TypeDecl) (bytes : List ℕ) (places : List (List Member)) → IsTable types bytes places → SoundTypes types
-sound types bytes places t = faultless types (each_map HasMembers (λ d. 0 < length d.members) types (λ d h. h.0) t.members) t.faultless
+sound types bytes places t = sound_of types t.members t.faultless
 
 -- a member begins within its structure
 pub member_low : (types : List TypeDecl) (bytes : List ℕ) (places : List (List Member)) → IsTable types bytes places → (i : ℕ) (name : List ℕ) (o : Option Member) → o ≡ member types (User i) name → IfSome o (λ m. m.at ≤ 32768)

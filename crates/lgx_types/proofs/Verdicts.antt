@@ -18,7 +18,8 @@ use Rattle.lgx_types.specs.declared.error.TypeError.TheVariants.{Fault, Memory}
 use Rattle.lgx_types.specs.Outlines.{IsFirst, name_faults}
 use Rattle.lgx_types.specs.Walk.{capped, IsSized}
 use Rattle.lgx_types.specs.Rings.{IsFirstRing}
-use Rattle.lgx_types.specs.Tables.{IsSmall, IsLarge, IsFirstFault, HasMembers}
+use Rattle.lgx_types.specs.Tables.{IsSmall, IsLarge, IsTable, IsFirstFault, HasMembers, places_of}
+use Rattle.lgx_machine.specs.declared.types.Member.{Member}
 use Rattle.lgx_types.proofs.Found.{is_first_more, lt_true, lt_false}
 use Rattle.lgx_types.proofs.Placed.{small_index}
 
@@ -124,3 +125,6 @@ no_fault types bytes none full h small =
 pub each_index : (xs : List ℕ) → ((i : ℕ) → i < length xs → slice_index xs i ≤ 4096) → Each IsSmall xs
 each_index [] h = tt
 each_index (x ∷ xs) h = (h 0 (omega arith), each_index xs (λ i p. h (suc i) (omega (arith, p))))
+
+pub table_is : (types : List TypeDecl) (bytes : List ℕ) (places : List (List Member)) → length types < 4294967296 → name_faults types ≡ [] → Each HasMembers types → AllSized types bytes → Each IsSmall bytes → places ≡ places_of types → IsTable types bytes places
+table_is types bytes places few none full h small laid = record { few = few; members = full; faultless = no_fault types bytes none full h small; sized = sizes_are types bytes none full h small; small = small; laid = laid }
