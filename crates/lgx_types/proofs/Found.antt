@@ -1,12 +1,11 @@
 -- Names of structures and of members, found among those before them.
-use Rattle.std.specs.Prelude.{◌≡◌, ℕ, zero, suc, ◌+◌, ◌<◌, ◌≤◌, Bool, true, false, cond, ◌||◌, nat_lt, List, [], ◌∷◌, ◌++◌, map, slice_get, length, take, drop, flat_map, position, Option, Some, None, option_map, is_some, refl}
+use Rattle.std.specs.Prelude.{◌≡◌, ℕ, zero, suc, ◌+◌, ◌<◌, ◌≤◌, Bool, true, false, cond, ◌||◌, nat_lt, List, [], ◌∷◌, ◌++◌, map, slice_get, length, take, drop, flat_map, Option, Some, None, option_map, is_some, refl}
 use Rattle.std.specs.Option.{option_or, option_map_or}
 use Rattle.std.specs.List.{list_any, position_from, enumerate_from}
 use Rattle.std.proofs.Common.{ap, sym, subst, arith, ◌∙◌, get_or, rules, drop-cons, length-take-le, add-one}
 use Rattle.std.proofs.lemmas.List.{length-map}
 use Rattle.std.proofs.lemmas.Iterator.Adapters.{position_from-zero}
 use Rattle.lgx_num.specs.Name.{same}
-use Rattle.lgx_machine.specs.declared.types.Base.{Base}
 use Rattle.lgx_machine.specs.declared.types.Base.TheVariants.{User}
 use Rattle.lgx_machine.specs.declared.types.TypeDecl.{TypeDecl}
 use Rattle.lgx_machine.specs.declared.types.MemberDecl.{MemberDecl}

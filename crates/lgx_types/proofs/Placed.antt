@@ -10,7 +10,7 @@ use Rattle.lgx_machine.specs.declared.types.DataType.{DataType}
 use Rattle.lgx_machine.specs.declared.types.TypeDecl.{TypeDecl}
 use Rattle.lgx_machine.specs.declared.types.MemberDecl.{MemberDecl}
 use Rattle.lgx_machine.specs.declared.types.Member.{Member}
-use Rattle.lgx_machine.specs.Layout.{looked_up, type_of, round_up, alignment_of, begin_after, element_in, sized_in, size_in, size_of, structure_in, placed_from, sizes, members_of, member}
+use Rattle.lgx_machine.specs.Layout.{looked_up, type_of, begin_after, element_in, sized_in, size_in, structure_in, placed_from, sizes, members_of, member}
 use Rattle.lgx_machine.specs.LayoutLaws.{SoundTypes}
 use Rattle.lgx_machine.specs.TypeFaults.{type_fault}
 use Rattle.lgx_machine.proofs.SizesSettle.{faultless, get_there}

@@ -1,14 +1,13 @@
 -- What structures reach: within as many steps as there are structures, or never.
-use Rattle.std.specs.Prelude.{◌≡◌, ℕ, zero, suc, ◌+◌, ◌<◌, ◌≤◌, ◌⊎◌, Bool, true, false, cond, ◌||◌, ◌==◌, List, [], ◌∷◌, length, filter, refl}
+use Rattle.std.specs.Prelude.{◌≡◌, ℕ, zero, suc, ◌+◌, ◌<◌, ◌≤◌, ◌⊎◌, Bool, true, false, ◌||◌, ◌==◌, List, [], ◌∷◌, length, filter, refl}
 use Rattle.std.specs.List.{list_any, range_with_len}
-use Rattle.std.proofs.Common.{ap, sym, subst, arith, ◌∙◌, eqb-true, eq-eqb, inl, inr}
+use Rattle.std.proofs.Common.{sym, subst, arith, ◌∙◌, eqb-true, eq-eqb, inl, inr}
 use Rattle.std.proofs.lemmas.Bool.{or_left}
 use Rattle.std.proofs.lemmas.List.Sums.{count_by-le-length, length-filter}
 use Rattle.std.proofs.lemmas.List.FromFn.{length-range_with_len}
 use Rattle.lgx_machine.specs.declared.types.TypeDecl.{TypeDecl}
-use Rattle.lgx_machine.specs.TypeFaults.{parts, among, with_parts, reached_to, reaches_itself}
+use Rattle.lgx_machine.specs.TypeFaults.{parts, among, reached_to, reaches_itself}
 use Rattle.lgx_machine.proofs.Reaching.{or_right, among_numbers, parts_there, reach_more, reach_still, reach_later, each_has, each_among}
-use Rattle.std.specs.List.{AllByRecursion as Each}
 
 -- ---- one step back
 

@@ -1,5 +1,5 @@
 -- The search for what a structure reaches.
-use Rattle.std.specs.Prelude.{◌≡◌, ◌≢◌, ℕ, zero, suc, ◌+◌, ◌*◌, ◌<◌, ◌≤◌, ◌⊎◌, Bool, true, false, cond, ◌||◌, ◌==◌, List, [], ◌∷◌, ◌++◌, length, take, replicate, sum_by, slice_get, slice_set, Option, Some, None, refl}
+use Rattle.std.specs.Prelude.{◌≡◌, ◌≢◌, ℕ, zero, suc, ◌+◌, ◌<◌, ◌≤◌, ◌⊎◌, Bool, true, false, cond, ◌||◌, ◌==◌, List, [], ◌∷◌, ◌++◌, length, take, replicate, slice_get, slice_set, Some, refl}
 use Rattle.std.proofs.Common.{ap, sym, subst, arith, ◌∙◌, inl, inr, get_or, length-append, append_assoc, eqb-true, eq-eqb}
 use Rattle.std.proofs.lemmas.Bool.{or_left}
 use Rattle.std.proofs.lemmas.List.Sums.{sum_by-set}
@@ -9,10 +9,10 @@ use Rattle.lgx_machine.specs.declared.types.Base.TheVariants.{Bool as OneBit, Si
 use Rattle.lgx_machine.specs.declared.types.DataType.{DataType}
 use Rattle.lgx_machine.specs.declared.types.TypeDecl.{TypeDecl}
 use Rattle.lgx_machine.specs.TypeFaults.{among, parts, reached_to, reaches_itself}
-use Rattle.lgx_machine.proofs.Reaching.{parts_there, reach_more, or_right}
+use Rattle.lgx_machine.proofs.Reaching.{parts_there, reach_more}
 use Rattle.lgx_types.specs.Walk.{number_of, users, types_at}
 use Rattle.lgx_types.specs.Rings.{Reaches, AllSeen, Keeps, IsSearch, left}
-use Rattle.lgx_types.proofs.Rings.{reach_bounded, reach_there, reach_back, first_step}
+use Rattle.lgx_types.proofs.Rings.{reach_bounded, reach_back}
 use Rattle.lgx_types.proofs.Sizing.{parts_are, among_both, among_at, get_default}
 use Rattle.lgx_types.specs.Tables.{IsNumbered}
 use Rattle.lgx_types.proofs.Found.{get_at}
@@ -53,11 +53,11 @@ less_set seen waiting x h p =
 
 pub search_set : (types : List TypeDecl) (i j : ℕ) (seen : List Bool) (waiting : List ℕ) (x : ℕ) → x < length seen → IsSearch types i j seen waiting → Reaches types i x → IsSearch types i j (slice_set seen x true) (waiting ++ x ∷ [])
 search_set types i j seen waiting x h s r = record {
-    many = length_set seen x true ∙ s.many;
-    reached = λ y p. reached y (get_set seen x y true true p);
-    waits = λ p y q. waits p y (get_split waiting x p y q);
-    gone = λ y p. gone y (get_set seen x y true true p);
-  }
+  many = length_set seen x true ∙ s.many;
+  reached = λ y p. reached y (get_set seen x y true true p);
+  waits = λ p y q. waits p y (get_split waiting x p y q);
+  gone = λ y p. gone y (get_set seen x y true true p);
+}
   where
     reached : (y : ℕ) → ((x ≡ y) × (true ≡ true)) ⊎ ((x ≢ y) × (slice_get seen y ≡ Some true)) → Reaches types i y
     reached y (inl (e, f)) = subst (λ (n : ℕ). Reaches types i n) e r
@@ -122,11 +122,11 @@ seen_is types i seen h s own = go (get_or seen i false) refl (reaches_itself typ
 -- nothing is seen
 pub none_seen : (types : List TypeDecl) (i j : ℕ) (seen : List Bool) → seen ≡ replicate (length types) false → IsSearch types i j seen []
 none_seen types i j seen e = record {
-    many = rw e (length-replicate (length types) false);
-    reached = λ x p. absurd (no_true (length types) x (rw e at p));
-    waits = λ p x q. absurd (cc q);
-    gone = λ x p. absurd (no_true (length types) x (rw e at p));
-  }
+  many = rw e (length-replicate (length types) false);
+  reached = λ x p. absurd (no_true (length types) x (rw e at p));
+  waits = λ p x q. absurd (cc q);
+  gone = λ x p. absurd (no_true (length types) x (rw e at p));
+}
   where
     no_true : (n x : ℕ) → slice_get (replicate n false) x ≡ Some true → ⊥
     no_true zero x h = cc h
@@ -136,11 +136,11 @@ none_seen types i j seen e = record {
 -- a structure that waits is gone on from
 pub search_pop : (types : List TypeDecl) (i j : ℕ) (seen : List Bool) (waiting : List ℕ) → IsSearch types i (length types) seen (waiting ++ j ∷ []) → IsSearch types i j seen waiting
 search_pop types i j seen waiting s = record {
-    many = s.many;
-    reached = s.reached;
-    waits = λ p x q. s.waits p x (get_early waiting (j ∷ []) p x q);
-    gone = λ x p. go x (s.gone x p) p;
-  }
+  many = s.many;
+  reached = s.reached;
+  waits = λ p x q. s.waits p x (get_early waiting (j ∷ []) p x q);
+  gone = λ x p. go x (s.gone x p) p;
+}
   where
     go : (x : ℕ) → (x ≡ length types) ⊎ (((p : ℕ) × (slice_get (waiting ++ j ∷ []) p ≡ Some x)) ⊎ AllSeen types seen x) → slice_get seen x ≡ Some true → (x ≡ j) ⊎ (((p : ℕ) × (slice_get waiting p ≡ Some x)) ⊎ AllSeen types seen x)
     go x (inl e) p = absurd (omega (arith, e, get_low seen x true p, s.many))

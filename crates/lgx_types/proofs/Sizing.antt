@@ -1,5 +1,5 @@
 -- Sizes that are worked out member by member.
-use Rattle.std.specs.Prelude.{◌≡◌, ℕ, zero, suc, ◌+◌, ◌*◌, ◌/◌, ◌<◌, ◌≤◌, ◌⊎◌, min, Bool, true, false, ◌||◌, ◌==◌, List, [], ◌∷◌, ◌++◌, length, map, drop, flat_map, slice_get, slice_index, Option, Some, None, option_map, unwrap_or, Result, Ok, Err, refl}
+use Rattle.std.specs.Prelude.{◌≡◌, ℕ, zero, suc, ◌+◌, ◌*◌, ◌<◌, ◌≤◌, ◌⊎◌, Bool, true, false, ◌||◌, ◌==◌, List, [], ◌∷◌, ◌++◌, length, map, drop, flat_map, slice_get, slice_index, Option, Some, None, option_map, unwrap_or, Ok, Err, refl}
 use Rattle.std.proofs.Common.{ap, sym, subst, arith, ◌∙◌, get_or, drop-cons, inl, inr, eqb-true, eq-eqb}
 use Rattle.lgx_machine.proofs.Reaching.{or_right}
 use Rattle.std.proofs.lemmas.Bool.{or_left}
@@ -220,10 +220,10 @@ typed_at types outlines i d p h = rw p (go types types i h)
 
 pub sized_at_end : (types : List TypeDecl) (f : Frame) → IsBegun types f → drop f.next (types_at types f.structure) ≡ [] → IsSized types f.structure (round_up 4 f.at)
 sized_at_end types f b none = record {
-    alone = alone_by_parts types f.structure (subst (λ (l : List ℕ). (j : ℕ) → among l j ≡ true → reaches_itself types j ≡ false) (sym (parts_are types f.structure)) (b.alone (subst (λ (l : List DataType). (j : ℕ) → among (users l) j ≡ true → reaches_itself types j ≡ false) (sym none) (λ j p. absurd (cc p)))));
-    start = suc b.start;
-    rounds = rounds;
-  }
+  alone = alone_by_parts types f.structure (subst (λ (l : List ℕ). (j : ℕ) → among l j ≡ true → reaches_itself types j ≡ false) (sym (parts_are types f.structure)) (b.alone (subst (λ (l : List DataType). (j : ℕ) → among (users l) j ≡ true → reaches_itself types j ≡ false) (sym none) (λ j p. absurd (cc p)))));
+  start = suc b.start;
+  rounds = rounds;
+}
   where
     rounds : (k : ℕ) → suc b.start ≤ k → capped (round_up 4 f.at) ≡ capped (slice_index (sizes_to k types) f.structure)
     rounds zero h = absurd (omega (arith, h))

@@ -1,6 +1,6 @@
 -- The first fault of all, and none.
-use Rattle.std.specs.Prelude.{map, ◌≡◌, ℕ, zero, suc, ◌+◌, ◌<◌, ◌≤◌, ◌⊎◌, Bool, true, false, nat_lt, List, [], ◌∷◌, ◌++◌, length, flat_map, slice_index, Option, Some, None, refl}
-use Rattle.std.specs.List.{AllByRecursion as Each, range_with_len, enumerate_from}
+use Rattle.std.specs.Prelude.{map, ◌≡◌, ℕ, zero, suc, ◌+◌, ◌<◌, ◌≤◌, ◌⊎◌, Bool, true, false, nat_lt, List, [], ◌∷◌, ◌++◌, length, flat_map, slice_index, Some, None, refl}
+use Rattle.std.specs.List.{AllByRecursion as Each, range_with_len}
 use Rattle.std.proofs.Common.{ap, sym, subst, arith, ◌∙◌, inl, inr}
 use Rattle.std.proofs.lemmas.List.{ext_get_or}
 use Rattle.lgx_machine.specs.declared.types.TypeDecl.{TypeDecl}
@@ -10,12 +10,11 @@ use Rattle.lgx_machine.specs.declared.types.TypeFault.{TypeFault}
 use Rattle.lgx_machine.specs.FirstCause.{where_true, first}
 use Rattle.lgx_machine.specs.Layout.{type_of, structure_in, sizes_to, sizes}
 use Rattle.lgx_machine.specs.LayoutLaws.{IsEven}
-use Rattle.lgx_machine.specs.TypeFaults.{structure_faults, of_structure, reaches_itself, type_faults, type_fault}
+use Rattle.lgx_machine.specs.TypeFaults.{structure_faults, of_structure, reaches_itself, type_fault}
 use Rattle.lgx_machine.proofs.Subscripts.{each_map}
 use Rattle.lgx_machine.proofs.SizesSettle.{settles, starts, members_even, enumerated_none, sizes_length}
-use Rattle.lgx_types.specs.declared.error.TypeError.{TypeError}
-use Rattle.lgx_types.specs.declared.error.TypeError.TheVariants.{Fault, Memory}
-use Rattle.lgx_types.specs.Outlines.{IsFirst, name_faults}
+use Rattle.lgx_types.specs.declared.error.TypeError.TheVariants.{Fault}
+use Rattle.lgx_types.specs.Outlines.{name_faults}
 use Rattle.lgx_types.specs.Walk.{capped, IsSized}
 use Rattle.lgx_types.specs.Rings.{IsFirstRing}
 use Rattle.lgx_types.specs.Tables.{IsSmall, IsLarge, IsTable, IsFirstFault, HasMembers, places_of}

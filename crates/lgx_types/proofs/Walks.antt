@@ -1,5 +1,5 @@
 -- The stack of structures that are being worked out.
-use Rattle.std.specs.Prelude.{◌≡◌, ◌≢◌, ℕ, zero, suc, ◌+◌, ◌-◌, ◌<◌, ◌≤◌, ◌⊎◌, Bool, true, false, List, [], ◌∷◌, ◌++◌, length, map, replicate, drop, slice_get, slice_set, slice_index, sum_by, Option, Some, None, IfSome, refl}
+use Rattle.std.specs.Prelude.{◌≡◌, ◌≢◌, ℕ, zero, suc, ◌+◌, ◌-◌, ◌<◌, ◌⊎◌, true, List, [], ◌∷◌, ◌++◌, length, map, replicate, drop, slice_get, slice_set, slice_index, Some, refl}
 use Rattle.std.proofs.Common.{ap, sym, subst, arith, ◌∙◌, inl, inr, get_or, length-append}
 use Rattle.std.proofs.lemmas.List.Sums.{sum_by-set}
 use Rattle.lgx_machine.specs.declared.types.TypeDecl.{TypeDecl}
@@ -12,7 +12,7 @@ use Rattle.lgx_types.specs.declared.walk.Frame.{Frame}
 use Rattle.lgx_types.specs.Walk.{types_at, IsSized, IsBegun, AreMarks, IsWalk, IsPassed, IsRing, size_of_mark, weight, spent}
 use Rattle.std.proofs.Math.ListN.{length-replicate}
 use Rattle.std.proofs.lemmas.List.{length-map}
-use Rattle.lgx_types.proofs.Rings.{reach_bounded, reach_there}
+use Rattle.lgx_types.proofs.Rings.{reach_bounded}
 use Rattle.lgx_types.proofs.Sizing.{sized_at_end}
 use Rattle.lgx_types.proofs.Found.{get_at}
 
@@ -64,11 +64,11 @@ module _ {A : Type 0} where
 -- the frame on top goes on
 pub frame_on : (types : List TypeDecl) (marks : List Mark) (stack : List Frame) (f g : Frame) → IsWalk types marks (stack ++ f ∷ []) → IsBegun types g → g.structure ≡ f.structure → IsWalk types marks (stack ++ g ∷ [])
 frame_on types marks stack f g w b same = record {
-    marked = w.marked;
-    begun = λ p x h. begun p x (get_split stack g p x h);
-    opened = λ i h. opened i (w.opened i h);
-    leads = λ p x y h k. leads p x y (get_split stack g p x h) (get_split stack g (suc p) y k);
-  }
+  marked = w.marked;
+  begun = λ p x h. begun p x (get_split stack g p x h);
+  opened = λ i h. opened i (w.opened i h);
+  leads = λ p x y h k. leads p x y (get_split stack g p x h) (get_split stack g (suc p) y k);
+}
   where
     begun : (p : ℕ) (x : Frame) → (slice_get stack p ≡ Some x) ⊎ ((p ≡ length stack) × (g ≡ x)) → IsBegun types x
     begun p x (inl q) = w.begun p x (get_early stack (f ∷ []) p x q)
@@ -92,11 +92,11 @@ frame_on types marks stack f g w b same = record {
 -- the structure on top is done
 pub top_done : (types : List TypeDecl) (marks : List Mark) (stack : List Frame) (f : Frame) (size : ℕ) → IsWalk types marks (stack ++ f ∷ []) → IsSized types f.structure size → IsWalk types (slice_set marks f.structure (Done size)) stack
 top_done types marks stack f size w known = record {
-    marked = record { many = length_set marks f.structure (Done size) ∙ w.marked.many; done = λ i s h. done i s (get_set marks f.structure i (Done size) (Done s) h) };
-    begun = λ p x h. w.begun p x (get_early stack (f ∷ []) p x h);
-    opened = λ i h. opened i (get_set marks f.structure i (Done size) Open h);
-    leads = λ p x y h k. w.leads p x y (get_early stack (f ∷ []) p x h) (get_early stack (f ∷ []) (suc p) y k);
-  }
+  marked = record { many = length_set marks f.structure (Done size) ∙ w.marked.many; done = λ i s h. done i s (get_set marks f.structure i (Done size) (Done s) h) };
+  begun = λ p x h. w.begun p x (get_early stack (f ∷ []) p x h);
+  opened = λ i h. opened i (get_set marks f.structure i (Done size) Open h);
+  leads = λ p x y h k. w.leads p x y (get_early stack (f ∷ []) p x h) (get_early stack (f ∷ []) (suc p) y k);
+}
   where
     done : (i s : ℕ) → ((f.structure ≡ i) × (Done size ≡ Done s)) ⊎ ((f.structure ≢ i) × (slice_get marks i ≡ Some (Done s))) → IsSized types i s
     done i s (inl (p, q)) = let e : size ≡ s = cc q in subst (λ (n : ℕ). IsSized types i n) e (subst (λ (n : ℕ). IsSized types n size) p known)
@@ -123,11 +123,11 @@ begin_is types i h = record { there = h; low = omega arith; alone = λ k. k; sta
 -- a structure is begun, inside the one on top if there is one
 pub begun_inside : (types : List TypeDecl) (marks : List Mark) (stack : List Frame) (i : ℕ) → IsWalk types marks stack → i < length types → ((p : ℕ) (f : Frame) → slice_get stack p ≡ Some f → suc p ≡ length stack → among (parts types f.structure) i ≡ true) → IsWalk types (slice_set marks i Open) (stack ++ begin i ∷ [])
 begun_inside types marks stack i w there inside = record {
-    marked = record { many = length_set marks i Open ∙ w.marked.many; done = λ j s h. done j s (get_set marks i j Open (Done s) h) };
-    begun = λ p x h. begun p x (get_split stack (begin i) p x h);
-    opened = λ j h. opened j (get_set marks i j Open Open h);
-    leads = λ p x y h k. leads p x y (get_split stack (begin i) p x h) (get_split stack (begin i) (suc p) y k);
-  }
+  marked = record { many = length_set marks i Open ∙ w.marked.many; done = λ j s h. done j s (get_set marks i j Open (Done s) h) };
+  begun = λ p x h. begun p x (get_split stack (begin i) p x h);
+  opened = λ j h. opened j (get_set marks i j Open Open h);
+  leads = λ p x y h k. leads p x y (get_split stack (begin i) p x h) (get_split stack (begin i) (suc p) y k);
+}
   where
     done : (j s : ℕ) → ((i ≡ j) × (Open ≡ Done s)) ⊎ ((i ≢ j) × (slice_get marks j ≡ Some (Done s))) → IsSized types j s
     done j s (inl (p, q)) = absurd (cc q)
@@ -252,11 +252,11 @@ none_marked (suc n) (suc i) m h = none_marked n i m h
 -- nothing is begun
 pub all_fresh : (types : List TypeDecl) (marks : List Mark) → marks ≡ replicate (length types) Fresh → IsWalk types marks []
 all_fresh types marks e = record {
-    marked = record { many = rw e (length-replicate (length types) Fresh); done = λ i s h. absurd (cc (none_marked (length types) i (Done s) (rw e at h))) };
-    begun = λ p f h. absurd (cc h);
-    opened = λ i h. absurd (cc (none_marked (length types) i Open (rw e at h)));
-    leads = λ p f g h k. absurd (cc h);
-  }
+  marked = record { many = rw e (length-replicate (length types) Fresh); done = λ i s h. absurd (cc (none_marked (length types) i (Done s) (rw e at h))) };
+  begun = λ p f h. absurd (cc h);
+  opened = λ i h. absurd (cc (none_marked (length types) i Open (rw e at h)));
+  leads = λ p f g h k. absurd (cc h);
+}
 
 mapped_mark : (ms : List Mark) (i : ℕ) (m : Mark) → slice_get ms i ≡ Some m → slice_index (map size_of_mark ms) i ≡ size_of_mark m
 mapped_mark [] i m h = absurd (cc h)

@@ -143,7 +143,11 @@ fn too_large(sizes: &[u32]) -> Option<u32>
 }
 
 // The places of the members of each structure, where the structures have these sizes.
-fn all_places(alloc: Global, resolved: &Resolved, bytes: &[u32]) -> Result<Vec<List<Member>>, Memory>
+fn all_places(
+    alloc: Global,
+    resolved: &Resolved,
+    bytes: &[u32],
+) -> Result<Vec<List<Member>>, Memory>
     requires sized { bytes.now ≡ sizes resolved.now }
     requires small { Each IsSmall bytes.now }
     requires sound { SoundTypes resolved.now }

@@ -1,4 +1,4 @@
-use Rattle.std.proofs.Common.{◌≡◌, ◌∙◌, arith, length, sym, refl, rules, inl, inr, false, ap, ◌++◌, ◌∷◌, [], List, ℕ, Bool}
+use Rattle.std.proofs.Common.{◌≡◌, ◌∙◌, arith, length, refl, inl, inr, false, ap, ◌++◌, ◌∷◌, [], List}
 use Rattle.std.specs.Prelude.{replicate}
 use Rattle.std.proofs.lemmas.Grind.{common_steps}
 use Rattle.lgx_machine.specs.declared.types.TypeDecl.{TypeDecl}

@@ -1,4 +1,4 @@
-use Rattle.std.proofs.Common.{ℕ, length}
+use Rattle.std.proofs.Common.{length}
 use Rattle.lgx_types.specs.Rings.{IsSearch, AllSeen, left}
 use Rattle.lgx_types.proofs.ring.reaches_itself.Given as goal
 

@@ -1,4 +1,4 @@
-use Rattle.std.proofs.Common.{◌≡◌, true, false}
+use Rattle.std.proofs.Common.{true, false}
 use Rattle.lgx_types.proofs.Walks.{get_is}
 use Rattle.lgx_types.proofs.Seen.{search_set, keeps_set, less_set, own_set}
 use Rattle.lgx_types.proofs.ring.see_structure.Goals as goal

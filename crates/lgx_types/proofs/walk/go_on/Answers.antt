@@ -1,6 +1,5 @@
 use Rattle.std.proofs.Common.{◌≡◌, ◌∙◌, sym, refl}
 use Rattle.lgx_types.specs.Walk.{types_at}
-use Rattle.lgx_types.proofs.Walks.{ring_found}
 use Rattle.lgx_types.proofs.Sizing.{begun_next, inner_next}
 use Rattle.lgx_types.proofs.walk.go_on.Goals as goal
 

@@ -1,5 +1,5 @@
 use Rattle.std.proofs.Common.{◌≡◌}
-use Rattle.lgx_types.specs.Walk.{IsBegun, types_at}
+use Rattle.lgx_types.specs.Walk.{IsBegun}
 use Rattle.lgx_types.proofs.walk.go_on.Given as goal
 
 abbrev pub invariant-loop-k : goal.invariant-loop-k

@@ -1,5 +1,4 @@
-use Rattle.std.proofs.Common.{◌≡◌, ◌∙◌, ap, arith, length}
-use Rattle.lgx_types.specs.Walk.{size_of_mark}
+use Rattle.std.proofs.Common.{◌≡◌, ap, arith, length}
 use Rattle.lgx_types.proofs.Walks.{all_done}
 use Rattle.lgx_types.proofs.walk.settle.Goals as goal
 

@@ -1,4 +1,4 @@
-use Rattle.std.proofs.Common.{◌≡◌, ◌∙◌, sym, refl, arith, length, ◌<◌, ◌++◌, ◌∷◌, [], ap, List}
+use Rattle.std.proofs.Common.{◌≡◌, ◌∙◌, length, ◌<◌, ◌++◌, ◌∷◌, [], ap, List}
 use Rattle.lgx_types.specs.declared.walk.Frame.{Frame}
 use Rattle.std.specs.Prelude.{slice_get, Some, slice_set}
 use Rattle.lgx_types.specs.declared.walk.Mark.TheVariants.{Fresh, Open, Done}

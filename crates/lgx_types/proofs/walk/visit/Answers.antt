@@ -1,9 +1,8 @@
-use Rattle.std.proofs.Common.{◌≡◌, ◌∙◌, ap, List, ℕ, ◌++◌, ◌∷◌, []}
+use Rattle.std.proofs.Common.{◌≡◌, ◌∙◌, ap, List, ◌++◌, ◌∷◌, []}
 use Rattle.std.specs.Prelude.{slice_set}
 use Rattle.std.proofs.lemmas.Result.{IfOk-weaker}
 use Rattle.lgx_types.specs.declared.walk.Frame.{Frame}
 use Rattle.lgx_types.specs.declared.walk.Mark.TheVariants.{Fresh, Open}
-use Rattle.lgx_types.specs.Walk.{IsPassed}
 use Rattle.lgx_types.proofs.Walks.{first_begun, passed_set, passed_self, get_of, begin}
 use Rattle.lgx_types.proofs.walk.visit.Goals as goal
 

@@ -1,10 +1,5 @@
-use Rattle.std.proofs.Common.{◌≡◌, ◌<◌, ◌∙◌, ap, sym, subst, length, List, ℕ, []}
 use Rattle.std.specs.List.{AllByRecursion as Each}
-use Rattle.lgx_machine.specs.declared.types.TypeDecl.{TypeDecl}
-use Rattle.lgx_machine.specs.LayoutLaws.{SoundTypes}
-use Rattle.lgx_types.specs.declared.error.TypeError.{TypeError}
-use Rattle.lgx_types.specs.Outlines.{name_faults}
-use Rattle.lgx_types.specs.Tables.{HasMembers, IsSmall, IsLarge, IsTable, IsFirstFault}
+use Rattle.lgx_types.specs.Tables.{IsSmall, IsLarge}
 use Rattle.lgx_types.proofs.Verdicts.{AllSized, ring_first, large_first, sizes_are, no_fault, table_is}
 use Rattle.lgx_types.proofs.Placed.{sound_of}
 use Rattle.lgx_types.proofs.table.TypeTable.build.Goals as goal

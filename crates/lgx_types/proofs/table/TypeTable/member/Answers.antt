@@ -1,4 +1,4 @@
-use Rattle.std.proofs.Common.{◌≡◌, ◌∙◌, refl}
+use Rattle.std.proofs.Common.{◌≡◌, refl}
 use Rattle.lgx_machine.specs.Layout.{member}
 use Rattle.lgx_machine.specs.declared.types.Base.TheVariants.{User}
 use Rattle.lgx_types.proofs.Placed.{laid_member, member_low}
