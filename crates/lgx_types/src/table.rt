@@ -1,0 +1,162 @@
+// The table of types.
+ghost use Rattle.std.specs.Prelude.{◌≡◌, ◌<◌, ◌≤◌, None, [], length, map, take, IfSome, IfNone, IfErr, IfOk, OnOk};
+ghost use Rattle.std.specs.List.{AllByRecursion as Each};
+ghost use Rattle.lgx_machine.specs.declared.types.TypeCode.{TypeCode};
+ghost use Rattle.lgx_machine.specs.Layout.{find, member, size_of, sizes};
+ghost use Rattle.lgx_machine.specs.LayoutLaws.{SoundTypes};
+ghost use Rattle.lgx_machine.specs.TypeFaults.{of_structure, type_fault};
+ghost use Rattle.lgx_types.specs.declared.error.TypeError.TheVariants.{Fault};
+ghost use Rattle.lgx_types.specs.Tables.{HasSize, HasMembers, IsFirstFault, IsLarge, IsSmall, places_of};
+
+use crate::built_in::{counter_member, timer_member};
+use crate::error::TypeError;
+use crate::layout::{place_in, places};
+use crate::resolved::Resolved;
+use crate::ring::first_ring;
+use crate::size::size_in;
+use crate::walk::{Settled, settle};
+use lgx_machine::{Base, DataType, Member, TypeCode, TypeDecl, TypeFault, sizes_are_settled};
+use lgx_num::{List, Memory, Name};
+use std::alloc::Global;
+use std::marker::Model;
+
+/// The table of the types: the built-in ones, and declared structures without a fault.
+///
+/// Contracts see the declarations, in order.
+#[derive(Drop)]
+pub struct TypeTable {
+    resolved: Resolved,
+    sizes: Vec<u32>,
+    places: Vec<List<Member>>,
+}
+
+impl Model for TypeTable {
+    ghost use Rattle.std.specs.Prelude.{List as Items};
+    ghost use Rattle.lgx_machine.specs.declared.types.TypeDecl.{TypeDecl};
+    ghost use Rattle.lgx_types.specs.Tables.{IsTable};
+
+    ghost Value = { Items TypeDecl };
+
+    ghost view = { λ t. t.resolved };
+
+    ghost invariant = { λ t. IsTable t.resolved t.sizes.items t.places.items };
+}
+
+impl TypeTable {
+    /// The table of these declarations, or the first fault of them, or want of memory.
+    ///
+    /// The faults of names and members come first, in order of declaration, then a structure that reaches itself, then
+    /// one that is too large. It takes time in proportion to the declarations and members. Only where structures reach
+    /// themselves it takes this time once more for each structure before the first that does.
+    pub fn build(alloc: Global, decls: &[TypeDecl]) -> Result<TypeTable, TypeError>
+        requires few { length decls.now < 4294967296 }
+        requires members { Each HasMembers decls.now }
+        ensures value { IfOk result (λ table. table ≡ decls.now) }
+        ensures ok { OnOk result (type_fault decls.now ≡ None) }
+        ensures fault { IfErr result (λ error. IsFirstFault decls.now error) }
+    {
+        let resolved = Resolved::new(alloc, decls)?;
+        match settle(alloc, &resolved)? {
+            Settled::Ring(ring) => {
+                let first = first_ring(alloc, &resolved, ring)?;
+                Err(fault_of(TypeCode::Y3, first))
+            }
+            Settled::Sizes(sizes) => {
+                if let Some(i) = too_large(&sizes) {
+                    return Err(fault_of(TypeCode::Y5, i));
+                }
+                let places = all_places(alloc, &resolved, &sizes)?;
+                Ok(TypeTable {
+                    resolved,
+                    sizes,
+                    places,
+                })
+            }
+        }
+    }
+
+    /// The type of a name: a built-in type, or the structure of that name; case doesn't matter.
+    pub fn find(&self, name: &Name) -> Option<Base>
+        ensures { result ≡ find self.now name.now }
+    {
+        self.resolved.find(name)
+    }
+
+    /// The size of a type in bytes. An array of BOOLs takes a bit for each element.
+    pub fn size_of(&self, of: DataType) -> u32
+        requires { HasSize self.now of }
+        ensures value { result ≡ size_of self.now of }
+        ensures room { result ≤ 268435456 }
+    {
+        size_in(&self.sizes, of)
+    }
+
+    /// The member of a type by its name; case doesn't matter.
+    ///
+    /// It is None exactly where there is none: also for a structure that isn't in the table.
+    pub fn member(&self, base: Base, name: &Name) -> Option<Member>
+        ensures value { result ≡ member self.now base name.now }
+        ensures room { IfSome result (λ m. m.at ≤ 32768) }
+    {
+        match base {
+            Base::Timer => timer_member(name.bytes()),
+            Base::Counter => counter_member(name.bytes()),
+            Base::User(i) => place_in(&self.places, i, self.resolved.member_number(i, name)),
+            _ => None,
+        }
+    }
+
+    /// The declarations, in order.
+    pub fn structures(&self) -> &[TypeDecl]
+        ensures value { result.now ≡ self.now }
+        ensures faultless { type_fault self.now ≡ None }
+        ensures sound { SoundTypes self.now }
+        ensures few { length self.now < 4294967296 }
+    {
+        sizes_are_settled();
+        self.resolved.decls()
+    }
+}
+
+fn fault_of(code: TypeCode, i: u32) -> TypeError
+    ensures { result ≡ Fault (of_structure code i) }
+{
+    TypeError::Fault(TypeFault {
+        code,
+        decl: i,
+        member: None,
+    })
+}
+
+// The first structure that is over 4,096 bytes.
+fn too_large(sizes: &[u32]) -> Option<u32>
+    requires { length sizes.now < 4294967296 }
+    ensures some { IfSome result (λ i. IsLarge sizes.now i) }
+    ensures none { IfNone result (Each IsSmall sizes.now) }
+{
+    for i in 0..sizes.len() {
+        if sizes[i] > 4096 {
+            return Some(i as u32);
+        }
+    }
+    None
+}
+
+// The places of the members of each structure, where the structures have these sizes.
+fn all_places(
+    alloc: Global,
+    resolved: &Resolved,
+    bytes: &[u32],
+) -> Result<Vec<List<Member>>, Memory>
+    requires sized { bytes.now ≡ sizes resolved.now }
+    requires small { Each IsSmall bytes.now }
+    requires sound { SoundTypes resolved.now }
+    ensures { IfOk result (λ places. places.items ≡ places_of resolved.now) }
+{
+    let count = resolved.decls().len();
+    let mut all = Vec::with_capacity(alloc, count)?;
+    for i in 0..count {
+        all.push(places(alloc, resolved.types_at(i as u32), bytes)?)?;
+    }
+    Ok(all)
+}
