@@ -3,3 +3,4 @@ pub mod Stands
 pub mod Settling
 pub mod Families
 pub mod Rows
+pub mod Steps

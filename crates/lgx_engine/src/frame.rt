@@ -48,8 +48,8 @@ impl Model for Frame {
 /// Where a program scan stands: the routines in progress, and the copy in progress. It takes no memory.
 #[derive(Drop)]
 pub struct Position {
-    frames: ArrayVec<Frame, FRAMES>,
-    copying: Option<Copying>,
+    pub(crate) frames: ArrayVec<Frame, FRAMES>,
+    pub(crate) copying: Option<Copying>,
 }
 
 impl Model for Position {

@@ -6,8 +6,12 @@
 
 mod family;
 mod frame;
+mod frames;
+mod moves;
 mod row;
+mod scan;
 mod settling;
 
 pub use frame::Position;
 pub use lgx_machine::Effect;
+pub use scan::advance;
