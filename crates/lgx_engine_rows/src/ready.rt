@@ -1,27 +1,49 @@
 // Whether instructions are ready: a test, made when a program is loaded, of what the engine asks of them.
-ghost use Rattle.std.specs.Prelude.{◌≡◌, ◌⊎◌, true, ℕ};
+ghost use Rattle.std.specs.Prelude.{◌≡◌, ◌<◌, true, ℕ, [], ◌∷◌};
 ghost use Rattle.std.specs.List.{All, AllByRecursion as Each};
 ghost use Rattle.lgx_num.specs.Image.{LiesAt, BeginsWell, bits_of};
 ghost use Rattle.lgx_num.specs.Paths.{PathLies, BytesLie, OperandLies};
 ghost use Rattle.lgx_prog.specs.Executes.{executes};
+ghost use Rattle.lgx_prog.specs.FlatProgram.{routine_at};
 ghost use Rattle.lgx_prog.specs.Ready.{IsReady, EndsIn, KindsFit, IsCell, IsTimer, IsCounter, IsIntegers, IsRoutine, IsTask, operand_at};
 
 use lgx_num::{Kind, Operand, Path};
-use lgx_prog::{Code, Ins};
+use lgx_prog::{Code, FlatProgram, Ins};
 use lgx_rung::Op;
 
-/// Whether every instruction in flat code is ready for an image of `len` bytes.
-pub fn code_is_ready(code: &[Code], len: u32) -> bool
-    ensures { result ≡ true → Each (IsReady len) (executes code.now) }
+/// Whether every instruction in the code of a program's routines is ready for an image of `len` bytes. There are `count`
+/// routines.
+pub fn program_is_ready(program: &FlatProgram, count: usize, len: u32) -> bool
+    ensures { result ≡ true → (n : ℕ) → n < count → Each (IsReady len) (executes (routine_at program.now n).code) }
 {
-    for piece in code {
-        if let Code::Execute(ins) = piece {
-            if !is_ready(ins, len) {
-                return false;
-            }
+    for number in 0..count {
+        if !code_is_ready(program.code(number), len) {
+            return false;
         }
     }
     true
+}
+
+/// Whether every instruction in flat code is ready for an image of `len` bytes.
+fn code_is_ready(code: &[Code], len: u32) -> bool
+    ensures { result ≡ true → Each (IsReady len) (executes code.now) }
+{
+    for piece in code {
+        if !piece_is_ready(piece, len) {
+            return false;
+        }
+    }
+    true
+}
+
+/// Whether a piece of code is ready: an instruction, if it is one.
+fn piece_is_ready(piece: &Code, len: u32) -> bool
+    ensures { result ≡ true → Each (IsReady len) (executes (piece.now ∷ [])) }
+{
+    match piece {
+        Code::Execute(ins) => is_ready(ins, len),
+        _ => true,
+    }
 }
 
 /// Whether an instruction is ready for an image of `len` bytes; never where an operand has a variable subscript.

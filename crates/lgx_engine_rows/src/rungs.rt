@@ -4,26 +4,37 @@ ghost use Rattle.lgx_rung.specs.Tree.{depth, leg_depth, legs_of};
 ghost use Rattle.lgx_rung.specs.Elements.{tree_of as source_of};
 ghost use Rattle.lgx_prog.specs.Nodes.{tree_of};
 
-use crate::tags::operand;
 use crate::errors::Refusal;
+use crate::tags::operand;
 use lgx_neutral::read_rung;
 use lgx_num::{List, Operand};
 use lgx_prog::{Ins, Legs, Node, Rung, Rungs};
 use lgx_rung::{Element, Legs as SourceLegs, Op, SourceRung, Texts};
 use std::alloc::Global;
 
-/// The rungs of a routine, each by its text.
-pub fn read_routine(alloc: Global, texts: &[&str]) -> Result<Rungs, Refusal> {
+/// The routines of a program, with `|` between them: each is the neutral text of its rungs, one behind another.
+pub fn read_program(alloc: Global, text: &str) -> Result<Vec<Rungs>, Refusal> {
+    let mut routines = Vec::new(alloc);
+    for routine in text.split('|') {
+        routines.push(read_routine(alloc, routine)?)?;
+    }
+    Ok(routines)
+}
+
+/// The rungs of a routine.
+fn read_routine(alloc: Global, text: &str) -> Result<Rungs, Refusal> {
     let mut rungs = Vec::new(alloc);
-    for text in texts {
-        rungs.push(read_one(alloc, text.as_bytes())?)?;
+    for rung in text.split_inclusive(';') {
+        if !rung.trim().is_empty() {
+            rungs.push(read_one(alloc, rung.as_bytes())?)?;
+        }
     }
     Ok(List::of(rungs))
 }
 
 /// A rung by its text.
 fn read_one(alloc: Global, text: &[u8]) -> Result<Rung, Refusal> {
-    if text.len() > 10000 {
+    if text.len() > 1000 {
         return Err(Refusal::Memory);
     }
     let source = read_rung(alloc, text)?;
@@ -47,8 +58,14 @@ fn node_of(alloc: Global, element: &Element) -> Result<Node, Refusal>
     ensures { IfOk result (λ node. depth (tree_of (node ∷ [])) ≤ depth (source_of (element.now ∷ []))) }
 {
     match element {
-        Element::Ins(op, texts) => Ok(Node::Ins(ins_of(alloc, *op, texts)?)),
-        Element::Fork(legs) => Ok(Node::Fork(legs_from(alloc, legs)?)),
+        Element::Ins(op, texts) => {
+            let ins = ins_of(alloc, *op, texts)?;
+            Ok(Node::Ins(ins))
+        }
+        Element::Fork(legs) => {
+            let legs = legs_from(alloc, legs)?;
+            Ok(Node::Fork(legs))
+        }
     }
 }
 
