@@ -17,3 +17,6 @@ pub use ready::{is_ready, program_is_ready};
 pub use rungs::read_program;
 pub use tags::{LEN, bit, dint, operand};
 pub use words::run_scan;
+
+#[cfg(test)]
+mod tests;

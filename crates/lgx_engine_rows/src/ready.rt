@@ -89,7 +89,9 @@ fn lies(operand: &Operand, len: u32) -> bool
 fn cell_lies(path: &Path, len: u32) -> bool
     ensures { result ≡ true → PathLies path.now len (λ to. LiesAt path.now.kind to len) }
 {
-    path.steps.is_empty() && begins_well(path.kind, path.at) && u64::from(path.at) + bits_of(path.kind) <= 8 * u64::from(len)
+    path.steps.is_empty()
+        && begins_well(path.kind, path.at)
+        && u64::from(path.at) + bits_of(path.kind) <= 8 * u64::from(len)
 }
 
 fn begins_well(kind: Kind, at: u32) -> bool
@@ -116,7 +118,9 @@ fn bits_of(kind: Kind) -> u64
 fn bytes_lie(path: &Path, size: u32, end: u32) -> bool
     ensures { result ≡ true → (len : ℕ) → PathLies path.now len (BytesLie size end) }
 {
-    path.steps.is_empty() && path.at % 8 == 0 && u64::from(path.at) + 8 * u64::from(size) <= 8 * u64::from(end)
+    path.steps.is_empty()
+        && path.at % 8 == 0
+        && u64::from(path.at) + 8 * u64::from(size) <= 8 * u64::from(end)
 }
 
 /// Whether each operand that a mnemonic writes, counts in, fills, calls or triggers is of its kind.
@@ -127,7 +131,8 @@ fn kinds_fit(op: Op, args: &[Operand]) -> bool
         Op::Ote | Op::Otl | Op::Otu | Op::Ons | Op::Clr => is_cell(args, 0),
         Op::Osr | Op::Osf => is_cell(args, 0) && is_cell(args, 1),
         Op::Neg | Op::Abs | Op::Mov | Op::Not => is_cell(args, 1),
-        Op::Add | Op::Sub | Op::Mul | Op::Div | Op::Mod | Op::And | Op::Or | Op::Xor | Op::Mvm => is_cell(args, 2),
+        Op::Add | Op::Sub | Op::Mul | Op::Div | Op::Mod | Op::And | Op::Or | Op::Xor | Op::Mvm =>
+            is_cell(args, 2),
         Op::Ton | Op::Rto | Op::Tof => is_timer(args, 0),
         Op::Ctu | Op::Ctd => is_counter(args, 0),
         Op::Res => is_timer(args, 0) || is_counter(args, 0),

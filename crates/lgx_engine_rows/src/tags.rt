@@ -54,13 +54,27 @@ pub fn operand(op: Op, number: usize, text: &[u8]) -> Option<Operand> {
         b"S:Z" => Some(Operand::FlagOf(Flag::Zero)),
         b"S:N" => Some(Operand::FlagOf(Flag::Negative)),
         [b'-', digits @ ..] => Some(Operand::Number(negative(value(digits)?)?)),
-        [letter] if letter.is_ascii_lowercase() => Some(Operand::Cell(path(Kind::Bool, u32::from(*letter - b'a')))),
-        [b't', digits @ ..] => Some(Operand::Timer(path(Kind::Dint, element(TIMERS, 128, 2, digits)?))),
-        [b'c', digits @ ..] => Some(Operand::Counter(path(Kind::Dint, element(COUNTERS, 96, 2, digits)?))),
+        [letter] if letter.is_ascii_lowercase() => Some(Operand::Cell(path(
+            Kind::Bool,
+            u32::from(*letter - b'a'),
+        ))),
+        [b't', digits @ ..] => Some(Operand::Timer(path(
+            Kind::Dint,
+            element(TIMERS, 128, 2, digits)?,
+        ))),
+        [b'c', digits @ ..] => Some(Operand::Counter(path(
+            Kind::Dint,
+            element(COUNTERS, 96, 2, digits)?,
+        ))),
         [b'R', digits @ ..] => Some(Operand::Routine(value(digits)?)),
         [b'L', digits @ ..] => Some(Operand::Label(u64::from(value(digits)?))),
         [b'T', digits @ ..] => Some(Operand::Task(value(digits)?)),
-        [b'd', digits @ ..] => Some(integer(op, number, element(DINTS, 32, 10, digits)?, DINTS + 320)),
+        [b'd', digits @ ..] => Some(integer(
+            op,
+            number,
+            element(DINTS, 32, 10, digits)?,
+            DINTS + 320,
+        )),
         [b'u', digits @ ..] => Some(integer(op, number, element(U, 32, 4, digits)?, V)),
         [b'v', digits @ ..] => Some(integer(op, number, element(V, 32, 4, digits)?, TIMERS)),
         digits => Some(Operand::Number(i32::try_from(value(digits)?).ok()?)),
@@ -119,7 +133,9 @@ fn value(digits: &[u8]) -> Option<u32> {
         if !byte.is_ascii_digit() {
             return None;
         }
-        number = number.checked_mul(10)?.checked_add(u32::from(*byte - b'0'))?;
+        number = number
+            .checked_mul(10)?
+            .checked_add(u32::from(*byte - b'0'))?;
     }
     Some(number)
 }

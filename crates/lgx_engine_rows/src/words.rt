@@ -1,12 +1,14 @@
-// What steps did, in words.
+// What the steps of a scan did, in words.
 use crate::bench::Bench;
 use lgx_engine::Effect;
 use std::alloc::{AllocError, Global};
 
-/// Runs the scan to its end, to a major fault or for `limit` steps, and says what each step did, as `ran ran left end`: an
-/// instruction was executed (`ran`, or `up` and `down` for UID and UIE, `trigger0` for EVENT with the number of its task,
-/// `minor` and `major84` with a fault), a COP or FLL or a CPS started (`copy`, `cps`), an element was copied (`element`, the
-/// last one `last`), a routine was left (`left`, the main one `end`).
+/// Runs the scan to its end, to a major fault or for `limit` steps, and says what each step did, as `2*ran left ran end`.
+///
+/// `ran`: an instruction was executed. `up`, `down`: a UID, a UIE. `trigger0`: an EVENT, with the number of its task.
+/// `minor`, `major84`: an instruction with a fault. `copy`, `cps`: a COP or FLL, a CPS that starts; `element`, `last`: an
+/// element is copied, the last one. `left`: a routine is left, `end`: the main one. A word with a number and `*` before it
+/// stands for so many steps.
 pub fn run_scan(
     alloc: Global,
     bench: &mut Bench,
@@ -14,18 +16,61 @@ pub fn run_scan(
     first: bool,
     limit: u32,
 ) -> Result<String, AllocError> {
-    let mut words = String::new(alloc);
-    for step in 0..limit {
+    let mut words = Words::new(alloc);
+    for _ in 0..limit {
         let effect = bench.step(now, first);
-        if step > 0 {
-            words.push_str(" ")?;
-        }
-        push_effect(&mut words, effect)?;
+        words.add(word_of(alloc, effect)?)?;
         if is_last(effect) {
             break;
         }
     }
-    Ok(words)
+    words.finish()
+}
+
+/// Words with spaces between them, and the last word, of which `count` may follow.
+#[derive(Drop)]
+struct Words {
+    text: String,
+    last: String,
+    count: u32,
+}
+
+impl Words {
+    fn new(alloc: Global) -> Words {
+        Words {
+            text: String::new(alloc),
+            last: String::new(alloc),
+            count: 0,
+        }
+    }
+
+    fn add(&mut self, word: String) -> Result<(), AllocError> {
+        if word.as_str() == self.last.as_str() {
+            self.count = self.count.saturating_add(1);
+        } else {
+            self.put_last()?;
+            self.last = word;
+            self.count = 1;
+        }
+        Ok(())
+    }
+
+    fn finish(mut self) -> Result<String, AllocError> {
+        self.put_last()?;
+        Ok(self.text)
+    }
+
+    /// Adds the last word to the text, with its number.
+    fn put_last(&mut self) -> Result<(), AllocError> {
+        if self.count > 0 && !self.text.is_empty() {
+            self.text.push_str(" ")?;
+        }
+        if self.count > 1 {
+            let count = self.count;
+            write!(self.text, "{count}*")?;
+        }
+        self.text.push_str(self.last.as_str())
+    }
 }
 
 /// Whether nothing follows in a scan.
@@ -37,20 +82,29 @@ fn is_last(effect: Effect) -> bool {
     }
 }
 
-/// Adds what a step did.
-fn push_effect(words: &mut String, effect: Effect) -> Result<(), AllocError> {
+/// What a step did.
+fn word_of(alloc: Global, effect: Effect) -> Result<String, AllocError> {
     match effect {
-        Effect::Ran => words.push_str("ran"),
-        Effect::Up => words.push_str("up"),
-        Effect::Down => words.push_str("down"),
-        Effect::Trigger(task) => write!(words, "trigger{task}"),
-        Effect::CopyStart(true) => words.push_str("cps"),
-        Effect::CopyStart(false) => words.push_str("copy"),
-        Effect::Copied { last: false, .. } => words.push_str("element"),
-        Effect::Copied { last: true, .. } => words.push_str("last"),
-        Effect::Left { ended: false } => words.push_str("left"),
-        Effect::Left { ended: true } => words.push_str("end"),
-        Effect::Minor => words.push_str("minor"),
-        Effect::Major(code) => write!(words, "major{code}"),
+        Effect::Trigger(task) => format!(in alloc; "trigger{task}"),
+        Effect::Major(code) => format!(in alloc; "major{code}"),
+        _ => String::from_str(alloc, plain_word(effect)),
+    }
+}
+
+/// What a step did that has no number.
+fn plain_word(effect: Effect) -> &'static str {
+    match effect {
+        Effect::Ran => "ran",
+        Effect::Up => "up",
+        Effect::Down => "down",
+        Effect::Trigger(_) => "trigger",
+        Effect::CopyStart(true) => "cps",
+        Effect::CopyStart(false) => "copy",
+        Effect::Copied { last: false, .. } => "element",
+        Effect::Copied { last: true, .. } => "last",
+        Effect::Left { ended: false } => "left",
+        Effect::Left { ended: true } => "end",
+        Effect::Minor => "minor",
+        Effect::Major(_) => "major",
     }
 }

@@ -14,9 +14,9 @@ loop-operand-preserved c = record {
 }
 
 pub returns-clause-lie : goal.returns-clause-lie
-returns-clause-lie c yes =
+returns-clause-lie c _ =
     subst (λ (xs : List Operand). All (λ o. OperandLies o c.args.len) xs) (take_all c.loop-operand.operand-index c.args.args.now c.loop-operand-test.false) c.loop-operand.invariant.lie
 
 pub returns-clause-ends : goal.returns-clause-ends
-returns-clause-ends c yes =
+returns-clause-ends c _ =
     subst (λ (xs : List Operand). All (EndsIn c.args.len) xs) (take_all c.loop-operand.operand-index c.args.args.now c.loop-operand-test.false) c.loop-operand.invariant.ends
