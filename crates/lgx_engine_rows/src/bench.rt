@@ -9,7 +9,7 @@ ghost use Rattle.lgx_engine.specs.Steps.{Advances};
 use crate::errors::Refusal;
 use crate::ready::program_is_ready;
 use crate::rungs::read_program;
-use crate::tags::{LEN, bit, dint};
+use crate::tags::{LEN, bit, dint, name_of, place_of};
 use lgx_engine::{Effect, Position, advance};
 use lgx_image::Image;
 use lgx_num::{Flags, Kind};
@@ -89,24 +89,63 @@ impl Bench {
         )
     }
 
-    /// Sets the BOOLs of these letters; what is no letter is skipped.
-    pub fn set(&mut self, letters: &str) {
-        for letter in letters.as_bytes() {
+    /// Sets tags: a word of letters sets the BOOLs of these letters, and one such as `d3=-5` stores a number.
+    pub fn set(&mut self, words: &str) -> Result<(), Refusal> {
+        for word in words.split_whitespace() {
+            match word.split_once('=') {
+                Some((name, value)) => self.store(name.as_bytes(), value)?,
+                None => self.set_bits(word.as_bytes()),
+            }
+        }
+        Ok(())
+    }
+
+    fn set_bits(&mut self, letters: &[u8]) {
+        for letter in letters {
             if letter.is_ascii_lowercase() {
                 self.image.put(bit(*letter - b'a'), 1);
             }
         }
     }
 
-    /// The letters of the BOOLs that are 1.
-    pub fn lit(&self, alloc: Global) -> Result<String, AllocError> {
-        let mut letters = String::new(alloc);
+    fn store(&mut self, name: &[u8], value: &str) -> Result<(), Refusal> {
+        let place = place_of(name).ok_or(Refusal::Operand)?;
+        let value = value.parse::<i32>().ok().ok_or(Refusal::Operand)?;
+        self.put(place, value);
+        Ok(())
+    }
+
+    /// The tags that aren't 0: the letters of the BOOLs, and behind them a word such as `d3=-5` for each DINT; `-` where all
+    /// are 0.
+    pub fn shown(&self, alloc: Global) -> Result<String, AllocError> {
+        let mut text = String::new(alloc);
         for number in 0..26u8 {
             if self.image.get(bit(number)) == 1 {
-                letters.push((b'a' + number) as char)?;
+                text.push((b'a' + number) as char)?;
             }
         }
-        Ok(letters)
+        for place in 0..18u8 {
+            self.show(&mut text, place)?;
+        }
+        if text.is_empty() {
+            text.push('-')?;
+        }
+        Ok(text)
+    }
+
+    /// Adds the word of a DINT that isn't 0.
+    fn show(&self, text: &mut String, place: u8) -> Result<(), AllocError>
+        requires { place < 18 }
+    {
+        let value = self.number(place);
+        if value == 0 {
+            return Ok(());
+        }
+        if !text.is_empty() {
+            text.push_str(" ")?;
+        }
+        let (letter, number) = name_of(place);
+        write!(text, "{letter}{number}={value}")
     }
 
     /// The DINT at the place of this number; behind those of the arrays are the words of t0, t1, c0 and c1.

@@ -2,7 +2,7 @@
 //
 // The image is 132 bytes: from byte 0 on the BOOLs a to z, from 4 on the DINTs d0 to d9, from 44 and from 60 on the arrays
 // u and v of 4 DINTs, from 76 on the TIMERs t0 and t1, from 108 on the COUNTERs c0 and c1.
-ghost use Rattle.std.specs.Prelude.{◌≡◌, ◌+◌, ◌*◌, ◌<◌};
+ghost use Rattle.std.specs.Prelude.{◌≡◌, ◌+◌, ◌*◌, ◌<◌, IfSome};
 
 use lgx_num::{Block, Flag, Kind, Operand, Path, Place, Steps};
 use lgx_rung::Op;
@@ -38,6 +38,28 @@ pub fn dint(number: u8) -> Place
     Place {
         kind: Kind::Dint,
         at: DINTS + 32 * u32::from(number),
+    }
+}
+
+/// The name of the DINT at the place of this number: the letter of its array, as d0 to d9 are one too, and its number there.
+pub(crate) fn name_of(place: u8) -> (char, u8) {
+    match place {
+        0..=9 => ('d', place),
+        10..=13 => ('u', place - 10),
+        14..=17 => ('v', place - 14),
+        _ => ('?', 0),
+    }
+}
+
+/// The number of the place of the DINT of this name.
+pub(crate) fn place_of(name: &[u8]) -> Option<u8>
+    ensures { IfSome result (λ place. place < 18) }
+{
+    match name {
+        [b'd', digit @ b'0'..=b'9'] => Some(*digit - b'0'),
+        [b'u', digit @ b'0'..=b'3'] => Some(10 + (*digit - b'0')),
+        [b'v', digit @ b'0'..=b'3'] => Some(14 + (*digit - b'0')),
+        _ => None,
     }
 }
 
