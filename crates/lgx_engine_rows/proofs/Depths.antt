@@ -1,5 +1,5 @@
 -- Rungs that are made of source rungs, element by element and leg by leg, have no more forks nested.
-use Rattle.std.proofs.Common.{◌≡◌, ℕ, zero, suc, ◌<◌, ◌≤◌, List, [], ◌∷◌, ◌++◌, length, get_or, max, refl, arith, subst, sym}
+use Rattle.std.proofs.Common.{◌≡◌, ℕ, zero, suc, ◌<◌, ◌≤◌, List, [], ◌∷◌, ◌++◌, length, get_or, arith, subst, sym}
 use Rattle.lgx_rung.specs.Tree.{Tree, depth, leg_depth, legs_of, Source}
 use Rattle.lgx_rung.specs.declared.rung.Element.{Element}
 use Rattle.lgx_rung.specs.declared.rung.Element.TheVariants as element

@@ -1,11 +1,10 @@
 -- Where the instructions in the code of a program's routines are ready, the program is.
-use Rattle.std.proofs.Common.{◌≡◌, ℕ, zero, suc, ◌+◌, ◌<◌, List, [], ◌∷◌, ◌++◌, length, get_or, drop, flat_map, refl, sym, ap, ◌∙◌, subst, arith}
+use Rattle.std.proofs.Common.{◌≡◌, ℕ, suc, ◌+◌, ◌<◌, List, [], ◌∷◌, ◌++◌, length, get_or, drop, flat_map, sym, ap, ◌∙◌, subst, arith}
 use Rattle.std.proofs.lemmas.List.{drop_more}
 use Rattle.std.specs.List.{AllByRecursion as Each}
 use Rattle.lgx_rung.specs.Tree.{instructions}
 use Rattle.lgx_machine.specs.declared.program.Ins.{Ins}
 use Rattle.lgx_machine.specs.Position.{Rungs, ProgramRungs, routine_rungs}
-use Rattle.lgx_machine.proofs.Subscripts.{each_append}
 use Rattle.lgx_prog.specs.declared.code.Code.{Code}
 use Rattle.lgx_prog.specs.declared.code.Code.TheVariants.{RungStart, Execute, BranchStart, LegEnd, BranchEnd}
 use Rattle.lgx_prog.specs.Executes.{executes}

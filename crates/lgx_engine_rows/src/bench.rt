@@ -1,9 +1,10 @@
 // A program that runs on the engine.
-ghost use Rattle.std.specs.Prelude.{◌≡◌, ◌+◌, ◌*◌, ◌<◌, length};
-ghost use Rattle.lgx_num.specs.Image.{number};
-ghost use Rattle.lgx_machine.specs.Position.{ProgramRungs, Position as MachinePosition};
+ghost use Rattle.std.specs.Prelude.{◌≡◌, ◌+◌, ◌*◌, ◌<◌, length, IfOk};
+ghost use Rattle.lgx_num.specs.Image.{number, write};
+ghost use Rattle.lgx_machine.specs.Position.{ProgramRungs, Position as MachinePosition, first_position};
 ghost use Rattle.lgx_machine.specs.Scan.{advance as machine_advance};
-ghost use Rattle.lgx_engine.specs.Stands.{Runs};
+ghost use Rattle.lgx_prog.specs.FlatProgram.{IsFlatProgram};
+ghost use Rattle.lgx_engine.specs.Stands.{Runs, Stands};
 ghost use Rattle.lgx_engine.specs.Steps.{Advances};
 
 use crate::errors::Refusal;
@@ -47,7 +48,9 @@ impl Bench {
     }
 
     /// The program of these routines at the start of a scan, with every tag 0. The first is the main one.
-    pub fn of(alloc: Global, routines: &[Rungs]) -> Result<Bench, Refusal> {
+    pub fn of(alloc: Global, routines: &[Rungs]) -> Result<Bench, Refusal>
+        ensures { IfOk result (λ bench. IsFlatProgram bench.program (record { routines = routines.now; main = 0 })) }
+    {
         if routines.is_empty() {
             return Err(Refusal::NotReady);
         }
@@ -71,7 +74,11 @@ impl Bench {
     }
 
     /// Begins a new scan. Tags and flags stay.
-    pub fn restart(&mut self) {
+    pub fn restart(&mut self)
+        ensures position { (rungs : ProgramRungs) → IsFlatProgram self.old.program rungs → Stands self.new.program self.new.place (first_position rungs) }
+        ensures same_image { self.new.image ≡ self.old.image }
+        ensures same_flags { self.new.flags ≡ self.old.flags }
+    {
         self.position = Position::start(&self.program);
     }
 
@@ -159,6 +166,8 @@ impl Bench {
     /// Stores a DINT there.
     pub fn put(&mut self, place: u8, value: i32)
         requires { place < 32 }
+        ensures bytes { self.new.image.bytes ≡ write self.old.image.bytes (record { kind = Kind.Dint; at = 32 + 32 * place }) value }
+        ensures same_place { self.new.place ≡ self.old.place }
     {
         self.image.put(dint(place), value);
     }

@@ -1,4 +1,4 @@
-use Rattle.std.proofs.Common.{◌∷◌, [], ◌+◌, ◌<◌, ◌≤◌, arith}
+use Rattle.std.proofs.Common.{◌∷◌, [], ◌<◌, ◌≤◌, arith}
 use Rattle.std.proofs.lemmas.Grind.{common_steps}
 use Rattle.lgx_rung.specs.Sizes.{tree_size, list_size}
 use Rattle.lgx_rung.specs.Tree.{depth, leg_depth, legs_of}
