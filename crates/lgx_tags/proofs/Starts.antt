@@ -2,7 +2,7 @@
 use Rattle.std.specs.Prelude.{◌≡◌, ℕ, zero, suc, ◌+◌, ◌-◌, ◌%◌, ◌<◌, ◌≤◌, Bool, true, false, not, cond, ◌&&◌, ◌==◌, nat_lt, List, [], ◌∷◌, ◌++◌, filter, flat_map, find, Option, Some, None, option_map, refl, ⊤}
 use Rattle.std.specs.List.{AllByRecursion as Each, range_with_len}
 use Rattle.std.specs.Option.{option_or}
-use Rattle.std.proofs.Common.{sym, ap, ◌∙◌, arith, eqb-true, ltb-true, append_assoc}
+use Rattle.std.proofs.Common.{sym, ap, ◌∙◌, arith, eqb-true, eq-eqb, ltb-true, ltb-false, append_assoc}
 use Rattle.std.proofs.lemmas.List.Folds.{find-append}
 use Rattle.lgx_num.specs.Name.{same}
 use Rattle.lgx_machine.specs.declared.types.TypeDecl.{TypeDecl}
@@ -94,3 +94,107 @@ parted es (Program p) programs h =
     let zero_on : 0 + p ≡ p = omega arith in
     let flat : programs_from es 0 programs ≡ programs_from es 0 p ++ (in_scope es (Program p) ++ behind es (Program p) programs) = ap (flat_map (λ p. in_scope es (Program p))) (ranges ∙ ap (λ (b : ℕ). range_with_len 0 p ++ range_with_len b (suc (programs - (p + 1)))) zero_on) ∙ flat_append (λ p. in_scope es (Program p)) (range_with_len 0 p) (p ∷ range_with_len (p + 1) (programs - (p + 1))) in
     ap (λ (l : List Entry). in_scope es Controller ++ l) flat ∙ sym (append_assoc (in_scope es Controller) (programs_from es 0 p) (in_scope es (Program p) ++ behind es (Program p) programs))
+
+-- ---- entries of other scopes
+
+eq_sym : (a b : ℕ) → (a == b) ≡ false → (b == a) ≡ false
+eq_sym a b p = go (b == a) refl
+  where
+    go : (t : Bool) → (b == a) ≡ t → t ≡ false
+    go true q = absurd (cc (sym (eq-eqb a b (sym (eqb-true b a q))), p))
+    go false q = refl
+
+not_equal : (a b : ℕ) → (a ≡ b → ⊥) → (a == b) ≡ false
+not_equal a b h = go (a == b) refl
+  where
+    go : (t : Bool) → (a == b) ≡ t → t ≡ false
+    go true q = absurd (h (eqb-true a b q))
+    go false q = refl
+
+-- entries of one scope aren't of another
+pub filtered : (es : List Entry) (s : Scope) → Each (λ e. same_scope e.scope s ≡ true) (in_scope es s)
+filtered [] s = tt
+filtered (e ∷ es) s = go (same_scope e.scope s) refl (filtered es s)
+  where
+    go : (b : Bool) → same_scope e.scope s ≡ b → Each (λ e. same_scope e.scope s ≡ true) (in_scope es s) → Each (λ e. same_scope e.scope s ≡ true) (cond b (e ∷ in_scope es s) (in_scope es s))
+    go true q h = (q, h)
+    go false q h = h
+
+other_scope : (own s t : Scope) → same_scope s t ≡ false → same_scope own s ≡ true → same_scope own t ≡ false
+other_scope Controller Controller Controller p q = absurd (cc p)
+other_scope Controller Controller (Program t) p q = refl
+other_scope Controller (Program s) t p q = absurd (cc q)
+other_scope (Program o) Controller t p q = absurd (cc q)
+other_scope (Program o) (Program s) Controller p q = refl
+other_scope (Program o) (Program s) (Program t) p q = let e : o ≡ s = eqb-true o s q in rw e p
+
+pub others_out : (es : List Entry) (s t : Scope) → same_scope s t ≡ false → Each (IsOutOf t) (in_scope es s)
+others_out es s t p = each_map (λ e. same_scope e.scope s ≡ true) (IsOutOf t) (in_scope es s) (λ e q. other_scope e.scope s t p q) (filtered es s)
+
+pub programs_out : (es : List Entry) (t : Scope) (ps : List ℕ) → Each (λ p. same_scope (Program p) t ≡ false) ps → Each (IsOutOf t) (flat_map (λ p. in_scope es (Program p)) ps)
+programs_out es t [] h = tt
+programs_out es t (p ∷ ps) h = each_append (IsOutOf t) (in_scope es (Program p)) (flat_map (λ p. in_scope es (Program p)) ps) (others_out es (Program p) t h.0) (programs_out es t ps h.1)
+
+pub range_out : (q a n : ℕ) → ((i : ℕ) → a ≤ i → i < a + n → i ≡ q → ⊥) → Each (λ p. same_scope (Program p) (Program q) ≡ false) (range_with_len a n)
+range_out q a zero h = tt
+range_out q a (suc n) h = (not_equal a q (h a (omega arith) (omega arith)), range_out q (a + 1) n (λ i l m. h i (omega arith) (omega arith)))
+
+controllers_out : (a n : ℕ) → Each (λ p. same_scope (Program p) Controller ≡ false) (range_with_len a n)
+controllers_out a zero = tt
+controllers_out a (suc n) = (refl, controllers_out (a + 1) n)
+
+pub before_out : (es : List Entry) (s : Scope) → Each (IsOutOf s) (before es s)
+before_out es Controller = tt
+before_out es (Program p) = each_append (IsOutOf (Program p)) (in_scope es Controller) (programs_from es 0 p) (others_out es Controller (Program p) refl) (programs_out es (Program p) (range_with_len 0 p) (range_out p 0 p (λ i l m e. omega arith)))
+
+pub behind_out : (es : List Entry) (s : Scope) (programs : ℕ) → Each (IsOutOf s) (behind es s programs)
+behind_out es Controller programs = programs_out es Controller (range_with_len 0 programs) (controllers_out 0 programs)
+behind_out es (Program p) programs = programs_out es (Program p) (range_with_len (p + 1) (programs - (p + 1))) (range_out p (p + 1) (programs - (p + 1)) (λ i l m e. omega arith))
+
+-- ---- where an entry begins
+
+abbrev pub start_of : Declarations → Scope → ℕ → ℕ
+start_of d s i = run d.types s (total d.types (before d.entries s)) d.entries i
+
+words : (types : List TypeDecl) (es : List Entry) → total types es % 4 ≡ 0
+words types [] = refl
+words types (e ∷ es) = omega (arith, words types es)
+
+or_none : {A : Type 0} (o : Option A) → option_or o None ≡ o
+or_none None = refl
+or_none (Some x) = refl
+
+pub entry_is : (d : Declarations) (s : Scope) (name : List ℕ) → IsScopeOf d.programs s → entry_of d s name ≡ option_map (λ x. (start_of d s x.0, x.1)) (seek s name d.entries)
+entry_is d s name h =
+    let t : ℕ × Entry → Bool = λ x. is_named s name x.1 in
+    let xs : List Entry = before d.entries s in
+    let ys : List Entry = in_scope d.entries s in
+    let zs : List Entry = behind d.entries s d.programs in
+    let at : ℕ = end_of d.types 0 xs in
+    let first : at ≡ total d.types xs = omega (arith, end_is d.types 0 xs refl) in
+    let split : entry_of d s name ≡ option_or (find t (laid_from d.types 0 xs)) (option_or (find t (laid_from d.types at ys)) (find t (laid_from d.types (end_of d.types at ys) zs))) = ap (λ (l : List Entry). find t (laid_from d.types 0 l)) (parted d.entries s d.programs h) ∙ ap (find t) (laid_append d.types 0 xs (ys ++ zs) ∙ ap (λ (l : List (ℕ × Entry)). laid_from d.types 0 xs ++ l) (laid_append d.types at ys zs)) ∙ find-append t (laid_from d.types 0 xs) (laid_from d.types at ys ++ laid_from d.types (end_of d.types at ys) zs) ∙ ap (option_or (find t (laid_from d.types 0 xs))) (find-append t (laid_from d.types at ys) (laid_from d.types (end_of d.types at ys) zs)) in
+    let none_before : find t (laid_from d.types 0 xs) ≡ None = none_out d.types s name 0 xs (before_out d.entries s) in
+    let none_behind : find t (laid_from d.types (end_of d.types at ys) zs) ≡ None = none_out d.types s name (end_of d.types at ys) zs (behind_out d.entries s d.programs) in
+    let here : find t (laid_from d.types at ys) ≡ option_map (begun d.types s at d.entries) (seek s name d.entries) = find_laid d.types s name at d.entries (ap (λ (n : ℕ). n % 4) first ∙ words d.types xs) in
+    split ∙ ap (λ (o : Option (ℕ × Entry)). option_or o (option_or (find t (laid_from d.types at ys)) (find t (laid_from d.types (end_of d.types at ys) zs)))) none_before ∙ ap (option_or (find t (laid_from d.types at ys))) none_behind ∙ or_none (find t (laid_from d.types at ys)) ∙ here ∙ ap (λ (n : ℕ). option_map (begun d.types s n d.entries) (seek s name d.entries)) first
+
+-- a program that the table doesn't have has no entries
+pub no_entry : (d : Declarations) (p : ℕ) (name : List ℕ) → d.programs ≤ p → entry_of d (Program p) name ≡ None
+no_entry d p name h = none_out d.types (Program p) name 0 (ordered d.entries d.programs) (each_append (IsOutOf (Program p)) (in_scope d.entries Controller) (programs_from d.entries 0 d.programs) (others_out d.entries Controller (Program p) refl) (programs_out d.entries (Program p) (range_with_len 0 d.programs) (range_out p 0 d.programs (λ i l m e. omega arith))))
+
+pub none_sought : (es : List Entry) (programs p : ℕ) (name : List ℕ) → Each (λ e. IsScopeOf programs e.scope) es → programs ≤ p → seek (Program p) name es ≡ None
+none_sought [] programs p name h l = refl
+none_sought (e ∷ es) programs p name h l = let q : same_scope e.scope (Program p) ≡ false = out e.scope h.0 in rw q (ap (option_map next) (none_sought es programs p name h.1 l))
+  where
+    out : (s : Scope) → IsScopeOf programs s → same_scope s (Program p) ≡ false
+    out Controller h = refl
+    out (Program q) h = not_equal q p (λ e. omega arith)
+
+-- the entry of a name is the first that is named so
+pub entry_found : (d : Declarations) (s : Scope) (name : List ℕ) → Each (λ e. IsScopeOf d.programs e.scope) d.entries → entry_of d s name ≡ option_map (λ x. (start_of d s x.0, x.1)) (seek s name d.entries)
+entry_found d Controller name h = entry_is d Controller name tt
+entry_found d (Program p) name h = go (nat_lt p d.programs) refl
+  where
+    go : (b : Bool) → nat_lt p d.programs ≡ b → entry_of d (Program p) name ≡ option_map (λ x. (start_of d (Program p) x.0, x.1)) (seek (Program p) name d.entries)
+    go true q = entry_is d (Program p) name (ltb-true p d.programs q)
+    go false q = no_entry d p name (ltb-false p d.programs q) ∙ sym (ap (option_map (λ x. (start_of d (Program p) x.0, x.1))) (none_sought d.entries d.programs p name h (ltb-false p d.programs q)))
