@@ -1,0 +1,2 @@
+pub mod WalkParts
+pub mod WalkNames

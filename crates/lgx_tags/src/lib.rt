@@ -1,0 +1,9 @@
+//! Tags: what an operand's text names.
+#![tactic(auto)]
+
+mod error;
+mod form;
+mod part;
+mod tag_name;
+
+pub use error::TagError;
