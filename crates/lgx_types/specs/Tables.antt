@@ -1,0 +1,56 @@
+-- What is asked of the table of types, and what it answers.
+use Rattle.std.specs.Prelude.{◌≡◌, ℕ, ◌<◌, ◌≤◌, List, length, map, Some, None, ⊤}
+use Rattle.std.specs.List.{AllByRecursion as Each}
+use Rattle.lgx_machine.specs.declared.types.Base.{Base}
+use Rattle.lgx_machine.specs.declared.types.Base.TheVariants.{Bool as OneBit, Sint, Int, Dint, Timer, Counter, User}
+use Rattle.lgx_machine.specs.declared.types.DataType.{DataType}
+use Rattle.lgx_machine.specs.declared.types.TypeDecl.{TypeDecl}
+use Rattle.lgx_machine.specs.declared.types.Member.{Member}
+use Rattle.lgx_machine.specs.Layout.{sizes, placed_from}
+use Rattle.lgx_machine.specs.LayoutLaws.{IsEven}
+use Rattle.lgx_machine.specs.TypeFaults.{type_fault}
+use Rattle.lgx_types.specs.declared.error.TypeError.{TypeError}
+use Rattle.lgx_types.specs.declared.error.TypeError.TheVariants.{Fault, Memory}
+
+-- a structure is one of so many
+abbrev pub IsNumbered : ℕ → Base → Type 0
+IsNumbered n (User i) = i < n
+IsNumbered n OneBit = ⊤
+IsNumbered n Sint = ⊤
+IsNumbered n Int = ⊤
+IsNumbered n Dint = ⊤
+IsNumbered n Timer = ⊤
+IsNumbered n Counter = ⊤
+
+-- the size of a structure that is let in
+abbrev pub IsSmall : ℕ → Type 0
+IsSmall size = size ≤ 4096
+
+-- types that have a size: a structure is one of the table's, an array has at most 65,536 elements, and one of BOOLs a
+-- multiple of 32
+pub record HasSize (types : List TypeDecl) (t : DataType) : Type 0 where
+  pub declared : IsNumbered (length types) t.base
+  pub short : t.dim ≤ 65536
+  pub even : IsEven t
+
+-- how many members a declaration has
+abbrev pub HasMembers : TypeDecl → Type 0
+HasMembers d = (0 < length d.members) × (length d.members < 4294967296)
+
+-- the fault is the first of the declarations
+abbrev pub IsFirstFault : List TypeDecl → TypeError → Type 0
+IsFirstFault types (Fault f) = type_fault types ≡ Some f
+IsFirstFault types Memory = ⊤
+
+-- the members of each structure, with their places
+abbrev pub layouts_of : List TypeDecl → List (List (List ℕ × Member))
+layouts_of types = map (λ d. placed_from types (sizes types) 0 d.members) types
+
+-- what a table keeps: declarations without a fault, their sizes, and where their members lie
+pub record IsTable (types : List TypeDecl) (bytes : List ℕ) (layouts : List (List (List ℕ × Member))) : Type 0 where
+  pub few : length types < 4294967296
+  pub members : Each HasMembers types
+  pub faultless : type_fault types ≡ None
+  pub sized : bytes ≡ sizes types
+  pub small : Each IsSmall bytes
+  pub laid : layouts ≡ layouts_of types

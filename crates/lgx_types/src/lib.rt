@@ -1,0 +1,15 @@
+//! The layout of declared structures: which declarations are refused, and where the members of a structure lie.
+//!
+//! [`TypeTable::build`] takes the declarations and answers their first fault, or a table that knows each type by its
+//! name, each type's size in bytes, and each member by its first bit. The layout is our own rule (profile).
+#![tactic(auto)]
+
+mod built_in;
+mod error;
+mod layout;
+mod size;
+mod table;
+
+pub use error::TypeError;
+pub use lgx_machine::{Base, DataType, Member, MemberDecl, TypeCode, TypeDecl, TypeFault};
+pub use table::TypeTable;
