@@ -4,6 +4,7 @@
 mod error;
 mod form;
 mod part;
+mod resolve;
 mod tag_name;
 
 pub use error::TagError;
