@@ -1,2 +1,4 @@
 pub mod Spans
 pub mod Starts
+pub mod WalkNames
+pub mod WalkParts

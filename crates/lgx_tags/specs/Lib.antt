@@ -1,2 +1,7 @@
+pub mod Meanings
 pub mod Keys
 pub mod Scopes
+pub mod Parts
+pub mod Shapes
+pub mod TagNames
+pub mod Walk

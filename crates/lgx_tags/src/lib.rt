@@ -1,4 +1,14 @@
 //! Tags and aliases: declaring them, laying the tags out in the image, and finding what an operand's text names.
 #![tactic(auto)]
 
+
+mod entry;
+mod error;
+mod form;
 mod key;
+mod part;
+mod resolve;
+mod tag_name;
+
+pub use error::{SealError, TagError};
+pub use lgx_machine::{Found, Scope, TagCode};
