@@ -1,4 +1,5 @@
 pub mod Spans
 pub mod Starts
+pub mod Lookups
 pub mod WalkNames
 pub mod WalkParts

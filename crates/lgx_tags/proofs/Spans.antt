@@ -95,3 +95,7 @@ total_ordered types [] programs h = go (range_with_len 0 programs)
     go (p ∷ ps) = go ps
 total_ordered types (e ∷ es) programs h =
     omega (arith, total_append types (in_scope (e ∷ es) Controller) (flat_map (λ p. in_scope (e ∷ es) (Program p)) (range_with_len 0 programs)), total_append types (in_scope es Controller) (flat_map (λ p. in_scope es (Program p)) (range_with_len 0 programs)), total_cons types e es Controller, total_flat types e es (range_with_len 0 programs), one_share (span types e) e.scope programs h.0, total_ordered types es programs h.1)
+
+-- no entries take no bytes
+pub none_laid : (types : List TypeDecl) (programs : ℕ) → end_of types 0 (ordered [] programs) ≡ 0
+none_laid types programs = omega (arith, end_is types 0 (ordered [] programs) refl, total_ordered types [] programs tt)

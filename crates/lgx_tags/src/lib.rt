@@ -2,6 +2,7 @@
 #![tactic(auto)]
 
 
+mod declared;
 mod entry;
 mod error;
 mod form;
