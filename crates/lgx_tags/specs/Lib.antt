@@ -2,6 +2,7 @@ pub mod Meanings
 pub mod Keys
 pub mod Scopes
 pub mod Tables
+pub mod Layouts
 pub mod Parts
 pub mod Shapes
 pub mod TagNames

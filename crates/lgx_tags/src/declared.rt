@@ -1,19 +1,49 @@
 // Tags and aliases in the order in which they are declared.
-ghost use Rattle.std.specs.Prelude.{◌≡◌, ◌<◌, ◌≤◌, [], length, position, IfOk, IfSome, IfErr, OnOk, OnErr};
-ghost use Rattle.lgx_machine.specs.Declarations.{is_named};
+ghost use Rattle.std.specs.Prelude.{◌≡◌, ℕ, ◌<◌, ◌≤◌, List, [], ◌∷◌, ◌++◌, None, length, vec_len, vec_capacity, position, IfOk, IfSome, IfErr, IsNone, OnOk, OnErr};
+ghost use Rattle.lgx_machine.specs.declared.tag.Scope.{Scope as In};
+ghost use Rattle.lgx_machine.specs.Declarations.{tag, alias, is_named, is_name_in, bytes, declared_as, declare_fault, alias_fault};
+ghost use Rattle.lgx_types.specs.Tables.{HasSize};
+ghost use Rattle.lgx_tags.specs.Scopes.{IsScopeOf};
+ghost use Rattle.lgx_tags.specs.Tables.{IsLetIn, IsRefusal};
 
 use crate::entry::Entry;
+use crate::error::TagError;
 use crate::key::{Key, ROOM};
+use crate::layout::round_up;
+use crate::tag_name::{is_name, is_tag_name};
 use indexmap::IndexSet;
-use lgx_machine::Scope;
+use lgx_machine::{DataType, Scope, TagCode};
+use lgx_num::Memory;
 use lgx_types::TypeTable;
 use std::alloc::Global;
 use std::marker::Model;
+
+/// The length of the longest image, in bytes (profile).
+const LONGEST: u32 = 262144;
+
+// Whether a text may be a tag's name in a scope: a controller's tag may have a name of several parts.
+fn is_name_in(scope: Scope, name: &[u8]) -> bool
+    ensures { result ≡ is_name_in scope name.now }
+{
+    match scope {
+        Scope::Controller => is_tag_name(name),
+        Scope::Program(_) => is_name(name),
+    }
+}
+
+// Pushes an entry where there is room for it.
+fn push_within(entries: &mut Vec<Entry>, entry: Entry)
+    requires { vec_len entries.old < vec_capacity entries.old }
+    ensures { entries.new.items ≡ entries.old.items ++ entry ∷ [] }
+{
+    let _ = entries.push(entry);
+}
 
 /// The types, the number of programs, and the tags and aliases in order of declaration. Their keys stand beside them,
 /// in the same order, and the length of the image is counted as they come, since it doesn't depend on their order.
 #[derive(Drop)]
 pub(crate) struct Declared {
+    alloc: Global,
     types: TypeTable,
     programs: u32,
     keys: IndexSet<Key>,
@@ -39,6 +69,7 @@ impl Declared {
         ensures { result ≡ record { types = types; programs = programs; entries = [] } }
     {
         Declared {
+            alloc,
             types,
             programs,
             keys: IndexSet::new(alloc),
@@ -58,5 +89,94 @@ impl Declared {
         }
         let key = Key::of(scope, name);
         keys.get_index_of(&key)
+    }
+
+    // What is wrong with a name that is to be declared: it is no name of its scope, or its scope has it already.
+    fn name_fault(&self, scope: Scope, name: &[u8]) -> Option<TagCode>
+        ensures fault { result ≡ alias_fault self.now scope name.now }
+        ensures short { IsNone result → length name.now ≤ 80 }
+        ensures free { IsNone result → position (is_named scope name.now) self.now.entries ≡ None }
+    {
+        if !is_name_in(scope, name) {
+            return Some(TagCode::G1);
+        }
+        match self.number_of(scope, name) {
+            Some(_) => Some(TagCode::G2),
+            None => None,
+        }
+    }
+
+    // The length of the image with one more tag of a type.
+    fn bytes_with(&self, of: DataType) -> u32
+        requires sized { HasSize self.now.types of }
+        ensures value { (scope : In) (name : List ℕ) → IsScopeOf self.now.programs scope → result ≡ bytes (declared_as self.now scope name (tag of)) }
+    {
+        self.bytes + round_up(self.types.size_of(of))
+    }
+
+    // Adds an entry behind the others, where the image then has so many bytes.
+    fn add(&mut self, entry: Entry, count: u32) -> Result<(), Memory>
+        requires let_in { IsLetIn self.old.types self.old.programs entry }
+        requires free { position (is_named entry.scope entry.name) self.old.entries ≡ None }
+        requires counted { count ≡ bytes (record self.old { entries = self.old.entries ++ entry ∷ [] }) }
+        requires room { count ≤ 262144 }
+        ensures ok { OnOk result (self.new ≡ record self.old { entries = self.old.entries ++ entry ∷ [] }) }
+        ensures err { OnErr result (self.new ≡ self.old) }
+    {
+        let key = Key::of(entry.scope(), entry.name());
+        self.entries.reserve(1)?;
+        self.keys.insert(key)?;
+        push_within(&mut self.entries, entry);
+        self.bytes = count;
+        Ok(())
+    }
+
+    /// Declares a tag: G1, G2, or G8 where the image would be longer than 262,144 bytes. After a refusal, and for want of
+    /// memory, the declarations are as before.
+    pub(crate) fn declare(
+        &mut self,
+        scope: Scope,
+        name: &[u8],
+        of: DataType,
+    ) -> Result<(), TagError>
+        requires scope { IsScopeOf self.old.programs scope }
+        requires sized { HasSize self.old.types of }
+        ensures ok { OnOk result (self.new ≡ declared_as self.old scope name.now (tag of)) }
+        ensures faultless { OnOk result (declare_fault self.old scope name.now of ≡ None) }
+        ensures fault { IfErr result (λ e. IsRefusal (declare_fault self.old scope name.now of) e) }
+        ensures err { OnErr result (self.new ≡ self.old) }
+    {
+        if let Some(code) = self.name_fault(scope, name) {
+            return Err(TagError::Tag(code));
+        }
+        let bytes = self.bytes_with(of);
+        if bytes > LONGEST {
+            return Err(TagError::Tag(TagCode::G8));
+        }
+        let entry = Entry::tag(self.alloc, scope, name, of)?;
+        self.add(entry, bytes)?;
+        Ok(())
+    }
+
+    /// Declares an alias: G1 or G2. After a refusal, and for want of memory, the declarations are as before.
+    pub(crate) fn alias(
+        &mut self,
+        scope: Scope,
+        name: &[u8],
+        target: &[u8],
+    ) -> Result<(), TagError>
+        requires scope { IsScopeOf self.old.programs scope }
+        ensures ok { OnOk result (self.new ≡ declared_as self.old scope name.now (alias target.now)) }
+        ensures faultless { OnOk result (alias_fault self.old scope name.now ≡ None) }
+        ensures fault { IfErr result (λ e. IsRefusal (alias_fault self.old scope name.now) e) }
+        ensures err { OnErr result (self.new ≡ self.old) }
+    {
+        if let Some(code) = self.name_fault(scope, name) {
+            return Err(TagError::Tag(code));
+        }
+        let bytes = self.bytes;
+        let entry = Entry::alias(self.alloc, scope, name, target)?;
+        self.add(entry, bytes)?;
+        Ok(())
     }
 }

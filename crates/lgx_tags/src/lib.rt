@@ -7,6 +7,7 @@ mod entry;
 mod error;
 mod form;
 mod key;
+mod layout;
 mod part;
 mod resolve;
 mod tag_name;
