@@ -1,5 +1,5 @@
 -- Where the tags lie: their numbers among the entries, scope by scope, and what is known of each entry when they are laid.
-use Rattle.std.specs.Prelude.{ℕ, zero, suc, ◌+◌, ◌*◌, Bool, cond, List, [], ◌∷◌, ◌++◌, length, map, flat_map, fold, replicate, slice_set, Result, Ok, Err}
+use Rattle.std.specs.Prelude.{ℕ, zero, suc, ◌+◌, ◌*◌, Bool, cond, List, [], ◌∷◌, ◌++◌, length, map, flat_map, fold, replicate, slice_set, slice_index_or, Result, Ok, Err}
 use Rattle.std.specs.List.{range_with_len}
 use Rattle.lgx_machine.specs.declared.types.DataType.{DataType}
 use Rattle.lgx_machine.specs.declared.types.TypeDecl.{TypeDecl}
@@ -29,6 +29,11 @@ numbered n (alias target) = []
 abbrev pub tags_in : Scope → ℕ → List Entry → List Numbered
 tags_in s n [] = []
 tags_in s n (e ∷ es) = cond (same_scope e.scope s) (numbered n e.meaning) [] ++ tags_in s (suc n) es
+
+-- the entry of a number put behind the tags of its scope
+abbrev pub with_entry : List (List Numbered) → ℕ → Scope → Meaning → List (List Numbered)
+with_entry rows n s (tag of) = slice_set rows (slot_of s) (slice_index_or rows (slot_of s) [] ++ record { entry = n; of = of } ∷ [])
+with_entry rows n s (alias target) = rows
 
 abbrev pub rows_of : List Entry → ℕ → List (List Numbered)
 rows_of entries programs = map (λ s. tags_in s 0 entries) (scopes programs)

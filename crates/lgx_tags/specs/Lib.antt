@@ -3,6 +3,7 @@ pub mod Keys
 pub mod Scopes
 pub mod Tables
 pub mod Layouts
+pub mod Chains
 pub mod Parts
 pub mod Shapes
 pub mod TagNames
