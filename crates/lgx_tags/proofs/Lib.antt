@@ -4,5 +4,7 @@ pub mod Lookups
 pub mod Declares
 pub mod Rows
 pub mod Monotone
+pub mod Chains
+pub mod Walked
 pub mod WalkNames
 pub mod WalkParts

@@ -12,13 +12,7 @@ use Rattle.lgx_machine.specs.OperandForm.{Form, tag, member, element, indexed, b
 use Rattle.lgx_machine.specs.Declarations.{Meaning, Entry, Declarations}
 use Rattle.lgx_machine.specs.Declarations.{tag as is_tag, alias as is_alias}
 use Rattle.lgx_machine.specs.Resolution.{is_array, find_member, find_element, find_bit, find_indexed, Subscripts, operands, numbers_alone, resolved, seen_from, tag_found, meant, in_form, named_within}
-
-abbrev pub Answer : Type 0
-Answer = Result Found TagCode
-
--- the first ran out, or the second is the same
-abbrev pub Below : {A : Type 0} → Result A TagCode → Result A TagCode → Type 0
-Below a b = (a ≡ Err G7) ⊎ (a ≡ b)
+pub use Rattle.lgx_tags.specs.Chains.{Answer, Below, target_in}
 
 abbrev pub BelowAll : (List ℕ → Answer) → (List ℕ → Answer) → Type 0
 BelowAll f g = (name : List ℕ) → Below (f name) (g name)
@@ -52,10 +46,6 @@ form_below types f g text h = go (form text)
     go (Some form) = resolved_below types f g h form
 
 -- ---- what a chain of at most so many aliases gives
-
-abbrev pub target_in : ℕ → Declarations → Scope → List ℕ → Answer
-target_in zero d s text = Err G7
-target_in (suc n) d s text = in_form numbers_alone d.types (named_within n d s) text
 
 pub named_unfolds : (n : ℕ) (d : Declarations) (s : Scope) (name : List ℕ) → named_within n d s name ≡ (some_or (seen_from d s name) G3 >>= meant d.types (target_in n d))
 named_unfolds zero d s name = refl

@@ -8,14 +8,7 @@ use Rattle.lgx_machine.specs.declared.tag.Scope.TheVariants.{Controller, Program
 use Rattle.lgx_machine.specs.Layout.{round_up}
 use Rattle.lgx_machine.specs.Declarations.{Entry, same_scope, in_scope, entry_size, end_of}
 use Rattle.lgx_tags.specs.Scopes.{IsScopeOf}
-
--- the bytes of an entry, rounded up to 4
-abbrev pub span : List TypeDecl → Entry → ℕ
-span types e = round_up 4 (entry_size types e)
-
-abbrev pub total : List TypeDecl → List Entry → ℕ
-total types [] = 0
-total types (e ∷ es) = span types e + total types es
+pub use Rattle.lgx_tags.specs.Starts.{span, total}
 
 pub next_at : (at n : ℕ) → at % 4 ≡ 0 → round_up 4 (at + n) ≡ at + round_up 4 n
 next_at at n p = omega arith

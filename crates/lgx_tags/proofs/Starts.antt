@@ -12,13 +12,8 @@ use Rattle.lgx_machine.specs.Layout.{round_up}
 use Rattle.lgx_machine.specs.Declarations.{Entry, Declarations, same_scope, is_named, in_scope, entry_size, laid_from, end_of, entry_of}
 use Rattle.lgx_machine.proofs.Subscripts.{each_append, each_filter, each_flat, each_map}
 use Rattle.lgx_tags.specs.Scopes.{IsScopeOf}
+pub use Rattle.lgx_tags.specs.Starts.{run, programs_from, before, start_of}
 use Rattle.lgx_tags.proofs.Spans.{span, total, next_at, whole_words, ordered, end_is}
-
--- where entry i would begin in a scope, if the scope's first begins at this byte
-abbrev pub run : List TypeDecl → Scope → ℕ → List Entry → ℕ → ℕ
-run types s at [] i = at
-run types s at (e ∷ es) zero = at
-run types s at (e ∷ es) (suc i) = run types s (cond (same_scope e.scope s) (at + span types e) at) es i
 
 -- the first entry of a name, with its number
 abbrev pub next : ℕ × Entry → ℕ × Entry
@@ -74,14 +69,7 @@ pub flat_append : (f : ℕ → List Entry) (xs ys : List ℕ) → flat_map f (xs
 flat_append f [] ys = refl
 flat_append f (x ∷ xs) ys = ap (λ (l : List Entry). f x ++ l) (flat_append f xs ys) ∙ sym (append_assoc (f x) (flat_map f xs) (flat_map f ys))
 
--- what is laid before a scope, and what behind it
-abbrev pub programs_from : List Entry → ℕ → ℕ → List Entry
-programs_from es a n = flat_map (λ p. in_scope es (Program p)) (range_with_len a n)
-
-abbrev pub before : List Entry → Scope → List Entry
-before es Controller = []
-before es (Program p) = in_scope es Controller ++ programs_from es 0 p
-
+-- what is laid behind a scope
 abbrev pub behind : List Entry → Scope → ℕ → List Entry
 behind es Controller programs = programs_from es 0 programs
 behind es (Program p) programs = programs_from es (p + 1) (programs - (p + 1))
@@ -152,9 +140,6 @@ behind_out es Controller programs = programs_out es Controller (range_with_len 0
 behind_out es (Program p) programs = programs_out es (Program p) (range_with_len (p + 1) (programs - (p + 1))) (range_out p (p + 1) (programs - (p + 1)) (λ i l m e. omega arith))
 
 -- ---- where an entry begins
-
-abbrev pub start_of : Declarations → Scope → ℕ → ℕ
-start_of d s i = run d.types s (total d.types (before d.entries s)) d.entries i
 
 words : (types : List TypeDecl) (es : List Entry) → total types es % 4 ≡ 0
 words types [] = refl

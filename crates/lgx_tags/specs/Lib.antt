@@ -3,6 +3,7 @@ pub mod Keys
 pub mod Scopes
 pub mod Tables
 pub mod Layouts
+pub mod Starts
 pub mod Chains
 pub mod Parts
 pub mod Shapes
