@@ -1,2 +1,3 @@
 pub mod WalkParts
 pub mod WalkNames
+pub mod WalkShapes

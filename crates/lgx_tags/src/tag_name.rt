@@ -40,7 +40,8 @@ fn may_lead(part: &[u8]) -> bool
     is_name(part) && !same(part, b"S") && !same(part, b"Program")
 }
 
-fn is_name(text: &[u8]) -> bool
+/// Whether a text is a name.
+pub(crate) fn is_name(text: &[u8]) -> bool
     ensures { result ≡ is_name text.now }
 {
     match Name::read(text) {
