@@ -5,6 +5,7 @@ mod error;
 mod form;
 mod part;
 mod resolve;
+mod subscript;
 mod tag_name;
 
 pub use error::TagError;
