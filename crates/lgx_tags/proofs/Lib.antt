@@ -1,3 +1,5 @@
 pub mod WalkParts
 pub mod WalkNames
 pub mod WalkShapes
+pub mod WalkNumbers
+pub mod WalkSteps

@@ -76,6 +76,7 @@ fn with_digit(number: u32, digit: u8) -> u32
         .saturating_add(u32::from(digit - b'0'))
 }
 
+#[tactic(auto, using(crate::proofs::WalkNumbers::capped_digits, crate::proofs::WalkNumbers::capped_at, crate::proofs::WalkNumbers::digit_at))]
 /// The number that digits make, or the greatest number where that is greater: no subscript or bit is as great.
 pub(crate) fn number_of(digits: &[u8]) -> u32
     requires { IsTrue (are_digits 10 digits.now) }
