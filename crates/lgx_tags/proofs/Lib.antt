@@ -3,3 +3,5 @@ pub mod WalkNames
 pub mod WalkShapes
 pub mod WalkNumbers
 pub mod WalkSteps
+pub mod WalkPlaces
+pub mod WalkAnswers

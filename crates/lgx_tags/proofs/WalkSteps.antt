@@ -1,17 +1,17 @@
 -- A text that is read from left to right names what its form names.
-use Rattle.std.specs.Prelude.{◌≡◌, ℕ, zero, suc, Bool, true, false, not, ◌||◌, ◌==◌, List, [], ◌∷◌, length, Option, Some, None, Result, Ok, Err, option_and_then, if◌then◌else◌, refl}
-use Rattle.std.proofs.Common.{sym, ap, subst, ◌∙◌, arith}
+use Rattle.std.specs.Prelude.{◌≡◌, ℕ, Bool, true, false, not, ◌||◌, ◌==◌, List, [], ◌∷◌, Option, Some, None, Result, Ok, Err, option_and_then, if◌then◌else◌, refl}
+use Rattle.std.proofs.Common.{ap, subst, ◌∙◌}
 use Rattle.lgx_num.specs.Name.{is_name}
 use Rattle.lgx_machine.specs.declared.types.TypeDecl.{TypeDecl}
 use Rattle.lgx_machine.specs.declared.tag.TagCode.{TagCode}
 use Rattle.lgx_machine.specs.declared.tag.TagCode.TheVariants.{G5, G6, G10}
 use Rattle.lgx_machine.specs.declared.tag.Found.{Found}
-use Rattle.lgx_machine.specs.FirstCause.{◌>>=◌, unless, some_or}
-use Rattle.lgx_machine.specs.OperandForm.{is_tag_name, are_digits, digits_number, Form, tag, member, element, indexed, bit, is_bit, Token, word, dot, opening, closing, put_byte, tokens, dotted, bracketed, begun, form_from, form_of, form}
-use Rattle.lgx_machine.specs.Resolution.{is_array, find_member, find_element, find_bit, find_indexed, Subscripts, operands, numbers_alone, subscript_by, resolved, in_form}
+use Rattle.lgx_machine.specs.FirstCause.{◌>>=◌, unless}
+use Rattle.lgx_machine.specs.OperandForm.{is_tag_name, are_digits, digits_number, Form, tag, member, element, indexed, bit, is_bit, Token, word, dot, opening, closing, put_byte, tokens, dotted, bracketed, begun, form_from}
+use Rattle.lgx_machine.specs.Resolution.{is_array, find_member, find_element, find_bit, find_indexed, Subscripts, operands, numbers_alone, subscript_by, resolved}
 use Rattle.lgx_tags.specs.Parts.{Part, first_part, before}
 use Rattle.lgx_tags.specs.Parts as part
-use Rattle.lgx_tags.specs.Walk.{find_dotted, Reading, may_open, open_at, close_at, step, end_at, walked}
+use Rattle.lgx_tags.specs.Walk.{Reading, may_open, open_at, close_at, step, end_at, walked}
 use Rattle.lgx_tags.proofs.WalkNames.{no_digits}
 
 -- ---- binds
@@ -211,3 +211,20 @@ by_part s types named (closing ∷ ts) k = refl
 
 pub on_part : (s : Subscripts) (types : List TypeDecl) (named : List ℕ → Result Found TagCode) (ts rest : List Token) (p : Part) (k : Reading) → first_part ts ≡ Some (p, rest) → walked s types named ts k ≡ (step s types named p k >>= walked s types named rest)
 on_part s types named ts rest p k e = by_part s types named ts k ∙ rw e refl
+
+some_tokens : (c : ℕ) (cs : List ℕ) (k : Reading) → finished (tokens (c ∷ cs)) k ≡ Err G10
+some_tokens c cs k = go (c == 46) (c == 91) (c == 93) (tokens cs)
+  where
+    go : (x y z : Bool) (ts : List Token) → finished (if x then dot ∷ ts else if y then opening ∷ ts else if z then closing ∷ ts else put_byte c ts) k ≡ Err G10
+    go true y z ts = refl
+    go false true z ts = refl
+    go false false true ts = refl
+    go false false false [] = refl
+    go false false false (word w ∷ ts) = refl
+    go false false false (dot ∷ ts) = refl
+    go false false false (opening ∷ ts) = refl
+    go false false false (closing ∷ ts) = refl
+
+-- a text that isn't at its end and begins with no part
+pub not_on_part : (s : Subscripts) (types : List TypeDecl) (named : List ℕ → Result Found TagCode) (c : ℕ) (cs : List ℕ) (k : Reading) → first_part (tokens (c ∷ cs)) ≡ None → walked s types named (tokens (c ∷ cs)) k ≡ Err G10
+not_on_part s types named c cs k e = by_part s types named (tokens (c ∷ cs)) k ∙ rw e (some_tokens c cs k)

@@ -1,5 +1,5 @@
 -- What an operand's text names, read from left to right.
-use Rattle.std.specs.Prelude.{◌≡◌, ℕ, ◌<◌, ◌≤◌, Bool, true, false, List, [], ◌∷◌, Result, Ok, Err, if◌then◌else◌, ⊤}
+use Rattle.std.specs.Prelude.{◌≡◌, ℕ, ◌<◌, Bool, true, false, List, [], ◌∷◌, Result, Ok, Err, if◌then◌else◌, ⊤}
 use Rattle.std.specs.List.{AllByRecursion as Each}
 use Rattle.lgx_num.specs.Name.{is_name}
 use Rattle.lgx_machine.specs.declared.types.TypeDecl.{TypeDecl}
@@ -11,6 +11,8 @@ use Rattle.lgx_machine.specs.OperandForm.{are_digits, digits_number, Token, word
 use Rattle.lgx_machine.specs.Resolution.{is_array, find_member, find_element, find_bit, find_indexed}
 use Rattle.lgx_machine.specs.Resolution as meaning
 use Rattle.lgx_machine.specs.ResolutionLaws.{LiesIn}
+use Rattle.lgx_machine.specs.Layout.{single}
+use Rattle.lgx_types.specs.Tables.{HasSize}
 use Rattle.lgx_tags.specs.Parts.{Part, dotted, element, opened, closed}
 use Rattle.lgx_tags.specs.declared.error.TagError.{TagError}
 use Rattle.lgx_tags.specs.declared.error.TagError.TheVariants.{Tag, Memory}
@@ -42,6 +44,13 @@ pub record Reading : Type 0 where
   pub arrays : List Found
   pub found : Found
 
+-- a dot and a word, and digits in brackets
+abbrev pub dotted_at : List TypeDecl → List ℕ → Reading → Result Reading TagCode
+dotted_at types w k = find_dotted types k.found w >>= λ f. Ok (record k { found = f })
+
+abbrev pub element_at : List TypeDecl → List ℕ → Reading → Result Reading TagCode
+element_at types w k = find_element types k.found (digits_number 10 w) >>= λ f. Ok (record k { found = f })
+
 -- where numbers alone are subscripts an operand in brackets is G6, whatever it is
 abbrev pub may_open : meaning.Subscripts → Bool
 may_open meaning.operands = true
@@ -61,8 +70,8 @@ close_at types (a ∷ arrays) f = find_indexed types a (Ok f) >>= λ g. Ok (reco
 
 -- one more part
 abbrev pub step : meaning.Subscripts → List TypeDecl → (List ℕ → Result Found TagCode) → Part → Reading → Result Reading TagCode
-step s types named (dotted w) k = find_dotted types k.found w >>= λ f. Ok (record k { found = f })
-step s types named (element w) k = find_element types k.found (digits_number 10 w) >>= λ f. Ok (record k { found = f })
+step s types named (dotted w) k = dotted_at types w k
+step s types named (element w) k = element_at types w k
 step s types named (opened w) k = open_at s named w k
 step s types named closed k = close_at types k.arrays k.found
 
@@ -70,6 +79,10 @@ step s types named closed k = close_at types k.arrays k.found
 abbrev pub end_at : List Found → Found → Result Found TagCode
 end_at [] f = Ok f
 end_at (a ∷ arrays) f = Err G10
+
+abbrev pub end_behind : List ℕ → Reading → Result Found TagCode
+end_behind [] k = end_at k.arrays k.found
+end_behind (c ∷ cs) k = Err G10
 
 -- what is found where the text goes on with these tokens
 abbrev pub walked : meaning.Subscripts → List TypeDecl → (List ℕ → Result Found TagCode) → List Token → Reading → Result Found TagCode
@@ -90,6 +103,14 @@ pub record IsPlaced (types : List TypeDecl) (bytes : ℕ) (f : Found) : Type 0 w
   pub lies : LiesIn types bytes f
   pub some : Each (λ i. 0 < i.length) f.steps
 
+abbrev pub AreSized : List TypeDecl → List Found → Type 0
+AreSized types arrays = Each (λ a. HasSize types (single a.of.base)) arrays
+
+-- an array whose bracket is open
+pub record IsOpen (types : List TypeDecl) (bytes : ℕ) (f : Found) : Type 0 where
+  pub placed : IsPlaced types bytes f
+  pub array : is_array f.of ≡ true
+
 pub record AllPlaced (types : List TypeDecl) (bytes : ℕ) (k : Reading) : Type 0 where
-  pub arrays : Each (IsPlaced types bytes) k.arrays
+  pub arrays : Each (IsOpen types bytes) k.arrays
   pub found : IsPlaced types bytes k.found

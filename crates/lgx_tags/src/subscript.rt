@@ -146,7 +146,11 @@ fn may_index(found: &Found) -> bool
 }
 
 /// What an operand in brackets makes of an array. G6 where it is no subscript, G9 where it is the fifth.
-pub(crate) fn find_indexed(types: &TypeTable, array: Found, subscript: &Found) -> Result<Found, TagCode>
+pub(crate) fn find_indexed(
+    types: &TypeTable,
+    array: Found,
+    subscript: &Found,
+) -> Result<Found, TagCode>
     requires { HasSize types.now (single array.of.base) }
     ensures { result ≡ find_indexed types.now array (Ok subscript.now) }
 {

@@ -10,6 +10,7 @@ use lgx_num::{Name, same};
 
 // The bytes that a tag name and a part of it have at most.
 const LONGEST: usize = 80;
+
 const LONGEST_PART: usize = 40;
 
 // The parts that may stand behind the first.

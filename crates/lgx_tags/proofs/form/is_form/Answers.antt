@@ -1,11 +1,9 @@
-use Rattle.std.proofs.Common.{◌≡◌, ◌+◌, ◌<◌, ◌≤◌, refl, false, true, length, ◌++◌, Some, None, ap, sym, ◌∙◌, arith, length-append}
-use Rattle.std.specs.Prelude.{◌&&◌, ◌==◌}
+use Rattle.std.proofs.Common.{◌≡◌, ◌<◌, refl, length, Some, None, ap, sym, ◌∙◌, arith, length-append}
 use Rattle.std.proofs.lemmas.Bool.Decides.{nat_tests}
-use Rattle.std.specs.Option.{is_some}
-use Rattle.lgx_machine.specs.OperandForm.{form, tokens}
+use Rattle.lgx_machine.specs.OperandForm.{tokens}
 use Rattle.lgx_tags.specs.Parts.{part_seen}
 use Rattle.lgx_tags.specs.Shapes.{shape_behind, then_on, goes_on}
-use Rattle.lgx_tags.proofs.WalkShapes.{on_part, at_end, not_end, form_named, form_unnamed, depth_grows}
+use Rattle.lgx_tags.proofs.WalkShapes.{on_part, not_end, form_named, depth_grows}
 use Rattle.lgx_tags.proofs.form.is_form.Goals as goal
 
 pub loop-part-init : goal.loop-part-init

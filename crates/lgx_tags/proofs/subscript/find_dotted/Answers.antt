@@ -1,4 +1,4 @@
-use Rattle.std.proofs.Common.{◌≡◌, ℕ, false, true, sym, ◌∙◌, ap, min}
+use Rattle.std.proofs.Common.{◌≡◌, ℕ, false, true, sym, ◌∙◌, ap}
 use Rattle.lgx_num.specs.Name.{is_name}
 use Rattle.lgx_machine.specs.OperandForm.{are_digits}
 use Rattle.lgx_machine.specs.Resolution.{find_bit}
