@@ -8,3 +8,8 @@ pub mod Chains
 pub mod Walked
 pub mod WalkNames
 pub mod WalkParts
+pub mod WalkShapes
+pub mod WalkNumbers
+pub mod WalkSteps
+pub mod WalkPlaces
+pub mod WalkAnswers

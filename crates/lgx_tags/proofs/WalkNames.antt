@@ -1,11 +1,12 @@
 -- The parts of tag names.
-use Rattle.std.proofs.Common.{◌≡◌, ◌≢◌, ℕ, zero, suc, ◌+◌, ◌-◌, ◌<◌, List, [], ◌∷◌, length, get_or, take, drop, Bool, true, false, refl, sym, ap, ◌∙◌, add-one, take_all, length-drop, arith}
+use Rattle.std.proofs.Common.{◌≡◌, ◌≢◌, ℕ, zero, suc, ◌+◌, ◌-◌, ◌<◌, List, [], ◌∷◌, length, get_or, take, drop, Bool, true, false, refl, ap, ◌∙◌, add-one, take_all, length-drop, arith}
 use Rattle.std.specs.Prelude.{◌&&◌, nat_le, nat_eq}
 use Rattle.std.specs.List.{list_all}
 use Rattle.std.proofs.lemmas.Bool.Decides.{nat_tests}
-use Rattle.lgx_num.specs.Name.{is_name}
+use Rattle.std.specs.Char.{is_digit}
+use Rattle.lgx_num.specs.Name.{is_name, is_start, goes_on}
 use Rattle.lgx_machine.specs.TextLines.{cut, pieces}
-use Rattle.lgx_machine.specs.OperandForm.{is_part, may_lead, is_joined}
+use Rattle.lgx_machine.specs.OperandForm.{is_part, may_lead, is_joined, is_tag_name, are_digits}
 use Rattle.lgx_tags.specs.TagNames.{are_parts}
 
 -- ---- pieces
@@ -106,3 +107,33 @@ parts_more (suc most) first rest ps h e =
 pub not_true : (b : Bool) → (b ≡ true → false ≡ true) → false ≡ b
 not_true true p = p refl
 not_true false p = refl
+
+-- ---- digits
+
+no_start : (c : ℕ) → is_digit c 10 ≡ true → is_start c ≡ false
+no_start c p = grind (arith, nat_tests)
+
+no_colon : (c : ℕ) → is_digit c 10 ≡ true → c ≢ 58
+no_colon c p = grind (arith, nat_tests)
+
+digit_piece : (w : List ℕ) → list_all (λ c. is_digit c 10) w ≡ true → pieces 58 w ≡ w ∷ []
+digit_piece [] p = refl
+digit_piece (c ∷ cs) p = go (is_digit c 10) refl p (digit_piece cs)
+  where
+    go : (b : Bool) → is_digit c 10 ≡ b → (b && list_all (λ k. is_digit k 10) cs) ≡ true → (list_all (λ k. is_digit k 10) cs ≡ true → pieces 58 cs ≡ cs ∷ []) → pieces 58 (c ∷ cs) ≡ (c ∷ cs) ∷ []
+    go false e q known = absurd (cc q)
+    go true e q known = past c cs (no_colon c e) ∙ ap (cut false c) (known q)
+
+-- no tag name is digits
+pub no_digits : (w : List ℕ) → are_digits 10 w ≡ true → is_tag_name w ≡ false
+no_digits [] p = absurd (cc p)
+no_digits (c ∷ cs) p = rw (digit_piece (c ∷ cs) p) (go (is_digit c 10) refl p)
+  where
+    none : (a b d : Bool) → (a && (b && (false && d))) ≡ false
+    none true true d = refl
+    none true false d = refl
+    none false b d = refl
+
+    go : (b : Bool) → is_digit c 10 ≡ b → (b && list_all (λ k. is_digit k 10) cs) ≡ true → (nat_le (length (c ∷ cs)) 80 && is_name (c ∷ cs)) ≡ false
+    go false e q = absurd (cc q)
+    go true e q = rw (no_start c e) (none (nat_le (length (c ∷ cs)) 80) (nat_le (length (c ∷ cs)) 40) (goes_on c cs))

@@ -1,5 +1,5 @@
 -- The parts of an operand's text behind a tag's name.
-use Rattle.std.specs.Prelude.{ℕ, Bool, true, not, ◌||◌, ◌==◌, List, [], ◌∷◌, Option, Some, None, if◌then◌else◌, ⊤}
+use Rattle.std.specs.Prelude.{ℕ, Bool, true, ◌||◌, ◌==◌, List, [], ◌∷◌, Option, Some, None, IsTrue, if◌then◌else◌, ⊤}
 use Rattle.lgx_machine.specs.OperandForm.{are_digits, Token, word, dot, opening, closing}
 use Rattle.lgx_tags.specs.declared.part.Part.{Part as Seen}
 use Rattle.lgx_tags.specs.declared.part.Part.TheVariants.{Dotted, Element, Opened, Closed}
@@ -16,6 +16,13 @@ part_seen (Dotted w) = dotted w.now
 part_seen (Element w) = element w.now
 part_seen (Opened w) = opened w.now
 part_seen Closed = closed
+
+-- what stands for an element is digits
+abbrev pub IsFit : Part → Type 0
+IsFit (dotted w) = ⊤
+IsFit (element w) = IsTrue (are_digits 10 w)
+IsFit (opened w) = ⊤
+IsFit closed = ⊤
 
 -- the first part and the tokens behind it, or none where the tokens begin with no part
 abbrev pub behind_digits : List ℕ → List Token → Option (Part × List Token)

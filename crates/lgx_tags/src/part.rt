@@ -3,7 +3,7 @@ ghost use Rattle.std.specs.Prelude.{◌≡◌, ◌<◌, ◌++◌, ◌∷◌, Som
 ghost use Rattle.std.specs.Char.{is_digit};
 ghost use Rattle.std.specs.List.{list_all};
 ghost use Rattle.lgx_machine.specs.OperandForm.{tokens, are_digits, dot, opening};
-ghost use Rattle.lgx_tags.specs.Parts.{part_seen, first_part, is_mark, begins_marked, before};
+ghost use Rattle.lgx_tags.specs.Parts.{part_seen, IsFit, first_part, is_mark, begins_marked, before};
 
 /// A part of an operand behind its tag's name.
 #[derive(Clone, Copy)]
@@ -68,6 +68,7 @@ pub(crate) fn first_part(text: &[u8]) -> Option<(Part<'_>, &[u8])>
     ensures part { IfSome result (λ r. first_part (tokens text.now) ≡ Some (part_seen r.0, tokens r.1.now)) }
     ensures none { IsNone result → first_part (tokens text.now) ≡ None }
     ensures shorter { IfSome result (λ r. length r.1.now < length text.now) }
+    ensures fit { IfSome result (λ r. IsFit (part_seen r.0)) }
 {
     match text {
         [b'.', behind @ ..] => dotted(behind),
@@ -82,6 +83,7 @@ fn dotted(text: &[u8]) -> Option<(Part<'_>, &[u8])>
     ensures part { IfSome result (λ r. first_part (dot ∷ tokens text.now) ≡ Some (part_seen r.0, tokens r.1.now)) }
     ensures none { IsNone result → first_part (dot ∷ tokens text.now) ≡ None }
     ensures shorter { IfSome result (λ r. length r.1.now < length text.now) }
+    ensures fit { IfSome result (λ r. IsFit (part_seen r.0)) }
 {
     let (word, behind) = split_word(text);
     if word.is_empty() {
@@ -95,6 +97,7 @@ fn bracketed(text: &[u8]) -> Option<(Part<'_>, &[u8])>
     ensures part { IfSome result (λ r. first_part (opening ∷ tokens text.now) ≡ Some (part_seen r.0, tokens r.1.now)) }
     ensures none { IsNone result → first_part (opening ∷ tokens text.now) ≡ None }
     ensures shorter { IfSome result (λ r. length r.1.now < length text.now) }
+    ensures fit { IfSome result (λ r. IsFit (part_seen r.0)) }
 {
     let (word, behind) = split_word(text);
     if word.is_empty() {

@@ -10,6 +10,7 @@ use lgx_num::{Name, same};
 
 // The bytes that a tag name and a part of it have at most.
 const LONGEST: usize = 80;
+
 const LONGEST_PART: usize = 40;
 
 // The parts that may stand behind the first.
@@ -40,6 +41,7 @@ fn may_lead(part: &[u8]) -> bool
     is_name(part) && !same(part, b"S") && !same(part, b"Program")
 }
 
+/// Whether a text is a name.
 pub(crate) fn is_name(text: &[u8]) -> bool
     ensures { result ≡ is_name text.now }
 {

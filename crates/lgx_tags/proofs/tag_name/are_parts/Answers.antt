@@ -1,4 +1,4 @@
-use Rattle.std.proofs.Common.{◌≡◌, ◌<◌, ◌+◌, ◌-◌, true, ap, sym, ◌∙◌, arith}
+use Rattle.std.proofs.Common.{◌≡◌, ◌<◌, ◌+◌, ◌-◌, true, arith}
 use Rattle.std.specs.Prelude.{◌&&◌}
 use Rattle.lgx_machine.specs.TextLines.{pieces}
 use Rattle.lgx_machine.specs.OperandForm.{is_part}
