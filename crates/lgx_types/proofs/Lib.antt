@@ -1,1 +1,4 @@
 pub mod Members
+pub mod Indexes
+pub mod Found
+pub mod Rings
