@@ -1,4 +1,1 @@
 pub mod Members
-pub mod Indexes
-pub mod Found
-pub mod Rings

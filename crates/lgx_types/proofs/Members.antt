@@ -1,16 +1,23 @@
 -- Names and members, as the table keeps them.
 use Rattle.std.specs.Prelude.{map, ◌≡◌, ℕ, zero, suc, ◌<◌, ◌≤◌, List, [], ◌∷◌, length, slice_get, slice_index, slice_index_or, Option, Some, None, IfSome, option_map, unwrap_or, refl}
-use Rattle.std.specs.List.{AllByRecursion as Each}
+use Rattle.std.specs.Option.{option_or}
+use Rattle.std.specs.List.{AllByRecursion as Each, position_from}
 use Rattle.std.proofs.Common.{ap, sym, subst, arith}
+use Rattle.std.proofs.lemmas.Iterator.Adapters.{position_from-zero}
+use Rattle.lgx_num.specs.Name.{same}
 use Rattle.lgx_machine.specs.declared.types.Base.TheVariants.{User}
 use Rattle.lgx_machine.specs.declared.types.TypeDecl.{TypeDecl}
 use Rattle.lgx_machine.specs.declared.types.Member.{Member}
-use Rattle.lgx_machine.specs.Layout.{looked_up, placed_from, sizes, member}
+use Rattle.lgx_machine.specs.Layout.{find, built_ins, looked_up, placed_from, sizes, member}
 use Rattle.lgx_machine.specs.LayoutLaws.{SoundTypes}
 use Rattle.lgx_machine.proofs.SizesSettle.{faultless}
 use Rattle.lgx_machine.proofs.TypesFit.{members_within, looked_up_has}
 use Rattle.lgx_machine.proofs.Subscripts.{each_map}
 use Rattle.lgx_types.specs.Tables.{IsSmall, IsTable, HasMembers, layouts_of}
+
+-- the type of a name, where the structure is looked for from the first on
+pub find_is : (types : List TypeDecl) (name : List ℕ) → option_or (looked_up name built_ins) (option_map User (position_from (λ d. same d.name name) 0 types)) ≡ find types name
+find_is types name = ap (λ (o : Option ℕ). option_or (looked_up name built_ins) (option_map User o)) (sym (position_from-zero (λ d. same d.name name) types))
 
 pub index_mapped : {A B : Type 0} (f : A → B) (g : Option A → B) (xs : List A) (i : ℕ) → ((x : A) → g (Some x) ≡ f x) → slice_index_or (map f xs) i (g None) ≡ g (slice_get xs i)
 index_mapped f g [] i h = refl

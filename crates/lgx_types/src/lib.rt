@@ -7,10 +7,7 @@
 mod built_in;
 mod error;
 mod layout;
-mod names;
-mod resolved;
 mod size;
-mod structures;
 mod table;
 
 pub use error::TypeError;
