@@ -39,7 +39,7 @@ seek_get s name (e ∷ es) x p = go (is_named s name e) (seek s name es) (λ y q
     go false None known q = absurd (cc q)
     go false (Some y) known q = subst (λ (x : ℕ × Entry). slice_get (e ∷ es) x.0 ≡ Some x.1) (some_inj (next y) x q) (known y refl)
 
-scope_same : (s t : Scope) → same_scope s t ≡ true → s ≡ t
+pub scope_same : (s t : Scope) → same_scope s t ≡ true → s ≡ t
 scope_same Controller Controller p = refl
 scope_same Controller (Program q) p = absurd (cc p)
 scope_same (Program p) Controller h = absurd (cc h)

@@ -6,6 +6,7 @@ pub mod Rows
 pub mod Monotone
 pub mod Chains
 pub mod Walked
+pub mod Segments
 pub mod WalkNames
 pub mod WalkParts
 pub mod WalkShapes
