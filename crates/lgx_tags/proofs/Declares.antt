@@ -1,9 +1,10 @@
 -- What one more entry changes.
-use Rattle.std.specs.Prelude.{◌≡◌, ℕ, zero, suc, ◌+◌, ◌<◌, ◌≤◌, Bool, true, false, cond, not, ◌&&◌, ◌||◌, nat_le, nat_lt, if◌then◌else◌, List, [], ◌∷◌, ◌++◌, length, map, position, Option, Some, None, is_some, refl}
-use Rattle.std.specs.List.{AllByRecursion as Each, position_from, list_any}
-use Rattle.std.proofs.Common.{sym, ap, ◌∙◌, arith, leb-true, ltb-true, ltb-false}
+use Rattle.std.specs.Prelude.{◌≡◌, ℕ, zero, suc, ◌+◌, ◌<◌, ◌≤◌, Bool, true, false, cond, not, ◌&&◌, ◌||◌, nat_le, nat_lt, if◌then◌else◌, List, [], ◌∷◌, ◌++◌, length, map, position, Option, Some, None, is_some, option_map, refl}
+use Rattle.std.specs.List.{AllByRecursion as Each, position_from, list_any, filter_map}
+use Rattle.std.proofs.Common.{sym, ap, ◌∙◌, arith, leb-true, ltb-true, ltb-false, length-append}
 use Rattle.std.proofs.lemmas.Iterator.Adapters.{position_from-zero}
-use Rattle.std.proofs.lemmas.List.{map-append}
+use Rattle.std.proofs.lemmas.List.{map-append, append-nil}
+use Rattle.std.proofs.lemmas.List.Elements.{filter_map-append}
 use Rattle.lgx_num.specs.Name.{is_name}
 use Rattle.lgx_machine.specs.declared.types.DataType.{DataType}
 use Rattle.lgx_machine.specs.declared.types.TypeDecl.{TypeDecl}
@@ -14,6 +15,7 @@ use Rattle.lgx_machine.specs.declared.tag.TagCode.TheVariants.{G1, G2, G8}
 use Rattle.lgx_machine.specs.FirstCause.{where_true, first}
 use Rattle.lgx_machine.specs.OperandForm.{is_tag_name, is_joined}
 use Rattle.lgx_machine.specs.Declarations.{Meaning, tag, alias, Entry, Declarations, is_named, is_name_in, bytes, declared_as, entry_faults, declare_fault, alias_fault}
+use Rattle.lgx_machine.specs.Resolution.{target_of, aliases}
 use Rattle.lgx_machine.proofs.FoundLie.{and_left}
 use Rattle.lgx_machine.proofs.Subscripts.{each_append, each_map}
 use Rattle.lgx_tags.specs.Keys.{key_of}
@@ -110,9 +112,20 @@ key_new s name es p = any_position (same_key (key_of s name)) (keys_of es) ∙ a
 pub keys_insert : (s : Scope) (name : List ℕ) (es : List Entry) (ks : List Key) (k : Key) → ks ≡ keys_of es → k ≡ key_of s name → position (is_named s name) es ≡ None → (if list_any (same_key k) ks then ks else ks ++ k ∷ []) ≡ keys_of es ++ key_of s name ∷ []
 keys_insert s name es ks k p q free = rw (p, q, key_new s name es free) refl
 
-pub kept_more : (d : Declarations) (e : Entry) (ks : List Key) (count count' : ℕ) → IsKept d ks count → IsLetIn d.types d.programs e → count' ≡ bytes (record d { entries = d.entries ++ e ∷ [] }) → count' ≤ 262144 → IsKept (record d { entries = d.entries ++ e ∷ [] }) (keys_of d.entries ++ key_of e.scope e.name ∷ []) count'
-kept_more d e ks count count' k l p r = record { let_in = each_append (IsLetIn d.types d.programs) d.entries (e ∷ []) k.let_in (l, tt); keyed = sym (keys_more d.entries e); counted = p; room = r }
+pub kept_more : (d : Declarations) (e : Entry) (ks : List Key) (count count' : ℕ) → IsKept d ks count → IsLetIn d.types d.programs e → count' ≡ bytes (record d { entries = d.entries ++ e ∷ [] }) → count' ≤ 262144 → length (aliases (record d { entries = d.entries ++ e ∷ [] })) < 4294967296 → IsKept (record d { entries = d.entries ++ e ∷ [] }) (keys_of d.entries ++ key_of e.scope e.name ∷ []) count'
+kept_more d e ks count count' k l p r f = record { let_in = each_append (IsLetIn d.types d.programs) d.entries (e ∷ []) k.let_in (l, tt); keyed = sym (keys_more d.entries e); counted = p; room = r; few = f }
 
 -- an alias takes no bytes
 pub bytes_same : (d : Declarations) (e : Entry) → Each (IsLetIn d.types d.programs) d.entries → IsScopeOf d.programs e.scope → span d.types e ≡ 0 → bytes d ≡ bytes (record d { entries = d.entries ++ e ∷ [] })
 bytes_same d e h p z = omega (arith, bytes_more d e (all_placed d.types d.programs d.entries h) p)
+
+-- ---- aliases
+
+pub aliases_more : (d : Declarations) (e : Entry) → aliases (record d { entries = d.entries ++ e ∷ [] }) ≡ aliases d ++ filter_map (λ (e : Entry). option_map (λ target. (e.scope, target)) (target_of e.meaning)) (e ∷ [])
+aliases_more d e = filter_map-append (λ (e : Entry). option_map (λ target. (e.scope, target)) (target_of e.meaning)) d.entries (e ∷ [])
+
+pub tag_no_alias : (d : Declarations) (s : Scope) (name : List ℕ) (of : DataType) → length (aliases d) < 4294967296 → length (aliases (declared_as d s name (tag of))) < 4294967296
+tag_no_alias d s name of h = rw (aliases_more, append-nil) h
+
+pub one_alias : (d : Declarations) (s : Scope) (name target : List ℕ) → length (aliases d) < 4294967295 → length (aliases (declared_as d s name (alias target))) < 4294967296
+one_alias d s name target h = rw aliases_more (omega (arith, length-append (aliases d) ((s, target) ∷ [])))

@@ -7,6 +7,8 @@ pub mod Monotone
 pub mod Chains
 pub mod Walked
 pub mod Segments
+pub mod Knowing
+pub mod Sounds
 pub mod WalkNames
 pub mod WalkParts
 pub mod WalkShapes

@@ -1,6 +1,7 @@
 -- What names stand for, as far as the chains of aliases are walked.
-use Rattle.std.specs.Prelude.{◌≡◌, ℕ, zero, suc, ◌+◌, ◌-◌, ◌≤◌, Bool, true, false, List, [], ◌∷◌, length, position, slice_get, slice_index_or, Option, Some, None, Result, Ok, Err, ◌⊎◌}
+use Rattle.std.specs.Prelude.{◌≡◌, ℕ, zero, suc, ◌+◌, ◌-◌, ◌<◌, ◌≤◌, Bool, true, false, List, [], ◌∷◌, length, position, slice_get, slice_index_or, Option, Some, None, option_map, cond, Result, Ok, Err, ◌⊎◌}
 use Rattle.std.specs.Option.{option_or}
+use Rattle.std.specs.Result.{result_err}
 use Rattle.std.specs.List.{count_by}
 use Rattle.lgx_machine.specs.declared.tag.Scope.{Scope}
 use Rattle.lgx_machine.specs.declared.tag.Scope.TheVariants.{Controller, Program}
@@ -8,7 +9,7 @@ use Rattle.lgx_machine.specs.declared.tag.TagCode.{TagCode}
 use Rattle.lgx_machine.specs.declared.tag.TagCode.TheVariants.{G3, G7}
 use Rattle.lgx_machine.specs.declared.tag.Found.{Found}
 use Rattle.lgx_machine.specs.declared.types.DataType.{DataType}
-use Rattle.lgx_machine.specs.Declarations.{tag, alias, Entry, Declarations, is_named}
+use Rattle.lgx_machine.specs.Declarations.{Meaning, tag, alias, Entry, Declarations, is_named}
 use Rattle.lgx_machine.specs.Resolution.{numbers_alone, tag_found, meant, in_form, named_within, aliases}
 use Rattle.lgx_tags.specs.Starts.{start_of}
 use Rattle.lgx_tags.specs.declared.layout.Spot.{Spot}
@@ -63,6 +64,22 @@ Below a b = (a ≡ Err G7) ⊎ (a ≡ b)
 
 -- ---- what is known while chains are walked
 
+-- an entry that is no alias isn't counted; an alias's fault comes with its number among the aliases
+abbrev pub fault_of : Known → Option TagCode
+fault_of known = result_err known
+
+abbrev pub is_target : Meaning → Bool
+is_target (tag of) = false
+is_target (alias target) = true
+
+abbrev pub bad_from : List Known → ℕ → ℕ → List Entry → Option (TagCode × ℕ)
+bad_from known i k [] = None
+bad_from known i k (e ∷ es) = cond (is_target e.meaning) (option_or (option_map (λ code. (code, k)) (fault_of (slice_index_or known i (Err G7)))) (bad_from known (suc i) (suc k) es)) (bad_from known (suc i) k es)
+
+abbrev pub count_aliases : List Entry → ℕ
+count_aliases [] = 0
+count_aliases (e ∷ es) = cond (is_target e.meaning) (suc (count_aliases es)) (count_aliases es)
+
 abbrev pub is_g7 : TagCode → Bool
 is_g7 G7 = true
 is_g7 _ = false
@@ -98,3 +115,9 @@ pub record Looked (d : Declarations) (i : ℕ) (old new : List Known) : Type 0 w
   pub partly : Partly d new
   pub fewer : open_in new ≤ open_in old
   pub still : open_in new ≡ open_in old → (new ≡ old) × IsStill d new i
+
+-- what came of looking at all of them
+pub record Passed (d : Declarations) (old new : List Known) : Type 0 where
+  pub partly : Partly d new
+  pub fewer : open_in new ≤ open_in old
+  pub still : open_in new ≡ open_in old → (new ≡ old) × ((i : ℕ) → i < length d.entries → IsStill d new i)

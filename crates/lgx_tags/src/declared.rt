@@ -2,14 +2,20 @@
 ghost use Rattle.std.specs.Prelude.{◌≡◌, ℕ, ◌<◌, ◌≤◌, List, [], ◌∷◌, ◌++◌, None, length, vec_len, vec_capacity, position, IfOk, IfSome, IfErr, IsNone, OnOk, OnErr};
 ghost use Rattle.lgx_machine.specs.declared.tag.Scope.{Scope as In};
 ghost use Rattle.lgx_machine.specs.Declarations.{tag, alias, is_named, is_name_in, bytes, declared_as, declare_fault, alias_fault};
+ghost use Rattle.lgx_machine.specs.Resolution.{aliases};
+ghost use Rattle.lgx_machine.specs.ResolutionLaws.{Sound};
+ghost use Rattle.std.specs.List.{AllByRecursion as Each};
+ghost use Rattle.std.specs.Option.{option_or};
 ghost use Rattle.lgx_types.specs.Tables.{HasSize};
+ghost use Rattle.lgx_tags.specs.Chains.{seen_number};
+ghost use Rattle.lgx_tags.specs.Layouts.{laid_of};
 ghost use Rattle.lgx_tags.specs.Scopes.{IsScopeOf};
 ghost use Rattle.lgx_tags.specs.Tables.{IsLetIn, IsRefusal};
 
 use crate::entry::Entry;
 use crate::error::TagError;
 use crate::key::{Key, ROOM};
-use crate::layout::round_up;
+use crate::layout::{Known, Laid, by_scope, in_order, lay, round_up};
 use crate::tag_name::{is_name, is_tag_name};
 use indexmap::IndexSet;
 use lgx_machine::{DataType, Scope, TagCode};
@@ -120,6 +126,7 @@ impl Declared {
         requires free { position (is_named entry.scope entry.name) self.old.entries ≡ None }
         requires counted { count ≡ bytes (record self.old { entries = self.old.entries ++ entry ∷ [] }) }
         requires room { count ≤ 262144 }
+        requires few { length (aliases (record self.old { entries = self.old.entries ++ entry ∷ [] })) < 4294967296 }
         ensures ok { OnOk result (self.new ≡ record self.old { entries = self.old.entries ++ entry ∷ [] }) }
         ensures err { OnErr result (self.new ≡ self.old) }
     {
@@ -166,6 +173,7 @@ impl Declared {
         target: &[u8],
     ) -> Result<(), TagError>
         requires scope { IsScopeOf self.old.programs scope }
+        requires few { length (aliases self.old) < 4294967295 }
         ensures ok { OnOk result (self.new ≡ declared_as self.old scope name.now (alias target.now)) }
         ensures faultless { OnOk result (alias_fault self.old scope name.now ≡ None) }
         ensures fault { IfErr result (λ e. IsRefusal (alias_fault self.old scope name.now) e) }
@@ -178,5 +186,56 @@ impl Declared {
         let entry = Entry::alias(self.alloc, scope, name, target)?;
         self.add(entry, bytes)?;
         Ok(())
+    }
+
+    /// The number of the entry that a name is seen as from a scope: a program's own entries hide the controller's.
+    pub(crate) fn seen_number(&self, scope: Scope, name: &[u8]) -> Option<usize>
+        ensures number { result ≡ seen_number self.now.entries scope name.now }
+        ensures within { IfSome result (λ i. i < length self.now.entries) }
+    {
+        let own = self.number_of(scope, name);
+        match (own, scope) {
+            (Some(i), _) => Some(i),
+            (None, Scope::Controller) => None,
+            (None, Scope::Program(_)) => self.number_of(Scope::Controller, name),
+        }
+    }
+
+    /// The entries in order of declaration.
+    pub(crate) fn entries(&self) -> &[Entry]
+        ensures value { result.now ≡ self.now.entries }
+        ensures let_in { Each (IsLetIn self.now.types self.now.programs) self.now.entries }
+    {
+        &self.entries
+    }
+
+    /// The types, which are sound, as are the declarations.
+    pub(crate) fn types(&self) -> &TypeTable
+        ensures value { result.now ≡ self.now.types }
+        ensures sound { Sound self.now }
+    {
+        self.types.structures();
+        &self.types
+    }
+
+    /// The length of the image.
+    pub(crate) fn bytes(&self) -> u32
+        ensures value { result ≡ bytes self.now }
+        ensures room { result ≤ 262144 }
+    {
+        self.bytes
+    }
+
+    pub(crate) fn alloc(&self) -> Global {
+        self.alloc
+    }
+
+    /// The tags in the order of the layout, each where it lies.
+    pub(crate) fn laid(&self) -> Result<Vec<Laid>, Memory>
+        ensures { IfOk result (λ laid. laid.items ≡ laid_of self.now) }
+    {
+        let rows = by_scope(self.alloc, &self.entries, self.programs)?;
+        let order = in_order(self.alloc, &rows)?;
+        lay(self.alloc, &self.types, &order)
     }
 }

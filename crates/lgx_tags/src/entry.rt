@@ -2,6 +2,7 @@
 ghost use Rattle.std.specs.Prelude.{◌≡◌, IfOk, option_copied};
 ghost use Rattle.lgx_machine.specs.Declarations.{alias, tag};
 ghost use Rattle.lgx_machine.specs.Resolution.{target_of};
+ghost use Rattle.lgx_tags.specs.Chains.{is_target};
 ghost use Rattle.lgx_tags.specs.Meanings.{type_in};
 
 use lgx_machine::{DataType, Scope};
@@ -104,5 +105,12 @@ impl Entry {
             Meaning::Tag(_) => None,
             Meaning::Alias(target) => Some(target.as_slice()),
         }
+    }
+
+    /// Whether it is an alias.
+    pub(crate) fn is_alias(&self) -> bool
+        ensures { result ≡ is_target self.now.meaning }
+    {
+        matches!(self.meaning, Meaning::Alias(_))
     }
 }

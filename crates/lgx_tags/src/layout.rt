@@ -42,7 +42,7 @@ pub(crate) type Known = Result<Spot, TagCode>;
 
 // The tags of one scope.
 #[derive(Drop)]
-struct Row {
+pub(crate) struct Row {
     tags: Vec<Numbered>,
 }
 
@@ -129,7 +129,7 @@ fn put_entry(rows: &mut Vec<Row>, number: usize, entry: &Entry) -> Result<(), Me
 }
 
 // The tags of each scope.
-fn by_scope(alloc: Global, entries: &[Entry], programs: u32) -> Result<Vec<Row>, Memory>
+pub(crate) fn by_scope(alloc: Global, entries: &[Entry], programs: u32) -> Result<Vec<Row>, Memory>
     requires placed { Each (λ e. IsScopeOf programs e.scope) entries.now }
     ensures rows { IfOk result (λ rows. rows.items ≡ rows_of entries.now programs) }
 {
@@ -141,7 +141,7 @@ fn by_scope(alloc: Global, entries: &[Entry], programs: u32) -> Result<Vec<Row>,
 }
 
 // The tags of all scopes, one scope behind the other.
-fn in_order(alloc: Global, rows: &[Row]) -> Result<Vec<Numbered>, Memory>
+pub(crate) fn in_order(alloc: Global, rows: &[Row]) -> Result<Vec<Numbered>, Memory>
     ensures { IfOk result (λ order. order.items ≡ flat_map (λ row. row) rows.now) }
 {
     let mut order = Vec::new(alloc);
@@ -152,7 +152,7 @@ fn in_order(alloc: Global, rows: &[Row]) -> Result<Vec<Numbered>, Memory>
 }
 
 // Lays tags one behind the other, each at the next multiple of 4.
-fn lay(alloc: Global, types: &TypeTable, order: &[Numbered]) -> Result<Vec<Laid>, Memory>
+pub(crate) fn lay(alloc: Global, types: &TypeTable, order: &[Numbered]) -> Result<Vec<Laid>, Memory>
     requires sized { Each (λ t. HasSize types.now t.of) order.now }
     requires room { lay_end types.now 0 order.now ≤ 262144 }
     ensures laid { IfOk result (λ laid. laid.items ≡ lay types.now 0 order.now) }
@@ -173,7 +173,7 @@ fn lay(alloc: Global, types: &TypeTable, order: &[Numbered]) -> Result<Vec<Laid>
 }
 
 // What is known of so many entries when these tags are laid.
-fn known_from(alloc: Global, count: usize, laid: &[Laid]) -> Result<Vec<Known>, Memory>
+pub(crate) fn known_from(alloc: Global, count: usize, laid: &[Laid]) -> Result<Vec<Known>, Memory>
     requires within { Each (λ l. (l.entry < count) × (8 * l.start < 4294967296)) laid.now }
     ensures { IfOk result (λ known. known.items ≡ known_from count laid.now) }
 {

@@ -10,6 +10,7 @@ mod key;
 mod layout;
 mod part;
 mod resolve;
+mod seal;
 mod subscript;
 mod tag_name;
 

@@ -11,5 +11,6 @@ invariant_of-result c = record {
   let_in = rw c.new-2.ensures.items tt;
   keyed = c.new.ensures.empty ∙ sym (ap keys_of c.new-2.ensures.items);
   counted = rw c.new-2.ensures.items (sym (none_laid c.args.types c.args.programs));
-  room = omega arith
+  room = omega arith;
+  few = rw c.new-2.ensures.items (omega arith)
 }
