@@ -9,6 +9,8 @@ pub mod Walked
 pub mod Segments
 pub mod Knowing
 pub mod Sounds
+pub mod Passes
+pub mod Faults
 pub mod WalkNames
 pub mod WalkParts
 pub mod WalkShapes

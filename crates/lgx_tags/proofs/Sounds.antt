@@ -33,7 +33,7 @@ some_stride types Counter h = omega arith
 some_stride types (User i) h = omega arith
 
 -- a sound type has a byte at least
-some_bytes : (types : List TypeDecl) (t : DataType) → IsSoundType types t → 0 < size_of types t
+pub some_bytes : (types : List TypeDecl) (t : DataType) → IsSoundType types t → 0 < size_of types t
 some_bytes types t s =
     let wide : 1 * stride types t.base ≤ elements t.dim * stride types t.base = mul-le-mul_right {m = 1} {n = elements t.dim} (stride types t.base) (some_elements t.dim) in
     omega (arith, width_of types t.base t.dim s.0, some_stride types t.base s.1, wide)

@@ -5,6 +5,8 @@ pub mod Tables
 pub mod Layouts
 pub mod Starts
 pub mod Chains
+pub mod Sealing
+pub mod Sealed
 pub mod Parts
 pub mod Shapes
 pub mod TagNames

@@ -11,8 +11,11 @@ mod layout;
 mod part;
 mod resolve;
 mod seal;
+mod span;
 mod subscript;
+mod table;
 mod tag_name;
 
 pub use error::{SealError, TagError};
 pub use lgx_machine::{Found, Scope, TagCode};
+pub use span::TagSpan;
