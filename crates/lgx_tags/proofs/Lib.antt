@@ -11,6 +11,7 @@ pub mod Knowing
 pub mod Sounds
 pub mod Passes
 pub mod Faults
+pub mod Told
 pub mod WalkNames
 pub mod WalkParts
 pub mod WalkShapes

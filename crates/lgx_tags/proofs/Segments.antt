@@ -16,6 +16,7 @@ use Rattle.lgx_machine.specs.Declarations.{Meaning, tag, alias, Entry, Declarati
 use Rattle.lgx_machine.proofs.Subscripts.{each_append, each_flat}
 use Rattle.lgx_tags.specs.Scopes.{IsScopeOf}
 use Rattle.lgx_tags.specs.Meanings.{is_tag}
+use Rattle.lgx_tags.specs.Sealing.{is_laid_tag}
 use Rattle.lgx_tags.specs.Layouts.{scopes, numbered, tags_in, rows_of, order_of, lay, lay_end, laid_of}
 use Rattle.lgx_tags.specs.Starts.{span, total, run, programs_from, before, start_of}
 use Rattle.lgx_tags.specs.declared.layout.Numbered.{Numbered}
@@ -33,9 +34,6 @@ pub record LaidIs (d : Declarations) (l : Laid) : Type 0 where
   pub end_is : l.end ≡ l.start + size_of d.types l.of
 
 -- the same tags, with and without their numbers
-abbrev pub is_laid_tag : ℕ × Entry → Bool
-is_laid_tag x = is_tag x.1.meaning
-
 abbrev pub Pairs : Declarations → List Laid → List (ℕ × Entry) → Type 0
 Pairs d [] [] = ⊤
 Pairs d [] (x ∷ xs) = ⊥

@@ -1,5 +1,5 @@
 // Tags and aliases in the order in which they are declared.
-ghost use Rattle.std.specs.Prelude.{◌≡◌, ℕ, ◌<◌, ◌≤◌, List, [], ◌∷◌, ◌++◌, None, length, vec_len, vec_capacity, position, IfOk, IfSome, IfErr, IsNone, OnOk, OnErr};
+ghost use Rattle.std.specs.Prelude.{◌≡◌, ℕ, ◌<◌, ◌≤◌, List, [], ◌∷◌, ◌++◌, None, Some, slice_get, length, vec_len, vec_capacity, position, IfOk, IfSome, IfErr, IsNone, OnOk, OnErr};
 ghost use Rattle.lgx_machine.specs.declared.tag.Scope.{Scope as In};
 ghost use Rattle.lgx_machine.specs.Declarations.{tag, alias, is_named, is_name_in, bytes, declared_as, declare_fault, alias_fault};
 ghost use Rattle.lgx_machine.specs.Resolution.{aliases};
@@ -205,8 +205,17 @@ impl Declared {
     pub(crate) fn entries(&self) -> &[Entry]
         ensures value { result.now ≡ self.now.entries }
         ensures let_in { Each (IsLetIn self.now.types self.now.programs) self.now.entries }
+        ensures few { length (aliases self.now) < 4294967296 }
     {
         &self.entries
+    }
+
+    /// The entry of a number.
+    pub(crate) fn entry(&self, i: usize) -> &Entry
+        requires { i < length self.now.entries }
+        ensures { slice_get self.now.entries i ≡ Some result.now }
+    {
+        &self.entries[i]
     }
 
     /// The types, which are sound, as are the declarations.
