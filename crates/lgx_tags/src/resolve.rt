@@ -17,6 +17,9 @@ use lgx_types::TypeTable;
 use std::alloc::Global;
 use std::marker::Model;
 
+#[cfg(test)]
+mod tests;
+
 /// What may be a subscript.
 #[derive(Clone, Copy)]
 pub(crate) enum Subscripts {
