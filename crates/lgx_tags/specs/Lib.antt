@@ -11,3 +11,4 @@ pub mod Parts
 pub mod Shapes
 pub mod TagNames
 pub mod Walk
+pub mod Fresh
