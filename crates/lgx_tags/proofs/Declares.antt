@@ -129,3 +129,9 @@ tag_no_alias d s name of h = rw (aliases_more, append-nil) h
 
 pub one_alias : (d : Declarations) (s : Scope) (name target : List ℕ) → length (aliases d) < 4294967295 → length (aliases (declared_as d s name (alias target))) < 4294967296
 one_alias d s name target h = rw aliases_more (omega (arith, length-append (aliases d) ((s, target) ∷ [])))
+
+pub tag_count_same : (d : Declarations) (s : Scope) (name : List ℕ) (of : DataType) → length (aliases (declared_as d s name (tag of))) ≡ length (aliases d)
+tag_count_same d s name of = rw (aliases_more, append-nil) refl
+
+pub alias_count_more : (d : Declarations) (s : Scope) (name target : List ℕ) → length (aliases (declared_as d s name (alias target))) ≡ length (aliases d) + 1
+alias_count_more d s name target = rw aliases_more (length-append (aliases d) ((s, target) ∷ []))

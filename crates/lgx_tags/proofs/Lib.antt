@@ -12,6 +12,7 @@ pub mod Sounds
 pub mod Passes
 pub mod Faults
 pub mod Told
+pub mod FreshTables
 pub mod WalkNames
 pub mod WalkParts
 pub mod WalkShapes
