@@ -111,6 +111,7 @@ impl TypeTable {
         ensures value { result.now ≡ self.now }
         ensures faultless { type_fault self.now ≡ None }
         ensures sound { SoundTypes self.now }
+        ensures members { Each HasMembers self.now }
         ensures few { length self.now < 4294967296 }
     {
         sizes_are_settled();

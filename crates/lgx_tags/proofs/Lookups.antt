@@ -1,0 +1,97 @@
+-- A name is found among the keys where it is found among the entries.
+use Rattle.std.specs.Prelude.{◌≡◌, ℕ, zero, suc, ◌+◌, ◌<◌, ◌≤◌, Bool, true, false, cond, ◌&&◌, ◌==◌, nat_eq, List, [], ◌∷◌, ◌++◌, length, map, take, drop, replicate, position, Option, Some, None, option_map, refl}
+use Rattle.std.specs.Char.{to_ascii_lowercase}
+use Rattle.std.specs.Cmp.Lexicographic.{pointwise}
+use Rattle.std.specs.List.{AllByRecursion as Each, position_from}
+use Rattle.std.proofs.Common.{sym, ap, ◌∙◌, arith, eqb-true, eq-eqb}
+use Rattle.std.proofs.lemmas.Iterator.Adapters.{position_from-zero}
+use Rattle.std.proofs.lemmas.List.{length-map, map-append}
+use Rattle.std.proofs.lemmas.Slice.Eq.{bytes_eq-Decides}
+use Rattle.std.proofs.Math.Seq.{take-append_seam}
+use Rattle.lgx_num.specs.Name.{same}
+use Rattle.lgx_machine.specs.declared.types.TypeDecl.{TypeDecl}
+use Rattle.lgx_machine.specs.declared.tag.Scope.{Scope}
+use Rattle.lgx_machine.specs.declared.tag.Scope.TheVariants.{Controller, Program}
+use Rattle.lgx_machine.specs.Declarations.{Entry, same_scope, is_named}
+use Rattle.lgx_machine.proofs.FoundLie.{and_left, and_right}
+use Rattle.lgx_tags.specs.Keys.{program_of, lowered, key_of}
+use Rattle.lgx_tags.specs.Tables.{IsLetIn, keys_of}
+use Rattle.lgx_tags.specs.declared.key.Key.{Key}
+use Rattle.lgx_tags.specs.contracts.key.KeyPartialEq.TheImpl.{eq-value}
+
+-- ---- keys
+
+abbrev pub same_key : Key → Key → Bool
+same_key k l = eq-value.it k l
+
+abbrev lower : List ℕ → List ℕ
+lower = map to_ascii_lowercase
+
+and_both : (a b : Bool) → a ≡ true → b ≡ true → (a && b) ≡ true
+and_both a b p q = rw p q
+
+-- two tests that imply each other answer alike
+alike : (a b : Bool) → (a ≡ true → b ≡ true) → (b ≡ true → a ≡ true) → a ≡ b
+alike true true p q = refl
+alike false false p q = refl
+alike true false p q = sym (p refl)
+alike false true p q = q refl
+
+-- the names that two keys are of
+keyed_name : (zeros a b : List ℕ) → length a ≡ length b → lower (a ++ drop (length a) zeros) ≡ lower (b ++ drop (length b) zeros) → lower b ≡ lower a
+keyed_name zeros a b p q =
+    let front : (xs : List ℕ) → take (length (lower xs)) (lower (xs ++ drop (length xs) zeros)) ≡ lower xs = λ xs. ap (take (length (lower xs))) (map-append to_ascii_lowercase xs (drop (length xs) zeros)) ∙ take-append_seam (lower xs) (lower (drop (length xs) zeros)) in
+    let long : length (lower a) ≡ length (lower b) = length-map a to_ascii_lowercase ∙ p ∙ sym (length-map b to_ascii_lowercase) in
+    sym (sym (front a) ∙ ap (λ (n : ℕ). take n (lower (a ++ drop (length a) zeros))) long ∙ ap (take (length (lower b))) q ∙ front b)
+
+name_keyed : (zeros a b : List ℕ) → lower b ≡ lower a → lower (a ++ drop (length a) zeros) ≡ lower (b ++ drop (length b) zeros)
+name_keyed zeros a b p =
+    let long : length a ≡ length b = sym (length-map a to_ascii_lowercase) ∙ ap length (sym p) ∙ length-map b to_ascii_lowercase in
+    map-append to_ascii_lowercase a (drop (length a) zeros) ∙ ap (λ (xs : List ℕ). xs ++ lower (drop (length a) zeros)) (sym p) ∙ ap (λ (n : ℕ). lower b ++ lower (drop n zeros)) long ∙ sym (map-append to_ascii_lowercase b (drop (length b) zeros))
+
+-- a test of lengths and bytes
+abbrev of_names : List ℕ → List ℕ → Bool
+of_names a b = (length a == length b) && pointwise nat_eq (lowered a) (lowered b)
+
+named_alike : (a b : List ℕ) → of_names a b ≡ same b a
+named_alike a b = alike (of_names a b) (same b a) (λ p. (bytes_eq-Decides (lower b) (lower a)).1 (keyed_name (replicate 80 0) a b (eqb-true (length a) (length b) (and_left (length a == length b) _ p)) ((bytes_eq-Decides (lowered a) (lowered b)).0 (and_right (length a == length b) _ p)))) (λ p. let e : lower b ≡ lower a = (bytes_eq-Decides (lower b) (lower a)).0 p in let long : length a ≡ length b = sym (length-map a to_ascii_lowercase) ∙ ap length (sym e) ∙ length-map b to_ascii_lowercase in and_both (length a == length b) (pointwise nat_eq (lowered a) (lowered b)) (eq-eqb (length a) (length b) long) ((bytes_eq-Decides (lowered a) (lowered b)).1 (name_keyed (replicate 80 0) a b e)))
+
+eq_turned : (p q : ℕ) → nat_eq p q ≡ (q == p)
+eq_turned p q = alike (nat_eq p q) (q == p) (λ h. eq-eqb q p (sym (eqb-true p q h))) (λ h. eq-eqb p q (sym (eqb-true q p h)))
+
+pub key_named : (s t : Scope) (a b : List ℕ) → same_key (key_of s a) (key_of t b) ≡ (same_scope t s && same b a)
+key_named Controller Controller a b = named_alike a b
+key_named Controller (Program q) a b = refl
+key_named (Program p) Controller a b = refl
+key_named (Program p) (Program q) a b = ap (λ (c : Bool). c && of_names a b) (eq_turned p q) ∙ ap (λ (c : Bool). (q == p) && c) (named_alike a b)
+
+-- ---- where a name is found
+
+pub position_keyed : (s : Scope) (name : List ℕ) (es : List Entry) (i : ℕ) → position_from (same_key (key_of s name)) i (keys_of es) ≡ position_from (is_named s name) i es
+position_keyed s name [] i = refl
+position_keyed s name (e ∷ es) i = rw key_named (ap (cond (is_named s name e) (Some i)) (position_keyed s name es (i + 1)))
+
+pub key_position : (s : Scope) (name : List ℕ) (es : List Entry) → position (same_key (key_of s name)) (keys_of es) ≡ position (is_named s name) es
+key_position s name es = position_from-zero (same_key (key_of s name)) (keys_of es) ∙ position_keyed s name es 0 ∙ sym (position_from-zero (is_named s name) es)
+
+-- names that are longer than tag names may be aren't found
+same_length : (a b : List ℕ) → same a b ≡ true → length a ≡ length b
+same_length a b p = sym (length-map a to_ascii_lowercase) ∙ ap length ((bytes_eq-Decides (lower a) (lower b)).0 p) ∙ length-map b to_ascii_lowercase
+
+and_false : (a b : Bool) → b ≡ false → (a && b) ≡ false
+and_false true b p = p
+and_false false b p = refl
+
+not_named : (s : Scope) (name : List ℕ) (e : Entry) → length e.name ≤ 80 → 80 < length name → is_named s name e ≡ false
+not_named s name e p q = and_false (same_scope e.scope s) (same e.name name) (go (same e.name name) refl)
+  where
+    go : (b : Bool) → same e.name name ≡ b → b ≡ false
+    go true h = absurd (omega (arith, same_length e.name name h))
+    go false h = refl
+
+long_from : (types : List TypeDecl) (programs : ℕ) (s : Scope) (name : List ℕ) (es : List Entry) (i : ℕ) → Each (IsLetIn types programs) es → 80 < length name → position_from (is_named s name) i es ≡ None
+long_from types programs s name [] i h q = refl
+long_from types programs s name (e ∷ es) i h q = rw (not_named s name e h.0.short q) (long_from types programs s name es (i + 1) h.1 q)
+
+pub long_nowhere : (types : List TypeDecl) (programs : ℕ) (s : Scope) (name : List ℕ) (es : List Entry) → Each (IsLetIn types programs) es → 80 < length name → position (is_named s name) es ≡ None
+long_nowhere types programs s name es h q = position_from-zero (is_named s name) es ∙ long_from types programs s name es 0 h q

@@ -1,0 +1,113 @@
+-- The tags of each scope, as they are put behind one another.
+use Rattle.std.specs.Prelude.{◌≡◌, ℕ, zero, suc, ◌+◌, ◌<◌, ◌≤◌, Bool, true, false, cond, ◌==◌, List, [], ◌∷◌, ◌++◌, length, map, flat_map, take, drop, replicate, slice_set, slice_index_or, slice_get, Some, refl, ⊤}
+use Rattle.std.specs.List.{AllByRecursion as Each, range_with_len}
+use Rattle.std.proofs.Common.{sym, ap, ◌∙◌, arith, eqb-true, eq-eqb, append_assoc, length-append, get_or, drop-cons}
+use Rattle.std.proofs.lemmas.List.{append-nil, take_more, drop_more, length-map}
+use Rattle.std.proofs.lemmas.List.FromFn.{length-range_with_len}
+use Rattle.lgx_machine.specs.declared.types.TypeDecl.{TypeDecl}
+use Rattle.lgx_machine.specs.declared.tag.Scope.{Scope}
+use Rattle.lgx_machine.specs.declared.tag.Scope.TheVariants.{Controller, Program}
+use Rattle.lgx_machine.specs.Layout.{round_up, size_of}
+use Rattle.lgx_machine.specs.Declarations.{Meaning, tag, alias, Entry, same_scope}
+use Rattle.lgx_tags.specs.Scopes.{IsScopeOf}
+use Rattle.lgx_tags.specs.Layouts.{scopes, slot_of, numbered, tags_in, with_entry, rows_of, lay, lay_end}
+use Rattle.lgx_tags.specs.declared.layout.Numbered.{Numbered}
+
+-- ---- one entry more
+
+abbrev pub added : Scope → Scope → List Numbered → List Numbered
+added own s ts = cond (same_scope own s) ts []
+
+pub tags_snoc : (s : Scope) (n : ℕ) (es : List Entry) (e : Entry) → tags_in s n (es ++ e ∷ []) ≡ tags_in s n es ++ added e.scope s (numbered (n + length es) e.meaning)
+tags_snoc s n [] e = append-nil (added e.scope s (numbered n e.meaning)) ∙ ap (λ (m : ℕ). added e.scope s (numbered m e.meaning)) at
+  where
+    at : n ≡ n + 0
+    at = omega arith
+tags_snoc s n (x ∷ es) e =
+    let at : suc n + length es ≡ n + suc (length es) = omega arith in
+    let front : List Numbered = cond (same_scope x.scope s) (numbered n x.meaning) [] in
+    ap (λ (l : List Numbered). front ++ l) (tags_snoc s (suc n) es e ∙ ap (λ (m : ℕ). tags_in s (suc n) es ++ added e.scope s (numbered m e.meaning)) at) ∙ sym (append_assoc front (tags_in s (suc n) es) (added e.scope s (numbered (n + suc (length es)) e.meaning)))
+
+map_same : (f g : Scope → List Numbered) (ps : List ℕ) → Each (λ p. f (Program p) ≡ g (Program p)) ps → map f (map Program ps) ≡ map g (map Program ps)
+map_same f g [] h = refl
+map_same f g (p ∷ ps) h = rw (h.0, map_same f g ps h.1) refl
+
+not_equal : (a b : ℕ) → (a ≡ b → ⊥) → (a == b) ≡ false
+not_equal a b h = go (a == b) refl
+  where
+    go : (t : Bool) → (a == b) ≡ t → t ≡ false
+    go true q = absurd (h (eqb-true a b q))
+    go false q = refl
+
+-- the scopes of a list, with some tags behind those of one scope
+abbrev more : (Scope → List Numbered) → Scope → List Numbered → Scope → List Numbered
+more f own ts s = f s ++ added own s ts
+
+past : (f : Scope → List Numbered) (q : ℕ) (ts : List Numbered) (a n : ℕ) → q < a → Each (λ p. f (Program p) ≡ more f (Program q) ts (Program p)) (range_with_len a n)
+past f q ts a zero h = tt
+past f q ts a (suc n) h = let e : (q == a) ≡ false = not_equal q a (λ r. omega arith) in (rw e (sym (append-nil (f (Program a)))), past f q ts (a + 1) n (omega arith))
+
+put_range : (f : Scope → List Numbered) (q : ℕ) (ts : List Numbered) (a n i : ℕ) → q ≡ a + i → i < n → slice_set (map f (map Program (range_with_len a n))) i (slice_index_or (map f (map Program (range_with_len a n))) i [] ++ ts) ≡ map (more f (Program q) ts) (map Program (range_with_len a n))
+put_range f q ts a zero i p h = absurd (omega arith)
+put_range f q ts a (suc n) zero p h =
+    let at : (q == a) ≡ true = eq-eqb q a (omega arith) in
+    rw at (ap (λ (l : List (List Numbered)). (f (Program a) ++ ts) ∷ l) (map_same f (more f (Program q) ts) (range_with_len (a + 1) n) (past f q ts (a + 1) n (omega arith))))
+put_range f q ts a (suc n) (suc i) p h =
+    let at : (q == a) ≡ false = not_equal q a (λ r. omega arith) in
+    rw (at, append-nil (f (Program a)), put_range f q ts (a + 1) n i (omega arith) (omega arith)) refl
+
+none_added : (f : Scope → List Numbered) (ts : List Numbered) (ps : List ℕ) → Each (λ p. f (Program p) ≡ more f Controller ts (Program p)) ps
+none_added f ts [] = tt
+none_added f ts (p ∷ ps) = (sym (append-nil (f (Program p))), none_added f ts ps)
+
+pub put_scopes : (f : Scope → List Numbered) (own : Scope) (programs : ℕ) (ts : List Numbered) → IsScopeOf programs own → slice_set (map f (scopes programs)) (slot_of own) (slice_index_or (map f (scopes programs)) (slot_of own) [] ++ ts) ≡ map (more f own ts) (scopes programs)
+put_scopes f Controller programs ts h = ap (λ (l : List (List Numbered)). (f Controller ++ ts) ∷ l) (map_same f (more f Controller ts) (range_with_len 0 programs) (none_added f ts (range_with_len 0 programs)))
+put_scopes f (Program q) programs ts h =
+    let at : q + 1 ≡ suc q = omega arith in
+    rw (at, append-nil (f Controller), put_range f q ts 0 programs q (omega arith) h) refl
+
+same_rows : (f g : Scope → List Numbered) (ss : List Scope) → ((s : Scope) → f s ≡ g s) → map f ss ≡ map g ss
+same_rows f g [] h = refl
+same_rows f g (s ∷ ss) h = rw (h s, same_rows f g ss h) refl
+
+pub rows_snoc : (es : List Entry) (programs : ℕ) (e : Entry) → IsScopeOf programs e.scope → with_entry (rows_of es programs) (length es) e.scope e.meaning ≡ rows_of (es ++ e ∷ []) programs
+rows_snoc es programs e h = go e.meaning ∙ same_rows (more (λ s. tags_in s 0 es) e.scope (numbered (length es) e.meaning)) (λ s. tags_in s 0 (es ++ e ∷ [])) (scopes programs) one
+  where
+    zero_on : 0 + length es ≡ length es
+    zero_on = omega arith
+    one : (s : Scope) → tags_in s 0 es ++ added e.scope s (numbered (length es) e.meaning) ≡ tags_in s 0 (es ++ e ∷ [])
+    one s = sym (tags_snoc s 0 es e ∙ ap (λ (m : ℕ). tags_in s 0 es ++ added e.scope s (numbered m e.meaning)) zero_on)
+    nothing : (own s : Scope) → tags_in s 0 es ≡ more (λ s. tags_in s 0 es) own [] s
+    nothing own s = sym (by_test (same_scope own s))
+      where
+        by_test : (b : Bool) → tags_in s 0 es ++ cond b [] [] ≡ tags_in s 0 es
+        by_test true = append-nil (tags_in s 0 es)
+        by_test false = append-nil (tags_in s 0 es)
+    go : (m : Meaning) → with_entry (rows_of es programs) (length es) e.scope m ≡ map (more (λ s. tags_in s 0 es) e.scope (numbered (length es) m)) (scopes programs)
+    go (tag of) = put_scopes (λ s. tags_in s 0 es) e.scope programs (record { entry = length es; of = of } ∷ []) h
+    go (alias target) = same_rows (λ s. tags_in s 0 es) (more (λ s. tags_in s 0 es) e.scope []) (scopes programs) (nothing e.scope)
+
+pub rows_length : (es : List Entry) (programs : ℕ) → length (rows_of es programs) ≡ programs + 1
+rows_length es programs = omega (arith, length-map (map Program (range_with_len 0 programs)) (λ s. tags_in s 0 es), length-map (range_with_len 0 programs) Program, length-range_with_len 0 programs)
+
+pub slot_within : (programs : ℕ) (s : Scope) → IsScopeOf programs s → slot_of s < programs + 1
+slot_within programs Controller h = omega arith
+slot_within programs (Program p) h = omega arith
+
+-- no entries, no tags
+pub rows_empty : (programs : ℕ) → rows_of [] programs ≡ replicate (programs + 1) []
+rows_empty programs = let at : programs + 1 ≡ suc programs = omega arith in rw at (ap (λ (l : List (List Numbered)). [] ∷ l) (none 0 programs))
+  where
+    none : (a n : ℕ) → map (λ s. tags_in s 0 []) (map Program (range_with_len a n)) ≡ replicate n []
+    none a zero = refl
+    none a (suc n) = ap (λ (l : List (List Numbered)). [] ∷ l) (none (a + 1) n)
+
+-- ---- where they end
+
+pub lay_grows : (types : List TypeDecl) (at : ℕ) (ts : List Numbered) → at ≤ lay_end types at ts
+lay_grows types at [] = omega arith
+lay_grows types at (t ∷ ts) = omega (arith, lay_grows types (round_up 4 (at + size_of types t.of)) ts)
+
+-- the tag of an index ends before the last one does
+pub lay_within : (types : List TypeDecl) (at i : ℕ) (ts : List Numbered) (d : Numbered) → i < length ts → at + size_of types (get_or ts i d).of ≤ lay_end types at (drop i ts)
+lay_within types at i ts d h = rw (drop_more ts i d h) (omega (arith, lay_grows types (round_up 4 (at + size_of types (get_or ts i d).of)) (drop (i + 1) ts)))

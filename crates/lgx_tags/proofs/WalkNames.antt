@@ -1,0 +1,139 @@
+-- The parts of tag names.
+use Rattle.std.proofs.Common.{◌≡◌, ◌≢◌, ℕ, zero, suc, ◌+◌, ◌-◌, ◌<◌, List, [], ◌∷◌, length, get_or, take, drop, Bool, true, false, refl, ap, ◌∙◌, add-one, take_all, length-drop, arith}
+use Rattle.std.specs.Prelude.{◌&&◌, nat_le, nat_eq}
+use Rattle.std.specs.List.{list_all}
+use Rattle.std.proofs.lemmas.Bool.Decides.{nat_tests}
+use Rattle.std.specs.Char.{is_digit}
+use Rattle.lgx_num.specs.Name.{is_name, is_start, goes_on}
+use Rattle.lgx_machine.specs.TextLines.{cut, pieces}
+use Rattle.lgx_machine.specs.OperandForm.{is_part, may_lead, is_joined, is_tag_name, are_digits}
+use Rattle.lgx_tags.specs.TagNames.{are_parts}
+
+-- ---- pieces
+
+-- no colon stands before that place
+abbrev pub NoColon : List ℕ → ℕ → Type 0
+NoColon text i = (k : ℕ) → k < i → get_or text k 0 ≢ 58
+
+here : (c : ℕ) (cs : List ℕ) → c ≡ 58 → pieces 58 (c ∷ cs) ≡ [] ∷ pieces 58 cs
+here c cs e = rw e refl
+
+past : (c : ℕ) (cs : List ℕ) → c ≢ 58 → pieces 58 (c ∷ cs) ≡ cut false c (pieces 58 cs)
+past c cs e = let no : nat_eq c 58 ≡ false = grind (arith, nat_tests) in rw no refl
+
+split_at : (text : List ℕ) (i : ℕ) → NoColon text i → i < length text → get_or text i 0 ≡ 58 → pieces 58 text ≡ take i text ∷ pieces 58 (drop (suc i) text)
+split_at [] i none inside is = absurd (omega arith)
+split_at (c ∷ cs) zero none inside is = here c cs is
+split_at (c ∷ cs) (suc i) none inside is =
+    past c cs (none 0 (omega arith)) ∙ ap (cut false c) (split_at cs i (λ k h. none (suc k) (omega arith)) (omega arith) is)
+
+pub pieces_whole : (text : List ℕ) → NoColon text (length text) → pieces 58 text ≡ text ∷ []
+pieces_whole [] none = refl
+pieces_whole (c ∷ cs) none =
+    past c cs (none 0 (omega arith)) ∙ ap (cut false c) (pieces_whole cs (λ k h. none (suc k) (omega arith)))
+
+take_rest : (text : List ℕ) (k : ℕ) → take (length text - k) (drop k text) ≡ drop k text
+take_rest text k = take_all (length text - k) (drop k text) (omega (arith, length-drop k text))
+
+pub pieces_at : (text : List ℕ) (i : ℕ) → NoColon text i → i < length text → get_or text i 0 ≡ 58 → pieces 58 text ≡ take i text ∷ pieces 58 (take (length text - (i + 1)) (drop (i + 1) text))
+pieces_at text i none inside is = rw (take_rest text (i + 1), add-one) (split_at text i none inside is)
+
+-- a text has a piece
+pub some_piece : (text : List ℕ) → (p : List ℕ) × (ps : List (List ℕ)) × (pieces 58 text ≡ p ∷ ps)
+some_piece [] = ([], [], refl)
+some_piece (c ∷ cs) = go (nat_eq c 58) (pieces 58 cs)
+  where
+    go : (b : Bool) (qs : List (List ℕ)) → (p : List ℕ) × (ps : List (List ℕ)) × (cut b c qs ≡ p ∷ ps)
+    go true qs = ([], qs, refl)
+    go false [] = (c ∷ [], [], refl)
+    go false (q ∷ qs) = (c ∷ q, qs, refl)
+
+-- ---- joined parts
+
+parts_three : (q : List ℕ) (ps : List (List ℕ)) → are_parts 3 (q ∷ ps) ≡ (is_part q && nat_le (length ps) 2 && list_all is_part ps)
+parts_three q [] = go (is_part q)
+  where
+    go : (b : Bool) → b ≡ (b && true && true)
+    go true = refl
+    go false = refl
+parts_three q (r ∷ []) = go (is_part q) (is_part r)
+  where
+    go : (b c : Bool) → (b && c) ≡ (b && true && (c && true))
+    go true true = refl
+    go true false = refl
+    go false c = refl
+parts_three q (r ∷ s ∷ []) = go (is_part q) (is_part r) (is_part s)
+  where
+    go : (b c d : Bool) → (b && (c && d)) ≡ (b && true && (c && (d && true)))
+    go true true true = refl
+    go true true false = refl
+    go true false d = refl
+    go false c d = refl
+parts_three q (r ∷ s ∷ t ∷ ps) =
+    let many : nat_le (length (r ∷ s ∷ t ∷ ps)) 2 ≡ false = grind (arith, nat_tests) in
+    rw many (go (is_part q) (is_part r) (is_part s) (list_all is_part (r ∷ s ∷ t ∷ ps)))
+  where
+    go : (b c d e : Bool) → (b && (c && (d && false))) ≡ (b && false && e)
+    go true true true e = refl
+    go true true false e = refl
+    go true false d e = refl
+    go false c d e = refl
+
+pub joined_alone : (text : List ℕ) (ps : List (List ℕ)) → ps ≡ text ∷ [] → is_joined ps ≡ is_name text
+joined_alone text ps e = rw e refl
+
+pub joined_parts : (first rest text : List ℕ) → pieces 58 text ≡ first ∷ pieces 58 rest → is_joined (pieces 58 text) ≡ (may_lead first && are_parts 3 (pieces 58 rest))
+joined_parts first rest text e =
+    let some = some_piece rest in
+    rw (e, some.2, parts_three some.0 some.1) (go (may_lead first) (is_part some.0) (nat_le (length some.1) 2) (list_all is_part some.1))
+  where
+    go : (a b c d : Bool) → (a && b && c && d) ≡ (a && (b && c && d))
+    go true b c d = refl
+    go false b c d = refl
+
+-- ---- loops over parts
+
+pub parts_alone : (most : ℕ) (text : List ℕ) (ps : List (List ℕ)) → 0 < most → ps ≡ text ∷ [] → are_parts most ps ≡ is_part text
+parts_alone zero text ps h e = absurd (omega arith)
+parts_alone (suc most) text ps h e = rw e refl
+
+pub parts_more : (most : ℕ) (first rest : List ℕ) (ps : List (List ℕ)) → 0 < most → ps ≡ first ∷ pieces 58 rest → are_parts most ps ≡ (is_part first && are_parts (most - 1) (pieces 58 rest))
+parts_more zero first rest ps h e = absurd (omega arith)
+parts_more (suc most) first rest ps h e =
+    let some = some_piece rest in
+    let one : suc most - 1 ≡ most = omega arith in
+    rw (e, one, some.2) refl
+
+pub not_true : (b : Bool) → (b ≡ true → false ≡ true) → false ≡ b
+not_true true p = p refl
+not_true false p = refl
+
+-- ---- digits
+
+no_start : (c : ℕ) → is_digit c 10 ≡ true → is_start c ≡ false
+no_start c p = grind (arith, nat_tests)
+
+no_colon : (c : ℕ) → is_digit c 10 ≡ true → c ≢ 58
+no_colon c p = grind (arith, nat_tests)
+
+digit_piece : (w : List ℕ) → list_all (λ c. is_digit c 10) w ≡ true → pieces 58 w ≡ w ∷ []
+digit_piece [] p = refl
+digit_piece (c ∷ cs) p = go (is_digit c 10) refl p (digit_piece cs)
+  where
+    go : (b : Bool) → is_digit c 10 ≡ b → (b && list_all (λ k. is_digit k 10) cs) ≡ true → (list_all (λ k. is_digit k 10) cs ≡ true → pieces 58 cs ≡ cs ∷ []) → pieces 58 (c ∷ cs) ≡ (c ∷ cs) ∷ []
+    go false e q known = absurd (cc q)
+    go true e q known = past c cs (no_colon c e) ∙ ap (cut false c) (known q)
+
+-- no tag name is digits
+pub no_digits : (w : List ℕ) → are_digits 10 w ≡ true → is_tag_name w ≡ false
+no_digits [] p = absurd (cc p)
+no_digits (c ∷ cs) p = rw (digit_piece (c ∷ cs) p) (go (is_digit c 10) refl p)
+  where
+    none : (a b d : Bool) → (a && (b && (false && d))) ≡ false
+    none true true d = refl
+    none true false d = refl
+    none false b d = refl
+
+    go : (b : Bool) → is_digit c 10 ≡ b → (b && list_all (λ k. is_digit k 10) cs) ≡ true → (nat_le (length (c ∷ cs)) 80 && is_name (c ∷ cs)) ≡ false
+    go false e q = absurd (cc q)
+    go true e q = rw (no_start c e) (none (nat_le (length (c ∷ cs)) 80) (nat_le (length (c ∷ cs)) 40) (goes_on c cs))

@@ -1,0 +1,16 @@
+use Rattle.std.proofs.Common.{◌≡◌, ℕ, arith, ap, sym, ◌∙◌}
+use Rattle.std.specs.Prelude.{List}
+use Rattle.lgx_tags.proofs.Spans.{none_laid}
+use Rattle.std.specs.List.{AllByRecursion as Each}
+use Rattle.lgx_machine.specs.Declarations.{Entry, bytes}
+use Rattle.lgx_tags.specs.Tables.{IsLetIn, keys_of}
+use Rattle.lgx_tags.proofs.declared.Declared.new.Goals as goal
+
+pub invariant_of-result : goal.invariant_of-result
+invariant_of-result c = record {
+  let_in = rw c.new-2.ensures.items tt;
+  keyed = c.new.ensures.empty ∙ sym (ap keys_of c.new-2.ensures.items);
+  counted = rw c.new-2.ensures.items (sym (none_laid c.args.types c.args.programs));
+  room = omega arith;
+  few = rw c.new-2.ensures.items (omega arith)
+}

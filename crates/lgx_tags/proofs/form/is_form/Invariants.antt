@@ -1,0 +1,14 @@
+use Rattle.std.proofs.Common.{◌≡◌, ◌+◌, ◌≤◌, length}
+use Rattle.std.specs.Option.{is_some}
+use Rattle.lgx_machine.specs.OperandForm.{tokens, form}
+use Rattle.lgx_tags.specs.Shapes.{goes_on}
+use Rattle.lgx_tags.proofs.form.is_form.Given as goal
+
+abbrev pub invariant-loop-part : goal.invariant-loop-part
+invariant-loop-part l = record {
+  reads : goes_on (tokens l.rest) l.shape ≡ is_some (form l.text);
+  room : l.shape.depth + length l.rest ≤ length l.text;
+}
+
+abbrev pub decreases-loop-part : goal.decreases-loop-part
+decreases-loop-part l = length l.rest

@@ -1,0 +1,20 @@
+use Rattle.std.proofs.Common.{◌≡◌, ℕ, ◌+◌, ◌≤◌, ◌∙◌, sym, ap, arith, drop, length, get_or}
+use Rattle.lgx_machine.specs.declared.types.Base.TheVariants.{Bool as OneBit}
+use Rattle.lgx_machine.specs.Layout.{size_of}
+use Rattle.lgx_tags.specs.Layouts.{lay_end}
+use Rattle.lgx_tags.specs.declared.layout.Numbered.{Numbered}
+use Rattle.lgx_tags.proofs.Rows.{lay_within}
+use Rattle.lgx_tags.proofs.layout.lay.Goals as goal
+
+abbrev none : Numbered
+none = record { entry = 0; of = record { base = OneBit; dim = 0 } }
+
+pub overflow_add-end : goal.overflow_add-end
+overflow_add-end c =
+    let within : c.loop-tag.at + size_of c.args.types.now (get_or c.args.order.now c.loop-tag.tag-index none).of ≤ lay_end c.args.types.now c.loop-tag.at (drop c.loop-tag.tag-index c.args.order.now) = lay_within c.args.types.now c.loop-tag.at c.loop-tag.tag-index c.args.order.now none c.loop-tag-test.true in
+    omega (arith, within, c.size_of.ensures.value, c.loop-tag.invariant.1, c.requires.room)
+
+pub round_up-at-requires : goal.round_up-at-requires
+round_up-at-requires c =
+    let within : c.loop-tag.at + size_of c.args.types.now (get_or c.args.order.now c.loop-tag.tag-index none).of ≤ lay_end c.args.types.now c.loop-tag.at (drop c.loop-tag.tag-index c.args.order.now) = lay_within c.args.types.now c.loop-tag.at c.loop-tag.tag-index c.args.order.now none c.loop-tag-test.true in
+    omega (arith, within, c.size_of.ensures.value, c.loop-tag.invariant.1, c.requires.room)

@@ -1,0 +1,32 @@
+use Rattle.std.proofs.Common.{◌≡◌, ◌∙◌, ℕ, ap, sym, subst}
+use Rattle.std.specs.Prelude.{List, [], Ok}
+use Rattle.lgx_machine.specs.declared.types.TypeDecl.{TypeDecl}
+use Rattle.lgx_machine.specs.declared.tag.Found.{Found}
+use Rattle.lgx_machine.specs.Declarations.{Declarations, bytes}
+use Rattle.lgx_machine.specs.Resolution.{in_form, named}
+use Rattle.lgx_machine.specs.ResolutionLaws.{LiesIn}
+use Rattle.lgx_tags.specs.Chains.{Answer, Known, named_by, Walked}
+use Rattle.lgx_tags.specs.Tables.{Table}
+use Rattle.lgx_tags.specs.Walk.{Answers, subscripts_of}
+use Rattle.lgx_tags.proofs.Declares.{ArePlaced, all_placed}
+use Rattle.lgx_tags.proofs.Walked.{walked_named}
+use Rattle.lgx_tags.proofs.Passes.{names_lie}
+use Rattle.lgx_tags.proofs.Told.{form_same}
+use Rattle.lgx_tags.proofs.table.TagTable.resolve_with.Goals as goal
+
+pub resolve_text-requires-clause-lie : goal.resolve_text-requires-clause-lie
+resolve_text-requires-clause-lie c name f p =
+    let d : Declarations = c.self.inside.declared in
+    let view : c.args.self.now.declarations ≡ d = sym (ap (λ (t : Table). t.declarations) c.self.view_is) in
+    let walked : Walked d c.as_slice-known.result.now = subst (λ (d : Declarations). Walked d c.as_slice-known.result.now) view (subst (Walked c.args.self.now.declarations) (sym c.as_slice-known.ensures.value) c.seal_of.ensures.walked) in
+    let lies : LiesIn d.types (bytes d) f × (f.steps ≡ []) = names_lie d c.as_slice-known.result.now c.args.scope (all_placed d.types d.programs d.entries c.entries.ensures.let_in) walked.partly c.types-types.ensures.sound name f p in
+    subst (λ (types : List TypeDecl). LiesIn types (bytes d) f × (f.steps ≡ [])) (sym c.types-types.ensures.value) lies
+
+pub returns-clause-answer : goal.returns-clause-answer
+returns-clause-answer c =
+    let d : Declarations = c.self.inside.declared in
+    let back : d ≡ c.args.self.now.declarations = ap (λ (t : Table). t.declarations) c.self.view_is in
+    let walked : Walked d c.as_slice-known.result.now = subst (λ (d : Declarations). Walked d c.as_slice-known.result.now) (sym back) (subst (Walked c.args.self.now.declarations) (sym c.as_slice-known.ensures.value) c.seal_of.ensures.walked) in
+    let placed : ArePlaced d.programs d.entries = all_placed d.types d.programs d.entries c.entries.ensures.let_in in
+    let same : in_form (subscripts_of c.args.subscripts) c.types-types.result.now (named_by d.entries c.as_slice-known.result.now c.args.scope) c.args.text.now ≡ in_form (subscripts_of c.args.subscripts) d.types (named d c.args.scope) c.args.text.now = ap (λ (types : List TypeDecl). in_form (subscripts_of c.args.subscripts) types (named_by d.entries c.as_slice-known.result.now c.args.scope) c.args.text.now) c.types-types.ensures.value ∙ form_same (subscripts_of c.args.subscripts) d.types (named_by d.entries c.as_slice-known.result.now c.args.scope) (named d c.args.scope) c.args.text.now (λ name. sym (walked_named d c.as_slice-known.result.now placed walked c.args.scope name)) in
+    subst (λ (d : Declarations). Answers (in_form (subscripts_of c.args.subscripts) d.types (named d c.args.scope) c.args.text.now) c.resolve_text.result) back (subst (λ (meant : Answer). Answers meant c.resolve_text.result) same c.resolve_text.ensures.answer)

@@ -1,0 +1,5 @@
+use Rattle.lgx_tags.proofs.WalkNames.{NoColon}
+use Rattle.lgx_tags.proofs.tag_name.split_colon.Given as goal
+
+abbrev pub invariant-loop-i : goal.invariant-loop-i
+invariant-loop-i l = NoColon l.text l.i

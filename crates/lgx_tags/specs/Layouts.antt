@@ -1,0 +1,64 @@
+-- Where the tags lie: their numbers among the entries, scope by scope, and what is known of each entry when they are laid.
+use Rattle.std.specs.Prelude.{ℕ, zero, suc, ◌+◌, ◌*◌, Bool, cond, List, [], ◌∷◌, ◌++◌, length, map, flat_map, fold, replicate, slice_set, slice_index_or, Result, Ok, Err}
+use Rattle.std.specs.List.{range_with_len}
+use Rattle.lgx_machine.specs.declared.types.DataType.{DataType}
+use Rattle.lgx_machine.specs.declared.types.TypeDecl.{TypeDecl}
+use Rattle.lgx_machine.specs.declared.tag.Scope.{Scope}
+use Rattle.lgx_machine.specs.declared.tag.Scope.TheVariants.{Controller, Program}
+use Rattle.lgx_machine.specs.declared.tag.TagCode.{TagCode}
+use Rattle.lgx_machine.specs.declared.tag.TagCode.TheVariants.{G7}
+use Rattle.lgx_machine.specs.Layout.{round_up, size_of}
+use Rattle.lgx_machine.specs.Declarations.{Meaning, tag, alias, Entry, Declarations, same_scope}
+use Rattle.lgx_tags.specs.declared.layout.Numbered.{Numbered}
+use Rattle.lgx_tags.specs.declared.layout.Laid.{Laid}
+use Rattle.lgx_tags.specs.declared.layout.Spot.{Spot}
+
+-- the scopes in the order of the layout, and the place of a scope among them
+abbrev pub scopes : ℕ → List Scope
+scopes programs = Controller ∷ map Program (range_with_len 0 programs)
+
+abbrev pub slot_of : Scope → ℕ
+slot_of Controller = 0
+slot_of (Program p) = p + 1
+
+-- the tags of a scope in order of declaration, with their numbers among all entries
+abbrev pub numbered : ℕ → Meaning → List Numbered
+numbered n (tag of) = record { entry = n; of = of } ∷ []
+numbered n (alias target) = []
+
+abbrev pub tags_in : Scope → ℕ → List Entry → List Numbered
+tags_in s n [] = []
+tags_in s n (e ∷ es) = cond (same_scope e.scope s) (numbered n e.meaning) [] ++ tags_in s (suc n) es
+
+-- the entry of a number put behind the tags of its scope
+abbrev pub with_entry : List (List Numbered) → ℕ → Scope → Meaning → List (List Numbered)
+with_entry rows n s (tag of) = slice_set rows (slot_of s) (slice_index_or rows (slot_of s) [] ++ record { entry = n; of = of } ∷ [])
+with_entry rows n s (alias target) = rows
+
+abbrev pub rows_of : List Entry → ℕ → List (List Numbered)
+rows_of entries programs = map (λ s. tags_in s 0 entries) (scopes programs)
+
+abbrev pub order_of : Declarations → List Numbered
+order_of d = flat_map (λ s. tags_in s 0 d.entries) (scopes d.programs)
+
+-- each tag behind the one before it, at the next multiple of 4
+abbrev pub lay : List TypeDecl → ℕ → List Numbered → List Laid
+lay types at [] = []
+lay types at (t ∷ ts) = record { entry = t.entry; of = t.of; start = at; end = at + size_of types t.of } ∷ lay types (round_up 4 (at + size_of types t.of)) ts
+
+abbrev pub lay_end : List TypeDecl → ℕ → List Numbered → ℕ
+lay_end types at [] = at
+lay_end types at (t ∷ ts) = lay_end types (round_up 4 (at + size_of types t.of)) ts
+
+abbrev pub laid_of : Declarations → List Laid
+laid_of d = lay d.types 0 (order_of d)
+
+-- a tag is a place from the beginning; of an alias it isn't known where its chain ends
+abbrev pub spot_of : Laid → Spot
+spot_of l = record { at = 8 * l.start; of = l.of; stop = l.end }
+
+abbrev pub with_tag : List (Result Spot TagCode) → Laid → List (Result Spot TagCode)
+with_tag known l = slice_set known l.entry (Ok (spot_of l))
+
+abbrev pub known_from : ℕ → List Laid → List (Result Spot TagCode)
+known_from count laid = fold with_tag (replicate count (Err G7)) laid

@@ -1,0 +1,14 @@
+pub mod Meanings
+pub mod Keys
+pub mod Scopes
+pub mod Tables
+pub mod Layouts
+pub mod Starts
+pub mod Chains
+pub mod Sealing
+pub mod Sealed
+pub mod Parts
+pub mod Shapes
+pub mod TagNames
+pub mod Walk
+pub mod Fresh

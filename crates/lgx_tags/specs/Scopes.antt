@@ -1,0 +1,8 @@
+-- Scopes that a table has: the controller's, and those of its programs.
+use Rattle.std.specs.Prelude.{ℕ, ◌<◌, ⊤}
+use Rattle.lgx_machine.specs.declared.tag.Scope.{Scope}
+use Rattle.lgx_machine.specs.declared.tag.Scope.TheVariants.{Controller, Program}
+
+abbrev pub IsScopeOf : ℕ → Scope → Type 0
+IsScopeOf programs Controller = ⊤
+IsScopeOf programs (Program p) = p < programs

@@ -1,0 +1,46 @@
+-- A sealed table, and the tags that it tells of.
+use Rattle.std.specs.Prelude.{◌≡◌, ℕ, ◌+◌, ◌<◌, Bool, List, length, map, filter, Option, Some, None, ⊤}
+use Rattle.lgx_machine.specs.declared.types.TypeDecl.{TypeDecl}
+use Rattle.lgx_machine.specs.declared.tag.TagCode.{TagCode}
+use Rattle.lgx_machine.specs.Declarations.{Entry, Declarations, entry_size, laid}
+use Rattle.lgx_machine.specs.Resolution.{seal_fault}
+use Rattle.lgx_tags.specs.Meanings.{is_tag}
+use Rattle.lgx_tags.specs.Layouts.{laid_of}
+use Rattle.lgx_tags.specs.Chains.{Known, Walked}
+use Rattle.lgx_tags.specs.declared.layout.Laid.{Laid}
+use Rattle.lgx_tags.specs.declared.error.SealError.{SealError}
+use Rattle.lgx_tags.specs.declared.error.SealError.TheVariants.{Alias, Memory}
+use Rattle.lgx_tags.specs.declared.span.TagSpan.{TagSpan}
+
+-- ---- the tags in the order of the layout
+
+-- the tags, aliases left out, each with the byte at which it begins
+abbrev pub is_laid_tag : ℕ × Entry → Bool
+is_laid_tag x = is_tag x.1.meaning
+
+abbrev pub tags_of : Declarations → List (ℕ × Entry)
+tags_of d = filter is_laid_tag (laid d)
+
+-- a tag's scope and bytes
+abbrev pub span_of : List TypeDecl → ℕ × Entry → TagSpan
+span_of types x = record { scope = x.1.scope; start = x.0; end = x.0 + entry_size types x.1 }
+
+abbrev pub spans_of : Declarations → List TagSpan
+spans_of d = map (span_of d.types) (tags_of d)
+
+abbrev pub tag_names : Declarations → List (List ℕ)
+tag_names d = map (λ x. x.1.name) (tags_of d)
+
+-- ---- sealing
+
+-- a refusal names the first alias with a fault; want of memory may come at any time
+abbrev pub IsSealFault : Option (TagCode × ℕ) → SealError → Type 0
+IsSealFault fault (Alias code alias) = fault ≡ Some (code, alias)
+IsSealFault fault Memory = ⊤
+
+-- what a sealed table keeps: its tags as they are laid, and what each entry stands for
+pub record IsSeal (d : Declarations) (laid : List Laid) (known : List Known) : Type 0 where
+  pub tags : laid ≡ laid_of d
+  pub few : length laid < 4294967296
+  pub walked : Walked d known
+  pub faultless : seal_fault d ≡ None

@@ -1,0 +1,10 @@
+-- The parts of a tag name behind its first colon.
+use Rattle.std.specs.Prelude.{ℕ, zero, suc, Bool, false, ◌&&◌, List, [], ◌∷◌}
+use Rattle.lgx_machine.specs.OperandForm.{is_part}
+
+-- one part or more, at most so many
+abbrev pub are_parts : ℕ → List (List ℕ) → Bool
+are_parts zero ps = false
+are_parts (suc most) [] = false
+are_parts (suc most) (p ∷ []) = is_part p
+are_parts (suc most) (p ∷ q ∷ ps) = is_part p && are_parts most (q ∷ ps)

@@ -1,0 +1,250 @@
+// Tags and aliases in the order in which they are declared.
+ghost use Rattle.std.specs.Prelude.{◌≡◌, ℕ, ◌<◌, ◌≤◌, List, [], ◌∷◌, ◌++◌, None, Some, slice_get, length, vec_len, vec_capacity, position, IfOk, IfSome, IfErr, IsNone, OnOk, OnErr};
+ghost use Rattle.lgx_machine.specs.declared.tag.Scope.{Scope as In};
+ghost use Rattle.lgx_machine.specs.Declarations.{tag, alias, is_named, is_name_in, bytes, declared_as, declare_fault, alias_fault};
+ghost use Rattle.lgx_machine.specs.Resolution.{aliases};
+ghost use Rattle.lgx_machine.specs.ResolutionLaws.{Sound};
+ghost use Rattle.std.specs.List.{AllByRecursion as Each};
+ghost use Rattle.std.specs.Option.{option_or};
+ghost use Rattle.lgx_types.specs.Tables.{HasSize};
+ghost use Rattle.lgx_tags.specs.Chains.{seen_number};
+ghost use Rattle.lgx_tags.specs.Layouts.{laid_of};
+ghost use Rattle.lgx_tags.specs.Scopes.{IsScopeOf};
+ghost use Rattle.lgx_tags.specs.Tables.{IsLetIn, IsRefusal};
+
+use crate::entry::Entry;
+use crate::error::TagError;
+use crate::key::{Key, ROOM};
+use crate::layout::{Known, Laid, by_scope, in_order, lay, round_up};
+use crate::tag_name::{is_name, is_tag_name};
+use indexmap::IndexSet;
+use lgx_machine::{DataType, Scope, TagCode};
+use lgx_num::Memory;
+use lgx_types::TypeTable;
+use std::alloc::Global;
+use std::marker::Model;
+
+/// The length of the longest image, in bytes (profile).
+const LONGEST: u32 = 262144;
+
+// Whether a text may be a tag's name in a scope: a controller's tag may have a name of several parts.
+fn is_name_in(scope: Scope, name: &[u8]) -> bool
+    ensures { result ≡ is_name_in scope name.now }
+{
+    match scope {
+        Scope::Controller => is_tag_name(name),
+        Scope::Program(_) => is_name(name),
+    }
+}
+
+// Pushes an entry where there is room for it.
+fn push_within(entries: &mut Vec<Entry>, entry: Entry)
+    requires { vec_len entries.old < vec_capacity entries.old }
+    ensures { entries.new.items ≡ entries.old.items ++ entry ∷ [] }
+{
+    let _ = entries.push(entry);
+}
+
+/// The types, the number of programs, and the tags and aliases in order of declaration. Their keys stand beside them,
+/// in the same order, and the length of the image is counted as they come, since it doesn't depend on their order.
+#[derive(Drop)]
+pub(crate) struct Declared {
+    alloc: Global,
+    types: TypeTable,
+    programs: u32,
+    keys: IndexSet<Key>,
+    entries: Vec<Entry>,
+    bytes: u32,
+}
+
+impl Model for Declared {
+    ghost use Rattle.lgx_machine.specs.Declarations.{Declarations};
+
+    ghost Value = { Declarations };
+
+    ghost use Rattle.lgx_tags.specs.Tables.{IsKept};
+
+    ghost view = { λ t. record { types = t.types; programs = t.programs; entries = t.entries.items } };
+
+    ghost invariant = { λ t. IsKept (record { types = t.types; programs = t.programs; entries = t.entries.items }) t.keys.keys t.bytes };
+}
+
+impl Declared {
+    /// No entries.
+    pub(crate) fn new(alloc: Global, types: TypeTable, programs: u32) -> Declared
+        ensures { result ≡ record { types = types; programs = programs; entries = [] } }
+    {
+        Declared {
+            alloc,
+            types,
+            programs,
+            keys: IndexSet::new(alloc),
+            entries: Vec::new(alloc),
+            bytes: 0,
+        }
+    }
+
+    /// The number of the first entry of a name in a scope; case doesn't matter. It takes no memory.
+    pub(crate) fn number_of(&self, scope: Scope, name: &[u8]) -> Option<usize>
+        ensures number { result ≡ position (is_named scope name.now) self.now.entries }
+        ensures within { IfSome result (λ i. i < length self.now.entries) }
+    {
+        let keys = &self.keys;
+        if name.len() > ROOM {
+            return None;
+        }
+        let key = Key::of(scope, name);
+        keys.get_index_of(&key)
+    }
+
+    // What is wrong with a name that is to be declared: it is no name of its scope, or its scope has it already.
+    fn name_fault(&self, scope: Scope, name: &[u8]) -> Option<TagCode>
+        ensures fault { result ≡ alias_fault self.now scope name.now }
+        ensures short { IsNone result → length name.now ≤ 80 }
+        ensures free { IsNone result → position (is_named scope name.now) self.now.entries ≡ None }
+    {
+        if !is_name_in(scope, name) {
+            return Some(TagCode::G1);
+        }
+        match self.number_of(scope, name) {
+            Some(_) => Some(TagCode::G2),
+            None => None,
+        }
+    }
+
+    // The length of the image with one more tag of a type.
+    fn bytes_with(&self, of: DataType) -> u32
+        requires sized { HasSize self.now.types of }
+        ensures value { (scope : In) (name : List ℕ) → IsScopeOf self.now.programs scope → result ≡ bytes (declared_as self.now scope name (tag of)) }
+    {
+        self.bytes + round_up(self.types.size_of(of))
+    }
+
+    // Adds an entry behind the others, where the image then has so many bytes.
+    fn add(&mut self, entry: Entry, count: u32) -> Result<(), Memory>
+        requires let_in { IsLetIn self.old.types self.old.programs entry }
+        requires free { position (is_named entry.scope entry.name) self.old.entries ≡ None }
+        requires counted { count ≡ bytes (record self.old { entries = self.old.entries ++ entry ∷ [] }) }
+        requires room { count ≤ 262144 }
+        requires few { length (aliases (record self.old { entries = self.old.entries ++ entry ∷ [] })) < 4294967296 }
+        ensures ok { OnOk result (self.new ≡ record self.old { entries = self.old.entries ++ entry ∷ [] }) }
+        ensures err { OnErr result (self.new ≡ self.old) }
+    {
+        let key = Key::of(entry.scope(), entry.name());
+        self.entries.reserve(1)?;
+        self.keys.insert(key)?;
+        push_within(&mut self.entries, entry);
+        self.bytes = count;
+        Ok(())
+    }
+
+    /// Declares a tag: G1, G2, or G8 where the image would be longer than 262,144 bytes. After a refusal, and for want of
+    /// memory, the declarations are as before.
+    pub(crate) fn declare(
+        &mut self,
+        scope: Scope,
+        name: &[u8],
+        of: DataType,
+    ) -> Result<(), TagError>
+        requires scope { IsScopeOf self.old.programs scope }
+        requires sized { HasSize self.old.types of }
+        ensures ok { OnOk result (self.new ≡ declared_as self.old scope name.now (tag of)) }
+        ensures faultless { OnOk result (declare_fault self.old scope name.now of ≡ None) }
+        ensures fault { IfErr result (λ e. IsRefusal (declare_fault self.old scope name.now of) e) }
+        ensures err { OnErr result (self.new ≡ self.old) }
+    {
+        if let Some(code) = self.name_fault(scope, name) {
+            return Err(TagError::Tag(code));
+        }
+        let bytes = self.bytes_with(of);
+        if bytes > LONGEST {
+            return Err(TagError::Tag(TagCode::G8));
+        }
+        let entry = Entry::tag(self.alloc, scope, name, of)?;
+        self.add(entry, bytes)?;
+        Ok(())
+    }
+
+    /// Declares an alias: G1 or G2. After a refusal, and for want of memory, the declarations are as before.
+    pub(crate) fn alias(
+        &mut self,
+        scope: Scope,
+        name: &[u8],
+        target: &[u8],
+    ) -> Result<(), TagError>
+        requires scope { IsScopeOf self.old.programs scope }
+        requires few { length (aliases self.old) < 4294967295 }
+        ensures ok { OnOk result (self.new ≡ declared_as self.old scope name.now (alias target.now)) }
+        ensures faultless { OnOk result (alias_fault self.old scope name.now ≡ None) }
+        ensures fault { IfErr result (λ e. IsRefusal (alias_fault self.old scope name.now) e) }
+        ensures err { OnErr result (self.new ≡ self.old) }
+    {
+        if let Some(code) = self.name_fault(scope, name) {
+            return Err(TagError::Tag(code));
+        }
+        let bytes = self.bytes;
+        let entry = Entry::alias(self.alloc, scope, name, target)?;
+        self.add(entry, bytes)?;
+        Ok(())
+    }
+
+    /// The number of the entry that a name is seen as from a scope: a program's own entries hide the controller's.
+    pub(crate) fn seen_number(&self, scope: Scope, name: &[u8]) -> Option<usize>
+        ensures number { result ≡ seen_number self.now.entries scope name.now }
+        ensures within { IfSome result (λ i. i < length self.now.entries) }
+    {
+        let own = self.number_of(scope, name);
+        match (own, scope) {
+            (Some(i), _) => Some(i),
+            (None, Scope::Controller) => None,
+            (None, Scope::Program(_)) => self.number_of(Scope::Controller, name),
+        }
+    }
+
+    /// The entries in order of declaration.
+    pub(crate) fn entries(&self) -> &[Entry]
+        ensures value { result.now ≡ self.now.entries }
+        ensures let_in { Each (IsLetIn self.now.types self.now.programs) self.now.entries }
+        ensures few { length (aliases self.now) < 4294967296 }
+    {
+        &self.entries
+    }
+
+    /// The entry of a number.
+    pub(crate) fn entry(&self, i: usize) -> &Entry
+        requires { i < length self.now.entries }
+        ensures { slice_get self.now.entries i ≡ Some result.now }
+    {
+        &self.entries[i]
+    }
+
+    /// The types, which are sound, as are the declarations.
+    pub(crate) fn types(&self) -> &TypeTable
+        ensures value { result.now ≡ self.now.types }
+        ensures sound { Sound self.now }
+    {
+        self.types.structures();
+        &self.types
+    }
+
+    /// The length of the image.
+    pub(crate) fn bytes(&self) -> u32
+        ensures value { result ≡ bytes self.now }
+        ensures room { result ≤ 262144 }
+    {
+        self.bytes
+    }
+
+    pub(crate) fn alloc(&self) -> Global {
+        self.alloc
+    }
+
+    /// The tags in the order of the layout, each where it lies.
+    pub(crate) fn laid(&self) -> Result<Vec<Laid>, Memory>
+        ensures { IfOk result (λ laid. laid.items ≡ laid_of self.now) }
+    {
+        let rows = by_scope(self.alloc, &self.entries, self.programs)?;
+        let order = in_order(self.alloc, &rows)?;
+        lay(self.alloc, &self.types, &order)
+    }
+}

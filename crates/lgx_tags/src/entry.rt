@@ -1,0 +1,116 @@
+// Tags and aliases as they are declared.
+ghost use Rattle.std.specs.Prelude.{◌≡◌, IfOk, option_copied};
+ghost use Rattle.lgx_machine.specs.Declarations.{alias, tag};
+ghost use Rattle.lgx_machine.specs.Resolution.{target_of};
+ghost use Rattle.lgx_tags.specs.Chains.{is_target};
+ghost use Rattle.lgx_tags.specs.Meanings.{type_in};
+
+use lgx_machine::{DataType, Scope};
+use lgx_num::{List, Memory};
+use std::alloc::Global;
+use std::marker::Model;
+
+/// What a name is declared as: a tag of a type, or another name for what its target text names.
+#[derive(Drop)]
+pub(crate) enum Meaning {
+    Tag(DataType),
+    Alias(List<u8>),
+}
+
+/// A tag or an alias, with its scope and its name as it was written.
+#[derive(Drop)]
+pub(crate) struct Entry {
+    scope: Scope,
+    name: List<u8>,
+    meaning: Meaning,
+}
+
+impl Model for Entry {
+    ghost use Rattle.lgx_machine.specs.Declarations.{Entry as Declared};
+
+    ghost Value = { Declared };
+
+    ghost use Rattle.lgx_tags.specs.Meanings.{meaning_of};
+
+    ghost view = { λ e. record { scope = e.scope; name = e.name; meaning = meaning_of e.meaning } };
+}
+
+fn copied(alloc: Global, text: &[u8]) -> Result<List<u8>, Memory>
+    ensures { IfOk result (λ copy. copy ≡ text.now) }
+{
+    Ok(List::of(Vec::from_slice(alloc, text)?))
+}
+
+impl Entry {
+    /// A tag.
+    pub(crate) fn tag(
+        alloc: Global,
+        scope: Scope,
+        name: &[u8],
+        of: DataType,
+    ) -> Result<Entry, Memory>
+        ensures { IfOk result (λ e. e ≡ record { scope = scope; name = name.now; meaning = tag of }) }
+    {
+        Ok(Entry {
+            scope,
+            name: copied(alloc, name)?,
+            meaning: Meaning::Tag(of),
+        })
+    }
+
+    /// An alias.
+    pub(crate) fn alias(
+        alloc: Global,
+        scope: Scope,
+        name: &[u8],
+        target: &[u8],
+    ) -> Result<Entry, Memory>
+        ensures { IfOk result (λ e. e ≡ record { scope = scope; name = name.now; meaning = alias target.now }) }
+    {
+        Ok(Entry {
+            scope,
+            name: copied(alloc, name)?,
+            meaning: Meaning::Alias(copied(alloc, target)?),
+        })
+    }
+
+    pub(crate) fn scope(&self) -> Scope
+        ensures { result ≡ self.now.scope }
+    {
+        self.scope
+    }
+
+    /// The name as it was written.
+    pub(crate) fn name(&self) -> &[u8]
+        ensures { result.now ≡ self.now.name }
+    {
+        self.name.as_slice()
+    }
+
+    /// The type of a tag; none for an alias.
+    pub(crate) fn tag_type(&self) -> Option<DataType>
+        ensures { result ≡ type_in self.now.meaning }
+    {
+        match self.meaning {
+            Meaning::Tag(of) => Some(of),
+            Meaning::Alias(_) => None,
+        }
+    }
+
+    /// The target of an alias; none for a tag.
+    pub(crate) fn target(&self) -> Option<&[u8]>
+        ensures { option_copied result ≡ target_of self.now.meaning }
+    {
+        match &self.meaning {
+            Meaning::Tag(_) => None,
+            Meaning::Alias(target) => Some(target.as_slice()),
+        }
+    }
+
+    /// Whether it is an alias.
+    pub(crate) fn is_alias(&self) -> bool
+        ensures { result ≡ is_target self.now.meaning }
+    {
+        matches!(self.meaning, Meaning::Alias(_))
+    }
+}

@@ -1,0 +1,49 @@
+// Names in their scopes, as they are looked up.
+ghost use Rattle.std.specs.Prelude.{◌≡◌, ◌≤◌, length};
+ghost use Rattle.lgx_tags.specs.Keys.{key_of, program_of, lowered};
+
+use lgx_machine::Scope;
+
+/// The length of the longest tag name, in bytes.
+pub(crate) const ROOM: usize = 80;
+
+/// A name in its scope, in lower case, so that names that differ in case alone have one key. It takes no memory.
+#[derive(Clone, Copy, PartialEq, Eq, Hash)]
+pub(crate) struct Key {
+    program: Option<u32>,
+    len: usize,
+    bytes: [u8; ROOM],
+}
+
+fn program_of(scope: Scope) -> Option<u32>
+    ensures { result ≡ program_of scope }
+{
+    match scope {
+        Scope::Controller => None,
+        Scope::Program(program) => Some(program),
+    }
+}
+
+fn lowered(name: &[u8]) -> [u8; ROOM]
+    requires { length name.now ≤ 80 }
+    ensures { result ≡ lowered name.now }
+{
+    let mut bytes = [0u8; ROOM];
+    bytes[..name.len()].copy_from_slice(name);
+    bytes.make_ascii_lowercase();
+    bytes
+}
+
+impl Key {
+    /// The key of a name of at most 80 bytes.
+    pub(crate) fn of(scope: Scope, name: &[u8]) -> Key
+        requires { length name.now ≤ 80 }
+        ensures { result ≡ key_of scope name.now }
+    {
+        Key {
+            program: program_of(scope),
+            len: name.len(),
+            bytes: lowered(name),
+        }
+    }
+}

@@ -1,0 +1,27 @@
+//! Tags and aliases: declaring them, laying the tags out in the image, and finding what an operand's text names.
+//!
+//! A [`TagTable`] takes the declarations one by one, is sealed, and then resolves texts: a tag stands for itself, an
+//! alias for what its target names in the alias's own scope, and a program's own names hide the controller's. What a
+//! text names is the definition `found` of `lgx_machine`.
+#![tactic(auto)]
+
+mod declared;
+mod entry;
+mod error;
+mod form;
+mod key;
+mod layout;
+mod part;
+mod resolve;
+mod seal;
+mod span;
+mod subscript;
+mod table;
+mod tag_name;
+#[cfg(test)]
+mod tests;
+
+pub use error::{SealError, TagError};
+pub use lgx_machine::{Found, Scope, TagCode};
+pub use span::TagSpan;
+pub use table::TagTable;

@@ -1,0 +1,197 @@
+// What an operand's text names.
+ghost use Rattle.std.specs.Prelude.{◌≡◌, ◌+◌, ◌≤◌, [], IfOk, IsTrue};
+ghost use Rattle.lgx_machine.specs.Layout.{single};
+ghost use Rattle.lgx_machine.specs.OperandForm.{are_digits};
+ghost use Rattle.lgx_machine.specs.Resolution.{in_form};
+ghost use Rattle.lgx_machine.specs.ResolutionLaws.{LiesIn, width};
+ghost use Rattle.lgx_types.specs.Tables.{HasSize};
+ghost use Rattle.lgx_tags.specs.Parts.{part_seen, IsFit};
+ghost use Rattle.lgx_tags.specs.Walk.{subscripts_of, Answers, NamesLie, dotted_at, element_at, open_at, close_at, step, end_behind, AllPlaced, AreSized};
+
+use crate::error::TagError;
+use crate::form::is_form;
+use crate::part::{Part, first_part, split_word};
+use crate::subscript::{find_dotted, find_element, find_indexed, is_array, number_of};
+use lgx_machine::{Found, TagCode};
+use lgx_types::TypeTable;
+use std::alloc::Global;
+use std::marker::Model;
+
+#[cfg(test)]
+mod tests;
+
+/// What may be a subscript.
+#[derive(Clone, Copy)]
+pub(crate) enum Subscripts {
+    /// A number, or an operand that names an integer.
+    Operands,
+    /// A number: an operand in brackets is G6.
+    NumbersAlone,
+}
+
+/// What the names of tags stand for, seen from one scope.
+pub(crate) trait Names {
+    ghost use Rattle.std.specs.Prelude.{◌≡◌, ℕ, List, Result};
+    ghost use Rattle.lgx_machine.specs.declared.tag.Found.{Found as Place};
+    ghost use Rattle.lgx_machine.specs.declared.tag.TagCode.{TagCode as Code};
+
+    // what each name stands for, and the length of the image that all of it lies in
+    ghost named: { Self → List ℕ → Result Place Code };
+
+    ghost bytes: { Self → ℕ };
+
+    /// What a name stands for: a tag stands for itself, an alias for what its target names.
+    fn named(&self, name: &[u8]) -> Result<Found, TagCode>
+        ensures { result ≡ named self.now name.now };
+}
+
+/// A text that is read from left to right: what is found so far, and the arrays whose brackets are open, the innermost last.
+#[derive(Drop)]
+struct Reading {
+    arrays: Vec<Found>,
+    found: Found,
+}
+
+impl Model for Reading {
+    ghost use Rattle.std.specs.Prelude.{reverse};
+    ghost use Rattle.lgx_tags.specs.Walk.{Reading as Read};
+
+    ghost Value = { Read };
+
+    ghost view = { λ r. record { arrays = reverse r.arrays.items; found = r.found } };
+}
+
+impl Reading {
+    // The name of the text's tag is read.
+    fn new(alloc: Global, found: Found) -> Self
+        ensures { result ≡ record { arrays = []; found = found } }
+    {
+        Reading {
+            arrays: Vec::new(alloc),
+            found,
+        }
+    }
+
+    // A bracket and the name of the tag behind it: G5 where it stands at no array.
+    fn open<N: Names>(
+        self,
+        subscripts: Subscripts,
+        names: &N,
+        name: &[u8],
+    ) -> Result<Self, TagError>
+        ensures { Answers (open_at (subscripts_of subscripts) (N.named names.now) name.now self) result }
+    {
+        if !is_array(self.found.of) {
+            return Err(TagError::Tag(TagCode::G5));
+        }
+        if let Subscripts::NumbersAlone = subscripts {
+            return Err(TagError::Tag(TagCode::G6));
+        }
+        let inner = names.named(name)?;
+        let Reading { mut arrays, found } = self;
+        arrays.push(found)?;
+        Ok(Reading {
+            arrays,
+            found: inner,
+        })
+    }
+
+    // A dot and a word.
+    fn go_in(self, types: &TypeTable, word: &[u8]) -> Result<Self, TagError>
+        requires { self.found.at ≤ 2097152 }
+        ensures { Answers (dotted_at types.now word.now self) result }
+    {
+        let Reading { arrays, found } = self;
+        let found = find_dotted(types, found, word)?;
+        Ok(Reading { arrays, found })
+    }
+
+    // Digits in brackets.
+    fn pick(self, types: &TypeTable, digits: &[u8]) -> Result<Self, TagError>
+        requires digits { IsTrue (are_digits 10 digits.now) }
+        requires size { HasSize types.now (single self.found.of.base) }
+        requires room { self.found.at + width types.now self.found.of ≤ 2097152 }
+        ensures { Answers (element_at types.now digits.now self) result }
+    {
+        let Reading { arrays, found } = self;
+        let found = find_element(types, found, number_of(digits))?;
+        Ok(Reading { arrays, found })
+    }
+
+    // The bracket that closes the innermost one.
+    fn close(self, types: &TypeTable) -> Result<Self, TagError>
+        requires { AreSized types.now self.arrays }
+        ensures { Answers (close_at types.now self.arrays self.found) result }
+    {
+        let Reading { mut arrays, found } = self;
+        let Some(array) = arrays.pop() else {
+            return Err(TagError::Tag(TagCode::G10));
+        };
+        let found = find_indexed(types, array, &found)?;
+        Ok(Reading { arrays, found })
+    }
+
+    // One more part of the text.
+    fn step<N: Names>(
+        self,
+        part: Part,
+        subscripts: Subscripts,
+        types: &TypeTable,
+        names: &N,
+    ) -> Result<Self, TagError>
+        requires fit { IsFit (part_seen part) }
+        requires placed { AllPlaced types.now (N.bytes names.now) self }
+        requires room { N.bytes names.now ≤ 262144 }
+        ensures { Answers (step (subscripts_of subscripts) types.now (N.named names.now) (part_seen part.entry) self) result }
+    {
+        match part {
+            Part::Dotted(word) => self.go_in(types, word),
+            Part::Element(digits) => self.pick(types, digits),
+            Part::Opened(name) => self.open(subscripts, names, name),
+            Part::Closed => self.close(types),
+        }
+    }
+
+    // The end of the text, behind what no part begins.
+    fn end(self, rest: &[u8]) -> Result<Found, TagError>
+        ensures { Answers (end_behind rest.now self) result }
+    {
+        let Reading { arrays, found } = self;
+        if rest.is_empty() && arrays.is_empty() {
+            Ok(found)
+        } else {
+            Err(TagError::Tag(TagCode::G10))
+        }
+    }
+}
+
+/// What an operand's text names, or the first cause why it names nothing.
+///
+/// G10, that the text is no operand form, comes before all others; these come as they are met from left to right. Memory is
+/// taken for brackets that stand open alone, and nothing recurses on how deep they are.
+pub(crate) fn resolve_text<N: Names>(
+    alloc: Global,
+    text: &[u8],
+    subscripts: Subscripts,
+    types: &TypeTable,
+    names: &N,
+) -> Result<Found, TagError>
+    requires lie { NamesLie types.now (N.bytes names.now) (N.named names.now) }
+    requires room { N.bytes names.now ≤ 262144 }
+    ensures answer { Answers (in_form (subscripts_of subscripts) types.now (N.named names.now) text.now) result }
+    ensures lies { IfOk result (λ f. LiesIn types.now (N.bytes names.now) f) }
+    ensures fixed { subscripts ≡ Subscripts.NumbersAlone → IfOk result (λ f. f.steps ≡ []) }
+{
+    if !is_form(text) {
+        return Err(TagError::Tag(TagCode::G10));
+    }
+    // the types are sound, so that no sum below is too great
+    types.structures();
+    let (name, mut rest) = split_word(text);
+    let mut reading = Reading::new(alloc, names.named(name)?);
+    while let Some((part, behind)) = first_part(rest) {
+        reading = reading.step(part, subscripts, types, names)?;
+        rest = behind;
+    }
+    reading.end(rest)
+}

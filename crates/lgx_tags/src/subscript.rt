@@ -1,0 +1,190 @@
+// Members, elements and bits of what was found.
+ghost use Rattle.std.specs.Prelude.{◌≡◌, ◌+◌, ◌*◌, ◌≤◌, min, IsTrue, Ok};
+ghost use Rattle.std.specs.Char.{is_digit, digit_value};
+ghost use Rattle.lgx_machine.specs.Layout.{single};
+ghost use Rattle.lgx_machine.specs.OperandForm.{are_digits, digits_number};
+ghost use Rattle.lgx_machine.specs.Resolution.{is_array, is_integer, integer_bits, kind_of, stride, may_index, index_by, find_member, find_element, find_bit, find_indexed};
+ghost use Rattle.lgx_machine.specs.ResolutionLaws.{width};
+ghost use Rattle.lgx_types.specs.Tables.{HasSize};
+ghost use Rattle.lgx_tags.specs.Walk.{find_dotted};
+
+use crate::part::are_digits;
+use lgx_machine::{Base, DataType, Found, TagCode};
+use lgx_num::{Index, Kind, Name, Place};
+use lgx_types::TypeTable;
+
+/// Whether the type is an array.
+pub(crate) fn is_array(of: DataType) -> bool
+    ensures { result ≡ is_array of }
+{
+    of.dim != 0
+}
+
+// The bits that can be picked by number.
+fn integer_bits(base: Base) -> u32
+    ensures { result ≡ integer_bits base }
+{
+    match base {
+        Base::Sint => 8,
+        Base::Int => 16,
+        Base::Dint => 32,
+        Base::Bool | Base::Timer | Base::Counter | Base::User(_) => 0,
+    }
+}
+
+fn is_integer(of: DataType) -> bool
+    ensures { result ≡ is_integer of }
+{
+    !is_array(of) && integer_bits(of.base) > 0
+}
+
+fn kind_of(base: Base) -> Kind
+    ensures { result ≡ kind_of base }
+{
+    match base {
+        Base::Bool => Kind::Bool,
+        Base::Sint => Kind::Sint,
+        Base::Int => Kind::Int,
+        Base::Dint | Base::Timer | Base::Counter | Base::User(_) => Kind::Dint,
+    }
+}
+
+fn single(base: Base) -> DataType
+    ensures { result ≡ single base }
+{
+    DataType { base, dim: 0 }
+}
+
+// The bits from one element of an array to the next: a BOOL's are packed.
+fn stride(types: &TypeTable, base: Base) -> u32
+    requires { HasSize types.now (single base) }
+    ensures { result ≡ stride types.now base }
+{
+    match base {
+        Base::Bool => 1,
+        _ => 8 * types.size_of(single(base)),
+    }
+}
+
+// A number with one more digit, or the greatest number where that is greater.
+fn with_digit(number: u32, digit: u8) -> u32
+    requires { IsTrue (is_digit digit 10) }
+    ensures { result ≡ min (number * 10 + digit_value digit) 4294967295 }
+{
+    number
+        .saturating_mul(10)
+        .saturating_add(u32::from(digit - b'0'))
+}
+
+#[tactic(auto, using(crate::proofs::WalkNumbers::capped_digits, crate::proofs::WalkNumbers::capped_at, crate::proofs::WalkNumbers::digit_at))]
+/// The number that digits make, or the greatest number where that is greater: no subscript or bit is as great.
+pub(crate) fn number_of(digits: &[u8]) -> u32
+    requires { IsTrue (are_digits 10 digits.now) }
+    ensures { result ≡ min (digits_number 10 digits.now) 4294967295 }
+{
+    let mut number = 0;
+    for digit in digits {
+        number = with_digit(number, *digit);
+    }
+    number
+}
+
+/// The member of this name. G4 where there is none; a whole array has none.
+pub(crate) fn find_member(types: &TypeTable, found: Found, name: &Name) -> Result<Found, TagCode>
+    requires { found.at ≤ 2097152 }
+    ensures { result ≡ find_member types.now found name.now }
+{
+    if is_array(found.of) {
+        return Err(TagCode::G4);
+    }
+    match types.member(found.of.base, name) {
+        Some(member) => Ok(Found {
+            at: found.at + member.at,
+            of: member.of,
+            ..found
+        }),
+        None => Err(TagCode::G4),
+    }
+}
+
+/// The element of this number. G5 where it is no array's, or out of range.
+pub(crate) fn find_element(types: &TypeTable, found: Found, number: u32) -> Result<Found, TagCode>
+    requires size { HasSize types.now (single found.of.base) }
+    requires room { found.at + width types.now found.of ≤ 2097152 }
+    ensures { result ≡ find_element types.now found number }
+{
+    if !is_array(found.of) || number >= found.of.dim {
+        return Err(TagCode::G5);
+    }
+    Ok(Found {
+        at: found.at + number * stride(types, found.of.base),
+        of: single(found.of.base),
+        ..found
+    })
+}
+
+/// The bit of this number. G5 where it is no integer's, or out of range.
+pub(crate) fn find_bit(found: Found, number: u32) -> Result<Found, TagCode>
+    requires { found.at ≤ 2097152 }
+    ensures { result ≡ find_bit found number }
+{
+    if !is_integer(found.of) || number >= integer_bits(found.of.base) {
+        return Err(TagCode::G5);
+    }
+    Ok(Found {
+        at: found.at + number,
+        of: single(Base::Bool),
+        ..found
+    })
+}
+
+// Whether it may be a subscript: an integer place that no subscript moves.
+fn may_index(found: &Found) -> bool
+    ensures { result ≡ may_index found.now }
+{
+    is_integer(found.of) && found.steps.is_empty()
+}
+
+/// What an operand in brackets makes of an array. G6 where it is no subscript, G9 where it is the fifth.
+pub(crate) fn find_indexed(
+    types: &TypeTable,
+    array: Found,
+    subscript: &Found,
+) -> Result<Found, TagCode>
+    requires { HasSize types.now (single array.of.base) }
+    ensures { result ≡ find_indexed types.now array (Ok subscript.now) }
+{
+    if !may_index(subscript) {
+        return Err(TagCode::G6);
+    }
+    if array.steps.is_full() {
+        return Err(TagCode::G9);
+    }
+    let mut steps = array.steps;
+    steps.push(Index {
+        of: Place {
+            kind: kind_of(subscript.of.base),
+            at: subscript.at,
+        },
+        stride: stride(types, array.of.base),
+        length: array.of.dim,
+    });
+    Ok(Found {
+        at: array.at,
+        steps,
+        of: single(array.of.base),
+        stop: array.stop,
+    })
+}
+
+/// What a word behind a dot names: a member, or a bit by its number.
+pub(crate) fn find_dotted(types: &TypeTable, found: Found, word: &[u8]) -> Result<Found, TagCode>
+    requires { found.at ≤ 2097152 }
+    ensures { result ≡ find_dotted types.now found word.now }
+{
+    match Name::read(word) {
+        Some(name) => find_member(types, found, &name),
+        None if are_digits(word) => find_bit(found, number_of(word)),
+        None => Err(TagCode::G10),
+    }
+}

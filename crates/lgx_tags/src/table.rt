@@ -1,0 +1,236 @@
+// The table of tags.
+ghost use Rattle.std.specs.Prelude.{◌≡◌, ◌<◌, ◌≤◌, [], true, false, length, map, slice_get, option_map, None, Some, IfOk, IfErr, IfSome, OnOk, OnErr};
+ghost use Rattle.lgx_machine.specs.Declarations.{tag, alias, bytes, declared_as, declare_fault, alias_fault};
+ghost use Rattle.lgx_machine.specs.Resolution.{aliases, found, found_fixed, in_form, named, seal_fault};
+ghost use Rattle.lgx_machine.specs.ResolutionLaws.{LiesIn};
+ghost use Rattle.lgx_types.specs.Tables.{HasSize};
+ghost use Rattle.lgx_tags.specs.Chains.{Walked};
+ghost use Rattle.lgx_tags.specs.Layouts.{laid_of};
+ghost use Rattle.lgx_tags.specs.Scopes.{IsScopeOf};
+ghost use Rattle.lgx_tags.specs.Sealing.{IsSeal, IsSealFault, spans_of, tag_names};
+ghost use Rattle.lgx_tags.specs.Tables.{IsRefusal};
+ghost use Rattle.lgx_tags.specs.Walk.{Answers, subscripts_of};
+
+use crate::declared::Declared;
+use crate::error::{SealError, TagError};
+use crate::layout::{Known, Laid, known_from};
+use crate::resolve::{Subscripts, resolve_text};
+use crate::seal::{Seen, first_bad, walk};
+use crate::span::TagSpan;
+use lgx_machine::{DataType, Found, Scope};
+use lgx_num::Memory;
+use lgx_types::TypeTable;
+use std::alloc::Global;
+use std::marker::Model;
+
+// What is worked out when a table is sealed: its tags as they are laid, and what each entry stands for.
+#[derive(Drop)]
+pub(crate) struct Seal {
+    laid: Vec<Laid>,
+    known: Vec<Known>,
+}
+
+/// The table of tags and aliases: declared first, then sealed, and then resolved from.
+///
+/// Contracts see its declarations, and whether it is sealed.
+#[derive(Drop)]
+pub struct TagTable {
+    declared: Declared,
+    seal: Option<Seal>,
+}
+
+impl Model for TagTable {
+    ghost use Rattle.std.specs.Prelude.{is_some};
+    ghost use Rattle.lgx_tags.specs.Tables.{Table};
+
+    ghost Value = { Table };
+
+    ghost use Rattle.lgx_tags.specs.Sealed.{IsSealedAs};
+
+    ghost view = { λ t. record { declarations = t.declared; sealed = is_some t.seal } };
+
+    ghost invariant = { λ t. IsSealedAs t.declared t.seal };
+}
+
+// Lays the tags out and walks the chains, or names the first alias with a fault.
+fn sealed(declared: &Declared) -> Result<Seal, SealError>
+    ensures ok { IfOk result (λ s. IsSeal declared.now s.laid.items s.known.items) }
+    ensures fault { IfErr result (λ e. IsSealFault (seal_fault declared.now) e) }
+{
+    // there are no more tags than bytes
+    declared.types();
+    declared.bytes();
+    let laid = declared.laid()?;
+    let entries = declared.entries();
+    let mut known = known_from(declared.alloc(), entries.len(), laid.as_slice())?;
+    walk(declared, &mut known)?;
+    match first_bad(entries, known.as_slice()) {
+        Some((code, alias)) => Err(SealError::Alias { code, alias }),
+        None => Ok(Seal { laid, known }),
+    }
+}
+
+impl TagTable {
+    /// A table with no entries, not sealed, over these types and so many programs.
+    pub fn new(alloc: Global, types: TypeTable, programs: u32) -> Result<TagTable, Memory>
+        ensures { IfOk result (λ table. table ≡ record { declarations = record { types = types; programs = programs; entries = [] }; sealed = false }) }
+    {
+        Ok(TagTable {
+            declared: Declared::new(alloc, types, programs),
+            seal: None,
+        })
+    }
+
+    /// Declares a tag: G1 it is no name of its scope, G2 its scope has the name already, G8 the image would be longer
+    /// than 262,144 bytes (profile). After a refusal, and for want of memory, the table is as before.
+    pub fn declare(&mut self, scope: Scope, name: &[u8], of: DataType) -> Result<(), TagError>
+        requires unsealed { self.old.sealed ≡ false }
+        requires scope { IsScopeOf self.old.declarations.programs scope }
+        requires sized { HasSize self.old.declarations.types of }
+        ensures ok { OnOk result (self.new ≡ record { declarations = declared_as self.old.declarations scope name.now (tag of); sealed = false }) }
+        ensures faultless { OnOk result (declare_fault self.old.declarations scope name.now of ≡ None) }
+        ensures fault { IfErr result (λ e. IsRefusal (declare_fault self.old.declarations scope name.now of) e) }
+        ensures err { OnErr result (self.new ≡ self.old) }
+    {
+        self.declared.declare(scope, name, of)
+    }
+
+    /// Declares an alias, another name for what its target names: G1, G2. The target is judged when the table is sealed.
+    /// After a refusal, and for want of memory, the table is as before.
+    pub fn alias(&mut self, scope: Scope, name: &[u8], target: &[u8]) -> Result<(), TagError>
+        requires unsealed { self.old.sealed ≡ false }
+        requires scope { IsScopeOf self.old.declarations.programs scope }
+        requires few { length (aliases self.old.declarations) < 4294967295 }
+        ensures ok { OnOk result (self.new ≡ record { declarations = declared_as self.old.declarations scope name.now (alias target.now); sealed = false }) }
+        ensures faultless { OnOk result (alias_fault self.old.declarations scope name.now ≡ None) }
+        ensures fault { IfErr result (λ e. IsRefusal (alias_fault self.old.declarations scope name.now) e) }
+        ensures err { OnErr result (self.new ≡ self.old) }
+    {
+        self.declared.alias(scope, name, target)
+    }
+
+    /// Seals the table: lays the tags out, the controller's first and then each program's, and walks the chains of the
+    /// aliases. It is refused at the first alias, in order of declaration, whose chain has a fault: G10, G3 to G6, or G7
+    /// where it doesn't end. After a refusal, and for want of memory, the table is as before.
+    pub fn seal(&mut self) -> Result<(), SealError>
+        ensures ok { OnOk result (self.new ≡ record { declarations = self.old.declarations; sealed = true }) }
+        ensures faultless { OnOk result (seal_fault self.old.declarations ≡ None) }
+        ensures fault { IfErr result (λ e. IsSealFault (seal_fault self.old.declarations) e) }
+        ensures err { OnErr result (self.new ≡ self.old) }
+    {
+        let seal = sealed(&self.declared)?;
+        self.seal = Some(seal);
+        Ok(())
+    }
+
+    // What was worked out when the table was sealed.
+    fn seal_of(&self) -> &Seal
+        requires { self.now.sealed ≡ true }
+        ensures { IsSeal self.now.declarations result.now.laid.items result.now.known.items }
+    {
+        match &self.seal {
+            Some(seal) => seal,
+            None => unreachable!(),
+        }
+    }
+
+    // What an operand's text names, seen from a scope.
+    fn resolve_with(
+        &self,
+        alloc: Global,
+        scope: Scope,
+        text: &[u8],
+        subscripts: Subscripts,
+    ) -> Result<Found, TagError>
+        requires { self.now.sealed ≡ true }
+        ensures answer { Answers (in_form (subscripts_of subscripts) self.now.declarations.types (named self.now.declarations scope) text.now) result }
+        ensures lies { IfOk result (λ f. LiesIn self.now.declarations.types (bytes self.now.declarations) f) }
+        ensures fixed { subscripts ≡ Subscripts.NumbersAlone → IfOk result (λ f. f.steps ≡ []) }
+    {
+        let known = self.seal_of().known.as_slice();
+        // the image is short enough for the walk over the text
+        self.declared.bytes();
+        self.declared.entries();
+        let types = self.declared.types();
+        let seen = Seen {
+            declared: &self.declared,
+            known,
+            scope,
+        };
+        resolve_text(alloc, text, subscripts, types, &seen)
+    }
+
+    /// What an operand's text names, seen from a scope, whose own names hide the controller's; or the first cause why it
+    /// names nothing, as it is met from left to right: G10, then G3 to G6 and G9.
+    pub fn resolve(&self, alloc: Global, scope: Scope, text: &[u8]) -> Result<Found, TagError>
+        requires { self.now.sealed ≡ true }
+        ensures answer { Answers (found self.now.declarations scope text.now) result }
+        ensures lies { IfOk result (λ f. LiesIn self.now.declarations.types (bytes self.now.declarations) f) }
+    {
+        self.resolve_with(alloc, scope, text, Subscripts::Operands)
+    }
+
+    /// The same where numbers alone may be subscripts: any other subscript is G6.
+    pub fn resolve_fixed(&self, alloc: Global, scope: Scope, text: &[u8]) -> Result<Found, TagError>
+        requires { self.now.sealed ≡ true }
+        ensures answer { Answers (found_fixed self.now.declarations scope text.now) result }
+        ensures lies { IfOk result (λ f. LiesIn self.now.declarations.types (bytes self.now.declarations) f) }
+        ensures fixed { IfOk result (λ f. f.steps ≡ []) }
+    {
+        self.resolve_with(alloc, scope, text, Subscripts::NumbersAlone)
+    }
+
+    /// The length of the image, in bytes.
+    pub fn bytes(&self) -> u32
+        ensures value { result ≡ bytes self.now.declarations }
+        ensures room { result ≤ 262144 }
+    {
+        self.declared.bytes()
+    }
+
+    /// The types that `new` took.
+    pub fn types(&self) -> &TypeTable
+        ensures { result.now ≡ self.now.declarations.types }
+    {
+        self.declared.types()
+    }
+
+    /// The number of tags; aliases aren't counted.
+    pub fn tag_count(&self) -> u32
+        requires { self.now.sealed ≡ true }
+        ensures { result ≡ length (spans_of self.now.declarations) }
+    {
+        let laid = self.seal_of().laid.as_slice();
+        laid.len() as u32
+    }
+
+    /// Tag `i` in the order of the layout; none where there are no more than `i` tags.
+    pub fn tag_at(&self, i: u32) -> Option<TagSpan>
+        requires { self.now.sealed ≡ true }
+        ensures { result ≡ slice_get (spans_of self.now.declarations) i }
+    {
+        let laid = self.seal_of().laid.as_slice();
+        if i as usize >= laid.len() {
+            return None;
+        }
+        let tag = laid[i as usize];
+        let entry = self.declared.entry(tag.entry);
+        Some(TagSpan {
+            scope: entry.scope(),
+            start: tag.start,
+            end: tag.end,
+        })
+    }
+
+    /// The name of tag `i`, as it was written.
+    pub fn tag_name(&self, i: u32) -> &[u8]
+        requires sealed { self.now.sealed ≡ true }
+        requires within { i < length (spans_of self.now.declarations) }
+        ensures { Some result.now ≡ slice_get (tag_names self.now.declarations) i }
+    {
+        let laid = self.seal_of().laid.as_slice();
+        let tag = laid[i as usize];
+        let entry = self.declared.entry(tag.entry);
+        entry.name()
+    }
+}

@@ -1,0 +1,101 @@
+// Which texts are names of tags.
+ghost use Rattle.std.specs.Prelude.{◌≡◌, ◌∷◌, [], IfSome, IsNone};
+ghost use Rattle.std.specs.List.{list_all};
+ghost use Rattle.lgx_num.specs.Name.{is_name, is_name_byte};
+ghost use Rattle.lgx_machine.specs.TextLines.{pieces};
+ghost use Rattle.lgx_machine.specs.OperandForm.{is_part, may_lead, is_joined, is_tag_name};
+ghost use Rattle.lgx_tags.specs.TagNames.{are_parts};
+
+use lgx_num::{Name, same};
+
+// The bytes that a tag name and a part of it have at most.
+const LONGEST: usize = 80;
+
+const LONGEST_PART: usize = 40;
+
+// The parts that may stand behind the first.
+const MOST_PARTS: u32 = 3;
+
+/// Whether a text is a tag name: a name, or 2 to 4 parts joined by colons (profile).
+pub(crate) fn is_tag_name(text: &[u8]) -> bool
+    ensures { result ≡ is_tag_name text.now }
+{
+    text.len() <= LONGEST && is_joined(text)
+}
+
+// A tag name but for its length.
+#[tactic(auto, using(crate::proofs::WalkNames::joined_alone, crate::proofs::WalkNames::joined_parts))]
+fn is_joined(text: &[u8]) -> bool
+    ensures { result ≡ is_joined (pieces 58 text.now) }
+{
+    match split_colon(text) {
+        Some((first, parts)) => may_lead(first) && are_parts(parts),
+        None => is_name(text),
+    }
+}
+
+// A name that may stand before a colon: `S` begins flags, and `Program` a text's scope.
+fn may_lead(part: &[u8]) -> bool
+    ensures { result ≡ may_lead part.now }
+{
+    is_name(part) && !same(part, b"S") && !same(part, b"Program")
+}
+
+/// Whether a text is a name.
+pub(crate) fn is_name(text: &[u8]) -> bool
+    ensures { result ≡ is_name text.now }
+{
+    match Name::read(text) {
+        Some(_) => true,
+        None => false,
+    }
+}
+
+// What stands behind the first colon: one to three parts.
+fn are_parts(text: &[u8]) -> bool
+    ensures { result ≡ are_parts 3 (pieces 58 text.now) }
+{
+    let mut rest = text;
+    for _ in 0..MOST_PARTS {
+        let Some((part, behind)) = split_colon(rest) else {
+            return is_part(rest);
+        };
+        if !is_part(part) {
+            return false;
+        }
+        rest = behind;
+    }
+    false
+}
+
+fn is_part(part: &[u8]) -> bool
+    ensures { result ≡ is_part part.now }
+{
+    !part.is_empty() && part.len() <= LONGEST_PART && are_name_bytes(part)
+}
+
+fn are_name_bytes(part: &[u8]) -> bool
+    ensures { result ≡ list_all is_name_byte part.now }
+{
+    part.iter().all(|byte| is_name_byte(*byte))
+}
+
+fn is_name_byte(byte: u8) -> bool
+    ensures { result ≡ is_name_byte byte }
+{
+    byte.is_ascii_alphanumeric() || byte == b'_'
+}
+
+// What stands before the first colon, and behind it.
+#[tactic(auto, using(crate::proofs::WalkNames::pieces_at, crate::proofs::WalkNames::pieces_whole))]
+fn split_colon(text: &[u8]) -> Option<(&[u8], &[u8])>
+    ensures some { IfSome result (λ r. pieces 58 text.now ≡ r.0.now ∷ pieces 58 r.1.now) }
+    ensures none { IsNone result → pieces 58 text.now ≡ text.now ∷ [] }
+{
+    for (i, byte) in text.iter().enumerate() {
+        if *byte == b':' {
+            return Some((&text[..i], &text[i + 1..]));
+        }
+    }
+    None
+}
