@@ -13,6 +13,8 @@ mod ring;
 mod size;
 mod structures;
 mod table;
+#[cfg(test)]
+mod tests;
 mod walk;
 
 pub use error::TypeError;
