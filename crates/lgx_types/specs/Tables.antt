@@ -1,12 +1,12 @@
 -- What is asked of the table of types, and what it answers.
-use Rattle.std.specs.Prelude.{◌≡◌, ℕ, ◌<◌, ◌≤◌, List, length, map, Some, None, ⊤}
+use Rattle.std.specs.Prelude.{◌≡◌, ℕ, ◌+◌, ◌*◌, ◌<◌, ◌≤◌, List, [], ◌∷◌, slice_index, length, map, Some, None, ⊤}
 use Rattle.std.specs.List.{AllByRecursion as Each}
 use Rattle.lgx_machine.specs.declared.types.Base.{Base}
 use Rattle.lgx_machine.specs.declared.types.Base.TheVariants.{Bool as OneBit, Sint, Int, Dint, Timer, Counter, User}
 use Rattle.lgx_machine.specs.declared.types.DataType.{DataType}
 use Rattle.lgx_machine.specs.declared.types.TypeDecl.{TypeDecl}
 use Rattle.lgx_machine.specs.declared.types.Member.{Member}
-use Rattle.lgx_machine.specs.Layout.{sizes, placed_from}
+use Rattle.lgx_machine.specs.Layout.{sizes, size_in, begin_after, type_of}
 use Rattle.lgx_machine.specs.LayoutLaws.{IsEven}
 use Rattle.lgx_machine.specs.TypeFaults.{type_fault}
 use Rattle.lgx_types.specs.declared.error.TypeError.{TypeError}
@@ -42,15 +42,26 @@ abbrev pub IsFirstFault : List TypeDecl → TypeError → Type 0
 IsFirstFault types (Fault f) = type_fault types ≡ Some f
 IsFirstFault types Memory = ⊤
 
--- the members of each structure, with their places
-abbrev pub layouts_of : List TypeDecl → List (List (List ℕ × Member))
-layouts_of types = map (λ d. placed_from types (sizes types) 0 d.members) types
+-- the places of members of these types, in order, where what stands before them ends at a byte
+abbrev pub places_from : List ℕ → ℕ → List DataType → List Member
+places_from sizes at [] = []
+places_from sizes at (t ∷ ts) = record { of = t; at = 8 * begin_after at t } ∷ places_from sizes (begin_after at t + size_in sizes t) ts
+
+-- the places of the members of each structure
+abbrev pub places_of : List TypeDecl → List (List Member)
+places_of types = map (λ d. places_from (sizes types) 0 (map (type_of types) d.members)) types
+
+-- structure i is the first that is too large
+pub record IsLarge (bytes : List ℕ) (i : ℕ) : Type 0 where
+  pub there : i < length bytes
+  pub large : 4096 < slice_index bytes i
+  pub before : (j : ℕ) → j < i → slice_index bytes j ≤ 4096
 
 -- what a table keeps: declarations without a fault, their sizes, and where their members lie
-pub record IsTable (types : List TypeDecl) (bytes : List ℕ) (layouts : List (List (List ℕ × Member))) : Type 0 where
+pub record IsTable (types : List TypeDecl) (bytes : List ℕ) (places : List (List Member)) : Type 0 where
   pub few : length types < 4294967296
   pub members : Each HasMembers types
   pub faultless : type_fault types ≡ None
   pub sized : bytes ≡ sizes types
   pub small : Each IsSmall bytes
-  pub laid : layouts ≡ layouts_of types
+  pub laid : places ≡ places_of types

@@ -1,36 +1,38 @@
-// The members of a structure, with their first bits.
-ghost use Rattle.std.specs.Prelude.{◌≡◌};
-ghost use Rattle.lgx_machine.specs.Layout.{looked_up};
+// The places of a structure's members.
+ghost use Rattle.std.specs.Prelude.{◌≡◌, ◌≤◌, [], option_and_then, slice_get, slice_index_or, IfOk};
+ghost use Rattle.lgx_types.specs.Walk.{end_of};
+ghost use Rattle.lgx_types.specs.Tables.{places_from};
 
-use lgx_machine::Member;
-use lgx_num::Name;
-use std::marker::Model;
+use crate::size::size_in;
+use crate::walk::{alignment, round_up};
+use lgx_machine::{DataType, Member};
+use lgx_num::{List, Memory};
+use std::alloc::Global;
 
-/// The members of a structure, in order. Contracts see their names and places.
-#[derive(Drop)]
-pub struct Layout {
-    members: Vec<(Name, Member)>,
+/// The places of members of these types, in order, where the structures have these sizes.
+pub fn places(alloc: Global, types: &[DataType], sizes: &[u32]) -> Result<List<Member>, Memory>
+    requires { end_of sizes.now 0 types.now ≤ 4096 }
+    ensures { IfOk result (λ places. places ≡ places_from sizes.now 0 types.now) }
+{
+    let mut places = Vec::with_capacity(alloc, types.len())?;
+    let mut at = 0;
+    for k in 0..types.len() {
+        let of = types[k];
+        let begin = round_up(alignment(of), at);
+        places.push(Member { of, at: 8 * begin })?;
+        at = begin + size_in(sizes, of);
+    }
+    Ok(List::of(places))
 }
 
-impl Model for Layout {
-    ghost use Rattle.std.specs.Prelude.{ℕ, List};
-    ghost use Rattle.lgx_machine.specs.declared.types.Member.{Member};
-
-    ghost Value = { List (List ℕ × Member) };
-
-    ghost view = { λ l. l.members.items };
-}
-
-impl Layout {
-    pub fn get(&self, name: &Name) -> Option<Member>
-        ensures { result ≡ looked_up name.now self.now }
-    {
-        for i in 0..self.members.len() {
-            let (own, member) = &self.members[i];
-            if own.same(name) {
-                return Some(*member);
-            }
+/// The place of member `number` of structure `i`.
+pub fn place_in(places: &[List<Member>], i: u32, number: Option<u32>) -> Option<Member>
+    ensures { result ≡ option_and_then (λ k. slice_get (slice_index_or places.now i []) k) number }
+{
+    match number {
+        Some(k) if (i as usize) < places.len() => {
+            places[i as usize].as_slice().get(k as usize).copied()
         }
-        None
+        _ => None,
     }
 }

@@ -7,8 +7,13 @@
 mod built_in;
 mod error;
 mod layout;
+mod names;
+mod resolved;
+mod ring;
 mod size;
+mod structures;
 mod table;
+mod walk;
 
 pub use error::TypeError;
 pub use lgx_machine::{Base, DataType, Member, MemberDecl, TypeCode, TypeDecl, TypeFault};

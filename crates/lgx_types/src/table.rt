@@ -1,20 +1,22 @@
 // The table of types.
-ghost use Rattle.std.specs.Prelude.{◌≡◌, ◌<◌, ◌≤◌, [], None, length, option_map, slice_index_or, IfSome, IfErr, IfOk, OnOk};
-ghost use Rattle.std.specs.List.{AllByRecursion as Each, position_from};
-ghost use Rattle.std.specs.Option.{option_or};
-ghost use Rattle.lgx_machine.specs.declared.types.Base.TheVariants.{User};
-ghost use Rattle.lgx_num.specs.Name.{same};
-ghost use Rattle.lgx_machine.specs.Layout.{find, looked_up, member, size_of};
+ghost use Rattle.std.specs.Prelude.{◌≡◌, ◌<◌, ◌≤◌, None, [], length, map, take, IfSome, IfNone, IfErr, IfOk, OnOk};
+ghost use Rattle.std.specs.List.{AllByRecursion as Each};
+ghost use Rattle.lgx_machine.specs.declared.types.TypeCode.{TypeCode};
+ghost use Rattle.lgx_machine.specs.Layout.{find, member, size_of, sizes};
 ghost use Rattle.lgx_machine.specs.LayoutLaws.{SoundTypes};
-ghost use Rattle.lgx_machine.specs.TypeFaults.{type_fault};
-ghost use Rattle.lgx_types.specs.Tables.{HasSize, HasMembers, IsFirstFault};
+ghost use Rattle.lgx_machine.specs.TypeFaults.{of_structure, type_fault};
+ghost use Rattle.lgx_types.specs.declared.error.TypeError.TheVariants.{Fault};
+ghost use Rattle.lgx_types.specs.Tables.{HasSize, HasMembers, IsFirstFault, IsLarge, IsSmall, places_of};
 
-use crate::built_in::{built_in, counter_member, timer_member};
+use crate::built_in::{counter_member, timer_member};
 use crate::error::TypeError;
-use crate::layout::Layout;
+use crate::layout::{place_in, places};
+use crate::resolved::Resolved;
+use crate::ring::first_ring;
 use crate::size::size_in;
-use lgx_machine::{Base, DataType, Member, TypeDecl, sizes_are_settled};
-use lgx_num::{List, Name};
+use crate::walk::{Settled, settle};
+use lgx_machine::{Base, DataType, Member, TypeCode, TypeDecl, TypeFault, sizes_are_settled};
+use lgx_num::{List, Memory, Name};
 use std::alloc::Global;
 use std::marker::Model;
 
@@ -23,9 +25,9 @@ use std::marker::Model;
 /// Contracts see the declarations, in order.
 #[derive(Drop)]
 pub struct TypeTable {
-    decls: List<TypeDecl>,
+    resolved: Resolved,
     sizes: Vec<u32>,
-    layouts: Vec<Layout>,
+    places: Vec<List<Member>>,
 }
 
 impl Model for TypeTable {
@@ -35,13 +37,17 @@ impl Model for TypeTable {
 
     ghost Value = { Items TypeDecl };
 
-    ghost view = { λ t. t.decls };
+    ghost view = { λ t. t.resolved };
 
-    ghost invariant = { λ t. IsTable t.decls t.sizes.items t.layouts.items };
+    ghost invariant = { λ t. IsTable t.resolved t.sizes.items t.places.items };
 }
 
 impl TypeTable {
     /// The table of these declarations, or the first fault of them, or want of memory.
+    ///
+    /// The faults of names and members come first, in order of declaration, then a structure that reaches itself, then
+    /// one that is too large. It takes time in proportion to the declarations and members. Only where structures reach
+    /// themselves it takes this time once more for each structure before the first that does.
     pub fn build(alloc: Global, decls: &[TypeDecl]) -> Result<TypeTable, TypeError>
         requires few { length decls.now < 4294967296 }
         requires members { Each HasMembers decls.now }
@@ -49,17 +55,31 @@ impl TypeTable {
         ensures ok { OnOk result (type_fault decls.now ≡ None) }
         ensures fault { IfErr result (λ error. IsFirstFault decls.now error) }
     {
-        Err(TypeError::Memory)
+        let resolved = Resolved::new(alloc, decls)?;
+        match settle(alloc, &resolved)? {
+            Settled::Ring(ring) => {
+                let first = first_ring(alloc, &resolved, ring)?;
+                Err(fault_of(TypeCode::Y3, first))
+            }
+            Settled::Sizes(sizes) => {
+                if let Some(i) = too_large(&sizes) {
+                    return Err(fault_of(TypeCode::Y5, i));
+                }
+                let places = all_places(alloc, &resolved, &sizes)?;
+                Ok(TypeTable {
+                    resolved,
+                    sizes,
+                    places,
+                })
+            }
+        }
     }
 
     /// The type of a name: a built-in type, or the structure of that name; case doesn't matter.
     pub fn find(&self, name: &Name) -> Option<Base>
         ensures { result ≡ find self.now name.now }
     {
-        or_structure(
-            built_in(name.bytes()),
-            structure(self.decls.as_slice(), name),
-        )
+        self.resolved.find(name)
     }
 
     /// The size of a type in bytes. An array of BOOLs takes a bit for each element.
@@ -81,7 +101,7 @@ impl TypeTable {
         match base {
             Base::Timer => timer_member(name.bytes()),
             Base::Counter => counter_member(name.bytes()),
-            Base::User(i) => member_in(&self.layouts, i, name),
+            Base::User(i) => place_in(&self.places, i, self.resolved.member_number(i, name)),
             _ => None,
         }
     }
@@ -95,39 +115,49 @@ impl TypeTable {
         ensures few { length self.now < 4294967296 }
     {
         sizes_are_settled();
-        self.decls.as_slice()
+        self.resolved.decls()
     }
 }
 
-fn or_structure(base: Option<Base>, structure: Option<u32>) -> Option<Base>
-    ensures { result ≡ option_or base (option_map User structure) }
+fn fault_of(code: TypeCode, i: u32) -> TypeError
+    ensures { result ≡ Fault (of_structure code i) }
 {
-    match (base, structure) {
-        (Some(base), _) => Some(base),
-        (None, Some(i)) => Some(Base::User(i)),
-        (None, None) => None,
-    }
+    TypeError::Fault(TypeFault {
+        code,
+        decl: i,
+        member: None,
+    })
 }
 
-fn structure(decls: &[TypeDecl], name: &Name) -> Option<u32>
-    requires { length decls.now < 4294967296 }
-    ensures { result ≡ position_from (λ d. same d.name name.now) 0 decls.now }
+// The first structure that is over 4,096 bytes.
+fn too_large(sizes: &[u32]) -> Option<u32>
+    requires { length sizes.now < 4294967296 }
+    ensures some { IfSome result (λ i. IsLarge sizes.now i) }
+    ensures none { IfNone result (Each IsSmall sizes.now) }
 {
-    for i in 0..decls.len() {
-        if decls[i].name.same(name) {
+    for i in 0..sizes.len() {
+        if sizes[i] > 4096 {
             return Some(i as u32);
         }
     }
     None
 }
 
-fn member_in(layouts: &[Layout], i: u32, name: &Name) -> Option<Member>
-    ensures { result ≡ looked_up name.now (slice_index_or layouts.now i []) }
+// The places of the members of each structure, where the structures have these sizes.
+fn all_places(
+    alloc: Global,
+    resolved: &Resolved,
+    bytes: &[u32],
+) -> Result<Vec<List<Member>>, Memory>
+    requires sized { bytes.now ≡ sizes resolved.now }
+    requires small { Each IsSmall bytes.now }
+    requires sound { SoundTypes resolved.now }
+    ensures { IfOk result (λ places. places.items ≡ places_of resolved.now) }
 {
-    if (i as usize) < layouts.len() {
-        let layout = &layouts[i as usize];
-        layout.get(name)
-    } else {
-        None
+    let count = resolved.decls().len();
+    let mut all = Vec::with_capacity(alloc, count)?;
+    for i in 0..count {
+        all.push(places(alloc, resolved.types_at(i as u32), bytes)?)?;
     }
+    Ok(all)
 }

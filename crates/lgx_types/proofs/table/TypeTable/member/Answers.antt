@@ -1,8 +1,10 @@
-use Rattle.lgx_types.proofs.Members.{laid_member, member_low}
+use Rattle.std.proofs.Common.{◌≡◌, refl}
+use Rattle.lgx_machine.specs.Layout.{member}
+use Rattle.lgx_machine.specs.declared.types.Base.TheVariants.{User}
+use Rattle.lgx_types.proofs.Placed.{laid_member, member_low}
 use Rattle.lgx_types.proofs.table.TypeTable.member.Goals as goal
 
-pub returns-in-User-clause-value : goal.returns-in-User-clause-value
-returns-in-User-clause-value c = rw (c.member_in.ensures, c.deref.ensures.value, c.self.invariant.laid, c.in-User.is, ← c.self.view_is) (laid_member c.self.inside.decls c.in-User.i c.args.name.now)
-
-pub returns-in-User-clause-room : goal.returns-in-User-clause-room
-returns-in-User-clause-room c = member_low _ _ _ c.self.invariant c.in-User.i c.args.name.now _ (rw (c.member_in.ensures, c.deref.ensures.value, c.self.invariant.laid) (laid_member c.self.inside.decls c.in-User.i c.args.name.now))
+pub returns-in-User : goal.returns-in-User
+returns-in-User c =
+    let v : c.place_in.result ≡ member c.self.inside.resolved (User c.in-User.i) c.args.name.now = rw (c.place_in.ensures, c.deref.ensures.value, c.self.invariant.laid, c.member_number.ensures) (laid_member c.self.inside.resolved c.in-User.i c.args.name.now) in
+    record { value = rw (v, c.in-User.is, ← c.self.view_is) refl; room = member_low _ _ _ c.self.invariant c.in-User.i c.args.name.now _ v }

@@ -1,0 +1,6 @@
+use Rattle.std.proofs.Common.{◌≤◌, ◌<◌, ℕ}
+use Rattle.std.specs.Prelude.{slice_index}
+use Rattle.lgx_types.proofs.table.too_large.Given as goal
+
+abbrev pub invariant-loop-i : goal.invariant-loop-i
+invariant-loop-i l = (j : ℕ) → j < l.i → slice_index l.sizes j ≤ 4096

@@ -1,0 +1,177 @@
+// The types of all members, found by their names, and what is wrong with names and members.
+ghost use Rattle.std.specs.Prelude.{◌≡◌, ◌<◌, [], length, IfOk, IfErr};
+ghost use Rattle.std.specs.List.{AllByRecursion as Each, position_from};
+ghost use Rattle.lgx_machine.specs.declared.types.TypeCode.TheVariants.{Y6};
+ghost use Rattle.lgx_machine.specs.TypeFaults.{of_structure};
+ghost use Rattle.lgx_types.specs.declared.error.TypeError.TheVariants.{Fault};
+ghost use Rattle.lgx_num.specs.Name.{same};
+ghost use Rattle.lgx_machine.specs.Layout.{find, members_of, type_of};
+ghost use Rattle.lgx_types.specs.Tables.{HasMembers};
+ghost use Rattle.lgx_types.specs.Walk.{types_at};
+ghost use Rattle.lgx_types.specs.Outlines.{IsFirst, first_wrong, faults_by, faults_in, name_faults, member_names, outline};
+
+use crate::error::TypeError;
+use crate::names::Names;
+use crate::structures::Structures;
+use lgx_machine::{Base, DataType, MemberDecl, TypeCode, TypeDecl, TypeFault};
+use lgx_num::{List, Name};
+use std::alloc::Global;
+use std::marker::Model;
+
+/// Declarations whose names and members are in order, with the type of each member. Contracts see the declarations.
+#[derive(Drop)]
+pub struct Resolved {
+    structures: Structures,
+    members: Vec<Names>,
+    outlines: Vec<List<DataType>>,
+}
+
+impl Model for Resolved {
+    ghost use Rattle.std.specs.Prelude.{List as Items};
+    ghost use Rattle.lgx_machine.specs.declared.types.TypeDecl.{TypeDecl};
+    ghost use Rattle.lgx_types.specs.Outlines.{IsResolved};
+
+    ghost Value = { Items TypeDecl };
+
+    ghost view = { λ r. r.structures };
+
+    ghost invariant = { λ r. IsResolved r.structures r.members.items r.outlines.items };
+}
+
+impl Resolved {
+    pub fn new(alloc: Global, decls: &[TypeDecl]) -> Result<Resolved, TypeError>
+        requires few { length decls.now < 4294967296 }
+        requires members { Each HasMembers decls.now }
+        ensures value { IfOk result (λ resolved. resolved ≡ decls.now) }
+        ensures in_order { IfOk result (λ resolved. name_faults decls.now ≡ []) }
+        ensures fault { IfErr result (λ error. IsFirst (name_faults decls.now) error) }
+    {
+        let structures = Structures::new(alloc, decls)?;
+        let mut members = Vec::with_capacity(alloc, decls.len())?;
+        let mut outlines = Vec::with_capacity(alloc, decls.len())?;
+        for i in 0..decls.len() {
+            let decl = &decls[i];
+            let number = i as u32;
+            if structures.is_taken(i) {
+                return Err(fault_of(number));
+            }
+            let (names, types) = members_of(alloc, &structures, number, decl.members.as_slice())?;
+            members.push(names)?;
+            outlines.push(types)?;
+        }
+        Ok(Resolved {
+            structures,
+            members,
+            outlines,
+        })
+    }
+
+    pub fn decls(&self) -> &[TypeDecl]
+        ensures value { result.now ≡ self.now }
+        ensures few { length self.now < 4294967296 }
+    {
+        self.structures.decls()
+    }
+
+    /// The type of a name: a built-in one, or the first structure declared with it.
+    pub fn find(&self, name: &Name) -> Option<Base>
+        ensures { result ≡ find self.now name.now }
+    {
+        self.structures.find(name)
+    }
+
+    /// The number of the first member of a name in structure `i`, if there is that structure.
+    pub fn member_number(&self, i: u32, name: &Name) -> Option<u32>
+        ensures { result ≡ position_from (λ n. same n name.now) 0 (member_names (members_of self.now i)) }
+    {
+        if (i as usize) < self.members.len() {
+            let names = &self.members[i as usize];
+            names.find(name)
+        } else {
+            None
+        }
+    }
+
+    /// The types of the members of structure `i`.
+    pub fn types_at(&self, i: u32) -> &[DataType]
+        requires { i < length self.now }
+        ensures value { result.now ≡ types_at self.now i }
+        ensures few { length result.now < 4294967296 }
+    {
+        self.outlines[i as usize].as_slice()
+    }
+}
+
+fn fault_of(i: u32) -> TypeError
+    ensures { result ≡ Fault (of_structure Y6 i) }
+{
+    TypeError::Fault(TypeFault {
+        code: TypeCode::Y6,
+        decl: i,
+        member: None,
+    })
+}
+
+// The names and the types of the members of structure `i`.
+fn members_of(
+    alloc: Global,
+    structures: &Structures,
+    i: u32,
+    members: &[MemberDecl],
+) -> Result<(Names, List<DataType>), TypeError>
+    requires { length members.now < 4294967296 }
+    ensures names { IfOk result (λ r. r.0 ≡ member_names members.now) }
+    ensures types { IfOk result (λ r. r.1 ≡ outline structures.now members.now) }
+    ensures in_order { IfOk result (λ r. faults_in structures.now i members.now ≡ []) }
+    ensures fault { IfErr result (λ error. IsFirst (faults_in structures.now i members.now) error) }
+{
+    let mut names = Names::new(alloc);
+    let mut types = Vec::with_capacity(alloc, members.len())?;
+    for k in 0..members.len() {
+        let number = k as u32;
+        let member = &members[k];
+        let first = names.add(alloc, &member.name)?;
+        let of = resolve(structures, member, first < number, i, number)?;
+        types.push(of)?;
+    }
+    Ok((names, List::of(types)))
+}
+
+// The type of member `k` of structure `i`, where it is known whether an earlier one has its name.
+fn resolve(
+    structures: &Structures,
+    member: &MemberDecl,
+    taken: bool,
+    i: u32,
+    k: u32,
+) -> Result<DataType, TypeError>
+    ensures value { IfOk result (λ of. of ≡ type_of structures.now member.now) }
+    ensures in_order { IfOk result (λ of. faults_by taken structures.now i k member.now ≡ []) }
+    ensures fault { IfErr result (λ error. IsFirst (faults_by taken structures.now i k member.now) error) }
+{
+    let of = structures.find(&member.of);
+    if let Some(code) = wrong_with(taken, of, member.dim) {
+        return Err(TypeError::Fault(TypeFault {
+            code,
+            decl: i,
+            member: Some(k),
+        }));
+    }
+    Ok(DataType {
+        base: of.unwrap_or(Base::Bool),
+        dim: member.dim,
+    })
+}
+
+// What is wrong with a member: another has its name, its type isn't there, or it is an array of BOOLs of a length that
+// isn't a multiple of 32.
+fn wrong_with(taken: bool, of: Option<Base>, dim: u32) -> Option<TypeCode>
+    ensures { result ≡ first_wrong taken of dim }
+{
+    match of {
+        _ if taken => Some(TypeCode::Y2),
+        None => Some(TypeCode::Y1),
+        Some(Base::Bool) if dim % 32 != 0 => Some(TypeCode::Y4),
+        Some(_) => None,
+    }
+}
