@@ -60,6 +60,7 @@ seek_from s name (e ∷ es) i = go (is_named s name e) (seek s name es) (seek_fr
   where
     at : i ≡ i + 0
     at = omega arith
+
     go : (b : Bool) (o : Option (ℕ × Entry)) → position_from (is_named s name) (i + 1) es ≡ option_map (λ x. i + 1 + x.0) o → cond b (Some i) (position_from (is_named s name) (i + 1) es) ≡ option_map (λ x. i + x.0) (cond b (Some (0, e)) (option_map next o))
     go true o p = ap Some at
     go false None p = p
@@ -73,6 +74,7 @@ number_sought s name es = position_from-zero (is_named s name) es ∙ seek_from 
   where
     at : (k : ℕ) → 0 + k ≡ k
     at k = omega arith
+
     go : (o : Option (ℕ × Entry)) → option_map (λ x. 0 + x.0) o ≡ option_map (λ x. x.0) o
     go None = refl
     go (Some y) = ap Some (at y.0)

@@ -47,13 +47,16 @@ bad_is d known h w n k (e ∷ es) g = go e.meaning refl (bad_is d known h w (suc
   where
     first : n + 0 ≡ n
     first = omega arith
+
     rest : (i : ℕ) → slice_get es i ≡ slice_get d.entries (suc n + i)
     rest i = g (suc i) ∙ ap (slice_get d.entries) shift
       where
         shift : n + suc i ≡ suc n + i
         shift = omega arith
+
     there : slice_get d.entries n ≡ Some e
     there = ap (slice_get d.entries) (sym first) ∙ sym (g 0)
+
     go : (m : Meaning) → e.meaning ≡ m → bad_from known (suc n) k es ≡ first_bad d k (filter_map with_scope es) → bad_from known (suc n) (suc k) es ≡ first_bad d (suc k) (filter_map with_scope es) → cond (is_target m) (or_next (result_err (slice_index_or known n (Err G7))) k (bad_from known (suc n) (suc k) es)) (bad_from known (suc n) k es) ≡ first_bad d k (filter_map with_scope (record { scope = e.scope; name = e.name; meaning = m } ∷ es))
     go (tag of) p same next = same
     go (alias t) p same next =

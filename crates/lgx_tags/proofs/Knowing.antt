@@ -69,6 +69,7 @@ any_program es i q a (suc k) l h p = list_any-append (is_number i) (tags_in (Pro
   where
     rest : List Numbered
     rest = flat_map (λ s. tags_in s 0 es) (map Program (range_with_len (a + 1) k))
+
     go : (b : Bool) → (q == a) ≡ b → (a + 1 ≤ q → q < a + 1 + k → list_any (is_number i) rest ≡ true) → (list_any (is_number i) (tags_in (Program a) 0 es) || list_any (is_number i) rest) ≡ true
     go true e known = or_left (list_any (is_number i) (tags_in (Program a) 0 es)) (list_any (is_number i) rest) (ap (λ (r : ℕ). list_any (is_number i) (tags_in (Program r) 0 es)) (sym (eqb-true q a e)) ∙ p)
     go false e known = or_right (list_any (is_number i) (tags_in (Program a) 0 es)) (list_any (is_number i) rest) (known (more (λ r. absurd (cc (eq-eqb q a r, e)))) (omega arith))
@@ -81,10 +82,13 @@ each_laid d i e of h g p = any_lay d.types i 0 (order_of d) ∙ go e.scope h ref
   where
     zero_on : 0 + i ≡ i
     zero_on = omega arith
+
     here : (s : Scope) → e.scope ≡ s → list_any (is_number i) (tags_in s 0 d.entries) ≡ true
     here s q = ap (λ (k : ℕ). list_any (is_number k) (tags_in s 0 d.entries)) (sym zero_on) ∙ any_in s 0 i d.entries e of g p q
+
     others : List Numbered
     others = flat_map (λ s. tags_in s 0 d.entries) (map Program (range_with_len 0 d.programs))
+
     go : (s : Scope) → IsScopeOf d.programs s → e.scope ≡ s → list_any (is_number i) (order_of d) ≡ true
     go Controller l q = list_any-append (is_number i) (tags_in Controller 0 d.entries) others ∙ or_left (list_any (is_number i) (tags_in Controller 0 d.entries)) (list_any (is_number i) others) (here Controller q)
     go (Program r) l q = list_any-append (is_number i) (tags_in Controller 0 d.entries) others ∙ or_right (list_any (is_number i) (tags_in Controller 0 d.entries)) (list_any (is_number i) others) (any_program d.entries i r 0 d.programs (omega arith) (omega arith) (here (Program r) q))
@@ -164,19 +168,26 @@ laid_partly d h = record { long = long; few = omega (arith, count); below = λ i
   where
     blank : List Known
     blank = replicate (length d.entries) the_g7
+
     known : List Known
     known = known_from (length d.entries) (laid_of d)
+
     long : length known ≡ length d.entries
     long = known_length blank (laid_of d) ∙ length-replicate (length d.entries) the_g7
+
     there : (i : ℕ) (e : Entry) (of : DataType) → slice_get d.entries i ≡ Some e → e.meaning ≡ tag of → get_or known i the_g7 ≡ spot_for d i e of
     there i e of g p = reaches d blank (laid_of d) i e of (laid_tags d) (omega (arith, length-replicate (length d.entries) the_g7, slice_get_within d.entries i e g)) g p (each_laid d i e of (each_get (λ e. IsScopeOf d.programs e.scope) d.entries i e h g) g p)
+
     nowhere : (i : ℕ) (e : Entry) (t : List ℕ) → slice_get d.entries i ≡ Some e → e.meaning ≡ alias t → get_or known i the_g7 ≡ the_g7
     nowhere i e t g p = stays d blank (laid_of d) i e t (laid_tags d) g p (g7_anywhere (length d.entries) i)
+
     opened : (i : ℕ) (e : Entry) → slice_get d.entries i ≡ Some e → (m : Meaning) → e.meaning ≡ m → is_open (get_or known i the_g7) ≡ is_target m
     opened i e g (tag of) p = ap is_open (there i e of g p)
     opened i e g (alias t) p = ap is_open (nowhere i e t g p)
+
     count : open_in known ≡ length (aliases d)
     count = count_open known d.entries long (λ i e g. opened i e g e.meaning refl)
+
     below : (i : ℕ) (e : Entry) → slice_get d.entries i ≡ Some e → (m : Meaning) → e.meaning ≡ m → Below (answer_at known i) (value_in (length (aliases d) - open_in known) d i e)
     below i e g (tag of) p = inr (ap answer (there i e of g p) ∙ sym (rw p refl))
     below i e g (alias t) p = inl (ap answer (nowhere i e t g p))

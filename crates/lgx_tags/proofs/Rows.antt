@@ -75,14 +75,17 @@ rows_snoc es programs e h = go e.meaning ∙ same_rows (more (λ s. tags_in s 0 
   where
     zero_on : 0 + length es ≡ length es
     zero_on = omega arith
+
     one : (s : Scope) → tags_in s 0 es ++ added e.scope s (numbered (length es) e.meaning) ≡ tags_in s 0 (es ++ e ∷ [])
     one s = sym (tags_snoc s 0 es e ∙ ap (λ (m : ℕ). tags_in s 0 es ++ added e.scope s (numbered m e.meaning)) zero_on)
+
     nothing : (own s : Scope) → tags_in s 0 es ≡ more (λ s. tags_in s 0 es) own [] s
     nothing own s = sym (by_test (same_scope own s))
       where
         by_test : (b : Bool) → tags_in s 0 es ++ cond b [] [] ≡ tags_in s 0 es
         by_test true = append-nil (tags_in s 0 es)
         by_test false = append-nil (tags_in s 0 es)
+
     go : (m : Meaning) → with_entry (rows_of es programs) (length es) e.scope m ≡ map (more (λ s. tags_in s 0 es) e.scope (numbered (length es) m)) (scopes programs)
     go (tag of) = put_scopes (λ s. tags_in s 0 es) e.scope programs (record { entry = length es; of = of } ∷ []) h
     go (alias target) = same_rows (λ s. tags_in s 0 es) (more (λ s. tags_in s 0 es) e.scope []) (scopes programs) (nothing e.scope)

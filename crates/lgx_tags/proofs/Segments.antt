@@ -103,7 +103,7 @@ join d at ts us xs ys p q =
     record {
       laid = subst (Each (LaidIs d)) (sym laids) (each_append (LaidIs d) (lay d.types at ts) (lay d.types (lay_end d.types at ts) us) p.laid behind.laid);
       pairs = subst (λ (ls : List Laid). Pairs d ls (filter is_laid_tag (laid_from d.types at (xs ++ ys)))) (sym laids) (subst (Pairs d (lay d.types at ts ++ lay d.types (lay_end d.types at ts) us)) (sym entries) pairs);
-      end = lay_end_append d.types at ts us ∙ behind.end ∙ ap (λ (b : ℕ). end_of d.types b ys) p.end ∙ ends_append d.types at xs ys
+      end = lay_end_append d.types at ts us ∙ behind.end ∙ ap (λ (b : ℕ). end_of d.types b ys) p.end ∙ ends_append d.types at xs ys;
     }
   where
     ends_append : (types : List TypeDecl) (at : ℕ) (xs ys : List Entry) → end_of types (end_of types at xs) ys ≡ end_of types at (xs ++ ys)

@@ -33,6 +33,7 @@ find_laid types s name at (e ∷ es) p = go (same_scope e.scope s) (same e.name 
     step : (b : Bool) (o : Option (ℕ × Entry)) → same_scope e.scope s ≡ b → option_map (begun types s at (e ∷ es)) (option_map next o) ≡ option_map (begun types s (cond b (at + span types e) at) es) o
     step b None q = refl
     step b (Some x) q = rw q refl
+
     go : (b c : Bool) → same_scope e.scope s ≡ b → same e.name name ≡ c → find (λ x. is_named s name x.1) (laid_from types at (in_scope es s)) ≡ option_map (begun types s at es) (seek s name es) → ((at + span types e) % 4 ≡ 0 → find (λ x. is_named s name x.1) (laid_from types (at + span types e) (in_scope es s)) ≡ option_map (begun types s (at + span types e) es) (seek s name es)) → find (λ x. is_named s name x.1) (laid_from types at (in_scope (e ∷ es) s)) ≡ option_map (begun types s at (e ∷ es)) (seek s name (e ∷ es))
     go false c q r same other = rw q (same ∙ sym (step false (seek s name es) q))
     go true true q r same other = rw (q, r, q) refl
@@ -56,12 +57,14 @@ range_append a zero k = rw (zero_on k, on_zero a) refl
   where
     zero_on : (k : ℕ) → zero + k ≡ k
     zero_on k = omega arith
+
     on_zero : (a : ℕ) → a + zero ≡ a
     on_zero a = omega arith
 range_append a (suc m) k = rw (suc_on m k) (ap (λ (l : List ℕ). a ∷ l) (range_append (a + 1) m k ∙ ap (λ (b : ℕ). range_with_len (a + 1) m ++ range_with_len b k) (one_on a m)))
   where
     suc_on : (m k : ℕ) → suc m + k ≡ suc (m + k)
     suc_on m k = omega arith
+
     one_on : (a m : ℕ) → a + 1 + m ≡ a + suc m
     one_on a m = omega arith
 

@@ -41,8 +41,10 @@ walked_up (suc m) d known h w i e g = go e.meaning refl (walked_up m d known h w
   where
     k : Known
     k = slice_index_or known i (Err G7)
+
     n : ℕ
     n = length (aliases d) - open_in known
+
     ran_out : (t : List ℕ) → e.meaning ≡ is_alias t → EachBelow d.entries (value_in m d) (λ i e. answer_at known i) → is_open k ≡ true → Below (value_in (suc m) d i e) (answer k)
     ran_out t p before o =
         let b : Below (in_form numbers_alone d.types (named_within m d e.scope) t) (in_form numbers_alone d.types (named_by d.entries known e.scope) t) = form_below d.types (named_within m d e.scope) (named_by d.entries known e.scope) t (named_known m d known h before e.scope) in
@@ -52,21 +54,26 @@ walked_up (suc m) d known h w i e g = go e.meaning refl (walked_up m d known h w
         same : {a : Answer} → Below a (Err G7) → a ≡ Err G7
         same (inl p) = p
         same (inr p) = p
+
     stays : is_open k ≡ false → answer k ≡ value_in n d i e → Below (value_in (suc m) d i e) (answer k)
     stays o q = by_length (nat_le (suc m) n) refl
       where
         later : Below (value_in n d i e) (value_in (suc m) d i e) → Below (value_in (suc m) d i e) (answer k)
         later (inl r) = absurd (not_both (is_open k) (g7_closed k (q ∙ r)) o)
         later (inr r) = inr (sym (q ∙ r))
+
         by_length : (b : Bool) → nat_le (suc m) n ≡ b → Below (value_in (suc m) d i e) (answer k)
         by_length true r = subst (λ (a : Answer). Below (value_in (suc m) d i e) a) (sym q) (value_up (suc m) n d i e (leb-true (suc m) n r))
         by_length false r = later (value_up n (suc m) d i e (omega (arith, leb-false (suc m) n r)))
+
     closed : is_open k ≡ false → Below (answer k) (value_in n d i e) → Below (value_in (suc m) d i e) (answer k)
     closed o (inl q) = absurd (not_both (is_open k) (g7_closed k q) o)
     closed o (inr q) = stays o q
+
     by_test : (t : List ℕ) → e.meaning ≡ is_alias t → EachBelow d.entries (value_in m d) (λ i e. answer_at known i) → (b : Bool) → is_open k ≡ b → Below (value_in (suc m) d i e) (answer k)
     by_test t p before true o = ran_out t p before o
     by_test t p before false o = closed o (w.partly.below i e g)
+
     go : (x : Meaning) → e.meaning ≡ x → EachBelow d.entries (value_in m d) (λ i e. answer_at known i) → Below (value_in (suc m) d i e) (answer_at known i)
     go (is_tag of) p before = inr (value_tag (suc m) d i e of p ∙ sym (w.partly.tags i e of g p))
     go (is_alias t) p before = by_test t p before (is_open k) refl
@@ -121,15 +128,19 @@ found_more d known i e t r h w g p o a c =
   where
     n : ℕ
     n = length (aliases d) - open_in known
+
     here : (j : ℕ) → i < length known → j ≡ i → answer_at (slice_set known i r) j ≡ answer r
     here j l s = ap answer (ap (λ (k : ℕ). slice_index_or (slice_set known i r) k (Err G7)) s ∙ get_or-set_same known i r (Err G7) l)
+
     there : (j : ℕ) → (j == i) ≡ false → answer_at (slice_set known i r) j ≡ answer_at known j
     there j s = ap answer (get_or-set_other known i j r (Err G7) (λ q. not_equal j i q s))
       where
         not_equal : (a b : ℕ) → a ≡ b → (a == b) ≡ false → ⊥
         not_equal a b q s = absurd (cc (eq-eqb a b q, s))
+
     found : Below (in_form numbers_alone d.types (named_by d.entries known e.scope) t) (target_in (suc n) d e.scope t)
     found = form_below d.types (named_by d.entries known e.scope) (named_within n d e.scope) t (known_below n d known h w.below e.scope)
+
     below : i < length known → open_in (slice_set known i r) + 1 ≡ open_in known → (j : ℕ) (x : Entry) → slice_get d.entries j ≡ Some x → (b : Bool) → (j == i) ≡ b → Below (answer_at (slice_set known i r) j) (value_in (length (aliases d) - open_in (slice_set known i r)) d j x)
     below l less j x q true s =
         let at : j ≡ i = eqb-true j i s in
@@ -139,6 +150,7 @@ found_more d known i e t r h w g p o a c =
     below l less j x q false s =
         let up : n ≤ length (aliases d) - open_in (slice_set known i r) = omega (arith, w.few) in
         subst (λ (a : Answer). Below a (value_in (length (aliases d) - open_in (slice_set known i r)) d j x)) (sym (there j s)) (below_trans (answer_at known j) (value_in n d j x) (value_in (length (aliases d) - open_in (slice_set known i r)) d j x) (w.below j x q) (value_up n (length (aliases d) - open_in (slice_set known i r)) d j x up))
+
     tags : (j : ℕ) (x : Entry) (of : DataType) → slice_get d.entries j ≡ Some x → x.meaning ≡ is_tag of → (b : Bool) → (j == i) ≡ b → answer_at (slice_set known i r) j ≡ Ok (tag_found d.types (start_of d x.scope j) of)
     tags j x of q m true s = let same : e ≡ x = some_inj e x (sym g ∙ ap (slice_get d.entries) (sym (eqb-true j i s)) ∙ q) in absurd (not_alias t of (sym p ∙ ap (λ (e : Entry). e.meaning) same ∙ m))
       where

@@ -32,4 +32,3 @@ before es (Program p) = in_scope es Controller ++ programs_from es 0 p
 -- where entry i begins, in its scope
 abbrev pub start_of : Declarations → Scope → ℕ → ℕ
 start_of d s i = run d.types s (total d.types (before d.entries s)) d.entries i
-

@@ -166,12 +166,7 @@ impl Declared {
     }
 
     /// Declares an alias: G1 or G2. After a refusal, and for want of memory, the declarations are as before.
-    pub(crate) fn alias(
-        &mut self,
-        scope: Scope,
-        name: &[u8],
-        target: &[u8],
-    ) -> Result<(), TagError>
+    pub(crate) fn alias(&mut self, scope: Scope, name: &[u8], target: &[u8]) -> Result<(), TagError>
         requires scope { IsScopeOf self.old.programs scope }
         requires few { length (aliases self.old) < 4294967295 }
         ensures ok { OnOk result (self.new ≡ declared_as self.old scope name.now (alias target.now)) }

@@ -119,11 +119,7 @@ fn put_entry(rows: &mut Vec<Row>, number: usize, entry: &Entry) -> Result<(), Me
     ensures { OnOk result (rows.new.items ≡ with_entry rows.old.items number entry.now.scope entry.now.meaning) }
 {
     match entry.tag_type() {
-        Some(of) => put(
-            rows,
-            slot_of(entry.scope()),
-            Numbered { entry: number, of },
-        ),
+        Some(of) => put(rows, slot_of(entry.scope()), Numbered { entry: number, of }),
         None => Ok(()),
     }
 }

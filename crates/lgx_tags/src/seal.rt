@@ -1,5 +1,6 @@
 // What the aliases stand for: their chains are walked once, when the table is sealed.
-ghost use Rattle.std.specs.Prelude.{◌≡◌, ◌<◌, ◌≤◌, length, slice_index_or, Err, IfOk, OnOk};
+ghost use Rattle.std.specs.Prelude.{◌≡◌, ◌<◌, ◌≤◌, length, slice_index_or, Err, IfOk, IfSome, OnOk};
+ghost use Rattle.std.specs.List.{AllByRecursion as Each};
 ghost use Rattle.lgx_machine.specs.declared.tag.TagCode.TheVariants.{G7};
 ghost use Rattle.lgx_machine.specs.Resolution.{numbers_alone, in_form};
 ghost use Rattle.lgx_tags.specs.Chains.{answer, answer_at, named_by, is_open, open_in, bad_from, count_aliases, Partly, Looked, Passed, Walked};
@@ -8,6 +9,7 @@ use crate::declared::Declared;
 use crate::entry::Entry;
 use crate::error::TagError;
 use crate::layout::{Known, Spot};
+use crate::part::split_word;
 use crate::resolve::{Names, Subscripts, resolve_text};
 use lgx_machine::{Found, Scope, TagCode};
 use lgx_num::{Memory, Steps};
@@ -140,12 +142,82 @@ fn pass(declared: &Declared, known: &mut Vec<Known>) -> Result<(), Memory>
     Ok(())
 }
 
-/// Walks the chains of aliases, as far as they go. Where each alias comes behind those that its chain reaches, all are
-/// known after the first look at each, and a second look at those that aren't known shows that they never will be.
+// The alias with which the target of an entry begins, where that isn't known yet.
+fn next_open(declared: &Declared, known: &[Known], i: usize) -> Option<usize>
+    requires { i < length declared.now.entries }
+    ensures { IfSome result (λ j. j < length declared.now.entries) }
+{
+    let entry = declared.entry(i);
+    let (name, _) = split_word(entry.target()?);
+    let next = declared.seen_number(entry.scope(), name)?;
+    if is_open(known_at(known, next)) {
+        Some(next)
+    } else {
+        None
+    }
+}
+
+// The chain of an entry, as far as it isn't known and wasn't met before.
+fn chain_from(
+    declared: &Declared,
+    known: &[Known],
+    met: &mut Vec<bool>,
+    first: usize,
+) -> Result<Vec<usize>, Memory>
+    requires within { first < length declared.now.entries }
+    requires long { length met.old.items ≡ length declared.now.entries }
+    ensures within { IfOk result (λ chain. Each (λ j. j < length declared.now.entries) chain.items) }
+    ensures long { length met.new.items ≡ length declared.now.entries }
+{
+    let mut chain = Vec::new(declared.alloc());
+    let mut next = Some(first);
+    for _ in 0..met.len() {
+        let Some(i) = next else {
+            break;
+        };
+        if met[i] {
+            break;
+        }
+        met[i] = true;
+        chain.push(i)?;
+        next = next_open(declared, known, i);
+    }
+    Ok(chain)
+}
+
+// Looks at the entries of a chain, the last first.
+fn look_back(declared: &Declared, known: &mut Vec<Known>, chain: &[usize]) -> Result<(), Memory>
+    requires partly { Partly declared.now known.old.items }
+    requires within { Each (λ j. j < length declared.now.entries) chain.now }
+    ensures partly { OnOk result (Partly declared.now known.new.items) }
+{
+    for k in 0..chain.len() {
+        look(declared, known, chain[chain.len() - 1 - k])?;
+    }
+    Ok(())
+}
+
+// Looks at each entry behind those that its chain reaches.
+fn look_at_chains(declared: &Declared, known: &mut Vec<Known>) -> Result<(), Memory>
+    requires partly { Partly declared.now known.old.items }
+    ensures partly { OnOk result (Partly declared.now known.new.items) }
+{
+    let count = declared.entries().len();
+    let mut met = vec![in declared.alloc(); false; count]?;
+    for i in 0..count {
+        let chain = chain_from(declared, known.as_slice(), &mut met, i)?;
+        look_back(declared, known, chain.as_slice())?;
+    }
+    Ok(())
+}
+
+/// Walks the chains of aliases, as far as they go, in a time that grows with the number of entries: first each entry is
+/// looked at behind those that its chain reaches, and then a pass shows that no more is found.
 pub(crate) fn walk(declared: &Declared, known: &mut Vec<Known>) -> Result<(), Memory>
     requires partly { Partly declared.now known.old.items }
     ensures walked { OnOk result (Walked declared.now known.new.items) }
 {
+    look_at_chains(declared, known)?;
     let mut open = open_in(known.as_slice());
     loop {
         pass(declared, known)?;

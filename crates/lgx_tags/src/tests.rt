@@ -94,11 +94,7 @@ fn filled(alloc: Global, rows: &[Row]) -> Result<TagTable, Fail>
 }
 
 // Declares rows, each with the cause that it is to be refused for.
-fn judge(
-    rt: &impl Abort,
-    table: &mut TagTable,
-    rows: &[(Row, Option<TagCode>)],
-) -> Result<(), Fail>
+fn judge(rt: &impl Abort, table: &mut TagTable, rows: &[(Row, Option<TagCode>)]) -> Result<(), Fail>
     requires fresh { IsFresh table.old 0 }
     requires few { length rows.now < 1000 }
 {
@@ -193,7 +189,10 @@ fn names_stand_for_places(rt: HostRuntime) -> Result<(), Fail> {
     ];
     for (scope, text, at) in rows {
         assert_eq!(rt; table.resolve(rt.alloc(), scope, text.as_bytes())?.at, at);
-        assert_eq!(rt; table.resolve_fixed(rt.alloc(), scope, text.as_bytes())?.at, at);
+        assert_eq!(rt;
+            table.resolve_fixed(rt.alloc(), scope, text.as_bytes())?.at,
+            at
+        );
     }
     Ok(())
 }

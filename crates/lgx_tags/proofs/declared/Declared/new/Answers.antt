@@ -12,5 +12,5 @@ invariant_of-result c = record {
   keyed = c.new.ensures.empty ∙ sym (ap keys_of c.new-2.ensures.items);
   counted = rw c.new-2.ensures.items (sym (none_laid c.args.types c.args.programs));
   room = omega arith;
-  few = rw c.new-2.ensures.items (omega arith)
+  few = rw c.new-2.ensures.items (omega arith);
 }
