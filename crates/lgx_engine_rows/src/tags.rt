@@ -66,7 +66,7 @@ pub(crate) fn place_of(name: &[u8]) -> Option<u8>
 /// The operand of this number, counted from 0, that a text names to an instruction. None where tests have nothing of that
 /// name.
 ///
-/// An array's element is named as u0; where an instruction copies, u0 is the array from that element on. Behind R, L and T
+/// An array's element is named as u0; where an instruction copies, u0 is the array from that element on. Behind S, L and T
 /// stand the number of a routine, of the rung in which a label stands, and of a task.
 pub fn operand(op: Op, number: usize, text: &[u8]) -> Option<Operand> {
     match text {
@@ -88,7 +88,7 @@ pub fn operand(op: Op, number: usize, text: &[u8]) -> Option<Operand> {
             Kind::Dint,
             element(COUNTERS, 96, 2, digits)?,
         ))),
-        [b'R', digits @ ..] => Some(Operand::Routine(value(digits)?)),
+        [b'S', digits @ ..] => Some(Operand::Routine(value(digits)?)),
         [b'L', digits @ ..] => Some(Operand::Label(u64::from(value(digits)?))),
         [b'T', digits @ ..] => Some(Operand::Task(value(digits)?)),
         [b'd', digits @ ..] => Some(integer(
