@@ -1,29 +1,22 @@
 -- What is known of aliases when no chain can be walked any further is what the definition gives.
-use Rattle.std.specs.Prelude.{◌≡◌, ℕ, zero, suc, ◌+◌, ◌-◌, ◌<◌, ◌≤◌, Bool, true, false, cond, nat_le, List, [], ◌∷◌, length, position, slice_get, slice_index_or, Option, Some, None, option_map, Result, Ok, Err, ◌⊎◌, refl}
+use Rattle.std.specs.Prelude.{◌≡◌, ℕ, suc, ◌+◌, ◌-◌, ◌≤◌, Bool, true, false, cond, List, [], ◌∷◌, slice_get, Option, Some, None, option_map, Ok, Err, refl}
 use Rattle.std.specs.Option.{option_or}
-use Rattle.std.specs.List.{AllByRecursion as Each, position_from, count_by}
-use Rattle.std.proofs.Common.{sym, ap, ◌∙◌, arith, inl, inr, subst, eqb-true, leb-true, leb-false}
+use Rattle.std.specs.List.{position_from}
+use Rattle.std.proofs.Common.{sym, ap, ◌∙◌, arith, inr, subst, eqb-true}
 use Rattle.std.proofs.lemmas.Iterator.Adapters.{position_from-zero}
-use Rattle.lgx_num.specs.Name.{same}
-use Rattle.lgx_machine.specs.declared.types.DataType.{DataType}
-use Rattle.lgx_machine.specs.declared.types.TypeDecl.{TypeDecl}
 use Rattle.lgx_machine.specs.declared.tag.Scope.{Scope}
 use Rattle.lgx_machine.specs.declared.tag.Scope.TheVariants.{Controller, Program}
-use Rattle.lgx_machine.specs.declared.tag.TagCode.{TagCode}
 use Rattle.lgx_machine.specs.declared.tag.TagCode.TheVariants.{G3, G7}
 use Rattle.lgx_machine.specs.declared.tag.TagCode.TheVariants as code
-use Rattle.lgx_machine.specs.declared.tag.Found.{Found}
 use Rattle.lgx_machine.specs.FirstCause.{◌>>=◌, some_or}
-use Rattle.lgx_machine.specs.Declarations.{Meaning, Entry, Declarations, same_scope, is_named, entry_of}
-use Rattle.lgx_machine.specs.Declarations.{tag as is_tag, alias as is_alias}
-use Rattle.lgx_machine.specs.Resolution.{numbers_alone, seen_from, tag_found, meant, in_form, named_within, named, found_fixed, aliases}
+use Rattle.lgx_machine.specs.Declarations.{Entry, Declarations, same_scope, is_named, entry_of}
+use Rattle.lgx_machine.specs.Resolution.{seen_from, meant, named_within}
 use Rattle.lgx_machine.proofs.FoundLie.{and_left}
-use Rattle.lgx_tags.specs.Scopes.{IsScopeOf}
-use Rattle.lgx_tags.specs.Chains.{Answer, Known, number_in, seen_number, found_at, answer, answer_at, answer_of, named_by, target_in, value_in, Below, is_g7, is_open, open_in, Partly, IsStill, Walked}
+use Rattle.lgx_tags.specs.Chains.{Answer, Known, number_in, seen_number, answer, answer_at, answer_of, named_by, target_in, value_in, Below, is_g7, is_open}
 use Rattle.lgx_tags.specs.Starts.{start_of}
 use Rattle.lgx_tags.proofs.Starts.{next, seek, entry_found}
 use Rattle.lgx_tags.proofs.Declares.{ArePlaced}
-use Rattle.lgx_tags.proofs.Monotone.{BelowAll, below_trans, below_same, form_below, named_unfolds, meant_below, named_below, target_below}
+use Rattle.lgx_tags.proofs.Monotone.{BelowAll, named_unfolds, meant_below, target_below}
 
 pub some_inj : {A : Type 0} (a b : A) → Some a ≡ Some b → a ≡ b
 some_inj a b p = cc p

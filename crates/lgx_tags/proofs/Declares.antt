@@ -1,11 +1,10 @@
 -- What one more entry changes.
-use Rattle.std.specs.Prelude.{◌≡◌, ℕ, zero, suc, ◌+◌, ◌<◌, ◌≤◌, Bool, true, false, cond, not, ◌&&◌, ◌||◌, nat_le, nat_lt, if◌then◌else◌, List, [], ◌∷◌, ◌++◌, length, map, position, Option, Some, None, is_some, option_map, refl}
+use Rattle.std.specs.Prelude.{◌≡◌, ℕ, ◌+◌, ◌<◌, ◌≤◌, Bool, true, false, cond, ◌||◌, nat_le, nat_lt, if◌then◌else◌, List, [], ◌∷◌, ◌++◌, length, position, Some, None, is_some, option_map, refl}
 use Rattle.std.specs.List.{AllByRecursion as Each, position_from, list_any, filter_map}
 use Rattle.std.proofs.Common.{sym, ap, ◌∙◌, arith, leb-true, ltb-true, ltb-false, length-append}
 use Rattle.std.proofs.lemmas.Iterator.Adapters.{position_from-zero}
 use Rattle.std.proofs.lemmas.List.{map-append, append-nil}
 use Rattle.std.proofs.lemmas.List.Elements.{filter_map-append}
-use Rattle.lgx_num.specs.Name.{is_name}
 use Rattle.lgx_machine.specs.declared.types.DataType.{DataType}
 use Rattle.lgx_machine.specs.declared.types.TypeDecl.{TypeDecl}
 use Rattle.lgx_machine.specs.declared.tag.Scope.{Scope}
@@ -13,8 +12,7 @@ use Rattle.lgx_machine.specs.declared.tag.Scope.TheVariants.{Controller, Program
 use Rattle.lgx_machine.specs.declared.tag.TagCode.{TagCode}
 use Rattle.lgx_machine.specs.declared.tag.TagCode.TheVariants.{G1, G2, G8}
 use Rattle.lgx_machine.specs.FirstCause.{where_true, first}
-use Rattle.lgx_machine.specs.OperandForm.{is_tag_name, is_joined}
-use Rattle.lgx_machine.specs.Declarations.{Meaning, tag, alias, Entry, Declarations, is_named, is_name_in, bytes, declared_as, entry_faults, declare_fault, alias_fault}
+use Rattle.lgx_machine.specs.Declarations.{tag, alias, Entry, Declarations, is_named, is_name_in, bytes, declared_as, entry_faults, declare_fault, alias_fault}
 use Rattle.lgx_machine.specs.Resolution.{target_of, aliases}
 use Rattle.lgx_machine.proofs.FoundLie.{and_left}
 use Rattle.lgx_machine.proofs.Subscripts.{each_append, each_map}

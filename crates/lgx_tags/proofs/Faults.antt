@@ -1,10 +1,9 @@
 -- The first alias with a fault, and how many tags there are.
-use Rattle.std.specs.Prelude.{◌≡◌, ℕ, zero, suc, ◌+◌, ◌<◌, ◌≤◌, Bool, true, false, cond, List, [], ◌∷◌, ◌++◌, length, map, flat_map, slice_get, slice_index_or, Option, Some, None, option_map, Result, Ok, Err, refl, ⊤}
+use Rattle.std.specs.Prelude.{◌≡◌, ℕ, suc, ◌+◌, ◌≤◌, Bool, true, false, cond, List, [], ◌∷◌, length, slice_get, slice_index_or, Option, Some, option_map, Ok, Err, refl}
 use Rattle.std.specs.List.{AllByRecursion as Each, filter_map}
 use Rattle.std.specs.Option.{option_or}
 use Rattle.std.specs.Result.{result_err}
-use Rattle.std.proofs.Common.{sym, ap, ◌∙◌, arith, subst}
-use Rattle.lgx_machine.specs.declared.types.DataType.{DataType}
+use Rattle.std.proofs.Common.{sym, ap, ◌∙◌, arith}
 use Rattle.lgx_machine.specs.declared.types.TypeDecl.{TypeDecl}
 use Rattle.lgx_machine.specs.declared.tag.Scope.{Scope}
 use Rattle.lgx_machine.specs.declared.tag.TagCode.{TagCode}
@@ -13,10 +12,10 @@ use Rattle.lgx_machine.specs.Layout.{round_up, size_of}
 use Rattle.lgx_machine.specs.LayoutLaws.{IsSoundType}
 use Rattle.lgx_machine.specs.ResolutionLaws.{IsSoundMeaning, Sound}
 use Rattle.lgx_machine.specs.Declarations.{Meaning, tag, alias, Entry, Declarations, same_scope, bytes}
-use Rattle.lgx_machine.specs.Resolution.{target_of, found_fixed, aliases, first_bad, seal_fault}
+use Rattle.lgx_machine.specs.Resolution.{target_of, found_fixed, first_bad, seal_fault}
 use Rattle.lgx_machine.proofs.Subscripts.{each_append, each_flat}
 use Rattle.lgx_tags.specs.Layouts.{scopes, numbered, tags_in, order_of, lay, lay_end, laid_of}
-use Rattle.lgx_tags.specs.Chains.{Known, answer, answer_at, is_target, bad_from, count_aliases, Walked}
+use Rattle.lgx_tags.specs.Chains.{Known, answer, is_target, bad_from, count_aliases, Walked}
 use Rattle.lgx_tags.specs.declared.layout.Numbered.{Numbered}
 use Rattle.lgx_tags.proofs.Declares.{ArePlaced}
 use Rattle.lgx_tags.proofs.Walked.{walked_alias}

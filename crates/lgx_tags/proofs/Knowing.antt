@@ -1,8 +1,8 @@
 -- What is known when the tags are laid: each tag, and of no alias where its chain ends.
-use Rattle.std.specs.Prelude.{◌≡◌, ℕ, zero, suc, ◌+◌, ◌-◌, ◌*◌, ◌<◌, ◌≤◌, Bool, true, false, cond, ◌||◌, ◌==◌, List, [], ◌∷◌, ◌++◌, length, map, flat_map, fold, replicate, slice_get, slice_set, slice_index_or, Option, Some, None, option_map, Result, Ok, Err, ◌⊎◌, refl}
-use Rattle.std.specs.List.{AllByRecursion as Each, range_with_len, list_any, filter_map, sum_by}
-use Rattle.std.proofs.Common.{sym, ap, ◌∙◌, arith, inl, inr, subst, eqb-true, eq-eqb, get_or, length-set, get_or-set_same, get_or-set_other}
-use Rattle.std.proofs.lemmas.List.{get_or-replicate, length-replicate}
+use Rattle.std.specs.Prelude.{◌≡◌, ℕ, zero, suc, ◌+◌, ◌-◌, ◌*◌, ◌<◌, ◌≤◌, Bool, true, false, cond, ◌||◌, ◌==◌, List, [], ◌∷◌, length, map, flat_map, fold, replicate, slice_get, slice_set, Option, Some, option_map, Ok, Err, refl}
+use Rattle.std.specs.List.{AllByRecursion as Each, range_with_len, list_any, filter_map}
+use Rattle.std.proofs.Common.{sym, ap, ◌∙◌, arith, inl, inr, eqb-true, eq-eqb, get_or, length-set, get_or-set_same, get_or-set_other}
+use Rattle.std.proofs.lemmas.List.{length-replicate}
 use Rattle.std.proofs.lemmas.List.Sums.{sum_by-cons}
 use Rattle.std.proofs.lemmas.List.Folds.{list_any-append}
 use Rattle.std.proofs.lemmas.Option.{slice_get_within}
@@ -10,19 +10,17 @@ use Rattle.lgx_machine.specs.declared.types.DataType.{DataType}
 use Rattle.lgx_machine.specs.declared.types.TypeDecl.{TypeDecl}
 use Rattle.lgx_machine.specs.declared.tag.Scope.{Scope}
 use Rattle.lgx_machine.specs.declared.tag.Scope.TheVariants.{Controller, Program}
-use Rattle.lgx_machine.specs.declared.tag.TagCode.{TagCode}
 use Rattle.lgx_machine.specs.declared.tag.TagCode.TheVariants.{G7}
 use Rattle.lgx_machine.specs.Layout.{round_up, size_of}
 use Rattle.lgx_machine.specs.Declarations.{Meaning, tag, alias, Entry, Declarations, same_scope}
-use Rattle.lgx_machine.specs.Resolution.{target_of, tag_found, aliases}
+use Rattle.lgx_machine.specs.Resolution.{target_of, aliases}
 use Rattle.lgx_machine.proofs.Subscripts.{each_get}
 use Rattle.lgx_tags.specs.Scopes.{IsScopeOf}
-use Rattle.lgx_tags.specs.Layouts.{scopes, numbered, tags_in, order_of, lay, laid_of, spot_of, with_tag, known_from}
+use Rattle.lgx_tags.specs.Layouts.{numbered, tags_in, order_of, lay, laid_of, spot_of, with_tag, known_from}
 use Rattle.lgx_tags.specs.Starts.{start_of}
 use Rattle.lgx_tags.specs.Chains.{Known, is_target, answer, answer_at, is_open, open_in, value_in, Below, Partly}
 use Rattle.lgx_tags.specs.declared.layout.Numbered.{Numbered}
 use Rattle.lgx_tags.specs.declared.layout.Laid.{Laid}
-use Rattle.lgx_tags.specs.declared.layout.Spot.{Spot}
 use Rattle.lgx_tags.proofs.Declares.{ArePlaced}
 use Rattle.lgx_tags.proofs.Chains.{some_inj}
 use Rattle.lgx_tags.proofs.Segments.{LaidIs, laid_tags}

@@ -1,5 +1,5 @@
 -- A name is found among the keys where it is found among the entries.
-use Rattle.std.specs.Prelude.{◌≡◌, ℕ, zero, suc, ◌+◌, ◌<◌, ◌≤◌, Bool, true, false, cond, ◌&&◌, ◌==◌, nat_eq, List, [], ◌∷◌, ◌++◌, length, map, take, drop, replicate, position, Option, Some, None, option_map, refl}
+use Rattle.std.specs.Prelude.{◌≡◌, ℕ, ◌+◌, ◌<◌, ◌≤◌, Bool, true, false, cond, ◌&&◌, ◌==◌, nat_eq, List, [], ◌∷◌, ◌++◌, length, map, take, drop, replicate, position, Some, None, refl}
 use Rattle.std.specs.Char.{to_ascii_lowercase}
 use Rattle.std.specs.Cmp.Lexicographic.{pointwise}
 use Rattle.std.specs.List.{AllByRecursion as Each, position_from}
@@ -14,7 +14,7 @@ use Rattle.lgx_machine.specs.declared.tag.Scope.{Scope}
 use Rattle.lgx_machine.specs.declared.tag.Scope.TheVariants.{Controller, Program}
 use Rattle.lgx_machine.specs.Declarations.{Entry, same_scope, is_named}
 use Rattle.lgx_machine.proofs.FoundLie.{and_left, and_right}
-use Rattle.lgx_tags.specs.Keys.{program_of, lowered, key_of}
+use Rattle.lgx_tags.specs.Keys.{lowered, key_of}
 use Rattle.lgx_tags.specs.Tables.{IsLetIn, keys_of}
 use Rattle.lgx_tags.specs.declared.key.Key.{Key}
 use Rattle.lgx_tags.specs.contracts.key.KeyPartialEq.TheImpl.{eq-value}

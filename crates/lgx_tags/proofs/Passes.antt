@@ -1,17 +1,14 @@
 -- Looking at one entry after the other.
-use Rattle.std.specs.Prelude.{◌≡◌, ℕ, ◌+◌, ◌-◌, ◌<◌, ◌≤◌, Bool, true, false, ◌==◌, List, [], length, slice_get, slice_index_or, Some, Option, None, Result, Ok, Err, ◌⊎◌, refl}
+use Rattle.std.specs.Prelude.{◌≡◌, ℕ, ◌+◌, ◌-◌, ◌<◌, ◌≤◌, Bool, true, false, ◌==◌, List, [], length, slice_get, Some, Ok, refl}
 use Rattle.std.proofs.Common.{sym, ap, ◌∙◌, arith, inl, inr, subst, eqb-true, eq-eqb, get_or}
 use Rattle.std.proofs.lemmas.Option.{slice_get-get_or, slice_get_within}
-use Rattle.lgx_machine.specs.declared.types.DataType.{DataType}
 use Rattle.lgx_machine.specs.declared.tag.Scope.{Scope}
-use Rattle.lgx_machine.specs.declared.tag.TagCode.{TagCode}
-use Rattle.lgx_machine.specs.declared.tag.TagCode.TheVariants.{G7}
 use Rattle.lgx_machine.specs.declared.tag.Found.{Found}
 use Rattle.lgx_machine.specs.Declarations.{Meaning, tag, alias, Entry, Declarations, bytes}
 use Rattle.lgx_machine.specs.Resolution.{target_of, named_within, aliases}
 use Rattle.lgx_machine.specs.ResolutionLaws.{Sound, LiesIn}
 use Rattle.lgx_machine.proofs.FoundLie.{named_lies}
-use Rattle.lgx_tags.specs.Chains.{Answer, Known, named_by, open_in, Below, Partly, IsStill, Looked, Passed, Walked}
+use Rattle.lgx_tags.specs.Chains.{Known, named_by, open_in, Below, Partly, IsStill, Looked, Passed, Walked}
 use Rattle.lgx_tags.proofs.Declares.{ArePlaced}
 use Rattle.lgx_tags.proofs.Chains.{known_below}
 

@@ -1,8 +1,8 @@
 -- The tags of each scope, as they are put behind one another.
-use Rattle.std.specs.Prelude.{◌≡◌, ℕ, zero, suc, ◌+◌, ◌<◌, ◌≤◌, Bool, true, false, cond, ◌==◌, List, [], ◌∷◌, ◌++◌, length, map, flat_map, take, drop, replicate, slice_set, slice_index_or, slice_get, Some, refl, ⊤}
+use Rattle.std.specs.Prelude.{◌≡◌, ℕ, zero, suc, ◌+◌, ◌<◌, ◌≤◌, Bool, true, false, cond, ◌==◌, List, [], ◌∷◌, ◌++◌, length, map, drop, replicate, slice_set, slice_index_or, refl}
 use Rattle.std.specs.List.{AllByRecursion as Each, range_with_len}
-use Rattle.std.proofs.Common.{sym, ap, ◌∙◌, arith, eqb-true, eq-eqb, append_assoc, length-append, get_or, drop-cons}
-use Rattle.std.proofs.lemmas.List.{append-nil, take_more, drop_more, length-map}
+use Rattle.std.proofs.Common.{sym, ap, ◌∙◌, arith, eqb-true, eq-eqb, append_assoc, get_or}
+use Rattle.std.proofs.lemmas.List.{append-nil, drop_more, length-map}
 use Rattle.std.proofs.lemmas.List.FromFn.{length-range_with_len}
 use Rattle.lgx_machine.specs.declared.types.TypeDecl.{TypeDecl}
 use Rattle.lgx_machine.specs.declared.tag.Scope.{Scope}
@@ -10,7 +10,7 @@ use Rattle.lgx_machine.specs.declared.tag.Scope.TheVariants.{Controller, Program
 use Rattle.lgx_machine.specs.Layout.{round_up, size_of}
 use Rattle.lgx_machine.specs.Declarations.{Meaning, tag, alias, Entry, same_scope}
 use Rattle.lgx_tags.specs.Scopes.{IsScopeOf}
-use Rattle.lgx_tags.specs.Layouts.{scopes, slot_of, numbered, tags_in, with_entry, rows_of, lay, lay_end}
+use Rattle.lgx_tags.specs.Layouts.{scopes, slot_of, numbered, tags_in, with_entry, rows_of, lay_end}
 use Rattle.lgx_tags.specs.declared.layout.Numbered.{Numbered}
 
 -- ---- one entry more

@@ -1,27 +1,24 @@
 -- The tags as they are laid: each with its number among the entries, where it begins by the entries before it.
-use Rattle.std.specs.Prelude.{◌≡◌, ℕ, zero, suc, ◌+◌, ◌*◌, ◌%◌, ◌<◌, ◌≤◌, Bool, true, false, cond, ◌&&◌, ◌||◌, ◌==◌, List, [], ◌∷◌, ◌++◌, length, map, filter, flat_map, slice_get, Option, Some, None, refl, ⊤}
-use Rattle.std.specs.List.{AllByRecursion as Each, range_with_len, list_any}
+use Rattle.std.specs.Prelude.{◌≡◌, ℕ, zero, suc, ◌+◌, ◌%◌, ◌≤◌, Bool, true, false, cond, List, [], ◌∷◌, ◌++◌, map, filter, flat_map, slice_get, Some, refl, ⊤}
+use Rattle.std.specs.List.{AllByRecursion as Each, range_with_len}
 use Rattle.std.proofs.lemmas.List.{append-nil}
 use Rattle.std.proofs.lemmas.List.Elements.{filter-append}
 use Rattle.lgx_types.specs.Tables.{HasSize}
 use Rattle.lgx_tags.specs.Tables.{IsSized, IsLetIn}
 use Rattle.lgx_tags.proofs.Rows.{lay_grows}
-use Rattle.std.proofs.Common.{sym, ap, ◌∙◌, arith, subst, eqb-true, eq-eqb, append_assoc}
-use Rattle.lgx_machine.specs.declared.types.DataType.{DataType}
+use Rattle.std.proofs.Common.{sym, ap, ◌∙◌, arith, subst, append_assoc}
 use Rattle.lgx_machine.specs.declared.types.TypeDecl.{TypeDecl}
 use Rattle.lgx_machine.specs.declared.tag.Scope.{Scope}
 use Rattle.lgx_machine.specs.declared.tag.Scope.TheVariants.{Controller, Program}
 use Rattle.lgx_machine.specs.Layout.{round_up, size_of}
-use Rattle.lgx_machine.specs.Declarations.{Meaning, tag, alias, Entry, Declarations, same_scope, in_scope, entry_size, in_order, laid_from, laid, end_of, bytes}
+use Rattle.lgx_machine.specs.Declarations.{Meaning, tag, alias, Entry, Declarations, same_scope, in_scope, entry_size, in_order, laid_from, end_of, bytes}
 use Rattle.lgx_machine.proofs.Subscripts.{each_append, each_flat}
-use Rattle.lgx_tags.specs.Scopes.{IsScopeOf}
-use Rattle.lgx_tags.specs.Meanings.{is_tag}
 use Rattle.lgx_tags.specs.Sealing.{is_laid_tag}
 use Rattle.lgx_tags.specs.Layouts.{scopes, numbered, tags_in, rows_of, order_of, lay, lay_end, laid_of}
 use Rattle.lgx_tags.specs.Starts.{span, total, run, programs_from, before, start_of}
 use Rattle.lgx_tags.specs.declared.layout.Numbered.{Numbered}
 use Rattle.lgx_tags.specs.declared.layout.Laid.{Laid}
-use Rattle.lgx_tags.proofs.Spans.{next_at, whole_words, words_on, total_append, end_is}
+use Rattle.lgx_tags.proofs.Spans.{next_at, words_on, total_append, end_is}
 use Rattle.lgx_tags.proofs.Starts.{laid_append, range_append, flat_append}
 use Rattle.lgx_tags.proofs.Chains.{scope_same}
 

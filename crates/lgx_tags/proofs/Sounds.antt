@@ -1,22 +1,21 @@
 -- Entries that were let in have sound types.
-use Rattle.std.specs.Prelude.{◌≡◌, ℕ, zero, suc, ◌+◌, ◌*◌, ◌/◌, ◌%◌, ◌<◌, ◌≤◌, List, [], ◌∷◌, length, map, slice_get, slice_index, Option, Some, None, ⊤, refl}
+use Rattle.std.specs.Prelude.{◌≡◌, ℕ, zero, suc, ◌+◌, ◌*◌, ◌<◌, ◌≤◌, List, [], ◌∷◌, length, slice_get, slice_index, Option, Some, None, refl}
 use Rattle.std.specs.List.{AllByRecursion as Each}
-use Rattle.std.proofs.Common.{sym, ap, ◌∙◌, arith, subst, get_or}
+use Rattle.std.proofs.Common.{arith, subst}
 use Rattle.std.proofs.Math.Nat.{mul-le-mul_right}
-use Rattle.std.proofs.lemmas.Option.{slice_get-get_or}
 use Rattle.lgx_machine.specs.declared.types.Base.{Base}
 use Rattle.lgx_machine.specs.declared.types.Base.TheVariants.{Bool as OneBit, Sint, Int, Dint, Timer, Counter, User}
 use Rattle.lgx_machine.specs.declared.types.DataType.{DataType}
 use Rattle.lgx_machine.specs.declared.types.TypeDecl.{TypeDecl}
 use Rattle.lgx_machine.specs.declared.types.MemberDecl.{MemberDecl}
-use Rattle.lgx_machine.specs.Layout.{single, type_of, round_up, begin_after, end_from, structure_in, sizes, size_of}
-use Rattle.lgx_machine.specs.LayoutLaws.{IsEven, HasBytes, IsSoundType, SoundTypes}
+use Rattle.lgx_machine.specs.Layout.{single, type_of, begin_after, end_from, structure_in, sizes, size_of}
+use Rattle.lgx_machine.specs.LayoutLaws.{IsSoundType, SoundTypes}
 use Rattle.lgx_machine.specs.Resolution.{stride}
-use Rattle.lgx_machine.specs.ResolutionLaws.{elements, width, IsSoundMeaning, Sound}
-use Rattle.lgx_machine.specs.Declarations.{Meaning, tag, alias, Entry, Declarations}
+use Rattle.lgx_machine.specs.ResolutionLaws.{elements, IsSoundMeaning, Sound}
+use Rattle.lgx_machine.specs.Declarations.{Meaning, tag, alias, Declarations}
 use Rattle.lgx_machine.proofs.Subscripts.{each_map, each_get, get_mapped}
 use Rattle.lgx_machine.proofs.TypesFit.{width_of, end_grows}
-use Rattle.lgx_types.specs.Tables.{IsNumbered, HasSize, HasMembers}
+use Rattle.lgx_types.specs.Tables.{IsNumbered, HasMembers}
 use Rattle.lgx_tags.specs.Tables.{IsSized, IsLetIn}
 
 some_elements : (n : ℕ) → 1 ≤ elements n

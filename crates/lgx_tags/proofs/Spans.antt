@@ -1,7 +1,7 @@
 -- How many bytes entries take in the image: as many as each of them takes, in whatever order they are laid.
-use Rattle.std.specs.Prelude.{◌≡◌, ◌≢◌, ℕ, zero, suc, ◌+◌, ◌%◌, ◌<◌, ◌≤◌, Bool, true, false, cond, ◌==◌, List, [], ◌∷◌, ◌++◌, filter, flat_map, refl}
+use Rattle.std.specs.Prelude.{◌≡◌, ◌≢◌, ℕ, zero, suc, ◌+◌, ◌%◌, ◌<◌, ◌≤◌, Bool, true, false, cond, ◌==◌, List, [], ◌∷◌, ◌++◌, flat_map, refl}
 use Rattle.std.specs.List.{AllByRecursion as Each, range_with_len}
-use Rattle.std.proofs.Common.{sym, ap, ◌∙◌, arith, eqb-true, eq-eqb}
+use Rattle.std.proofs.Common.{sym, ◌∙◌, arith, eqb-true, eq-eqb}
 use Rattle.lgx_machine.specs.declared.types.TypeDecl.{TypeDecl}
 use Rattle.lgx_machine.specs.declared.tag.Scope.{Scope}
 use Rattle.lgx_machine.specs.declared.tag.Scope.TheVariants.{Controller, Program}

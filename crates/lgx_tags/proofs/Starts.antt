@@ -1,5 +1,5 @@
 -- Where the entry of a name begins, by its number among the entries.
-use Rattle.std.specs.Prelude.{◌≡◌, ℕ, zero, suc, ◌+◌, ◌-◌, ◌%◌, ◌<◌, ◌≤◌, Bool, true, false, not, cond, ◌&&◌, ◌==◌, nat_lt, List, [], ◌∷◌, ◌++◌, filter, flat_map, find, Option, Some, None, option_map, refl, ⊤}
+use Rattle.std.specs.Prelude.{◌≡◌, ℕ, zero, suc, ◌+◌, ◌-◌, ◌%◌, ◌<◌, ◌≤◌, Bool, true, false, cond, ◌==◌, nat_lt, List, [], ◌∷◌, ◌++◌, flat_map, find, Option, Some, None, option_map, refl}
 use Rattle.std.specs.List.{AllByRecursion as Each, range_with_len}
 use Rattle.std.specs.Option.{option_or}
 use Rattle.std.proofs.Common.{sym, ap, ◌∙◌, arith, eqb-true, eq-eqb, ltb-true, ltb-false, append_assoc}
@@ -10,10 +10,10 @@ use Rattle.lgx_machine.specs.declared.tag.Scope.{Scope}
 use Rattle.lgx_machine.specs.declared.tag.Scope.TheVariants.{Controller, Program}
 use Rattle.lgx_machine.specs.Layout.{round_up}
 use Rattle.lgx_machine.specs.Declarations.{Entry, Declarations, same_scope, is_named, in_scope, entry_size, laid_from, end_of, entry_of}
-use Rattle.lgx_machine.proofs.Subscripts.{each_append, each_filter, each_flat, each_map}
+use Rattle.lgx_machine.proofs.Subscripts.{each_append, each_map}
 use Rattle.lgx_tags.specs.Scopes.{IsScopeOf}
 pub use Rattle.lgx_tags.specs.Starts.{run, programs_from, before, start_of}
-use Rattle.lgx_tags.proofs.Spans.{span, total, next_at, whole_words, ordered, end_is}
+use Rattle.lgx_tags.proofs.Spans.{span, total, next_at, ordered, end_is}
 
 -- the first entry of a name, with its number
 abbrev pub next : ℕ × Entry → ℕ × Entry

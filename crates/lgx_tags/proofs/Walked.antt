@@ -1,14 +1,12 @@
 -- Walking the chains: each alias that is found makes one fewer that isn't known, and when none is found any more, what is
 -- known is what the definition gives.
-use Rattle.std.specs.Prelude.{◌≡◌, ℕ, zero, suc, ◌+◌, ◌-◌, ◌<◌, ◌≤◌, Bool, true, false, cond, ◌==◌, nat_le, List, [], ◌∷◌, length, slice_get, slice_set, slice_index_or, Option, Some, None, Result, Ok, Err, ◌⊎◌, refl}
-use Rattle.std.specs.List.{count_by}
-use Rattle.std.proofs.Common.{sym, ap, ◌∙◌, arith, inl, inr, subst, eqb-true, eq-eqb, leb-true, leb-false, get_or, length-set, get_or-set_same, get_or-set_other}
+use Rattle.std.specs.Prelude.{◌≡◌, ℕ, zero, suc, ◌+◌, ◌-◌, ◌<◌, ◌≤◌, Bool, true, false, cond, ◌==◌, nat_le, List, length, slice_get, slice_set, slice_index_or, Some, Ok, Err, refl}
+use Rattle.std.proofs.Common.{sym, ap, ◌∙◌, arith, inl, inr, subst, eqb-true, eq-eqb, leb-true, leb-false, length-set, get_or-set_same, get_or-set_other}
 use Rattle.std.proofs.lemmas.List.{set-get_or}
 use Rattle.std.proofs.lemmas.List.Sums.{sum_by-set}
 use Rattle.std.proofs.lemmas.Option.{slice_get_within}
 use Rattle.lgx_machine.specs.declared.types.DataType.{DataType}
 use Rattle.lgx_machine.specs.declared.tag.Scope.{Scope}
-use Rattle.lgx_machine.specs.declared.tag.TagCode.{TagCode}
 use Rattle.lgx_machine.specs.declared.tag.TagCode.TheVariants.{G7}
 use Rattle.lgx_machine.specs.declared.tag.TagCode.TheVariants as code
 use Rattle.lgx_machine.specs.Declarations.{Meaning, Entry, Declarations}

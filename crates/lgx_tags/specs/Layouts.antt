@@ -1,7 +1,6 @@
 -- Where the tags lie: their numbers among the entries, scope by scope, and what is known of each entry when they are laid.
-use Rattle.std.specs.Prelude.{ℕ, zero, suc, ◌+◌, ◌*◌, Bool, cond, List, [], ◌∷◌, ◌++◌, length, map, flat_map, fold, replicate, slice_set, slice_index_or, Result, Ok, Err}
+use Rattle.std.specs.Prelude.{ℕ, suc, ◌+◌, ◌*◌, cond, List, [], ◌∷◌, ◌++◌, map, flat_map, fold, replicate, slice_set, slice_index_or, Result, Ok, Err}
 use Rattle.std.specs.List.{range_with_len}
-use Rattle.lgx_machine.specs.declared.types.DataType.{DataType}
 use Rattle.lgx_machine.specs.declared.types.TypeDecl.{TypeDecl}
 use Rattle.lgx_machine.specs.declared.tag.Scope.{Scope}
 use Rattle.lgx_machine.specs.declared.tag.Scope.TheVariants.{Controller, Program}

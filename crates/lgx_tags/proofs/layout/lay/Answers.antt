@@ -1,4 +1,4 @@
-use Rattle.std.proofs.Common.{◌≡◌, ℕ, ◌+◌, ◌≤◌, ◌∙◌, sym, ap, arith, drop, length, get_or}
+use Rattle.std.proofs.Common.{◌+◌, ◌≤◌, arith, drop, get_or}
 use Rattle.lgx_machine.specs.declared.types.Base.TheVariants.{Bool as OneBit}
 use Rattle.lgx_machine.specs.Layout.{size_of}
 use Rattle.lgx_tags.specs.Layouts.{lay_end}

@@ -1,4 +1,4 @@
-use Rattle.std.proofs.Common.{◌≡◌, ◌<◌, ℕ, ◌∙◌, ap, sym, subst, length, get_or, true}
+use Rattle.std.proofs.Common.{◌≡◌, ◌∙◌, ap, sym, get_or, true}
 use Rattle.std.specs.Prelude.{List, Some, slice_get, slice_index_or, Err}
 use Rattle.lgx_machine.specs.declared.tag.Scope.{Scope}
 use Rattle.lgx_machine.specs.declared.tag.TagCode.TheVariants.{G7}

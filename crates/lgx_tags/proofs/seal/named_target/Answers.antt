@@ -1,11 +1,10 @@
-use Rattle.std.proofs.Common.{◌≡◌, ℕ, ◌∙◌, ap, sym, subst}
-use Rattle.std.specs.Prelude.{List, [], Err, Ok}
+use Rattle.std.proofs.Common.{◌≡◌, ◌∙◌, ap, sym, subst}
+use Rattle.std.specs.Prelude.{List, []}
 use Rattle.lgx_machine.specs.declared.types.TypeDecl.{TypeDecl}
-use Rattle.lgx_machine.specs.declared.tag.Found.{Found}
 use Rattle.lgx_machine.specs.Declarations.{bytes}
 use Rattle.lgx_machine.specs.Resolution.{in_form, numbers_alone}
 use Rattle.lgx_machine.specs.ResolutionLaws.{LiesIn}
-use Rattle.lgx_tags.specs.Chains.{Answer, named_by}
+use Rattle.lgx_tags.specs.Chains.{named_by}
 use Rattle.lgx_tags.proofs.Declares.{all_placed}
 use Rattle.lgx_tags.proofs.Passes.{names_lie}
 use Rattle.lgx_tags.proofs.seal.named_target.Goals as goal

@@ -1,4 +1,4 @@
-use Rattle.std.proofs.Common.{◌≡◌, ℕ, ◌+◌, ◌<◌, ◌≤◌, arith}
+use Rattle.std.proofs.Common.{◌≤◌, arith}
 use Rattle.lgx_tags.specs.Chains.{open_in}
 use Rattle.lgx_tags.proofs.Passes.{look_more}
 use Rattle.lgx_tags.proofs.seal.pass.Goals as goal

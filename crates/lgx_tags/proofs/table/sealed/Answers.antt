@@ -1,13 +1,12 @@
-use Rattle.std.proofs.Common.{◌≡◌, ◌<◌, ◌∙◌, ℕ, ap, sym, subst, arith, length}
-use Rattle.std.specs.Prelude.{List, Some, None}
+use Rattle.std.proofs.Common.{◌≡◌, ◌∙◌, ℕ, ap, sym, subst, arith, length}
+use Rattle.std.specs.Prelude.{List}
 use Rattle.std.specs.List.{AllByRecursion as Each}
-use Rattle.lgx_machine.specs.declared.tag.TagCode.{TagCode}
-use Rattle.lgx_machine.specs.Declarations.{Entry, Declarations, bytes}
+use Rattle.lgx_machine.specs.Declarations.{Entry, Declarations}
 use Rattle.lgx_machine.specs.Resolution.{seal_fault}
 use Rattle.lgx_tags.specs.Chains.{Known, Partly, bad_from, count_aliases}
 use Rattle.lgx_tags.specs.Layouts.{laid_of, known_from}
 use Rattle.lgx_tags.specs.declared.layout.Laid.{Laid}
-use Rattle.lgx_tags.proofs.Declares.{ArePlaced, all_placed}
+use Rattle.lgx_tags.proofs.Declares.{all_placed}
 use Rattle.lgx_tags.proofs.Knowing.{laid_partly}
 use Rattle.lgx_tags.proofs.Faults.{count_is, bad_fault, tags_few}
 use Rattle.lgx_tags.proofs.Told.{IsWithin, all_within}

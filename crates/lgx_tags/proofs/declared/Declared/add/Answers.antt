@@ -1,4 +1,4 @@
-use Rattle.std.proofs.Common.{◌≡◌, ◌<◌, length, ℕ, ◌++◌, [], ◌∷◌, ◌∙◌, ap, sym, subst}
+use Rattle.std.proofs.Common.{◌≡◌, ◌<◌, length, ◌++◌, [], ◌∷◌, ◌∙◌, ap, sym, subst}
 use Rattle.std.specs.Prelude.{List, position, None}
 use Rattle.lgx_machine.specs.declared.tag.Scope.{Scope}
 use Rattle.lgx_machine.specs.Declarations.{Entry, Declarations, is_named, bytes}

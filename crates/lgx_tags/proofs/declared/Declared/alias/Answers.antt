@@ -1,5 +1,4 @@
-use Rattle.std.proofs.Common.{◌≡◌, ◌<◌, length, ℕ, ◌++◌, [], ◌∷◌, ◌∙◌, ap, sym, subst, refl}
-use Rattle.std.specs.Prelude.{List}
+use Rattle.std.proofs.Common.{◌≡◌, ◌<◌, length, ◌++◌, [], ◌∷◌, ◌∙◌, ap, sym, subst, refl}
 use Rattle.std.specs.List.{AllByRecursion as Each}
 use Rattle.lgx_machine.specs.Declarations.{Entry, Declarations, bytes, alias}
 use Rattle.lgx_tags.specs.Tables.{IsLetIn}

@@ -1,4 +1,4 @@
-use Rattle.std.proofs.Common.{◌≡◌, ◌<◌, ◌++◌, [], ◌∷◌, length, sym, subst}
+use Rattle.std.proofs.Common.{◌<◌, ◌++◌, [], ◌∷◌, length, sym, subst}
 use Rattle.lgx_machine.specs.Declarations.{Entry, Declarations}
 use Rattle.lgx_machine.specs.Resolution.{aliases}
 use Rattle.lgx_tags.proofs.Declares.{tag_no_alias}

@@ -1,6 +1,6 @@
-use Rattle.std.proofs.Common.{◌≡◌, ℕ, ◌∙◌, sym, true}
+use Rattle.std.proofs.Common.{◌≡◌, ◌∙◌, sym, true}
 use Rattle.lgx_machine.specs.Declarations.{is_name_in}
-use Rattle.lgx_tags.proofs.Declares.{taken, free_name, name_short}
+use Rattle.lgx_tags.proofs.Declares.{taken, free_name}
 use Rattle.lgx_tags.proofs.declared.Declared.name_fault.Goals as goal
 
 pub returns-in-Some-clause-fault : goal.returns-in-Some-clause-fault

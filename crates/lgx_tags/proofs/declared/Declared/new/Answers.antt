@@ -1,9 +1,6 @@
-use Rattle.std.proofs.Common.{◌≡◌, ℕ, arith, ap, sym, ◌∙◌}
-use Rattle.std.specs.Prelude.{List}
+use Rattle.std.proofs.Common.{arith, ap, sym, ◌∙◌}
 use Rattle.lgx_tags.proofs.Spans.{none_laid}
-use Rattle.std.specs.List.{AllByRecursion as Each}
-use Rattle.lgx_machine.specs.Declarations.{Entry, bytes}
-use Rattle.lgx_tags.specs.Tables.{IsLetIn, keys_of}
+use Rattle.lgx_tags.specs.Tables.{keys_of}
 use Rattle.lgx_tags.proofs.declared.Declared.new.Goals as goal
 
 pub invariant_of-result : goal.invariant_of-result

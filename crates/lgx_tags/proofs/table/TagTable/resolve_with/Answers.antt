@@ -1,11 +1,10 @@
-use Rattle.std.proofs.Common.{◌≡◌, ◌∙◌, ℕ, ap, sym, subst}
-use Rattle.std.specs.Prelude.{List, [], Ok}
+use Rattle.std.proofs.Common.{◌≡◌, ◌∙◌, ap, sym, subst}
+use Rattle.std.specs.Prelude.{List, []}
 use Rattle.lgx_machine.specs.declared.types.TypeDecl.{TypeDecl}
-use Rattle.lgx_machine.specs.declared.tag.Found.{Found}
 use Rattle.lgx_machine.specs.Declarations.{Declarations, bytes}
 use Rattle.lgx_machine.specs.Resolution.{in_form, named}
 use Rattle.lgx_machine.specs.ResolutionLaws.{LiesIn}
-use Rattle.lgx_tags.specs.Chains.{Answer, Known, named_by, Walked}
+use Rattle.lgx_tags.specs.Chains.{Answer, named_by, Walked}
 use Rattle.lgx_tags.specs.Tables.{Table}
 use Rattle.lgx_tags.specs.Walk.{Answers, subscripts_of}
 use Rattle.lgx_tags.proofs.Declares.{ArePlaced, all_placed}

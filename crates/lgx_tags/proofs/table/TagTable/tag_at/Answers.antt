@@ -1,14 +1,13 @@
-use Rattle.std.proofs.Common.{◌≡◌, ◌≤◌, ◌∙◌, ℕ, ap, sym, subst, arith, length, get_or}
+use Rattle.std.proofs.Common.{◌≡◌, ◌∙◌, ap, sym, arith, length, get_or}
 use Rattle.std.specs.Prelude.{List, Some, slice_get}
 use Rattle.std.proofs.lemmas.Option.{slice_get-get_or, slice_get_past}
 use Rattle.lgx_machine.specs.declared.types.Base.TheVariants.{Bool as OneBit}
 use Rattle.lgx_machine.specs.declared.tag.Scope.{Scope}
-use Rattle.lgx_machine.specs.Declarations.{Entry, Declarations}
+use Rattle.lgx_machine.specs.Declarations.{Declarations}
 use Rattle.lgx_tags.specs.Layouts.{laid_of}
 use Rattle.lgx_tags.specs.Sealing.{spans_of}
 use Rattle.lgx_tags.specs.Tables.{Table}
 use Rattle.lgx_tags.specs.declared.layout.Laid.{Laid}
-use Rattle.lgx_tags.specs.declared.span.TagSpan.{TagSpan}
 use Rattle.lgx_tags.proofs.Told.{told_count, told_entry, told_span}
 use Rattle.lgx_tags.proofs.table.TagTable.tag_at.Goals as goal
 

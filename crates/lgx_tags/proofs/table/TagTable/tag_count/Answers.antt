@@ -1,4 +1,4 @@
-use Rattle.std.proofs.Common.{◌≡◌, ◌∙◌, ap, length}
+use Rattle.std.proofs.Common.{◌∙◌, ap, length}
 use Rattle.lgx_tags.proofs.Told.{told_count}
 use Rattle.lgx_tags.proofs.table.TagTable.tag_count.Goals as goal
 
