@@ -2,9 +2,9 @@
 use Rattle.std.specs.Prelude.{List}
 use Rattle.lgx_rung.specs.declared.op.Op.{Op}
 use Rattle.lgx_rung.specs.declared.op.Op.TheVariants.{Ote, Otl, Otu, Ons, Osr, Osf}
-use Rattle.lgx_machine.specs.declared.bound.Arg.{Arg}
-use Rattle.lgx_machine.specs.declared.bound.Arg.TheVariants.{Cell}
-use Rattle.lgx_machine.specs.Arguments.{arg}
+use Rattle.spec_scan.specs.declared.bound.Arg.{Arg}
+use Rattle.spec_scan.specs.declared.bound.Arg.TheVariants.{Cell}
+use Rattle.spec_scan.specs.Arguments.{arg}
 
 -- an operand is a place, and no number, flag or other
 abbrev pub IsPlace : Arg → Type 0

@@ -1,15 +1,15 @@
 // The bit instructions. Each answers the condition that goes on.
 ghost use Rattle.std.specs.Prelude.{◌≡◌, ◌&&◌, not, false, true, if◌then◌else◌, length};
 ghost use Rattle.lgx_num.specs.Image.{number, write, Lies};
-ghost use Rattle.lgx_machine.specs.Arguments.{is_one, bit_number};
-ghost use Rattle.lgx_machine.specs.Bits.{bits};
+ghost use Rattle.spec_scan.specs.Arguments.{is_one, bit_number};
+ghost use Rattle.spec_scan.specs.Bits.{bits};
 ghost use Rattle.lgx_image.specs.Args.{ArgsLie};
 ghost use Rattle.lgx_image.specs.Grains.{Spread};
 ghost use Rattle.lgx_bits.specs.Written.{WritesPlaces};
 
 use crate::operand::{is_on, is_set, place_at, put_bit};
 use lgx_image::Image;
-use lgx_machine::Bound;
+use spec_scan::Bound;
 use lgx_num::{Flags, Place};
 use lgx_rung::Op;
 

@@ -1,13 +1,13 @@
 // Operands as bits.
 ghost use Rattle.std.specs.Prelude.{◌≡◌, ℕ, length};
-ghost use Rattle.lgx_machine.specs.Arguments.{arg, bit_value, place_of, is_one, bit_number};
+ghost use Rattle.spec_scan.specs.Arguments.{arg, bit_value, place_of, is_one, bit_number};
 ghost use Rattle.lgx_image.specs.Args.{ArgLies};
 ghost use Rattle.lgx_image.specs.Grains.{Spread};
 ghost use Rattle.lgx_num.specs.Image.{number, write, Lies};
 ghost use Rattle.lgx_bits.specs.Written.{IsPlace};
 
 use lgx_image::Image;
-use lgx_machine::{Arg, Bound};
+use spec_scan::{Arg, Bound};
 use lgx_num::{Flag, Flags, Place};
 
 /// Whether an operand's bit is 1: the bit at a place, or a status flag.

@@ -4,7 +4,7 @@ ghost use Rattle.lgx_num.specs.Image.{Lies};
 
 use super::*;
 use lgx_image::Image;
-use lgx_machine::{Arg, Bound};
+use spec_scan::{Arg, Bound};
 use lgx_num::{Flag, Flags, Kind, Memory, Place};
 use lgx_rung::Op;
 use std::alloc::Global;

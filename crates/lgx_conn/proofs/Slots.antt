@@ -5,11 +5,11 @@ use Rattle.std.proofs.lemmas.Bool.{lt-ltb, le-ltb, true≢false, false≢true}
 use Rattle.std.proofs.lemmas.List.{length-take, get_or_read}
 use Rattle.std.proofs.lemmas.List.Sums.{sum_by-le}
 use Rattle.std.proofs.lemmas.List.Elements.{All-take, All-weaker}
-use Rattle.lgx_machine.specs.declared.conn.ConnDef.{ConnDef}
-use Rattle.lgx_machine.specs.declared.conn.Slot.{Slot}
-use Rattle.lgx_machine.specs.declared.reply.ConnFault.{ConnFault}
-use Rattle.lgx_machine.specs.declared.reply.ConnFault.TheVariants.{N1, N2, N3}
-use Rattle.lgx_machine.specs.Connections.{no_conn, conn_named, words_of, trigger_at, slot_of, in_direction, slot_in, slot, io_in, io_word}
+use Rattle.spec_tables.specs.declared.conn.ConnDef.{ConnDef}
+use Rattle.spec_tables.specs.declared.conn.Slot.{Slot}
+use Rattle.spec_tables.specs.declared.conn.ConnFault.{ConnFault}
+use Rattle.spec_tables.specs.declared.conn.ConnFault.TheVariants.{N1, N2, N3}
+use Rattle.spec_tables.specs.Connections.{no_conn, conn_named, words_of, trigger_at, slot_of, in_direction, slot_in, slot, io_in, io_word}
 use Rattle.lgx_conn.specs.Numbered.{IsSmall, IsNumbered}
 
 -- there are at most 8,192 words

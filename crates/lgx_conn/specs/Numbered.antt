@@ -1,8 +1,8 @@
 -- Connections whose words are numbered.
 use Rattle.std.specs.Prelude.{◌≡◌, ℕ, ◌+◌, ◌*◌, ◌<◌, ◌≤◌, List, length, take, slice_index_or}
 use Rattle.std.specs.List.{All}
-use Rattle.lgx_machine.specs.declared.conn.ConnDef.{ConnDef}
-use Rattle.lgx_machine.specs.Connections.{words_of}
+use Rattle.spec_tables.specs.declared.conn.ConnDef.{ConnDef}
+use Rattle.spec_tables.specs.Connections.{words_of}
 
 -- A connection has at most 128 words, which lie in an image of at most 262,144 bytes.
 abbrev pub IsSmall : ConnDef → Type 0

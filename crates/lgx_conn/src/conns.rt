@@ -2,10 +2,10 @@
 ghost use Rattle.std.specs.Prelude.{◌≡◌, ◌<◌, ◌≤◌, Bool, true, false, length, IfOk, IfSome, slice_index_or};
 ghost use Rattle.std.specs.List.{All, position_from};
 ghost use Rattle.lgx_num.specs.Name.{same};
-ghost use Rattle.lgx_machine.specs.Connections.{slot, io_word, no_conn, trigger_at};
+ghost use Rattle.spec_tables.specs.Connections.{slot, io_word, no_conn, trigger_at};
 ghost use Rattle.lgx_conn.specs.Numbered.{IsSmall};
 
-use lgx_machine::{ConnDef, ConnFault, Slot};
+use spec_tables::{ConnDef, ConnFault, Slot};
 use lgx_num::{List as Items, Memory, Name};
 use std::alloc::Global;
 use std::marker::Model;
@@ -23,7 +23,7 @@ pub struct Conns {
 
 impl Model for Conns {
     ghost use Rattle.std.specs.Prelude.{List};
-    ghost use Rattle.lgx_machine.specs.declared.conn.ConnDef.{ConnDef};
+    ghost use Rattle.spec_tables.specs.declared.conn.ConnDef.{ConnDef};
     ghost use Rattle.lgx_conn.specs.Numbered.{IsNumbered};
 
     ghost Value = { List ConnDef };

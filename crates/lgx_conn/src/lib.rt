@@ -6,4 +6,4 @@ mod conns;
 mod tests;
 
 pub use conns::Conns;
-pub use lgx_machine::{ConnDef, ConnFault, Slot};
+pub use spec_tables::{ConnDef, ConnFault, Slot};

@@ -3,11 +3,11 @@ use Rattle.std.proofs.Common.{◌≡◌, ℕ, zero, suc, ◌+◌, ◌-◌, ◌*�
 use Rattle.std.proofs.Math.Nat.{suc-mul, mul-le-mul_right, div-mul-le_self}
 use Rattle.lgx_rung.specs.declared.op.Op.{Op}
 use Rattle.lgx_rung.specs.declared.op.Op.TheVariants.{Fll}
-use Rattle.lgx_machine.specs.declared.bound.Arg.{Arg}
-use Rattle.lgx_machine.specs.declared.bound.Arg.TheVariants.{Number, Cell, Timer, Counter, Block, FlagOf, Other}
-use Rattle.lgx_machine.specs.declared.bound.Copying.{Copying}
-use Rattle.lgx_machine.specs.Arguments.{arg, byte_of, size_of, room_of}
-use Rattle.lgx_machine.specs.Copies.{elements, elements_in, copy_of}
+use Rattle.spec_scan.specs.declared.bound.Arg.{Arg}
+use Rattle.spec_scan.specs.declared.bound.Arg.TheVariants.{Number, Cell, Timer, Counter, Block, FlagOf, Other}
+use Rattle.spec_scan.specs.declared.bound.Copying.{Copying}
+use Rattle.spec_scan.specs.Arguments.{arg, byte_of, size_of, room_of}
+use Rattle.spec_scan.specs.Copies.{elements, elements_in, copy_of}
 use Rattle.lgx_image.specs.Args.{ArgLies, ArgsLie}
 use Rattle.lgx_copy.specs.CopyLies.{IsFillSize, SourceLies, CopyLies, BlockEnds, StoresInteger, BlocksLie}
 

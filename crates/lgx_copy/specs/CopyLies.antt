@@ -2,10 +2,10 @@
 use Rattle.std.specs.Prelude.{◌≡◌, ℕ, ◌+◌, ◌*◌, ◌^◌, ◌<◌, ◌≤◌, ◌⊎◌, List, ℤ, Option, Some, None}
 use Rattle.lgx_rung.specs.declared.op.Op.{Op}
 use Rattle.lgx_rung.specs.declared.op.Op.TheVariants.{Fll}
-use Rattle.lgx_machine.specs.declared.bound.Arg.{Arg}
-use Rattle.lgx_machine.specs.declared.bound.Arg.TheVariants.{Block}
-use Rattle.lgx_machine.specs.declared.bound.Copying.{Copying}
-use Rattle.lgx_machine.specs.Arguments.{arg, size_of}
+use Rattle.spec_scan.specs.declared.bound.Arg.{Arg}
+use Rattle.spec_scan.specs.declared.bound.Arg.TheVariants.{Block}
+use Rattle.spec_scan.specs.declared.bound.Copying.{Copying}
+use Rattle.spec_scan.specs.Arguments.{arg, size_of}
 
 -- the bytes of an element that a fill stores: a SINT, an INT or a DINT
 abbrev pub IsFillSize : ℕ → Type 0

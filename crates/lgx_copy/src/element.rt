@@ -3,12 +3,12 @@ ghost use Rattle.std.specs.Prelude.{◌≡◌, ◌+◌, ◌*◌, ◌^◌, ◌<�
 ghost use Rattle.std.specs.Int.{w32, to_le_bytes};
 ghost use Rattle.lgx_num.specs.Number.{low_bits};
 ghost use Rattle.lgx_num.specs.Image.{splice};
-ghost use Rattle.lgx_machine.specs.Copies.{copy_element, after_element};
+ghost use Rattle.spec_scan.specs.Copies.{copy_element, after_element};
 ghost use Rattle.lgx_image.specs.Grains.{Spread};
 ghost use Rattle.lgx_copy.specs.CopyLies.{IsFillSize, CopyLies};
 
 use lgx_image::Image;
-use lgx_machine::Copying;
+use spec_scan::Copying;
 use lgx_num::{Kind, Place};
 
 /// Copies one element, read whole before it is written, and answers whether one is left.

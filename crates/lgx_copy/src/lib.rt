@@ -8,7 +8,7 @@ mod operand;
 mod start;
 
 pub use element::next;
-pub use lgx_machine::Copying;
+pub use spec_scan::Copying;
 pub use start::start_copy;
 
 #[cfg(test)]

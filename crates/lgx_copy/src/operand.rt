@@ -1,10 +1,10 @@
 // The operands of a copy.
 ghost use Rattle.std.specs.Prelude.{◌≡◌, ◌≤◌, length};
-ghost use Rattle.lgx_machine.specs.Arguments.{byte_of, size_of, room_of, value_of};
+ghost use Rattle.spec_scan.specs.Arguments.{byte_of, size_of, room_of, value_of};
 ghost use Rattle.lgx_image.specs.Args.{ArgLies};
 
 use lgx_image::Image;
-use lgx_machine::Arg;
+use spec_scan::Arg;
 
 /// The first byte of what an operand names.
 pub(crate) fn byte_of(arg: Arg) -> u32

@@ -1,13 +1,13 @@
 // The beginning of a copy.
 ghost use Rattle.std.specs.Prelude.{◌≡◌, ◌<◌, ◌≤◌, length, IfSome};
-ghost use Rattle.lgx_machine.specs.Arguments.{arg as operand, size_of};
-ghost use Rattle.lgx_machine.specs.Copies.{positive, asked, elements, fill_of, is_sync, start_copy, elements_in};
+ghost use Rattle.spec_scan.specs.Arguments.{arg as operand, size_of};
+ghost use Rattle.spec_scan.specs.Copies.{positive, asked, elements, fill_of, is_sync, start_copy, elements_in};
 ghost use Rattle.lgx_image.specs.Args.{ArgsLie};
 ghost use Rattle.lgx_copy.specs.CopyLies.{CopyLies, BlocksLie};
 
 use crate::operand::{byte_of, room_of, size_of, value_of};
 use lgx_image::Image;
-use lgx_machine::{Arg, Bound, Copying};
+use spec_scan::{Arg, Bound, Copying};
 use lgx_rung::Op;
 
 /// The copy or fill that begins; None exactly where it has no element.

@@ -1,13 +1,13 @@
 // Numbers of elements at their edges, copies that overlap, and fills by low bits, on bytes that begin as 1, 2, .. 16.
 ghost use Rattle.std.specs.Prelude.{◌≡◌, ◌+◌, ◌<◌, ◌≤◌, length, IfOk};
 ghost use Rattle.lgx_num.specs.Image.{Lies};
-ghost use Rattle.lgx_machine.specs.Arguments.{size_of};
+ghost use Rattle.spec_scan.specs.Arguments.{size_of};
 ghost use Rattle.lgx_image.specs.Args.{ArgLies};
 ghost use Rattle.lgx_copy.specs.CopyLies.{IsFillSize, BlockEnds, CopyLies};
 
 use super::*;
 use lgx_image::Image;
-use lgx_machine::{Arg, Bound};
+use spec_scan::{Arg, Bound};
 use lgx_num::{Kind, Memory, Place};
 use lgx_rung::Op;
 use std::alloc::Global;

@@ -1,11 +1,11 @@
 // What is known of an instruction by its mnemonic and its first operand.
 ghost use Rattle.std.specs.Prelude.{◌≡◌};
-ghost use Rattle.lgx_machine.specs.Arguments.{byte_of};
-ghost use Rattle.lgx_machine.specs.Instructions.{acts_when_false, target};
+ghost use Rattle.spec_scan.specs.Arguments.{byte_of};
+ghost use Rattle.spec_scan.specs.Instructions.{acts_when_false, target};
 ghost use Rattle.lgx_prog.specs.Ready.{IsRoutine, IsTask, operand_at};
 ghost use Rattle.lgx_engine.specs.Families.{family_of};
 
-use lgx_machine::Arg;
+use spec_scan::Arg;
 use lgx_num::Operand;
 use lgx_rung::Op;
 

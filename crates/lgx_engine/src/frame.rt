@@ -1,6 +1,6 @@
 // Where a program scan stands in flat code.
 use arrayvec::ArrayVec;
-use lgx_machine::Copying;
+use spec_scan::Copying;
 use std::marker::Model;
 
 /// How many branches may be open in a routine.

@@ -1,8 +1,8 @@
 // The routines in progress, the innermost last.
 ghost use Rattle.std.specs.Prelude.{◌≡◌, ◌+◌, ◌^◌, ◌<◌, ◌==◌, List, ◌∷◌, drop, length, reverse, option_map, IsSome};
 ghost use Rattle.lgx_rung.specs.Tree.{Tree, one};
-ghost use Rattle.lgx_machine.specs.declared.program.Ins.{Ins};
-ghost use Rattle.lgx_machine.specs.Position.{Frame as MachineFrame, ProgramRungs, enter};
+ghost use Rattle.lgx_rung.specs.declared.ins.Ins.{Ins};
+ghost use Rattle.spec_scan.specs.Position.{Frame as MachineFrame, ProgramRungs, enter};
 ghost use Rattle.lgx_prog.specs.FlatProgram.{Program, IsFlatProgram};
 ghost use Rattle.lgx_engine.specs.Rows.{does_of};
 ghost use Rattle.lgx_engine.specs.Stands.{AllStand};
@@ -13,7 +13,7 @@ use crate::moves::{code_of, entered, step_on};
 use crate::row::RowStep;
 use crate::settling::piece_at;
 use arrayvec::ArrayVec;
-use lgx_machine::Ins;
+use lgx_rung::Ins;
 use lgx_prog::{Code, FlatProgram};
 
 /// The instruction before which the innermost routine stands; None where it is at its end, or where there is none.

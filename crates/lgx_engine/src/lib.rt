@@ -13,5 +13,5 @@ mod scan;
 mod settling;
 
 pub use frame::Position;
-pub use lgx_machine::Effect;
+pub use spec_scan::Effect;
 pub use scan::advance;

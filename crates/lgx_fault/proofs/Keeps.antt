@@ -1,7 +1,7 @@
 -- To keep the last faults at each note is to keep the last of all.
 use Rattle.std.proofs.Common.{◌≡◌, ℕ, ◌+◌, ◌-◌, List, [], ◌∷◌, ◌++◌, length, drop, sym, ◌∙◌, ap, arith, append_assoc, length-append, length-drop}
 use Rattle.std.proofs.lemmas.List.{drop-append-le, drop-drop, append-nil}
-use Rattle.lgx_machine.specs.declared.fault.Fault.{Fault}
+use Rattle.spec_tables.specs.declared.fault.Fault.{Fault}
 use Rattle.lgx_fault.specs.Kept.{last_faults, after_notes, HoldsTheLast}
 
 -- one fault more

@@ -1,6 +1,6 @@
 -- The faults that are kept: of all that were recorded, the last 64, oldest first.
 use Rattle.std.specs.Prelude.{◌≡◌, ◌-◌, List, [], ◌∷◌, ◌++◌, length, drop}
-use Rattle.lgx_machine.specs.declared.fault.Fault.{Fault}
+use Rattle.spec_tables.specs.declared.fault.Fault.{Fault}
 
 abbrev pub last_faults : List Fault → List Fault
 last_faults all = drop (length all - 64) all

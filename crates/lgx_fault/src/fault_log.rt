@@ -1,10 +1,10 @@
 // The last faults, in a ring of fixed room.
 ghost use Rattle.std.specs.Prelude.{◌≡◌, ℕ, ◌≤◌, ◌==◌, ◌↔◌, List, [], ◌∷◌, ◌++◌, length, slice_get, IfOk, IsNone};
-ghost use Rattle.lgx_machine.specs.declared.fault.Fault.{Fault};
+ghost use Rattle.spec_tables.specs.declared.fault.Fault.{Fault};
 ghost use Rattle.lgx_fault.specs.Kept.{last_faults};
 
 use circular_buffer::HeapCircularBuffer;
-use lgx_machine::Fault;
+use spec_tables::Fault;
 use lgx_num::Memory;
 use std::alloc::Global;
 use std::marker::Model;
@@ -21,7 +21,7 @@ pub struct FaultLog {
 
 impl Model for FaultLog {
     ghost use Rattle.std.specs.Prelude.{◌≡◌, List};
-    ghost use Rattle.lgx_machine.specs.declared.fault.Fault.{Fault};
+    ghost use Rattle.spec_tables.specs.declared.fault.Fault.{Fault};
 
     ghost Value = { List Fault };
 

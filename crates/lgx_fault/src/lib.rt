@@ -8,4 +8,4 @@ mod tests;
 
 pub use fault_log::FaultLog;
 pub use laws::law_of_notes;
-pub use lgx_machine::{Fault, Severity};
+pub use spec_tables::{Fault, Severity};

@@ -9,9 +9,9 @@ use Rattle.std.proofs.lemmas.Int.{of_z-to_z}
 use Rattle.std.proofs.lemmas.Nat.{and_le_r}
 use mir.Val.{SFits, of_z, to_z, bool_byte}
 use mir.Syntax.{w32}
-use Rattle.lgx_machine.specs.declared.reply.ForceFault.{ForceFault}
-use Rattle.lgx_machine.specs.declared.reply.ForceFault.TheVariants.{F1, F2, F3}
-use Rattle.lgx_machine.specs.Forces.{Force, Forces, no_forces, installed, masked, forced, install, remove_all}
+use Rattle.spec_tables.specs.declared.force.ForceFault.{ForceFault}
+use Rattle.spec_tables.specs.declared.force.ForceFault.TheVariants.{F1, F2, F3}
+use Rattle.spec_tables.specs.Forces.{Force, Forces, no_forces, installed, masked, forced, install, remove_all}
 use Rattle.lgx_force.specs.declared.table.Kept.{Kept}
 use Rattle.lgx_force.specs.Seen.{force_of, forces_of, Answers}
 

@@ -1,7 +1,7 @@
 -- What a table of forces is seen as.
 use Rattle.std.specs.Prelude.{◌≡◌, List, map, Option, option_map, Result, Ok, Err}
-use Rattle.lgx_machine.specs.Forces.{Force, Forces}
-use Rattle.lgx_machine.specs.declared.reply.ForceFault.{ForceFault}
+use Rattle.spec_tables.specs.Forces.{Force, Forces}
+use Rattle.spec_tables.specs.declared.force.ForceFault.{ForceFault}
 use Rattle.lgx_force.specs.declared.table.Kept.{Kept}
 
 -- a force as it is kept

@@ -5,5 +5,5 @@ mod table;
 #[cfg(test)]
 mod tests;
 
-pub use lgx_machine::ForceFault;
+pub use spec_tables::ForceFault;
 pub use table::ForceTable;

@@ -1,9 +1,9 @@
 // The table of forces.
 ghost use Rattle.std.specs.Prelude.{◌≡◌, ◌<◌, length, map, option_map, IfOk, Some, None};
-ghost use Rattle.lgx_machine.specs.Forces.{no_forces, install, enable, disable, remove_all, forced, masked};
+ghost use Rattle.spec_tables.specs.Forces.{no_forces, install, enable, disable, remove_all, forced, masked};
 ghost use Rattle.lgx_force.specs.Seen.{Answers, force_of};
 
-use lgx_machine::ForceFault;
+use spec_tables::ForceFault;
 use lgx_num::Memory;
 use std::alloc::Global;
 use std::marker::Model;
@@ -30,7 +30,7 @@ pub struct ForceTable {
 
 impl Model for ForceTable {
     ghost use Rattle.std.specs.Prelude.{◌≡◌, count_by, is_some};
-    ghost use Rattle.lgx_machine.specs.Forces.{Forces};
+    ghost use Rattle.spec_tables.specs.Forces.{Forces};
 
     ghost Value = { Forces };
 

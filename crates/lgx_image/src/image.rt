@@ -1,14 +1,14 @@
 // The image: the bytes of all tags, with the marks of what was written.
 ghost use Rattle.std.specs.Prelude.{◌≡◌, ◌+◌, ◌/◌, ◌≤◌, length, replicate, false, IfOk, IfSome, option_map};
 ghost use Rattle.lgx_num.specs.Image.{number, write, piece, splice, Lies, bit_of};
-ghost use Rattle.lgx_machine.specs.Arguments.{bind};
+ghost use Rattle.spec_scan.specs.Arguments.{bind};
 ghost use Rattle.lgx_image.specs.Grains.{grains_in, bytes_in, mark_piece, NextMarked, Spread};
 ghost use Rattle.lgx_image.specs.Args.{place_at, PlaceLies, OperandsLie, ArgsLie};
 
 use crate::bytes::{copy_piece, first_bit, number_at, write_at};
 use crate::grain::{WORDS, grains_in, mark_piece, next_bit, no_marks};
 use crate::operands::bind_all;
-use lgx_machine::Bound;
+use spec_scan::Bound;
 use lgx_num::{Kind, Memory, Operand, Path, Place};
 use std::alloc::Global;
 use std::marker::Model;

@@ -14,7 +14,7 @@ mod operands;
 pub use grain::{GRAIN, grain_of};
 pub use image::Image;
 pub use laws::{law_of_marks, law_of_spread};
-pub use lgx_machine::{Arg, Bound};
+pub use spec_scan::{Arg, Bound};
 
 #[cfg(test)]
 mod tests;

@@ -5,7 +5,7 @@ use Rattle.std.proofs.lemmas.Int.{of_z-to_z}
 use Rattle.std.proofs.lemmas.Nat.{or_lt}
 use Rattle.std.proofs.lemmas.Nat.Bits.{bit_at_and, bit_at_or, bit_at_not, bit_at-lt}
 use Rattle.std.proofs.Math.Facts.{Fits-and, Fits-of_z, Fits-lt-pow, Fits-of_lt}
-use Rattle.lgx_machine.specs.Arithmetic.{masked_move}
+use Rattle.spec_scan.specs.Arithmetic.{masked_move}
 use Rattle.lgx_math.specs.Laws.{bit_of, MaskedBitsAreMoved, OtherBitsStay}
 
 -- the same on bits

@@ -5,7 +5,7 @@ use Rattle.std.proofs.lemmas.Int.{quot-rem, rem_below, ints}
 use Rattle.std.proofs.lemmas.Bool.Decides.{Decides-int_eq}
 use Rattle.lgx_num.specs.Number.{fits}
 use Rattle.lgx_num.proofs.Numbers.{value_in_range_is_kept}
-use Rattle.lgx_machine.specs.Arithmetic.{quotient, remainder, is_exact, divides, is_zero}
+use Rattle.spec_scan.specs.Arithmetic.{quotient, remainder, is_exact, divides, is_zero}
 use Rattle.lgx_math.specs.Laws.{RemainderIsLeft, RemainderIsLess, RemainderHasTheSign, StoredIsExact}
 
 -- ---- another divisor than 0

@@ -2,8 +2,8 @@
 use Rattle.std.specs.Prelude.{Bool, true, false}
 use Rattle.lgx_rung.specs.declared.op.Op.{Op}
 use Rattle.lgx_rung.specs.declared.op.Op.TheVariants.{Equ, Neq, Les, Leq, Grt, Geq, Lim, Meq, Add, Sub, Mul, Div, Mod, Neg, Abs, Mov, And, Or, Xor, Not, Mvm, Clr}
-use Rattle.lgx_machine.specs.declared.bound.Arg.{Arg}
-use Rattle.lgx_machine.specs.declared.bound.Arg.TheVariants.{Cell}
+use Rattle.spec_scan.specs.declared.bound.Arg.{Arg}
+use Rattle.spec_scan.specs.declared.bound.Arg.TheVariants.{Cell}
 
 -- comparisons, limits and equality under a mask
 abbrev pub compares : Op → Bool

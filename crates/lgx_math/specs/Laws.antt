@@ -4,7 +4,7 @@ use Rattle.std.specs.Int.{w32, bit_at, cast_unsigned}
 use Rattle.lgx_num.specs.declared.number.Kind.{Kind}
 use Rattle.lgx_num.specs.Number.{store_low}
 use Rattle.lgx_rung.specs.declared.op.Op.{Op}
-use Rattle.lgx_machine.specs.Arithmetic.{quotient, remainder, masked_move, is_exact, overflows}
+use Rattle.spec_scan.specs.Arithmetic.{quotient, remainder, masked_move, is_exact, overflows}
 
 -- ---- quotients
 

@@ -1,6 +1,6 @@
 // The comparisons.
 ghost use Rattle.std.specs.Prelude.{◌≡◌, length, IsTrue};
-ghost use Rattle.lgx_machine.specs.Comparisons.{compare, holds, is_within, is_equal_under};
+ghost use Rattle.spec_scan.specs.Comparisons.{compare, holds, is_within, is_equal_under};
 ghost use Rattle.lgx_image.specs.Args.{ArgsLie};
 ghost use Rattle.lgx_math.specs.Families.{compares};
 

@@ -1,7 +1,7 @@
 // Arithmetic, moves and operations bit by bit.
 ghost use Rattle.std.specs.Prelude.{◌≡◌, length, IsTrue, pos, int_lt};
-ghost use Rattle.lgx_machine.specs.Arguments.{arg};
-ghost use Rattle.lgx_machine.specs.Arithmetic.{math, dest, is_zero};
+ghost use Rattle.spec_scan.specs.Arguments.{arg};
+ghost use Rattle.spec_scan.specs.Arithmetic.{math, dest, is_zero};
 ghost use Rattle.lgx_image.specs.Args.{ArgsLie};
 ghost use Rattle.lgx_image.specs.Grains.{Spread};
 ghost use Rattle.lgx_math.specs.Families.{computes, is_place};

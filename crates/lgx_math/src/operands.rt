@@ -1,7 +1,7 @@
 // What the operands of an instruction hold, and where a result goes.
 ghost use Rattle.std.specs.Prelude.{◌≡◌, length, IsTrue};
 ghost use Rattle.lgx_num.specs.Image.{Lies};
-ghost use Rattle.lgx_machine.specs.Arguments.{value_of, place_of};
+ghost use Rattle.spec_scan.specs.Arguments.{value_of, place_of};
 ghost use Rattle.lgx_image.specs.Args.{ArgLies};
 ghost use Rattle.lgx_math.specs.Families.{is_place};
 

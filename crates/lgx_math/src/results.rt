@@ -1,6 +1,6 @@
 // The exact results of arithmetic, and whether they overflow.
 ghost use Rattle.std.specs.Prelude.{◌≡◌, IsTrue};
-ghost use Rattle.lgx_machine.specs.Arithmetic.{result_of, quotient, remainder, masked_move, is_exact, divides, overflows};
+ghost use Rattle.spec_scan.specs.Arithmetic.{result_of, quotient, remainder, masked_move, is_exact, divides, overflows};
 ghost use Rattle.lgx_math.specs.Families.{computes};
 
 use lgx_num::{Kind, fits};

@@ -1,8 +1,8 @@
 // Results, flags and comparisons at the edges of each kind.
 ghost use Rattle.std.specs.Prelude.{◌≡◌, ◌+◌, ◌%◌, ◌≤◌, length, IsTrue};
 ghost use Rattle.lgx_num.specs.Image.{Lies};
-ghost use Rattle.lgx_machine.specs.Arguments.{arg};
-ghost use Rattle.lgx_machine.specs.Arithmetic.{dest};
+ghost use Rattle.spec_scan.specs.Arguments.{arg};
+ghost use Rattle.spec_scan.specs.Arithmetic.{dest};
 ghost use Rattle.lgx_image.specs.Args.{ArgLies, ArgsLie};
 ghost use Rattle.lgx_math.specs.Families.{compares, computes, is_place};
 

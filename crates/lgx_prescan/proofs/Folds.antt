@@ -3,9 +3,9 @@ use Rattle.std.specs.Prelude.{flat_map, slice_index_or}
 use Rattle.std.proofs.Common.{◌≡◌, ℕ, zero, suc, List, [], ◌∷◌, ◌++◌, refl, ap, sym, subst, ◌∙◌}
 use Rattle.std.specs.List.{AllByRecursion as Each}
 use Rattle.lgx_rung.specs.Tree.{instructions}
-use Rattle.lgx_machine.specs.declared.program.Ins.{Ins}
-use Rattle.lgx_machine.specs.Position.{ProgramRungs, Rungs, routine_rungs}
-use Rattle.lgx_machine.specs.Prescan.{reached, reached_instructions}
+use Rattle.lgx_rung.specs.declared.ins.Ins.{Ins}
+use Rattle.spec_scan.specs.Position.{ProgramRungs, Rungs, routine_rungs}
+use Rattle.spec_scan.specs.Prescan.{reached, reached_instructions}
 use Rattle.lgx_prog.specs.Executes.{executes}
 use Rattle.lgx_prog.specs.FlatProgram.{Program, IsFlatProgram, routine_at}
 use Rattle.lgx_prog.specs.Ready.{IsReady, AreReady, IsReadyProgram}

@@ -2,9 +2,9 @@
 use Rattle.std.specs.Prelude.{List}
 use Rattle.lgx_rung.specs.declared.op.Op.{Op}
 use Rattle.lgx_rung.specs.declared.op.Op.TheVariants.{Ote, Ons, Osr, Osf, Ton, Rto, Tof, Ctu, Ctd}
-use Rattle.lgx_machine.specs.declared.bound.Arg.{Arg}
-use Rattle.lgx_machine.specs.declared.bound.Arg.TheVariants.{Cell, Timer, Counter}
-use Rattle.lgx_machine.specs.Arguments.{arg}
+use Rattle.spec_scan.specs.declared.bound.Arg.{Arg}
+use Rattle.spec_scan.specs.declared.bound.Arg.TheVariants.{Cell, Timer, Counter}
+use Rattle.spec_scan.specs.Arguments.{arg}
 
 abbrev pub IsPlace : Arg → Type 0
 IsPlace (Cell place) = Unit {0}

@@ -1,9 +1,9 @@
 // The prescan of an instruction.
 ghost use Rattle.std.specs.Prelude.{◌≡◌, ◌+◌, ◌≤◌, true, false, pos, length};
 ghost use Rattle.lgx_num.specs.Image.{write, Lies};
-ghost use Rattle.lgx_machine.specs.Arguments.{bit_number};
-ghost use Rattle.lgx_machine.specs.Prescan.{prescan_ins, prescan_one, timer_bits_off};
-ghost use Rattle.lgx_machine.specs.StatusWords.{pre, put_acc};
+ghost use Rattle.spec_scan.specs.Arguments.{bit_number};
+ghost use Rattle.spec_scan.specs.Prescan.{prescan_ins, prescan_one, timer_bits_off};
+ghost use Rattle.spec_scan.specs.StatusWords.{pre, put_acc};
 ghost use Rattle.lgx_image.specs.Args.{ArgsLie};
 ghost use Rattle.lgx_image.specs.Grains.{Spread};
 ghost use Rattle.lgx_prog.specs.Ready.{IsReady};
@@ -11,7 +11,7 @@ ghost use Rattle.lgx_prescan.specs.Written.{IsWritten};
 
 use crate::operand::{counter_at, place_at, put_bit, timer_at};
 use lgx_image::Image;
-use lgx_machine::Bound;
+use spec_scan::Bound;
 use lgx_num::Place;
 use lgx_prog::Ins;
 use lgx_rung::Op;

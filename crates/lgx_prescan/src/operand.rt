@@ -1,13 +1,13 @@
 // The operands that the prescan writes.
 ghost use Rattle.std.specs.Prelude.{◌≡◌, ℕ, ◌+◌, ◌≤◌, length};
 ghost use Rattle.lgx_num.specs.Image.{write, Lies};
-ghost use Rattle.lgx_machine.specs.Arguments.{arg, place_of, byte_of, bit_number};
+ghost use Rattle.spec_scan.specs.Arguments.{arg, place_of, byte_of, bit_number};
 ghost use Rattle.lgx_image.specs.Args.{ArgLies};
 ghost use Rattle.lgx_image.specs.Grains.{Spread};
 ghost use Rattle.lgx_prescan.specs.Written.{IsPlace, IsTimer, IsCounter};
 
 use lgx_image::Image;
-use lgx_machine::{Arg, Bound};
+use spec_scan::{Arg, Bound};
 use lgx_num::Place;
 
 /// The place that is this operand, counted from 0.

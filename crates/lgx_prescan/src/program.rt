@@ -1,8 +1,8 @@
 // The prescan of a program.
 ghost use Rattle.std.specs.Prelude.{◌≡◌, length, fold};
 ghost use Rattle.std.specs.List.{AllByRecursion as Each};
-ghost use Rattle.lgx_machine.specs.Position.{ProgramRungs};
-ghost use Rattle.lgx_machine.specs.Prescan.{prescan_ins, prescan};
+ghost use Rattle.spec_scan.specs.Position.{ProgramRungs};
+ghost use Rattle.spec_scan.specs.Prescan.{prescan_ins, prescan};
 ghost use Rattle.lgx_image.specs.Grains.{Spread};
 ghost use Rattle.lgx_prog.specs.Executes.{executes};
 ghost use Rattle.lgx_prog.specs.FlatProgram.{IsFlatProgram};

@@ -15,26 +15,26 @@ use Rattle.lgx_rung.specs.declared.op.Op.TheVariants.{Xic, Xio, Ote, Otl, Otu, O
 use Rattle.lgx_rung.specs.declared.fault.CheckCode.{CheckCode}
 use Rattle.lgx_rung.specs.declared.fault.CheckCode.TheVariants.{C1, C2, C11, C12, C15}
 use Rattle.lgx_rung.specs.Tree.{Tree, end, one, fork, Legs, last, leg, Source, SourceIns, instructions, leg_instructions}
-use Rattle.lgx_machine.specs.FirstCause.{some_or}
-use Rattle.lgx_machine.specs.declared.program.Ins.{Ins}
-use Rattle.lgx_machine.specs.declared.types.Base.{Base}
-use Rattle.lgx_machine.specs.declared.types.Base.TheVariants.{Bool as OneBit, Sint, Int, Dint, Timer, Counter, User}
-use Rattle.lgx_machine.specs.declared.types.TypeDecl.{TypeDecl}
-use Rattle.lgx_machine.specs.declared.tag.Scope.{Scope}
-use Rattle.lgx_machine.specs.declared.tag.Scope.TheVariants.{Program}
-use Rattle.lgx_machine.specs.declared.tag.TagCode.{TagCode}
-use Rattle.lgx_machine.specs.declared.tag.Found.{Found}
-use Rattle.lgx_machine.specs.Layout.{size_of, single}
-use Rattle.lgx_machine.specs.OperandForm.{Number, fitting, outside, number, flag}
-use Rattle.lgx_machine.specs.Declarations.{Declarations, bytes}
-use Rattle.lgx_machine.specs.Resolution.{is_array, is_integer, integer_bits, found}
-use Rattle.lgx_machine.specs.ResolutionLaws.{Sound, LiesIn}
-use Rattle.lgx_machine.specs.Operands.{Want, bool_place, bool_or_flag, integer_place, value, timer, counter, timer_or_counter, copied, copy_target, fill_target, question, routine, no_parameters, jump_label, own_label, event_task, kinds, is_optional, paired, path_of, is_bool, is_timer, is_counter, one_place, block_where, place_as, number_as, flag_as, found_as, read_as, data_operand, name_operand}
-use Rattle.lgx_machine.specs.Checked.{CheckScope, Spot, Label, labels, label_of, label_faults, length_faults, behind, operand_of, operands_of, code_number, lesser, least, answered, settled, instruction_of, checked_tree, checked_legs, checked_from}
-use Rattle.lgx_machine.proofs.Binds.{bind_ok, ok_inj, err_not_ok}
-use Rattle.lgx_machine.proofs.Subscripts.{each_append}
-use Rattle.lgx_machine.specs.CheckedLaws.{OperandsLie, CheckedLies}
-use Rattle.lgx_machine.proofs.FoundLie.{found_lies}
+use Rattle.spec_base.specs.FirstCause.{some_or}
+use Rattle.lgx_rung.specs.declared.ins.Ins.{Ins}
+use Rattle.spec_language.specs.declared.types.Base.{Base}
+use Rattle.spec_language.specs.declared.types.Base.TheVariants.{Bool as OneBit, Sint, Int, Dint, Timer, Counter, User}
+use Rattle.spec_language.specs.declared.types.TypeDecl.{TypeDecl}
+use Rattle.spec_language.specs.declared.tag.Scope.{Scope}
+use Rattle.spec_language.specs.declared.tag.Scope.TheVariants.{Program}
+use Rattle.spec_language.specs.declared.tag.TagCode.{TagCode}
+use Rattle.spec_language.specs.declared.tag.Found.{Found}
+use Rattle.spec_language.specs.Layout.{size_of, single}
+use Rattle.spec_language.specs.OperandForm.{Number, fitting, outside, number, flag}
+use Rattle.spec_language.specs.Declarations.{Declarations, bytes}
+use Rattle.spec_language.specs.Resolution.{is_array, is_integer, integer_bits, found}
+use Rattle.spec_language.specs.ResolutionLaws.{Sound, LiesIn}
+use Rattle.spec_language.specs.Operands.{Want, bool_place, bool_or_flag, integer_place, value, timer, counter, timer_or_counter, copied, copy_target, fill_target, question, routine, no_parameters, jump_label, own_label, event_task, kinds, is_optional, paired, path_of, is_bool, is_timer, is_counter, one_place, block_where, place_as, number_as, flag_as, found_as, read_as, data_operand, name_operand}
+use Rattle.spec_language.specs.Checked.{CheckScope, Spot, Label, labels, label_of, label_faults, length_faults, behind, operand_of, operands_of, code_number, lesser, least, answered, settled, instruction_of, checked_tree, checked_legs, checked_from}
+use Rattle.spec_base.proofs.Binds.{bind_ok, ok_inj, err_not_ok}
+use Rattle.spec_language.proofs.Subscripts.{each_append}
+use Rattle.spec_language.specs.CheckedLaws.{OperandsLie, CheckedLies}
+use Rattle.spec_language.proofs.FoundLie.{found_lies}
 use Rattle.lgx_prog.specs.Ready.{IsCell, IsTimer, IsCounter, IsIntegers, IsRoutine, IsTask, EndsIn, operand_at, KindsFit, IsReady, AreReady}
 use Rattle.lgx_prog.specs.ReadyLaws.{CheckedAreReady}
 

@@ -5,8 +5,8 @@ use Rattle.std.proofs.Common.{sym, ap, subst, ◌∙◌, arith, eqb-true, eq-eqb
 use Rattle.std.proofs.lemmas.List.{length-replicate}
 use Rattle.std.proofs.lemmas.List.{get_or-set_same, get_or-set_other}
 use Rattle.std.proofs.lemmas.List.Sums.{sum_by-set, sum_by-cons}
-use Rattle.lgx_machine.specs.Position.{Rungs, ProgramRungs, routine_rungs}
-use Rattle.lgx_machine.specs.Prescan.{calls, is_called, reached_by, reached}
+use Rattle.spec_scan.specs.Position.{Rungs, ProgramRungs, routine_rungs}
+use Rattle.spec_scan.specs.Prescan.{calls, is_called, reached_by, reached}
 use Rattle.lgx_prog.specs.Search.{Found, noted}
 use Rattle.lgx_prog.proofs.Executes.{both}
 use Rattle.lgx_prog.proofs.Searching.{or_first, or_second, or_either, same_truth, Has, any_at, any_from, into_filter, from_filter, into_range, from_range, filter_same, has_end, has_before, place_of, at_end, at_before}

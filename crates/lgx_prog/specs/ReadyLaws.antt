@@ -1,10 +1,10 @@
 -- Checked rungs are ready for the image of their tags.
 use Rattle.std.specs.Prelude.{◌≡◌, List, Ok}
 use Rattle.lgx_rung.specs.Tree.{Source}
-use Rattle.lgx_machine.specs.Declarations.{bytes}
-use Rattle.lgx_machine.specs.ResolutionLaws.{Sound}
-use Rattle.lgx_machine.specs.Checked.{CheckScope, checked}
-use Rattle.lgx_machine.specs.Position.{Rungs}
+use Rattle.spec_language.specs.Declarations.{bytes}
+use Rattle.spec_language.specs.ResolutionLaws.{Sound}
+use Rattle.spec_language.specs.Checked.{CheckScope, checked}
+use Rattle.spec_scan.specs.Position.{Rungs}
 use Rattle.lgx_prog.specs.Ready.{AreReady}
 
 abbrev pub CheckedAreReady : Type 0

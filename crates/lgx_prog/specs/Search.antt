@@ -1,6 +1,6 @@
 -- A search for the routines that are called.
 use Rattle.std.specs.Prelude.{ℕ, Bool, true, false, not, ◌&&◌, nat_lt, if◌then◌else◌, List, [], ◌∷◌, ◌++◌, length, slice_index_or, slice_set, slice_get, fold, Option, Some, None}
-use Rattle.lgx_machine.specs.Position.{Rungs}
+use Rattle.spec_scan.specs.Position.{Rungs}
 use Rattle.lgx_prog.specs.Flat.{Flat, IsFlat}
 use Rattle.lgx_prog.specs.FlatProgram.{no_code}
 use Rattle.lgx_prog.specs.Executes.{called_in}

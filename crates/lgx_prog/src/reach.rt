@@ -1,13 +1,13 @@
 // Which routines the main routine reaches by calls.
 ghost use Rattle.std.specs.Prelude.{◌≡◌, ◌<◌, false, [], ◌∷◌, ◌++◌, length, filter, slice_index_or, fold, replicate, OnOk, IfOk};
 ghost use Rattle.std.specs.List.{range_with_len};
-ghost use Rattle.lgx_machine.specs.Position.{ProgramRungs};
-ghost use Rattle.lgx_machine.specs.Prescan.{reached, called_by};
+ghost use Rattle.spec_scan.specs.Position.{ProgramRungs};
+ghost use Rattle.spec_scan.specs.Prescan.{reached, called_by};
 ghost use Rattle.lgx_prog.specs.Executes.{called_in};
 ghost use Rattle.lgx_prog.specs.Search.{noted, examined, kept_number, AreFlat, option_list};
 
 use crate::code::{Code, FlatRoutine};
-use lgx_machine::Ins;
+use lgx_rung::Ins;
 use lgx_num::{Memory, Operand};
 use lgx_rung::Op;
 use std::alloc::Global;

@@ -1,5 +1,5 @@
 // Checked rungs.
-use lgx_machine::Ins;
+use lgx_rung::Ins;
 use lgx_num::List;
 use std::marker::Model;
 
@@ -33,7 +33,7 @@ impl Model for Legs {
     ghost use Rattle.std.specs.Coded.{codes, coded_list};
     ghost use Rattle.lgx_rung.specs.Tree.{Tree};
     ghost use Rattle.lgx_rung.specs.Coding.{coded_tree};
-    ghost use Rattle.lgx_machine.specs.declared.program.Ins.{Ins};
+    ghost use Rattle.lgx_rung.specs.declared.ins.Ins.{Ins};
     ghost use Rattle.lgx_rung.specs.Sizes.{list_size};
     ghost use Rattle.lgx_prog.specs.LegsFall.{legs_fall};
 
@@ -58,7 +58,7 @@ impl Model for Rung {
     ghost use Rattle.lgx_rung.specs.Tree.{Tree, depth};
     ghost use Rattle.lgx_rung.specs.Coding.{coded_tree};
     ghost use Rattle.lgx_rung.specs.Sizes.{tree_size};
-    ghost use Rattle.lgx_machine.specs.declared.program.Ins.{Ins};
+    ghost use Rattle.lgx_rung.specs.declared.ins.Ins.{Ins};
 
     ghost Value = { Tree Ins };
 

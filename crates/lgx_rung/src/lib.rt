@@ -5,6 +5,7 @@
 #![tactic(auto)]
 
 mod fault;
+mod ins;
 mod op;
 mod rung;
 #[cfg(test)]
@@ -13,6 +14,7 @@ mod text;
 mod texts;
 
 pub use fault::{CheckCode, CheckFault, TextCode, TextFault};
+pub use ins::Ins;
 pub use op::{Op, mnemonics_are_read_back};
 pub use rung::{Element, Legs, OpenFork, SourceRung};
 pub use text::{

@@ -3,8 +3,8 @@ use Rattle.std.proofs.Common.{◌≡◌, ℕ, ◌+◌, ◌-◌, ◌<◌, ◌++�
 use Rattle.std.specs.List.{list_any, position_from}
 use Rattle.std.proofs.lemmas.Bool.{false≢true, ne_eqb}
 use Rattle.std.proofs.lemmas.List.{drop_more, get_or_default}
-use Rattle.lgx_machine.specs.declared.task.TaskDef.{TaskDef}
-use Rattle.lgx_machine.specs.Tasks.{Turn, Table, turn, no_task, is_open, has_cps, held, region, with_region, set_region, region_up, region_down, region_clear, with_copies, set_copy, is_continuous, expired_from, expired, has_expired, this_or, put_up_if, start, stop}
+use Rattle.spec_tables.specs.declared.task.TaskDef.{TaskDef}
+use Rattle.spec_tables.specs.Tasks.{Turn, Table, turn, no_task, is_open, has_cps, held, region, with_region, set_region, region_up, region_down, region_clear, with_copies, set_copy, is_continuous, expired_from, expired, has_expired, this_or, put_up_if, start, stop}
 use Rattle.lgx_sched.specs.declared.table.Up.{Up}
 use Rattle.lgx_sched.specs.Ready.{Ready, up_of, has_open, copies_of, opened_by, has_run_out, run_out_from, next_task, up_last, with_up, all_down}
 use Rattle.lgx_sched.specs.StandsFor.{without_rank, StandsFor, IsSound, IsTable, is_it}

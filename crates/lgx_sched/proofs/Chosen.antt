@@ -4,8 +4,8 @@ use Rattle.std.specs.List.{position_from}
 use Rattle.std.proofs.lemmas.Bool.{cases_lt, false≢true, eq-eqb, ne_eqb}
 use Rattle.std.proofs.lemmas.Bool.Decides.{nat_tests}
 use Rattle.std.proofs.lemmas.List.{get_or_past, get_or-map, length-map}
-use Rattle.lgx_machine.specs.declared.task.TaskDef.{TaskDef}
-use Rattle.lgx_machine.specs.Tasks.{Turn, Table, Candidate, candidates, before, least_of, least, or_else, chosen, is_open, turn, task, no_task}
+use Rattle.spec_tables.specs.declared.task.TaskDef.{TaskDef}
+use Rattle.spec_tables.specs.Tasks.{Turn, Table, Candidate, candidates, before, least_of, least, or_else, chosen, is_open, turn, task, no_task}
 use Rattle.lgx_sched.specs.declared.table.Up.{Up}
 use Rattle.lgx_sched.specs.Ready.{Ready, up_of, queue_at, has_open, front_of, next_task}
 use Rattle.lgx_sched.specs.StandsFor.{Each, In, Ascends, rank_of, without_rank, IsUpAt, StandsFor, IsSound, is_it}

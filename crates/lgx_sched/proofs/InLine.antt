@@ -2,7 +2,7 @@
 use Rattle.std.proofs.Common.{◌≡◌, ℕ, zero, suc, ◌+◌, ◌-◌, ◌<◌, ◌≤◌, Bool, true, false, List, [], ◌∷◌, length, Option, Some, None, inl, inr, refl, sym, ap, ◌∙◌, subst, arith, slice_get, if◌then◌else◌, IfSome, IsNone}
 use Rattle.std.specs.Prelude.{nat_eq}
 use Rattle.std.proofs.lemmas.Bool.{ne_eqb}
-use Rattle.lgx_machine.specs.Tasks.{Table, turn, task}
+use Rattle.spec_tables.specs.Tasks.{Table, turn, task}
 use Rattle.lgx_sched.specs.Ready.{Ready, queue_at, ready_at}
 use Rattle.lgx_sched.specs.StandsFor.{Each, In, Ascends, rank_of, IsUpAt, IsQueueOf, IsAheadOf, IsInLine, AtMostUp, StandsFor}
 use Rattle.lgx_sched.proofs.Queues.{Each-given, Each-in}

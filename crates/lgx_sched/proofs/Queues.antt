@@ -1,7 +1,7 @@
 -- Laws of one queue: the tasks of a priority that are up, each once, by their ranks.
 use Rattle.std.proofs.Common.{◌≡◌, ℕ, ◌<◌, List, [], ◌∷◌, ◌++◌, Option, Some, None, inl, inr, IsTrue, is_some, refl, sym, ap, subst, arith}
 use Rattle.std.proofs.lemmas.Bool.{cases_eq, false≢true}
-use Rattle.lgx_machine.specs.Tasks.{Turn}
+use Rattle.spec_tables.specs.Tasks.{Turn}
 use Rattle.lgx_sched.specs.StandsFor.{Each, In, Ascends, rank_of, IsUpAt, IsQueueOf}
 
 abbrev pub Lookup : Type 0

@@ -3,8 +3,8 @@ use Rattle.std.proofs.Common.{◌≡◌, ℕ, ◌+◌, ◌-◌, ◌<◌, ◌≤�
 use Rattle.std.specs.List.{slice_get}
 use Rattle.std.proofs.lemmas.Bool.{cases_eq, false≢true}
 use Rattle.std.proofs.lemmas.List.{get_or-set_same, get_or-set_other, set-set, set-get_or, map-set}
-use Rattle.lgx_machine.specs.declared.task.TaskDef.{TaskDef}
-use Rattle.lgx_machine.specs.Tasks.{Turn, Table, turn, task, no_task, stop}
+use Rattle.spec_tables.specs.declared.task.TaskDef.{TaskDef}
+use Rattle.spec_tables.specs.Tasks.{Turn, Table, turn, task, no_task, stop}
 use Rattle.lgx_sched.specs.declared.table.Up.{Up}
 use Rattle.lgx_sched.specs.Ready.{Ready, up_of, def_of, queue_at, place_of, pushed, popped, all_down}
 use Rattle.lgx_sched.specs.StandsFor.{rank_of, without_rank, IsQueueOf, StandsFor, IsSound}

@@ -2,8 +2,8 @@
 use Rattle.std.proofs.Common.{◌≡◌, ℕ, ◌+◌, ◌<◌, true, false, List, [], length, get_or, set, drop, Option, Some, None, option_map, is_some, refl, sym, ap, ◌∙◌, subst, if◌then◌else◌}
 use Rattle.std.specs.List.{slice_get}
 use Rattle.std.proofs.lemmas.Bool.{false≢true, eq-eqb}
-use Rattle.lgx_machine.specs.declared.task.TaskDef.{TaskDef}
-use Rattle.lgx_machine.specs.Tasks.{Turn, Table, turn, task, no_task, or_else, chosen, is_open, is_up, put_up, release, last_in_line, unless_open, rotate, with_rank, finish, is_continuous, put_up_if}
+use Rattle.spec_tables.specs.declared.task.TaskDef.{TaskDef}
+use Rattle.spec_tables.specs.Tasks.{Turn, Table, turn, task, no_task, or_else, chosen, is_open, is_up, put_up, release, last_in_line, unless_open, rotate, with_rank, finish, is_continuous, put_up_if}
 use Rattle.lgx_sched.specs.declared.table.Up.{Up}
 use Rattle.lgx_sched.specs.Ready.{Ready, up_of, def_of, queue_at, place_of, has_open, front_of, next_task, pushed, popped, up_last, out_of_line, to_the_end}
 use Rattle.lgx_sched.specs.StandsFor.{without_rank, StandsFor, IsSound, IsTable, is_it}

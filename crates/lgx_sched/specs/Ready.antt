@@ -1,7 +1,7 @@
 -- What the table of tasks keeps. It has no ranks: the order of each queue stands for them.
 use Rattle.std.specs.Prelude.{ℕ, ◌+◌, ◌-◌, Bool, false, ◌||◌, nat_lt, nat_le, nat_eq, List, [], ◌∷◌, ◌++◌, map, drop, slice_get, Option, Some, None, slice_set, slice_index_or, if◌then◌else◌}
-use Rattle.lgx_machine.specs.declared.task.TaskDef.{TaskDef}
-use Rattle.lgx_machine.specs.Tasks.{no_task, or_else, this_or}
+use Rattle.spec_tables.specs.declared.task.TaskDef.{TaskDef}
+use Rattle.spec_tables.specs.Tasks.{no_task, or_else, this_or}
 use Rattle.lgx_sched.specs.declared.table.Up.{Up}
 
 -- The tasks in project order; for each whether it is up, with its start, open regions and CPS; for each priority, from 1

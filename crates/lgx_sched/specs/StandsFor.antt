@@ -1,9 +1,9 @@
 -- What it means that the table of tasks stands for a list of task states with ranks.
 use Rattle.std.specs.Prelude.{◌≡◌, ℕ, ◌+◌, ◌<◌, ◌≤◌, Bool, true, false, IsTrue, nat_eq, List, [], ◌∷◌, length, map, sum_by, count_by, Option, Some, None, IfSome, is_some, option_map, ◌⊎◌, slice_get, replicate}
-use Rattle.lgx_machine.specs.declared.task.TaskDef.{TaskDef}
-use Rattle.lgx_machine.specs.declared.task.TaskKind.{TaskKind}
-use Rattle.lgx_machine.specs.declared.task.TaskKind.TheVariants.{Periodic}
-use Rattle.lgx_machine.specs.Tasks.{Turn, Table, turn, task}
+use Rattle.spec_tables.specs.declared.task.TaskDef.{TaskDef}
+use Rattle.spec_tables.specs.declared.task.TaskKind.{TaskKind}
+use Rattle.spec_tables.specs.declared.task.TaskKind.TheVariants.{Periodic}
+use Rattle.spec_tables.specs.Tasks.{Turn, Table, turn, task}
 use Rattle.lgx_sched.specs.declared.table.Up.{Up}
 use Rattle.lgx_sched.specs.declared.table.Release.{Release}
 use Rattle.lgx_sched.specs.declared.table.Release.TheVariants.{Released, Overlap}

@@ -8,5 +8,5 @@ mod table;
 #[cfg(test)]
 mod tests;
 
-pub use lgx_machine::{TaskDef, TaskKind};
+pub use spec_tables::{TaskDef, TaskKind};
 pub use table::{Release, TaskTable, Up};

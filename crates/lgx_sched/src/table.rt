@@ -1,12 +1,12 @@
 // The table of tasks.
 ghost use Rattle.std.specs.Prelude.{◌≡◌, ℕ, ◌+◌, ◌-◌, ◌<◌, ◌≤◌, ◌^◌, Bool, List, [], ◌∷◌, length, drop, map, replicate, Option, Some, None, IfOk, IfSome, IsNone, slice_set, slice_get, slice_index_or};
 ghost use Rattle.std.specs.List.{All, position_from};
-ghost use Rattle.lgx_machine.specs.Tasks.{Table, no_task, chosen, is_up, release, start, stop, finish, rotate, is_continuous, expired, due, region_up, region_down, region_clear, set_copy, held};
+ghost use Rattle.spec_tables.specs.Tasks.{Table, no_task, chosen, is_up, release, start, stop, finish, rotate, is_continuous, expired, due, region_up, region_down, region_clear, set_copy, held};
 ghost use Rattle.lgx_sched.specs.Ready.{Ready, up_of, def_of, queue_at, place_of, next_task, ready_at, front_of, pushed, popped, up_last, out_of_line, to_the_end, with_up, all_down, opened_by, regions_of, copies_of, has_run_out, run_out_from};
 ghost use Rattle.lgx_sched.specs.StandsFor.{StandsFor, IsInLine, AtMostUp, IsTable, HasPeriod, none_up, release_answer};
 
 use crate::queue::Queues;
-use lgx_machine::{TaskDef, TaskKind};
+use spec_tables::{TaskDef, TaskKind};
 use lgx_num::{List as Items, Memory};
 use std::alloc::{AllocError, Global};
 use std::marker::Model;

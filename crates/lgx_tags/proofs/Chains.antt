@@ -4,14 +4,14 @@ use Rattle.std.specs.Option.{option_or}
 use Rattle.std.specs.List.{position_from}
 use Rattle.std.proofs.Common.{sym, ap, ◌∙◌, arith, inr, subst, eqb-true}
 use Rattle.std.proofs.lemmas.Iterator.Adapters.{position_from-zero}
-use Rattle.lgx_machine.specs.declared.tag.Scope.{Scope}
-use Rattle.lgx_machine.specs.declared.tag.Scope.TheVariants.{Controller, Program}
-use Rattle.lgx_machine.specs.declared.tag.TagCode.TheVariants.{G3, G7}
-use Rattle.lgx_machine.specs.declared.tag.TagCode.TheVariants as code
-use Rattle.lgx_machine.specs.FirstCause.{◌>>=◌, some_or}
-use Rattle.lgx_machine.specs.Declarations.{Entry, Declarations, same_scope, is_named, entry_of}
-use Rattle.lgx_machine.specs.Resolution.{seen_from, meant, named_within}
-use Rattle.lgx_machine.proofs.FoundLie.{and_left}
+use Rattle.spec_language.specs.declared.tag.Scope.{Scope}
+use Rattle.spec_language.specs.declared.tag.Scope.TheVariants.{Controller, Program}
+use Rattle.spec_language.specs.declared.tag.TagCode.TheVariants.{G3, G7}
+use Rattle.spec_language.specs.declared.tag.TagCode.TheVariants as code
+use Rattle.spec_base.specs.FirstCause.{◌>>=◌, some_or}
+use Rattle.spec_language.specs.Declarations.{Entry, Declarations, same_scope, is_named, entry_of}
+use Rattle.spec_language.specs.Resolution.{seen_from, meant, named_within}
+use Rattle.spec_language.proofs.FoundLie.{and_left}
 use Rattle.lgx_tags.specs.Chains.{Answer, Known, number_in, seen_number, answer, answer_at, answer_of, named_by, target_in, value_in, Below, is_g7, is_open}
 use Rattle.lgx_tags.specs.Starts.{start_of}
 use Rattle.lgx_tags.proofs.Starts.{next, seek, entry_found}

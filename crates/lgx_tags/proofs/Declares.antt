@@ -5,17 +5,17 @@ use Rattle.std.proofs.Common.{sym, ap, ◌∙◌, arith, leb-true, ltb-true, ltb
 use Rattle.std.proofs.lemmas.Iterator.Adapters.{position_from-zero}
 use Rattle.std.proofs.lemmas.List.{map-append, append-nil}
 use Rattle.std.proofs.lemmas.List.Elements.{filter_map-append}
-use Rattle.lgx_machine.specs.declared.types.DataType.{DataType}
-use Rattle.lgx_machine.specs.declared.types.TypeDecl.{TypeDecl}
-use Rattle.lgx_machine.specs.declared.tag.Scope.{Scope}
-use Rattle.lgx_machine.specs.declared.tag.Scope.TheVariants.{Controller, Program}
-use Rattle.lgx_machine.specs.declared.tag.TagCode.{TagCode}
-use Rattle.lgx_machine.specs.declared.tag.TagCode.TheVariants.{G1, G2, G8}
-use Rattle.lgx_machine.specs.FirstCause.{where_true, first}
-use Rattle.lgx_machine.specs.Declarations.{tag, alias, Entry, Declarations, is_named, is_name_in, bytes, declared_as, entry_faults, declare_fault, alias_fault}
-use Rattle.lgx_machine.specs.Resolution.{target_of, aliases}
-use Rattle.lgx_machine.proofs.FoundLie.{and_left}
-use Rattle.lgx_machine.proofs.Subscripts.{each_append, each_map}
+use Rattle.spec_language.specs.declared.types.DataType.{DataType}
+use Rattle.spec_language.specs.declared.types.TypeDecl.{TypeDecl}
+use Rattle.spec_language.specs.declared.tag.Scope.{Scope}
+use Rattle.spec_language.specs.declared.tag.Scope.TheVariants.{Controller, Program}
+use Rattle.spec_language.specs.declared.tag.TagCode.{TagCode}
+use Rattle.spec_language.specs.declared.tag.TagCode.TheVariants.{G1, G2, G8}
+use Rattle.spec_base.specs.FirstCause.{where_true, first}
+use Rattle.spec_language.specs.Declarations.{tag, alias, Entry, Declarations, is_named, is_name_in, bytes, declared_as, entry_faults, declare_fault, alias_fault}
+use Rattle.spec_language.specs.Resolution.{target_of, aliases}
+use Rattle.spec_language.proofs.FoundLie.{and_left}
+use Rattle.spec_language.proofs.Subscripts.{each_append, each_map}
 use Rattle.lgx_tags.specs.Keys.{key_of}
 use Rattle.lgx_tags.specs.Scopes.{IsScopeOf}
 use Rattle.lgx_tags.specs.Tables.{IsLetIn, IsKept, keys_of}

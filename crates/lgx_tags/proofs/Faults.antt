@@ -4,16 +4,16 @@ use Rattle.std.specs.List.{AllByRecursion as Each, filter_map}
 use Rattle.std.specs.Option.{option_or}
 use Rattle.std.specs.Result.{result_err}
 use Rattle.std.proofs.Common.{sym, ap, ◌∙◌, arith}
-use Rattle.lgx_machine.specs.declared.types.TypeDecl.{TypeDecl}
-use Rattle.lgx_machine.specs.declared.tag.Scope.{Scope}
-use Rattle.lgx_machine.specs.declared.tag.TagCode.{TagCode}
-use Rattle.lgx_machine.specs.declared.tag.TagCode.TheVariants.{G7}
-use Rattle.lgx_machine.specs.Layout.{round_up, size_of}
-use Rattle.lgx_machine.specs.LayoutLaws.{IsSoundType}
-use Rattle.lgx_machine.specs.ResolutionLaws.{IsSoundMeaning, Sound}
-use Rattle.lgx_machine.specs.Declarations.{Meaning, tag, alias, Entry, Declarations, same_scope, bytes}
-use Rattle.lgx_machine.specs.Resolution.{target_of, found_fixed, first_bad, seal_fault}
-use Rattle.lgx_machine.proofs.Subscripts.{each_append, each_flat}
+use Rattle.spec_language.specs.declared.types.TypeDecl.{TypeDecl}
+use Rattle.spec_language.specs.declared.tag.Scope.{Scope}
+use Rattle.spec_language.specs.declared.tag.TagCode.{TagCode}
+use Rattle.spec_language.specs.declared.tag.TagCode.TheVariants.{G7}
+use Rattle.spec_language.specs.Layout.{round_up, size_of}
+use Rattle.spec_language.specs.LayoutLaws.{IsSoundType}
+use Rattle.spec_language.specs.ResolutionLaws.{IsSoundMeaning, Sound}
+use Rattle.spec_language.specs.Declarations.{Meaning, tag, alias, Entry, Declarations, same_scope, bytes}
+use Rattle.spec_language.specs.Resolution.{target_of, found_fixed, first_bad, seal_fault}
+use Rattle.spec_language.proofs.Subscripts.{each_append, each_flat}
 use Rattle.lgx_tags.specs.Layouts.{scopes, numbered, tags_in, order_of, lay, lay_end, laid_of}
 use Rattle.lgx_tags.specs.Chains.{Known, answer, is_target, bad_from, count_aliases, Walked}
 use Rattle.lgx_tags.specs.declared.layout.Numbered.{Numbered}

@@ -1,9 +1,9 @@
 -- What the tests keep of a table while they declare.
 use Rattle.std.specs.Prelude.{◌≡◌, ℕ, ◌+◌, false, List, Result, Ok, Err, OnOk, OnErr, refl}
 use Rattle.std.proofs.Common.{sym, arith, subst}
-use Rattle.lgx_machine.specs.declared.types.DataType.{DataType}
-use Rattle.lgx_machine.specs.declared.tag.Scope.{Scope}
-use Rattle.lgx_machine.specs.Declarations.{tag, alias, declared_as}
+use Rattle.spec_language.specs.declared.types.DataType.{DataType}
+use Rattle.spec_language.specs.declared.tag.Scope.{Scope}
+use Rattle.spec_language.specs.Declarations.{tag, alias, declared_as}
 use Rattle.lgx_tags.specs.Fresh.{IsFresh}
 use Rattle.lgx_tags.specs.Tables.{Table}
 use Rattle.lgx_tags.specs.declared.error.TagError.{TagError}

@@ -6,15 +6,15 @@ use Rattle.std.proofs.lemmas.List.{length-replicate}
 use Rattle.std.proofs.lemmas.List.Sums.{sum_by-cons}
 use Rattle.std.proofs.lemmas.List.Folds.{list_any-append}
 use Rattle.std.proofs.lemmas.Option.{slice_get_within}
-use Rattle.lgx_machine.specs.declared.types.DataType.{DataType}
-use Rattle.lgx_machine.specs.declared.types.TypeDecl.{TypeDecl}
-use Rattle.lgx_machine.specs.declared.tag.Scope.{Scope}
-use Rattle.lgx_machine.specs.declared.tag.Scope.TheVariants.{Controller, Program}
-use Rattle.lgx_machine.specs.declared.tag.TagCode.TheVariants.{G7}
-use Rattle.lgx_machine.specs.Layout.{round_up, size_of}
-use Rattle.lgx_machine.specs.Declarations.{Meaning, tag, alias, Entry, Declarations, same_scope}
-use Rattle.lgx_machine.specs.Resolution.{target_of, aliases}
-use Rattle.lgx_machine.proofs.Subscripts.{each_get}
+use Rattle.spec_language.specs.declared.types.DataType.{DataType}
+use Rattle.spec_language.specs.declared.types.TypeDecl.{TypeDecl}
+use Rattle.spec_language.specs.declared.tag.Scope.{Scope}
+use Rattle.spec_language.specs.declared.tag.Scope.TheVariants.{Controller, Program}
+use Rattle.spec_language.specs.declared.tag.TagCode.TheVariants.{G7}
+use Rattle.spec_language.specs.Layout.{round_up, size_of}
+use Rattle.spec_language.specs.Declarations.{Meaning, tag, alias, Entry, Declarations, same_scope}
+use Rattle.spec_language.specs.Resolution.{target_of, aliases}
+use Rattle.spec_language.proofs.Subscripts.{each_get}
 use Rattle.lgx_tags.specs.Scopes.{IsScopeOf}
 use Rattle.lgx_tags.specs.Layouts.{numbered, tags_in, order_of, lay, laid_of, spot_of, with_tag, known_from}
 use Rattle.lgx_tags.specs.Starts.{start_of}

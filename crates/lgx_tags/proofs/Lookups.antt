@@ -9,11 +9,11 @@ use Rattle.std.proofs.lemmas.List.{length-map, map-append}
 use Rattle.std.proofs.lemmas.Slice.Eq.{bytes_eq-Decides}
 use Rattle.std.proofs.Math.Seq.{take-append_seam}
 use Rattle.lgx_num.specs.Name.{same}
-use Rattle.lgx_machine.specs.declared.types.TypeDecl.{TypeDecl}
-use Rattle.lgx_machine.specs.declared.tag.Scope.{Scope}
-use Rattle.lgx_machine.specs.declared.tag.Scope.TheVariants.{Controller, Program}
-use Rattle.lgx_machine.specs.Declarations.{Entry, same_scope, is_named}
-use Rattle.lgx_machine.proofs.FoundLie.{and_left, and_right}
+use Rattle.spec_language.specs.declared.types.TypeDecl.{TypeDecl}
+use Rattle.spec_language.specs.declared.tag.Scope.{Scope}
+use Rattle.spec_language.specs.declared.tag.Scope.TheVariants.{Controller, Program}
+use Rattle.spec_language.specs.Declarations.{Entry, same_scope, is_named}
+use Rattle.spec_language.proofs.FoundLie.{and_left, and_right}
 use Rattle.lgx_tags.specs.Keys.{lowered, key_of}
 use Rattle.lgx_tags.specs.Tables.{IsLetIn, keys_of}
 use Rattle.lgx_tags.specs.declared.key.Key.{Key}

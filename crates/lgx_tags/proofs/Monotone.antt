@@ -1,16 +1,16 @@
 -- Where a chain may go on longer, what was found stays, and only what ran out may change.
 use Rattle.std.specs.Prelude.{◌≡◌, ℕ, zero, suc, ◌+◌, List, Option, Some, None, Result, Err, refl}
 use Rattle.std.proofs.Common.{sym, ap, ◌∙◌, arith, inl, inr, subst}
-use Rattle.lgx_machine.specs.declared.types.TypeDecl.{TypeDecl}
-use Rattle.lgx_machine.specs.declared.tag.Scope.{Scope}
-use Rattle.lgx_machine.specs.declared.tag.TagCode.{TagCode}
-use Rattle.lgx_machine.specs.declared.tag.TagCode.TheVariants.{G3, G5, G6, G10}
-use Rattle.lgx_machine.specs.declared.tag.Found.{Found}
-use Rattle.lgx_machine.specs.FirstCause.{◌>>=◌, unless, some_or}
-use Rattle.lgx_machine.specs.OperandForm.{Form, tag, member, element, indexed, bit, form}
-use Rattle.lgx_machine.specs.Declarations.{Meaning, Entry, Declarations}
-use Rattle.lgx_machine.specs.Declarations.{tag as is_tag, alias as is_alias}
-use Rattle.lgx_machine.specs.Resolution.{is_array, find_member, find_element, find_bit, find_indexed, numbers_alone, resolved, seen_from, meant, in_form, named_within}
+use Rattle.spec_language.specs.declared.types.TypeDecl.{TypeDecl}
+use Rattle.spec_language.specs.declared.tag.Scope.{Scope}
+use Rattle.spec_language.specs.declared.tag.TagCode.{TagCode}
+use Rattle.spec_language.specs.declared.tag.TagCode.TheVariants.{G3, G5, G6, G10}
+use Rattle.spec_language.specs.declared.tag.Found.{Found}
+use Rattle.spec_base.specs.FirstCause.{◌>>=◌, unless, some_or}
+use Rattle.spec_language.specs.OperandForm.{Form, tag, member, element, indexed, bit, form}
+use Rattle.spec_language.specs.Declarations.{Meaning, Entry, Declarations}
+use Rattle.spec_language.specs.Declarations.{tag as is_tag, alias as is_alias}
+use Rattle.spec_language.specs.Resolution.{is_array, find_member, find_element, find_bit, find_indexed, numbers_alone, resolved, seen_from, meant, in_form, named_within}
 pub use Rattle.lgx_tags.specs.Chains.{Answer, Below, target_in}
 
 abbrev pub BelowAll : (List ℕ → Answer) → (List ℕ → Answer) → Type 0

@@ -2,12 +2,12 @@
 use Rattle.std.specs.Prelude.{◌≡◌, ℕ, ◌+◌, ◌-◌, ◌<◌, ◌≤◌, Bool, true, false, ◌==◌, List, [], length, slice_get, Some, Ok, refl}
 use Rattle.std.proofs.Common.{sym, ap, ◌∙◌, arith, inl, inr, subst, eqb-true, eq-eqb, get_or}
 use Rattle.std.proofs.lemmas.Option.{slice_get-get_or, slice_get_within}
-use Rattle.lgx_machine.specs.declared.tag.Scope.{Scope}
-use Rattle.lgx_machine.specs.declared.tag.Found.{Found}
-use Rattle.lgx_machine.specs.Declarations.{Meaning, tag, alias, Entry, Declarations, bytes}
-use Rattle.lgx_machine.specs.Resolution.{target_of, named_within, aliases}
-use Rattle.lgx_machine.specs.ResolutionLaws.{Sound, LiesIn}
-use Rattle.lgx_machine.proofs.FoundLie.{named_lies}
+use Rattle.spec_language.specs.declared.tag.Scope.{Scope}
+use Rattle.spec_language.specs.declared.tag.Found.{Found}
+use Rattle.spec_language.specs.Declarations.{Meaning, tag, alias, Entry, Declarations, bytes}
+use Rattle.spec_language.specs.Resolution.{target_of, named_within, aliases}
+use Rattle.spec_language.specs.ResolutionLaws.{Sound, LiesIn}
+use Rattle.spec_language.proofs.FoundLie.{named_lies}
 use Rattle.lgx_tags.specs.Chains.{Known, named_by, open_in, Below, Partly, IsStill, Looked, Passed, Walked}
 use Rattle.lgx_tags.proofs.Declares.{ArePlaced}
 use Rattle.lgx_tags.proofs.Chains.{known_below}

@@ -3,18 +3,18 @@ use Rattle.std.specs.Prelude.{◌≡◌, ℕ, zero, suc, ◌+◌, ◌*◌, ◌<�
 use Rattle.std.specs.List.{AllByRecursion as Each}
 use Rattle.std.proofs.Common.{arith, subst}
 use Rattle.std.proofs.Math.Nat.{mul-le-mul_right}
-use Rattle.lgx_machine.specs.declared.types.Base.{Base}
-use Rattle.lgx_machine.specs.declared.types.Base.TheVariants.{Bool as OneBit, Sint, Int, Dint, Timer, Counter, User}
-use Rattle.lgx_machine.specs.declared.types.DataType.{DataType}
-use Rattle.lgx_machine.specs.declared.types.TypeDecl.{TypeDecl}
-use Rattle.lgx_machine.specs.declared.types.MemberDecl.{MemberDecl}
-use Rattle.lgx_machine.specs.Layout.{single, type_of, begin_after, end_from, structure_in, sizes, size_of}
-use Rattle.lgx_machine.specs.LayoutLaws.{IsSoundType, SoundTypes}
-use Rattle.lgx_machine.specs.Resolution.{stride}
-use Rattle.lgx_machine.specs.ResolutionLaws.{elements, IsSoundMeaning, Sound}
-use Rattle.lgx_machine.specs.Declarations.{Meaning, tag, alias, Declarations}
-use Rattle.lgx_machine.proofs.Subscripts.{each_map, each_get, get_mapped}
-use Rattle.lgx_machine.proofs.TypesFit.{width_of, end_grows}
+use Rattle.spec_language.specs.declared.types.Base.{Base}
+use Rattle.spec_language.specs.declared.types.Base.TheVariants.{Bool as OneBit, Sint, Int, Dint, Timer, Counter, User}
+use Rattle.spec_language.specs.declared.types.DataType.{DataType}
+use Rattle.spec_language.specs.declared.types.TypeDecl.{TypeDecl}
+use Rattle.spec_language.specs.declared.types.MemberDecl.{MemberDecl}
+use Rattle.spec_language.specs.Layout.{single, type_of, begin_after, end_from, structure_in, sizes, size_of}
+use Rattle.spec_language.specs.LayoutLaws.{IsSoundType, SoundTypes}
+use Rattle.spec_language.specs.Resolution.{stride}
+use Rattle.spec_language.specs.ResolutionLaws.{elements, IsSoundMeaning, Sound}
+use Rattle.spec_language.specs.Declarations.{Meaning, tag, alias, Declarations}
+use Rattle.spec_language.proofs.Subscripts.{each_map, each_get, get_mapped}
+use Rattle.spec_language.proofs.TypesFit.{width_of, end_grows}
 use Rattle.lgx_types.specs.Tables.{IsNumbered, HasMembers}
 use Rattle.lgx_tags.specs.Tables.{IsSized, IsLetIn}
 

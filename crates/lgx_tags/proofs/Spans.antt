@@ -2,11 +2,11 @@
 use Rattle.std.specs.Prelude.{◌≡◌, ◌≢◌, ℕ, zero, suc, ◌+◌, ◌%◌, ◌<◌, ◌≤◌, Bool, true, false, cond, ◌==◌, List, [], ◌∷◌, ◌++◌, flat_map, refl}
 use Rattle.std.specs.List.{AllByRecursion as Each, range_with_len}
 use Rattle.std.proofs.Common.{sym, ◌∙◌, arith, eqb-true, eq-eqb}
-use Rattle.lgx_machine.specs.declared.types.TypeDecl.{TypeDecl}
-use Rattle.lgx_machine.specs.declared.tag.Scope.{Scope}
-use Rattle.lgx_machine.specs.declared.tag.Scope.TheVariants.{Controller, Program}
-use Rattle.lgx_machine.specs.Layout.{round_up}
-use Rattle.lgx_machine.specs.Declarations.{Entry, same_scope, in_scope, entry_size, end_of}
+use Rattle.spec_language.specs.declared.types.TypeDecl.{TypeDecl}
+use Rattle.spec_language.specs.declared.tag.Scope.{Scope}
+use Rattle.spec_language.specs.declared.tag.Scope.TheVariants.{Controller, Program}
+use Rattle.spec_language.specs.Layout.{round_up}
+use Rattle.spec_language.specs.Declarations.{Entry, same_scope, in_scope, entry_size, end_of}
 use Rattle.lgx_tags.specs.Scopes.{IsScopeOf}
 pub use Rattle.lgx_tags.specs.Starts.{span, total}
 

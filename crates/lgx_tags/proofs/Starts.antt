@@ -5,12 +5,12 @@ use Rattle.std.specs.Option.{option_or}
 use Rattle.std.proofs.Common.{sym, ap, ◌∙◌, arith, eqb-true, eq-eqb, ltb-true, ltb-false, append_assoc}
 use Rattle.std.proofs.lemmas.List.Folds.{find-append}
 use Rattle.lgx_num.specs.Name.{same}
-use Rattle.lgx_machine.specs.declared.types.TypeDecl.{TypeDecl}
-use Rattle.lgx_machine.specs.declared.tag.Scope.{Scope}
-use Rattle.lgx_machine.specs.declared.tag.Scope.TheVariants.{Controller, Program}
-use Rattle.lgx_machine.specs.Layout.{round_up}
-use Rattle.lgx_machine.specs.Declarations.{Entry, Declarations, same_scope, is_named, in_scope, entry_size, laid_from, end_of, entry_of}
-use Rattle.lgx_machine.proofs.Subscripts.{each_append, each_map}
+use Rattle.spec_language.specs.declared.types.TypeDecl.{TypeDecl}
+use Rattle.spec_language.specs.declared.tag.Scope.{Scope}
+use Rattle.spec_language.specs.declared.tag.Scope.TheVariants.{Controller, Program}
+use Rattle.spec_language.specs.Layout.{round_up}
+use Rattle.spec_language.specs.Declarations.{Entry, Declarations, same_scope, is_named, in_scope, entry_size, laid_from, end_of, entry_of}
+use Rattle.spec_language.proofs.Subscripts.{each_append, each_map}
 use Rattle.lgx_tags.specs.Scopes.{IsScopeOf}
 pub use Rattle.lgx_tags.specs.Starts.{run, programs_from, before, start_of}
 use Rattle.lgx_tags.proofs.Spans.{span, total, next_at, ordered, end_is}

@@ -4,15 +4,15 @@ use Rattle.std.specs.List.{AllByRecursion as Each}
 use Rattle.std.proofs.Common.{sym, ap, ◌∙◌, arith, subst}
 use Rattle.std.proofs.lemmas.List.{length-map}
 use Rattle.std.proofs.lemmas.Option.{slice_get-map, slice_get_within}
-use Rattle.lgx_machine.specs.declared.types.TypeDecl.{TypeDecl}
-use Rattle.lgx_machine.specs.declared.tag.Scope.{Scope}
-use Rattle.lgx_machine.specs.declared.tag.TagCode.TheVariants.{G5, G10}
-use Rattle.lgx_machine.specs.FirstCause.{◌>>=◌, unless, some_or}
-use Rattle.lgx_machine.specs.Layout.{size_of}
-use Rattle.lgx_machine.specs.OperandForm.{Form, tag, member, element, indexed, bit, form}
-use Rattle.lgx_machine.specs.Declarations.{Entry, Declarations, entry_size, size_for, bytes}
-use Rattle.lgx_machine.specs.Resolution.{is_array, find_member, find_element, find_bit, find_indexed, Subscripts, subscript_by, resolved, in_form}
-use Rattle.lgx_machine.proofs.Subscripts.{each_get}
+use Rattle.spec_language.specs.declared.types.TypeDecl.{TypeDecl}
+use Rattle.spec_language.specs.declared.tag.Scope.{Scope}
+use Rattle.spec_language.specs.declared.tag.TagCode.TheVariants.{G5, G10}
+use Rattle.spec_base.specs.FirstCause.{◌>>=◌, unless, some_or}
+use Rattle.spec_language.specs.Layout.{size_of}
+use Rattle.spec_language.specs.OperandForm.{Form, tag, member, element, indexed, bit, form}
+use Rattle.spec_language.specs.Declarations.{Entry, Declarations, entry_size, size_for, bytes}
+use Rattle.spec_language.specs.Resolution.{is_array, find_member, find_element, find_bit, find_indexed, Subscripts, subscript_by, resolved, in_form}
+use Rattle.spec_language.proofs.Subscripts.{each_get}
 use Rattle.lgx_tags.specs.Layouts.{order_of, laid_of}
 use Rattle.lgx_tags.specs.Chains.{Answer}
 use Rattle.lgx_tags.specs.Sealing.{tags_of, span_of, spans_of, tag_names}

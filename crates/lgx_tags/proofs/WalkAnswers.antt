@@ -2,16 +2,16 @@
 use Rattle.std.specs.Prelude.{◌≡◌, ℕ, Bool, true, false, List, [], ◌∷◌, Option, Some, None, Result, Ok, Err, IfOk, if◌then◌else◌, refl}
 use Rattle.std.specs.Option.{is_some}
 use Rattle.std.proofs.Common.{sym, subst, ◌∙◌}
-use Rattle.lgx_machine.specs.declared.types.TypeDecl.{TypeDecl}
-use Rattle.lgx_machine.specs.declared.tag.TagCode.{TagCode}
-use Rattle.lgx_machine.specs.declared.tag.TagCode.TheVariants.{G10}
-use Rattle.lgx_machine.specs.declared.tag.Found.{Found}
-use Rattle.lgx_machine.specs.FirstCause.{◌>>=◌, some_or}
-use Rattle.lgx_machine.specs.LayoutLaws.{SoundTypes}
-use Rattle.lgx_machine.specs.OperandForm.{is_tag_name, Form, tag, Token, word, tokens, form_from, form_of, form}
-use Rattle.lgx_machine.specs.Resolution.{Subscripts, numbers_alone, resolved, in_form}
-use Rattle.lgx_machine.specs.ResolutionLaws.{LiesIn}
-use Rattle.lgx_machine.proofs.FoundLie.{text_lies}
+use Rattle.spec_language.specs.declared.types.TypeDecl.{TypeDecl}
+use Rattle.spec_language.specs.declared.tag.TagCode.{TagCode}
+use Rattle.spec_language.specs.declared.tag.TagCode.TheVariants.{G10}
+use Rattle.spec_language.specs.declared.tag.Found.{Found}
+use Rattle.spec_base.specs.FirstCause.{◌>>=◌, some_or}
+use Rattle.spec_language.specs.LayoutLaws.{SoundTypes}
+use Rattle.spec_language.specs.OperandForm.{is_tag_name, Form, tag, Token, word, tokens, form_from, form_of, form}
+use Rattle.spec_language.specs.Resolution.{Subscripts, numbers_alone, resolved, in_form}
+use Rattle.spec_language.specs.ResolutionLaws.{LiesIn}
+use Rattle.spec_language.proofs.FoundLie.{text_lies}
 use Rattle.lgx_tags.specs.Parts.{Part, first_part, begins_marked, before}
 use Rattle.lgx_tags.specs.Walk.{Reading, step, end_behind, walked, Answers, NamesLie}
 use Rattle.lgx_tags.specs.declared.error.TagError.{TagError}

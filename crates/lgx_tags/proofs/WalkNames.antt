@@ -5,8 +5,8 @@ use Rattle.std.specs.List.{list_all}
 use Rattle.std.proofs.lemmas.Bool.Decides.{nat_tests}
 use Rattle.std.specs.Char.{is_digit}
 use Rattle.lgx_num.specs.Name.{is_name, is_start, goes_on}
-use Rattle.lgx_machine.specs.TextLines.{cut, pieces}
-use Rattle.lgx_machine.specs.OperandForm.{is_part, may_lead, is_joined, is_tag_name, are_digits}
+use Rattle.spec_base.specs.Pieces.{cut, pieces}
+use Rattle.spec_language.specs.OperandForm.{is_part, may_lead, is_joined, is_tag_name, are_digits}
 use Rattle.lgx_tags.specs.TagNames.{are_parts}
 
 -- ---- pieces

@@ -6,16 +6,16 @@ use Rattle.std.proofs.Common.{get_or, sym, arith, add-one, drop-cons, ltb-true}
 use Rattle.std.proofs.lemmas.Bool.Decides.{nat_tests}
 use Rattle.std.proofs.lemmas.List.{drop_all}
 use Rattle.lgx_num.specs.Name.{is_name}
-use Rattle.lgx_machine.specs.declared.types.Base.{Base}
-use Rattle.lgx_machine.specs.declared.types.Base.TheVariants.{Bool as OneBit, Sint, Int, Dint, Timer, Counter, User}
-use Rattle.lgx_machine.specs.declared.types.TypeDecl.{TypeDecl}
-use Rattle.lgx_machine.specs.declared.tag.TagCode.TheVariants.{G5, G10}
-use Rattle.lgx_machine.specs.declared.tag.Found.{Found}
-use Rattle.lgx_machine.specs.FirstCause.{◌>>=◌, unless}
-use Rattle.lgx_machine.specs.Layout.{single}
-use Rattle.lgx_machine.specs.Resolution.{is_array, is_integer, integer_bits, stride, find_member, find_element, find_bit}
+use Rattle.spec_language.specs.declared.types.Base.{Base}
+use Rattle.spec_language.specs.declared.types.Base.TheVariants.{Bool as OneBit, Sint, Int, Dint, Timer, Counter, User}
+use Rattle.spec_language.specs.declared.types.TypeDecl.{TypeDecl}
+use Rattle.spec_language.specs.declared.tag.TagCode.TheVariants.{G5, G10}
+use Rattle.spec_language.specs.declared.tag.Found.{Found}
+use Rattle.spec_base.specs.FirstCause.{◌>>=◌, unless}
+use Rattle.spec_language.specs.Layout.{single}
+use Rattle.spec_language.specs.Resolution.{is_array, is_integer, integer_bits, stride, find_member, find_element, find_bit}
 use Rattle.lgx_tags.specs.Walk.{find_dotted}
-use Rattle.lgx_machine.specs.OperandForm.{are_digits, digits_number}
+use Rattle.spec_language.specs.OperandForm.{are_digits, digits_number}
 
 -- the number that digits make behind a number, or the greatest where that is greater
 abbrev pub capped : ℕ → List ℕ → ℕ

@@ -5,7 +5,7 @@ use Rattle.std.proofs.Common.{get_or, sym, subst, arith, take_all, length-drop}
 use Rattle.std.proofs.lemmas.List.{append-nil, take-append-drop}
 use Rattle.std.proofs.lemmas.Bool.Decides.{nat_tests}
 use Rattle.std.specs.List.{list_all, AllByRecursion as Each}
-use Rattle.lgx_machine.specs.OperandForm.{Token, word, dot, opening, closing, are_digits, put_byte, put_token, tokens}
+use Rattle.spec_language.specs.OperandForm.{Token, word, dot, opening, closing, are_digits, put_byte, put_token, tokens}
 use Rattle.lgx_tags.specs.Parts.{first_part, is_mark, begins_marked, before}
 
 -- a byte that is no mark, before what is marked: it goes on the word

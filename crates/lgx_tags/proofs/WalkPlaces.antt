@@ -6,23 +6,23 @@ use Rattle.std.proofs.lemmas.Bool.Decides.{nat_tests}
 use Rattle.lgx_num.specs.Name.{is_name}
 use Rattle.lgx_num.specs.Paths.{Leads}
 use Rattle.lgx_num.specs.declared.place.Index.{Index}
-use Rattle.lgx_machine.specs.declared.types.Base.{Base}
-use Rattle.lgx_machine.specs.declared.types.Base.TheVariants.{Bool as OneBit, Sint, Int, Dint, Timer, Counter, User}
-use Rattle.lgx_machine.specs.declared.types.DataType.{DataType}
-use Rattle.lgx_machine.specs.declared.types.TypeDecl.{TypeDecl}
-use Rattle.lgx_machine.specs.declared.tag.TagCode.{TagCode}
-use Rattle.lgx_machine.specs.declared.tag.TagCode.TheVariants.{G5, G6, G9, G10}
-use Rattle.lgx_machine.specs.declared.tag.Found.{Found}
-use Rattle.lgx_machine.specs.FirstCause.{◌>>=◌, unless}
-use Rattle.lgx_machine.specs.Layout.{single, sizes, size_of}
-use Rattle.lgx_machine.specs.LayoutLaws.{SoundTypes}
-use Rattle.lgx_machine.specs.OperandForm.{are_digits, digits_number}
-use Rattle.lgx_machine.specs.Resolution.{is_array, find_member, find_element, find_bit, find_indexed, may_index, index_by, Subscripts}
-use Rattle.lgx_machine.specs.ResolutionLaws.{LiesIn, width}
-use Rattle.lgx_machine.proofs.Binds.{bind_ok, ok_inj, err_not_ok, unless_ok}
-use Rattle.lgx_machine.proofs.FoundLie.{member_lies, element_lies, bit_lies, indexed_lies}
-use Rattle.lgx_machine.proofs.SizesSettle.{even_none, sizes_length}
-use Rattle.lgx_machine.proofs.Subscripts.{each_append}
+use Rattle.spec_language.specs.declared.types.Base.{Base}
+use Rattle.spec_language.specs.declared.types.Base.TheVariants.{Bool as OneBit, Sint, Int, Dint, Timer, Counter, User}
+use Rattle.spec_language.specs.declared.types.DataType.{DataType}
+use Rattle.spec_language.specs.declared.types.TypeDecl.{TypeDecl}
+use Rattle.spec_language.specs.declared.tag.TagCode.{TagCode}
+use Rattle.spec_language.specs.declared.tag.TagCode.TheVariants.{G5, G6, G9, G10}
+use Rattle.spec_language.specs.declared.tag.Found.{Found}
+use Rattle.spec_base.specs.FirstCause.{◌>>=◌, unless}
+use Rattle.spec_language.specs.Layout.{single, sizes, size_of}
+use Rattle.spec_language.specs.LayoutLaws.{SoundTypes}
+use Rattle.spec_language.specs.OperandForm.{are_digits, digits_number}
+use Rattle.spec_language.specs.Resolution.{is_array, find_member, find_element, find_bit, find_indexed, may_index, index_by, Subscripts}
+use Rattle.spec_language.specs.ResolutionLaws.{LiesIn, width}
+use Rattle.spec_base.proofs.Binds.{bind_ok, ok_inj, err_not_ok, unless_ok}
+use Rattle.spec_language.proofs.FoundLie.{member_lies, element_lies, bit_lies, indexed_lies}
+use Rattle.spec_language.proofs.SizesSettle.{even_none, sizes_length}
+use Rattle.spec_language.proofs.Subscripts.{each_append}
 use Rattle.lgx_types.specs.Tables.{IsNumbered, HasSize}
 use Rattle.lgx_tags.specs.Parts as part
 use Rattle.lgx_tags.specs.Parts.{Part}

@@ -4,7 +4,7 @@ use Rattle.std.specs.Option.{is_some}
 use Rattle.std.proofs.Common.{sym, ap, subst, ◌∙◌, arith, add-one}
 use Rattle.std.proofs.lemmas.Bool.Decides.{nat_tests}
 use Rattle.lgx_num.specs.Name.{is_name}
-use Rattle.lgx_machine.specs.OperandForm.{is_tag_name, are_digits, digits_number, Form, tag, member, element, indexed, bit, is_bit, Token, word, dot, opening, closing, put_byte, tokens, dotted, bracketed, begun, form_from, form_of, form}
+use Rattle.spec_language.specs.OperandForm.{is_tag_name, are_digits, digits_number, Form, tag, member, element, indexed, bit, is_bit, Token, word, dot, opening, closing, put_byte, tokens, dotted, bracketed, begun, form_from, form_of, form}
 use Rattle.lgx_tags.proofs.WalkNames.{no_digits}
 use Rattle.lgx_tags.specs.declared.form.Shape.{Shape}
 use Rattle.lgx_tags.specs.Parts.{Part, first_part, begins_marked, before}

@@ -2,13 +2,13 @@
 use Rattle.std.specs.Prelude.{◌≡◌, ℕ, Bool, true, false, not, ◌||◌, ◌==◌, List, [], ◌∷◌, Option, Some, None, Result, Ok, Err, option_and_then, if◌then◌else◌, refl}
 use Rattle.std.proofs.Common.{ap, subst, ◌∙◌}
 use Rattle.lgx_num.specs.Name.{is_name}
-use Rattle.lgx_machine.specs.declared.types.TypeDecl.{TypeDecl}
-use Rattle.lgx_machine.specs.declared.tag.TagCode.{TagCode}
-use Rattle.lgx_machine.specs.declared.tag.TagCode.TheVariants.{G5, G6, G10}
-use Rattle.lgx_machine.specs.declared.tag.Found.{Found}
-use Rattle.lgx_machine.specs.FirstCause.{◌>>=◌, unless}
-use Rattle.lgx_machine.specs.OperandForm.{is_tag_name, are_digits, digits_number, Form, tag, member, element, indexed, bit, is_bit, Token, word, dot, opening, closing, put_byte, tokens, dotted, bracketed, begun, form_from}
-use Rattle.lgx_machine.specs.Resolution.{is_array, find_member, find_element, find_bit, find_indexed, Subscripts, operands, numbers_alone, subscript_by, resolved}
+use Rattle.spec_language.specs.declared.types.TypeDecl.{TypeDecl}
+use Rattle.spec_language.specs.declared.tag.TagCode.{TagCode}
+use Rattle.spec_language.specs.declared.tag.TagCode.TheVariants.{G5, G6, G10}
+use Rattle.spec_language.specs.declared.tag.Found.{Found}
+use Rattle.spec_base.specs.FirstCause.{◌>>=◌, unless}
+use Rattle.spec_language.specs.OperandForm.{is_tag_name, are_digits, digits_number, Form, tag, member, element, indexed, bit, is_bit, Token, word, dot, opening, closing, put_byte, tokens, dotted, bracketed, begun, form_from}
+use Rattle.spec_language.specs.Resolution.{is_array, find_member, find_element, find_bit, find_indexed, Subscripts, operands, numbers_alone, subscript_by, resolved}
 use Rattle.lgx_tags.specs.Parts.{Part, first_part, before}
 use Rattle.lgx_tags.specs.Parts as part
 use Rattle.lgx_tags.specs.Walk.{Reading, may_open, open_at, close_at, step, end_at, walked}

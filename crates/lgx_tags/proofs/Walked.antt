@@ -5,13 +5,13 @@ use Rattle.std.proofs.Common.{sym, ap, ◌∙◌, arith, inl, inr, subst, eqb-tr
 use Rattle.std.proofs.lemmas.List.{set-get_or}
 use Rattle.std.proofs.lemmas.List.Sums.{sum_by-set}
 use Rattle.std.proofs.lemmas.Option.{slice_get_within}
-use Rattle.lgx_machine.specs.declared.types.DataType.{DataType}
-use Rattle.lgx_machine.specs.declared.tag.Scope.{Scope}
-use Rattle.lgx_machine.specs.declared.tag.TagCode.TheVariants.{G7}
-use Rattle.lgx_machine.specs.declared.tag.TagCode.TheVariants as code
-use Rattle.lgx_machine.specs.Declarations.{Meaning, Entry, Declarations}
-use Rattle.lgx_machine.specs.Declarations.{tag as is_tag, alias as is_alias}
-use Rattle.lgx_machine.specs.Resolution.{numbers_alone, tag_found, in_form, named_within, named, found_fixed, aliases}
+use Rattle.spec_language.specs.declared.types.DataType.{DataType}
+use Rattle.spec_language.specs.declared.tag.Scope.{Scope}
+use Rattle.spec_language.specs.declared.tag.TagCode.TheVariants.{G7}
+use Rattle.spec_language.specs.declared.tag.TagCode.TheVariants as code
+use Rattle.spec_language.specs.Declarations.{Meaning, Entry, Declarations}
+use Rattle.spec_language.specs.Declarations.{tag as is_tag, alias as is_alias}
+use Rattle.spec_language.specs.Resolution.{numbers_alone, tag_found, in_form, named_within, named, found_fixed, aliases}
 use Rattle.lgx_tags.specs.Chains.{Answer, Known, answer, answer_at, named_by, target_in, value_in, Below, is_open, open_in, Partly, IsStill, Walked, Looked}
 use Rattle.lgx_tags.specs.Starts.{start_of}
 use Rattle.lgx_tags.proofs.Declares.{ArePlaced}

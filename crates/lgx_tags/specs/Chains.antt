@@ -3,14 +3,14 @@ use Rattle.std.specs.Prelude.{◌≡◌, ℕ, zero, suc, ◌-◌, ◌<◌, ◌�
 use Rattle.std.specs.Option.{option_or}
 use Rattle.std.specs.Result.{result_err}
 use Rattle.std.specs.List.{count_by}
-use Rattle.lgx_machine.specs.declared.tag.Scope.{Scope}
-use Rattle.lgx_machine.specs.declared.tag.Scope.TheVariants.{Controller, Program}
-use Rattle.lgx_machine.specs.declared.tag.TagCode.{TagCode}
-use Rattle.lgx_machine.specs.declared.tag.TagCode.TheVariants.{G3, G7}
-use Rattle.lgx_machine.specs.declared.tag.Found.{Found}
-use Rattle.lgx_machine.specs.declared.types.DataType.{DataType}
-use Rattle.lgx_machine.specs.Declarations.{Meaning, tag, alias, Entry, Declarations, is_named}
-use Rattle.lgx_machine.specs.Resolution.{numbers_alone, tag_found, meant, in_form, named_within, aliases}
+use Rattle.spec_language.specs.declared.tag.Scope.{Scope}
+use Rattle.spec_language.specs.declared.tag.Scope.TheVariants.{Controller, Program}
+use Rattle.spec_language.specs.declared.tag.TagCode.{TagCode}
+use Rattle.spec_language.specs.declared.tag.TagCode.TheVariants.{G3, G7}
+use Rattle.spec_language.specs.declared.tag.Found.{Found}
+use Rattle.spec_language.specs.declared.types.DataType.{DataType}
+use Rattle.spec_language.specs.Declarations.{Meaning, tag, alias, Entry, Declarations, is_named}
+use Rattle.spec_language.specs.Resolution.{numbers_alone, tag_found, meant, in_form, named_within, aliases}
 use Rattle.lgx_tags.specs.Starts.{start_of}
 use Rattle.lgx_tags.specs.declared.layout.Spot.{Spot}
 

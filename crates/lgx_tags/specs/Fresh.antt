@@ -1,6 +1,6 @@
 -- What the tests keep of a table that isn't sealed.
 use Rattle.std.specs.Prelude.{◌≡◌, ℕ, ◌≤◌, false, length}
-use Rattle.lgx_machine.specs.Resolution.{aliases}
+use Rattle.spec_language.specs.Resolution.{aliases}
 use Rattle.lgx_tags.specs.Tables.{Table}
 
 -- of two programs, with at most so many aliases

@@ -1,8 +1,8 @@
 -- Names in their scopes as keys: two are equal exactly where the scopes are, and the names but for case.
 use Rattle.std.specs.Prelude.{ℕ, List, ◌++◌, length, map, drop, replicate, Option, Some, None}
 use Rattle.std.specs.Char.{to_ascii_lowercase}
-use Rattle.lgx_machine.specs.declared.tag.Scope.{Scope}
-use Rattle.lgx_machine.specs.declared.tag.Scope.TheVariants.{Controller, Program}
+use Rattle.spec_language.specs.declared.tag.Scope.{Scope}
+use Rattle.spec_language.specs.declared.tag.Scope.TheVariants.{Controller, Program}
 use Rattle.lgx_tags.specs.declared.key.Key.{Key}
 
 abbrev pub program_of : Scope → Option ℕ

@@ -1,13 +1,13 @@
 -- Where the tags lie: their numbers among the entries, scope by scope, and what is known of each entry when they are laid.
 use Rattle.std.specs.Prelude.{ℕ, suc, ◌+◌, ◌*◌, cond, List, [], ◌∷◌, ◌++◌, map, flat_map, fold, replicate, slice_set, slice_index_or, Result, Ok, Err}
 use Rattle.std.specs.List.{range_with_len}
-use Rattle.lgx_machine.specs.declared.types.TypeDecl.{TypeDecl}
-use Rattle.lgx_machine.specs.declared.tag.Scope.{Scope}
-use Rattle.lgx_machine.specs.declared.tag.Scope.TheVariants.{Controller, Program}
-use Rattle.lgx_machine.specs.declared.tag.TagCode.{TagCode}
-use Rattle.lgx_machine.specs.declared.tag.TagCode.TheVariants.{G7}
-use Rattle.lgx_machine.specs.Layout.{round_up, size_of}
-use Rattle.lgx_machine.specs.Declarations.{Meaning, tag, alias, Entry, Declarations, same_scope}
+use Rattle.spec_language.specs.declared.types.TypeDecl.{TypeDecl}
+use Rattle.spec_language.specs.declared.tag.Scope.{Scope}
+use Rattle.spec_language.specs.declared.tag.Scope.TheVariants.{Controller, Program}
+use Rattle.spec_language.specs.declared.tag.TagCode.{TagCode}
+use Rattle.spec_language.specs.declared.tag.TagCode.TheVariants.{G7}
+use Rattle.spec_language.specs.Layout.{round_up, size_of}
+use Rattle.spec_language.specs.Declarations.{Meaning, tag, alias, Entry, Declarations, same_scope}
 use Rattle.lgx_tags.specs.declared.layout.Numbered.{Numbered}
 use Rattle.lgx_tags.specs.declared.layout.Laid.{Laid}
 use Rattle.lgx_tags.specs.declared.layout.Spot.{Spot}

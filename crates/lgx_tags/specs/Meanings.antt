@@ -1,7 +1,7 @@
 -- What names are declared as.
 use Rattle.std.specs.Prelude.{Bool, true, false, Option, Some, None}
-use Rattle.lgx_machine.specs.declared.types.DataType.{DataType}
-use Rattle.lgx_machine.specs.Declarations.{Meaning, tag, alias}
+use Rattle.spec_language.specs.declared.types.DataType.{DataType}
+use Rattle.spec_language.specs.Declarations.{Meaning, tag, alias}
 use Rattle.lgx_tags.specs.declared.entry.Meaning.{Meaning as Kept}
 use Rattle.lgx_tags.specs.declared.entry.Meaning.TheVariants.{Tag, Alias}
 

@@ -1,6 +1,6 @@
 -- The parts of an operand's text behind a tag's name.
 use Rattle.std.specs.Prelude.{ℕ, Bool, true, ◌||◌, ◌==◌, List, [], ◌∷◌, Option, Some, None, IsTrue, if◌then◌else◌, ⊤}
-use Rattle.lgx_machine.specs.OperandForm.{are_digits, Token, word, dot, opening, closing}
+use Rattle.spec_language.specs.OperandForm.{are_digits, Token, word, dot, opening, closing}
 use Rattle.lgx_tags.specs.declared.part.Part.{Part as Seen}
 use Rattle.lgx_tags.specs.declared.part.Part.TheVariants.{Dotted, Element, Opened, Closed}
 

@@ -1,7 +1,7 @@
 -- Scopes that a table has: the controller's, and those of its programs.
 use Rattle.std.specs.Prelude.{ℕ, ◌<◌, ⊤}
-use Rattle.lgx_machine.specs.declared.tag.Scope.{Scope}
-use Rattle.lgx_machine.specs.declared.tag.Scope.TheVariants.{Controller, Program}
+use Rattle.spec_language.specs.declared.tag.Scope.{Scope}
+use Rattle.spec_language.specs.declared.tag.Scope.TheVariants.{Controller, Program}
 
 abbrev pub IsScopeOf : ℕ → Scope → Type 0
 IsScopeOf programs Controller = ⊤

@@ -1,6 +1,6 @@
 -- A table is sealed, or it isn't.
 use Rattle.std.specs.Prelude.{Option, Some, None, ⊤}
-use Rattle.lgx_machine.specs.Declarations.{Declarations}
+use Rattle.spec_language.specs.Declarations.{Declarations}
 use Rattle.lgx_tags.specs.Sealing.{IsSeal}
 use Rattle.lgx_tags.specs.declared.table.Seal.{Seal}
 

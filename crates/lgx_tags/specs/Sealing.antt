@@ -1,9 +1,9 @@
 -- A sealed table, and the tags that it tells of.
 use Rattle.std.specs.Prelude.{◌≡◌, ℕ, ◌+◌, ◌<◌, Bool, List, length, map, filter, Option, Some, None, ⊤}
-use Rattle.lgx_machine.specs.declared.types.TypeDecl.{TypeDecl}
-use Rattle.lgx_machine.specs.declared.tag.TagCode.{TagCode}
-use Rattle.lgx_machine.specs.Declarations.{Entry, Declarations, entry_size, laid}
-use Rattle.lgx_machine.specs.Resolution.{seal_fault}
+use Rattle.spec_language.specs.declared.types.TypeDecl.{TypeDecl}
+use Rattle.spec_language.specs.declared.tag.TagCode.{TagCode}
+use Rattle.spec_language.specs.Declarations.{Entry, Declarations, entry_size, laid}
+use Rattle.spec_language.specs.Resolution.{seal_fault}
 use Rattle.lgx_tags.specs.Meanings.{is_tag}
 use Rattle.lgx_tags.specs.Layouts.{laid_of}
 use Rattle.lgx_tags.specs.Chains.{Known, Walked}

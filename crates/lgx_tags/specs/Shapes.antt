@@ -1,7 +1,7 @@
 -- Whether a text is an operand form, by what may stand next.
 use Rattle.std.specs.Prelude.{ℕ, zero, suc, ◌+◌, Bool, true, false, ◌==◌, List, [], ◌∷◌, Option, Some, None, if◌then◌else◌}
 use Rattle.lgx_num.specs.Name.{is_name}
-use Rattle.lgx_machine.specs.OperandForm.{is_tag_name, are_digits, Token, word, dot, opening, closing}
+use Rattle.spec_language.specs.OperandForm.{is_tag_name, are_digits, Token, word, dot, opening, closing}
 use Rattle.lgx_tags.specs.Parts.{Part, dotted, element, opened, closed}
 use Rattle.lgx_tags.specs.declared.form.Shape.{Shape}
 

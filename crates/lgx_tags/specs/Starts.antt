@@ -1,11 +1,11 @@
 -- Where each entry begins, worked out from the entries before it.
 use Rattle.std.specs.Prelude.{ℕ, zero, suc, ◌+◌, cond, List, [], ◌∷◌, ◌++◌, flat_map}
 use Rattle.std.specs.List.{range_with_len}
-use Rattle.lgx_machine.specs.declared.types.TypeDecl.{TypeDecl}
-use Rattle.lgx_machine.specs.declared.tag.Scope.{Scope}
-use Rattle.lgx_machine.specs.declared.tag.Scope.TheVariants.{Controller, Program}
-use Rattle.lgx_machine.specs.Layout.{round_up}
-use Rattle.lgx_machine.specs.Declarations.{Entry, Declarations, same_scope, in_scope, entry_size}
+use Rattle.spec_language.specs.declared.types.TypeDecl.{TypeDecl}
+use Rattle.spec_language.specs.declared.tag.Scope.{Scope}
+use Rattle.spec_language.specs.declared.tag.Scope.TheVariants.{Controller, Program}
+use Rattle.spec_language.specs.Layout.{round_up}
+use Rattle.spec_language.specs.Declarations.{Entry, Declarations, same_scope, in_scope, entry_size}
 
 -- the bytes of an entry, rounded up to 4
 abbrev pub span : List TypeDecl → Entry → ℕ

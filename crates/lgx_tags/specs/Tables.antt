@@ -1,10 +1,10 @@
 -- A table of tags: what it holds, what is asked of it, and what it answers.
 use Rattle.std.specs.Prelude.{◌≡◌, ℕ, ◌<◌, ◌≤◌, Bool, List, map, length, Option, Some, ⊤}
 use Rattle.std.specs.List.{AllByRecursion as Each}
-use Rattle.lgx_machine.specs.declared.types.TypeDecl.{TypeDecl}
-use Rattle.lgx_machine.specs.declared.tag.TagCode.{TagCode}
-use Rattle.lgx_machine.specs.Declarations.{Meaning, tag, alias, Entry, Declarations, bytes}
-use Rattle.lgx_machine.specs.Resolution.{aliases}
+use Rattle.spec_language.specs.declared.types.TypeDecl.{TypeDecl}
+use Rattle.spec_language.specs.declared.tag.TagCode.{TagCode}
+use Rattle.spec_language.specs.Declarations.{Meaning, tag, alias, Entry, Declarations, bytes}
+use Rattle.spec_language.specs.Resolution.{aliases}
 use Rattle.lgx_types.specs.Tables.{HasSize}
 use Rattle.lgx_tags.specs.Keys.{key_of}
 use Rattle.lgx_tags.specs.Scopes.{IsScopeOf}

@@ -1,6 +1,6 @@
 -- The parts of a tag name behind its first colon.
 use Rattle.std.specs.Prelude.{ℕ, zero, suc, Bool, false, ◌&&◌, List, [], ◌∷◌}
-use Rattle.lgx_machine.specs.OperandForm.{is_part}
+use Rattle.spec_language.specs.OperandForm.{is_part}
 
 -- one part or more, at most so many
 abbrev pub are_parts : ℕ → List (List ℕ) → Bool

@@ -2,16 +2,16 @@
 use Rattle.std.specs.Prelude.{◌≡◌, ℕ, ◌<◌, Bool, true, false, List, [], ◌∷◌, Result, Ok, Err, if◌then◌else◌, ⊤}
 use Rattle.std.specs.List.{AllByRecursion as Each}
 use Rattle.lgx_num.specs.Name.{is_name}
-use Rattle.lgx_machine.specs.declared.types.TypeDecl.{TypeDecl}
-use Rattle.lgx_machine.specs.declared.tag.TagCode.{TagCode}
-use Rattle.lgx_machine.specs.declared.tag.TagCode.TheVariants.{G5, G6, G10}
-use Rattle.lgx_machine.specs.declared.tag.Found.{Found}
-use Rattle.lgx_machine.specs.FirstCause.{◌>>=◌, unless}
-use Rattle.lgx_machine.specs.OperandForm.{are_digits, digits_number, Token, word, dot, opening, closing}
-use Rattle.lgx_machine.specs.Resolution.{is_array, find_member, find_element, find_bit, find_indexed}
-use Rattle.lgx_machine.specs.Resolution as meaning
-use Rattle.lgx_machine.specs.ResolutionLaws.{LiesIn}
-use Rattle.lgx_machine.specs.Layout.{single}
+use Rattle.spec_language.specs.declared.types.TypeDecl.{TypeDecl}
+use Rattle.spec_language.specs.declared.tag.TagCode.{TagCode}
+use Rattle.spec_language.specs.declared.tag.TagCode.TheVariants.{G5, G6, G10}
+use Rattle.spec_language.specs.declared.tag.Found.{Found}
+use Rattle.spec_base.specs.FirstCause.{◌>>=◌, unless}
+use Rattle.spec_language.specs.OperandForm.{are_digits, digits_number, Token, word, dot, opening, closing}
+use Rattle.spec_language.specs.Resolution.{is_array, find_member, find_element, find_bit, find_indexed}
+use Rattle.spec_language.specs.Resolution as meaning
+use Rattle.spec_language.specs.ResolutionLaws.{LiesIn}
+use Rattle.spec_language.specs.Layout.{single}
 use Rattle.lgx_types.specs.Tables.{HasSize}
 use Rattle.lgx_tags.specs.Parts.{Part, dotted, element, opened, closed}
 use Rattle.lgx_tags.specs.declared.error.TagError.{TagError}

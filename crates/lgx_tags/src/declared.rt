@@ -1,9 +1,9 @@
 // Tags and aliases in the order in which they are declared.
 ghost use Rattle.std.specs.Prelude.{◌≡◌, ℕ, ◌<◌, ◌≤◌, List, [], ◌∷◌, ◌++◌, None, Some, slice_get, length, vec_len, vec_capacity, position, IfOk, IfSome, IfErr, IsNone, OnOk, OnErr};
-ghost use Rattle.lgx_machine.specs.declared.tag.Scope.{Scope as In};
-ghost use Rattle.lgx_machine.specs.Declarations.{tag, alias, is_named, is_name_in, bytes, declared_as, declare_fault, alias_fault};
-ghost use Rattle.lgx_machine.specs.Resolution.{aliases};
-ghost use Rattle.lgx_machine.specs.ResolutionLaws.{Sound};
+ghost use Rattle.spec_language.specs.declared.tag.Scope.{Scope as In};
+ghost use Rattle.spec_language.specs.Declarations.{tag, alias, is_named, is_name_in, bytes, declared_as, declare_fault, alias_fault};
+ghost use Rattle.spec_language.specs.Resolution.{aliases};
+ghost use Rattle.spec_language.specs.ResolutionLaws.{Sound};
 ghost use Rattle.std.specs.List.{AllByRecursion as Each};
 ghost use Rattle.std.specs.Option.{option_or};
 ghost use Rattle.lgx_types.specs.Tables.{HasSize};
@@ -18,7 +18,7 @@ use crate::key::{Key, ROOM};
 use crate::layout::{Known, Laid, by_scope, in_order, lay, round_up};
 use crate::tag_name::{is_name, is_tag_name};
 use indexmap::IndexSet;
-use lgx_machine::{DataType, Scope, TagCode};
+use spec_language::{DataType, Scope, TagCode};
 use lgx_num::Memory;
 use lgx_types::TypeTable;
 use std::alloc::Global;
@@ -58,7 +58,7 @@ pub(crate) struct Declared {
 }
 
 impl Model for Declared {
-    ghost use Rattle.lgx_machine.specs.Declarations.{Declarations};
+    ghost use Rattle.spec_language.specs.Declarations.{Declarations};
 
     ghost Value = { Declarations };
 

@@ -1,11 +1,11 @@
 // Tags and aliases as they are declared.
 ghost use Rattle.std.specs.Prelude.{◌≡◌, IfOk, option_copied};
-ghost use Rattle.lgx_machine.specs.Declarations.{alias, tag};
-ghost use Rattle.lgx_machine.specs.Resolution.{target_of};
+ghost use Rattle.spec_language.specs.Declarations.{alias, tag};
+ghost use Rattle.spec_language.specs.Resolution.{target_of};
 ghost use Rattle.lgx_tags.specs.Chains.{is_target};
 ghost use Rattle.lgx_tags.specs.Meanings.{type_in};
 
-use lgx_machine::{DataType, Scope};
+use spec_language::{DataType, Scope};
 use lgx_num::{List, Memory};
 use std::alloc::Global;
 use std::marker::Model;
@@ -26,7 +26,7 @@ pub(crate) struct Entry {
 }
 
 impl Model for Entry {
-    ghost use Rattle.lgx_machine.specs.Declarations.{Entry as Declared};
+    ghost use Rattle.spec_language.specs.Declarations.{Entry as Declared};
 
     ghost Value = { Declared };
 

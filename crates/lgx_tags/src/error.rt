@@ -2,7 +2,7 @@
 ghost use Rattle.std.specs.Prelude.{◌≡◌};
 ghost use Rattle.lgx_tags.specs.declared.error.TagError.TheVariants.{Tag, Memory as no_memory};
 
-use lgx_machine::TagCode;
+use spec_language::TagCode;
 use lgx_num::Memory;
 use std::alloc::AllocFailed;
 

@@ -1,7 +1,7 @@
 // Whether a text is an operand form.
 ghost use Rattle.std.specs.Prelude.{◌≡◌, ◌+◌, ◌<◌, ◌^◌};
 ghost use Rattle.std.specs.Option.{is_some};
-ghost use Rattle.lgx_machine.specs.OperandForm.{form};
+ghost use Rattle.spec_language.specs.OperandForm.{form};
 ghost use Rattle.lgx_tags.specs.Parts.{part_seen};
 
 use crate::part::{Part, are_digits, first_part, split_word};

@@ -2,7 +2,7 @@
 ghost use Rattle.std.specs.Prelude.{◌≡◌, ◌≤◌, length};
 ghost use Rattle.lgx_tags.specs.Keys.{key_of, program_of, lowered};
 
-use lgx_machine::Scope;
+use spec_language::Scope;
 
 /// The length of the longest tag name, in bytes.
 pub(crate) const ROOM: usize = 80;

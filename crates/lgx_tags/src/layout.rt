@@ -1,13 +1,13 @@
 // Where the tags lie in the image.
 ghost use Rattle.std.specs.Prelude.{◌≡◌, ◌+◌, ◌*◌, ◌<◌, ◌≤◌, ◌++◌, [], ◌∷◌, length, flat_map, replicate, slice_set, slice_index_or, IfOk, OnOk};
 ghost use Rattle.std.specs.List.{AllByRecursion as Each};
-ghost use Rattle.lgx_machine.specs.Layout.{round_up};
+ghost use Rattle.spec_language.specs.Layout.{round_up};
 ghost use Rattle.lgx_types.specs.Tables.{HasSize};
 ghost use Rattle.lgx_tags.specs.Scopes.{IsScopeOf};
 ghost use Rattle.lgx_tags.specs.Layouts.{slot_of, with_entry, rows_of, lay, lay_end, known_from};
 
 use crate::entry::Entry;
-use lgx_machine::{DataType, Scope, TagCode};
+use spec_language::{DataType, Scope, TagCode};
 use lgx_num::Memory;
 use lgx_types::TypeTable;
 use std::alloc::Global;

@@ -2,7 +2,7 @@
 ghost use Rattle.std.specs.Prelude.{◌≡◌, ◌<◌, ◌++◌, ◌∷◌, Some, None, IsTrue, IsNone, IfSome, length};
 ghost use Rattle.std.specs.Char.{is_digit};
 ghost use Rattle.std.specs.List.{list_all};
-ghost use Rattle.lgx_machine.specs.OperandForm.{tokens, are_digits, dot, opening};
+ghost use Rattle.spec_language.specs.OperandForm.{tokens, are_digits, dot, opening};
 ghost use Rattle.lgx_tags.specs.Parts.{part_seen, IsFit, first_part, is_mark, begins_marked, before};
 
 /// A part of an operand behind its tag's name.

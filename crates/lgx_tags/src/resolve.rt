@@ -1,9 +1,9 @@
 // What an operand's text names.
 ghost use Rattle.std.specs.Prelude.{◌≡◌, ◌+◌, ◌≤◌, [], IfOk, IsTrue};
-ghost use Rattle.lgx_machine.specs.Layout.{single};
-ghost use Rattle.lgx_machine.specs.OperandForm.{are_digits};
-ghost use Rattle.lgx_machine.specs.Resolution.{in_form};
-ghost use Rattle.lgx_machine.specs.ResolutionLaws.{LiesIn, width};
+ghost use Rattle.spec_language.specs.Layout.{single};
+ghost use Rattle.spec_language.specs.OperandForm.{are_digits};
+ghost use Rattle.spec_language.specs.Resolution.{in_form};
+ghost use Rattle.spec_language.specs.ResolutionLaws.{LiesIn, width};
 ghost use Rattle.lgx_types.specs.Tables.{HasSize};
 ghost use Rattle.lgx_tags.specs.Parts.{part_seen, IsFit};
 ghost use Rattle.lgx_tags.specs.Walk.{subscripts_of, Answers, NamesLie, dotted_at, element_at, open_at, close_at, step, end_behind, AllPlaced, AreSized};
@@ -12,7 +12,7 @@ use crate::error::TagError;
 use crate::form::is_form;
 use crate::part::{Part, first_part, split_word};
 use crate::subscript::{find_dotted, find_element, find_indexed, is_array, number_of};
-use lgx_machine::{Found, TagCode};
+use spec_language::{Found, TagCode};
 use lgx_types::TypeTable;
 use std::alloc::Global;
 use std::marker::Model;
@@ -32,8 +32,8 @@ pub(crate) enum Subscripts {
 /// What the names of tags stand for, seen from one scope.
 pub(crate) trait Names {
     ghost use Rattle.std.specs.Prelude.{◌≡◌, ℕ, List, Result};
-    ghost use Rattle.lgx_machine.specs.declared.tag.Found.{Found as Place};
-    ghost use Rattle.lgx_machine.specs.declared.tag.TagCode.{TagCode as Code};
+    ghost use Rattle.spec_language.specs.declared.tag.Found.{Found as Place};
+    ghost use Rattle.spec_language.specs.declared.tag.TagCode.{TagCode as Code};
 
     // what each name stands for, and the length of the image that all of it lies in
     ghost named: { Self → List ℕ → Result Place Code };

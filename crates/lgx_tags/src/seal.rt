@@ -1,8 +1,8 @@
 // What the aliases stand for: their chains are walked once, when the table is sealed.
 ghost use Rattle.std.specs.Prelude.{◌≡◌, ◌<◌, ◌≤◌, length, slice_index_or, Err, IfOk, IfSome, OnOk};
 ghost use Rattle.std.specs.List.{AllByRecursion as Each};
-ghost use Rattle.lgx_machine.specs.declared.tag.TagCode.TheVariants.{G7};
-ghost use Rattle.lgx_machine.specs.Resolution.{numbers_alone, in_form};
+ghost use Rattle.spec_language.specs.declared.tag.TagCode.TheVariants.{G7};
+ghost use Rattle.spec_language.specs.Resolution.{numbers_alone, in_form};
 ghost use Rattle.lgx_tags.specs.Chains.{answer, answer_at, named_by, is_open, open_in, bad_from, count_aliases, Partly, Looked, Passed, Walked};
 
 use crate::declared::Declared;
@@ -11,7 +11,7 @@ use crate::error::TagError;
 use crate::layout::{Known, Spot};
 use crate::part::split_word;
 use crate::resolve::{Names, Subscripts, resolve_text};
-use lgx_machine::{Found, Scope, TagCode};
+use spec_language::{Found, Scope, TagCode};
 use lgx_num::{Memory, Steps};
 
 /// What the names of tags stand for, seen from one scope, by what is known of the entries.
@@ -23,7 +23,7 @@ pub(crate) struct Seen<'a> {
 }
 
 impl Names for Seen<'_> {
-    ghost use Rattle.lgx_machine.specs.Declarations.{bytes as image_bytes};
+    ghost use Rattle.spec_language.specs.Declarations.{bytes as image_bytes};
     ghost use Rattle.lgx_tags.specs.Chains.{named_by as seen_by};
 
     ghost named = { λ s. seen_by s.declared.now.entries s.known.now s.scope };

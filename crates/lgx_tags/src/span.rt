@@ -1,5 +1,5 @@
 // Where a tag lies.
-use lgx_machine::Scope;
+use spec_language::Scope;
 
 /// A tag's scope, and its bytes in the image: from `start` on, up to `end`.
 #[derive(Clone, Copy, PartialEq, Eq, Debug)]

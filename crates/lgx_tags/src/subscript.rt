@@ -1,15 +1,15 @@
 // Members, elements and bits of what was found.
 ghost use Rattle.std.specs.Prelude.{◌≡◌, ◌+◌, ◌*◌, ◌≤◌, min, IsTrue, Ok};
 ghost use Rattle.std.specs.Char.{is_digit, digit_value};
-ghost use Rattle.lgx_machine.specs.Layout.{single};
-ghost use Rattle.lgx_machine.specs.OperandForm.{are_digits, digits_number};
-ghost use Rattle.lgx_machine.specs.Resolution.{is_array, is_integer, integer_bits, kind_of, stride, may_index, index_by, find_member, find_element, find_bit, find_indexed};
-ghost use Rattle.lgx_machine.specs.ResolutionLaws.{width};
+ghost use Rattle.spec_language.specs.Layout.{single};
+ghost use Rattle.spec_language.specs.OperandForm.{are_digits, digits_number};
+ghost use Rattle.spec_language.specs.Resolution.{is_array, is_integer, integer_bits, kind_of, stride, may_index, index_by, find_member, find_element, find_bit, find_indexed};
+ghost use Rattle.spec_language.specs.ResolutionLaws.{width};
 ghost use Rattle.lgx_types.specs.Tables.{HasSize};
 ghost use Rattle.lgx_tags.specs.Walk.{find_dotted};
 
 use crate::part::are_digits;
-use lgx_machine::{Base, DataType, Found, TagCode};
+use spec_language::{Base, DataType, Found, TagCode};
 use lgx_num::{Index, Kind, Name, Place};
 use lgx_types::TypeTable;
 

@@ -1,8 +1,8 @@
 // The table of tags.
 ghost use Rattle.std.specs.Prelude.{◌≡◌, ◌<◌, ◌≤◌, [], true, false, length, map, slice_get, option_map, None, Some, IfOk, IfErr, IfSome, OnOk, OnErr};
-ghost use Rattle.lgx_machine.specs.Declarations.{tag, alias, bytes, declared_as, declare_fault, alias_fault};
-ghost use Rattle.lgx_machine.specs.Resolution.{aliases, found, found_fixed, in_form, named, seal_fault};
-ghost use Rattle.lgx_machine.specs.ResolutionLaws.{LiesIn};
+ghost use Rattle.spec_language.specs.Declarations.{tag, alias, bytes, declared_as, declare_fault, alias_fault};
+ghost use Rattle.spec_language.specs.Resolution.{aliases, found, found_fixed, in_form, named, seal_fault};
+ghost use Rattle.spec_language.specs.ResolutionLaws.{LiesIn};
 ghost use Rattle.lgx_types.specs.Tables.{HasSize};
 ghost use Rattle.lgx_tags.specs.Chains.{Walked};
 ghost use Rattle.lgx_tags.specs.Layouts.{laid_of};
@@ -17,7 +17,7 @@ use crate::layout::{Known, Laid, known_from};
 use crate::resolve::{Subscripts, resolve_text};
 use crate::seal::{Seen, first_bad, walk};
 use crate::span::TagSpan;
-use lgx_machine::{DataType, Found, Scope};
+use spec_language::{DataType, Found, Scope};
 use lgx_num::Memory;
 use lgx_types::TypeTable;
 use std::alloc::Global;

@@ -2,8 +2,8 @@
 ghost use Rattle.std.specs.Prelude.{◌≡◌, ◌∷◌, [], IfSome, IsNone};
 ghost use Rattle.std.specs.List.{list_all};
 ghost use Rattle.lgx_num.specs.Name.{is_name, is_name_byte};
-ghost use Rattle.lgx_machine.specs.TextLines.{pieces};
-ghost use Rattle.lgx_machine.specs.OperandForm.{is_part, may_lead, is_joined, is_tag_name};
+ghost use Rattle.spec_base.specs.Pieces.{pieces};
+ghost use Rattle.spec_language.specs.OperandForm.{is_part, may_lead, is_joined, is_tag_name};
 ghost use Rattle.lgx_tags.specs.TagNames.{are_parts};
 
 use lgx_num::{Name, same};

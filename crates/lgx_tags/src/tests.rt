@@ -3,7 +3,7 @@ ghost use Rattle.std.specs.Prelude.{◌≡◌, ◌+◌, ◌<◌, ◌≤◌, true
 ghost use Rattle.lgx_tags.specs.Fresh.{IsFresh};
 
 use crate::{Scope, SealError, TagCode, TagError, TagTable};
-use lgx_machine::{Base, DataType};
+use spec_language::{Base, DataType};
 use lgx_types::TypeTable;
 use std::alloc::Global;
 use std::process::Abort;

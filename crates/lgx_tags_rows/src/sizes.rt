@@ -2,7 +2,7 @@
 ghost use Rattle.std.specs.Prelude.{◌≡◌, false, true, IfOk};
 ghost use Rattle.lgx_tags.specs.Scopes.{IsScopeOf};
 
-use lgx_machine::{Base, DataType};
+use spec_language::{Base, DataType};
 use lgx_tags::{Scope, TagError, TagTable};
 use lgx_types::TypeTable;
 use std::alloc::Global;

@@ -1,6 +1,6 @@
 -- The two numbers that a timer is refused for.
 use Rattle.std.specs.Prelude.{ℕ, List}
-use Rattle.lgx_machine.specs.StatusWords.{pre, acc}
+use Rattle.spec_scan.specs.StatusWords.{pre, acc}
 use Rattle.lgx_time.specs.declared.timers.Negative.{Negative}
 
 -- the preset and the accumulator that a timer keeps

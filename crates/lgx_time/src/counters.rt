@@ -1,7 +1,7 @@
 // The counter instructions.
 ghost use Rattle.std.specs.Prelude.{◌≡◌, ◌+◌, ◌≤◌, length, IsTrue};
 ghost use Rattle.lgx_rung.specs.declared.op.Op.TheVariants.{Ctu, Ctd};
-ghost use Rattle.lgx_machine.specs.Counters.{one_up, one_down, judged, counter};
+ghost use Rattle.spec_scan.specs.Counters.{one_up, one_down, judged, counter};
 ghost use Rattle.lgx_image.specs.Grains.{Spread};
 ghost use Rattle.lgx_time.specs.Families.{is_counter};
 

@@ -2,8 +2,8 @@
 ghost use Rattle.std.specs.Prelude.{◌≡◌, ◌+◌, ◌≤◌, pos, ◌+ℤ◌, ◌-ℤ◌, length, true, false, IsTrue, Some, None, OnOk, OnErr, IfErr};
 ghost use Rattle.std.specs.Int.{int_min, int_max};
 ghost use Rattle.lgx_rung.specs.declared.op.Op.TheVariants.{Ton, Rto, Tof};
-ghost use Rattle.lgx_machine.specs.StatusWords.{en_bit, tt_bit, put_status};
-ghost use Rattle.lgx_machine.specs.Timers.{has_negative, add_ticks, counted_on, judged_on, count_on, counted_off, judged_off, count_off, timer};
+ghost use Rattle.spec_scan.specs.StatusWords.{en_bit, tt_bit, put_status};
+ghost use Rattle.spec_scan.specs.Timers.{has_negative, add_ticks, counted_on, judged_on, count_on, counted_off, judged_off, count_off, timer};
 ghost use Rattle.lgx_image.specs.Grains.{Spread};
 ghost use Rattle.lgx_time.specs.Families.{is_timer};
 ghost use Rattle.lgx_time.specs.Numbers.{kept_numbers};

@@ -6,16 +6,16 @@ use Rattle.std.proofs.Common.{ap, sym, subst, arith, ◌∙◌, get_or, rules, d
 use Rattle.std.proofs.lemmas.List.{length-map}
 use Rattle.std.proofs.lemmas.Iterator.Adapters.{position_from-zero}
 use Rattle.lgx_num.specs.Name.{same}
-use Rattle.lgx_machine.specs.declared.types.Base.TheVariants.{User}
-use Rattle.lgx_machine.specs.declared.types.TypeDecl.{TypeDecl}
-use Rattle.lgx_machine.specs.declared.types.MemberDecl.{MemberDecl}
-use Rattle.lgx_machine.specs.declared.types.TypeFault.{TypeFault}
-use Rattle.lgx_machine.specs.FirstCause.{first}
+use Rattle.spec_language.specs.declared.types.Base.TheVariants.{User}
+use Rattle.spec_language.specs.declared.types.TypeDecl.{TypeDecl}
+use Rattle.spec_language.specs.declared.types.MemberDecl.{MemberDecl}
+use Rattle.spec_language.specs.declared.types.TypeFault.{TypeFault}
+use Rattle.spec_base.specs.FirstCause.{first}
 use Rattle.lgx_types.specs.declared.error.TypeError.{TypeError}
 use Rattle.lgx_types.specs.declared.error.TypeError.TheVariants.{Fault, Memory}
-use Rattle.lgx_machine.specs.Layout.{find, built_ins, looked_up}
-use Rattle.lgx_machine.specs.TypeFaults.{name_taken, repeated, structure_faults, of_structure}
-use Rattle.lgx_machine.specs.declared.types.TypeCode.TheVariants.{Y6}
+use Rattle.spec_language.specs.Layout.{find, built_ins, looked_up}
+use Rattle.spec_language.specs.TypeFaults.{name_taken, repeated, structure_faults, of_structure}
+use Rattle.spec_language.specs.declared.types.TypeCode.TheVariants.{Y6}
 use Rattle.lgx_types.specs.Outlines.{names_of, member_names, faults_in, IsFirst}
 use Rattle.lgx_types.proofs.Indexes.{any_some, position_low, position_end}
 

@@ -4,18 +4,18 @@ use Rattle.std.specs.List.{AllByRecursion as Each, position_from}
 use Rattle.std.proofs.Common.{ap, sym, subst, arith, ◌∙◌, get_or, drop-cons, append_assoc}
 use Rattle.std.proofs.Math.Nat.{mul-le-mul_right}
 use Rattle.lgx_num.specs.Name.{same}
-use Rattle.lgx_machine.specs.declared.types.Base.{Base}
-use Rattle.lgx_machine.specs.declared.types.Base.TheVariants.{Bool as OneBit, Sint, Int, Dint, Timer, Counter, User}
-use Rattle.lgx_machine.specs.declared.types.DataType.{DataType}
-use Rattle.lgx_machine.specs.declared.types.TypeDecl.{TypeDecl}
-use Rattle.lgx_machine.specs.declared.types.MemberDecl.{MemberDecl}
-use Rattle.lgx_machine.specs.declared.types.Member.{Member}
-use Rattle.lgx_machine.specs.Layout.{looked_up, type_of, begin_after, element_in, sized_in, size_in, structure_in, placed_from, sizes, members_of, member}
-use Rattle.lgx_machine.specs.LayoutLaws.{SoundTypes}
-use Rattle.lgx_machine.specs.TypeFaults.{type_fault}
-use Rattle.lgx_machine.proofs.SizesSettle.{faultless, get_there}
-use Rattle.lgx_machine.proofs.TypesFit.{members_within, looked_up_has, rounded}
-use Rattle.lgx_machine.proofs.Subscripts.{each_map, get_mapped}
+use Rattle.spec_language.specs.declared.types.Base.{Base}
+use Rattle.spec_language.specs.declared.types.Base.TheVariants.{Bool as OneBit, Sint, Int, Dint, Timer, Counter, User}
+use Rattle.spec_language.specs.declared.types.DataType.{DataType}
+use Rattle.spec_language.specs.declared.types.TypeDecl.{TypeDecl}
+use Rattle.spec_language.specs.declared.types.MemberDecl.{MemberDecl}
+use Rattle.spec_language.specs.declared.types.Member.{Member}
+use Rattle.spec_language.specs.Layout.{looked_up, type_of, begin_after, element_in, sized_in, size_in, structure_in, placed_from, sizes, members_of, member}
+use Rattle.spec_language.specs.LayoutLaws.{SoundTypes}
+use Rattle.spec_language.specs.TypeFaults.{type_fault}
+use Rattle.spec_language.proofs.SizesSettle.{faultless, get_there}
+use Rattle.spec_language.proofs.TypesFit.{members_within, looked_up_has, rounded}
+use Rattle.spec_language.proofs.Subscripts.{each_map, get_mapped}
 use Rattle.lgx_types.specs.Outlines.{outline, member_names}
 use Rattle.lgx_types.specs.Walk.{end_of, types_at}
 use Rattle.lgx_types.specs.Tables.{IsSmall, IsTable, HasMembers, HasSize, places_from, places_of}

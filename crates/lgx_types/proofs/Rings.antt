@@ -5,9 +5,9 @@ use Rattle.std.proofs.Common.{sym, subst, arith, ◌∙◌, eqb-true, eq-eqb, in
 use Rattle.std.proofs.lemmas.Bool.{or_left}
 use Rattle.std.proofs.lemmas.List.Sums.{count_by-le-length, length-filter}
 use Rattle.std.proofs.lemmas.List.FromFn.{length-range_with_len}
-use Rattle.lgx_machine.specs.declared.types.TypeDecl.{TypeDecl}
-use Rattle.lgx_machine.specs.TypeFaults.{parts, among, reached_to, reaches_itself}
-use Rattle.lgx_machine.proofs.Reaching.{or_right, among_numbers, parts_there, reach_more, reach_still, reach_later, each_has, each_among}
+use Rattle.spec_language.specs.declared.types.TypeDecl.{TypeDecl}
+use Rattle.spec_language.specs.TypeFaults.{parts, among, reached_to, reaches_itself}
+use Rattle.spec_language.proofs.Reaching.{or_right, among_numbers, parts_there, reach_more, reach_still, reach_later, each_has, each_among}
 
 -- ---- one step back
 

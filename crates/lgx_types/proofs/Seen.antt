@@ -4,12 +4,12 @@ use Rattle.std.proofs.Common.{ap, sym, subst, arith, ◌∙◌, inl, inr, get_or
 use Rattle.std.proofs.lemmas.Bool.{or_left}
 use Rattle.std.proofs.lemmas.List.Sums.{sum_by-set}
 use Rattle.std.proofs.Math.ListN.{length-replicate}
-use Rattle.lgx_machine.specs.declared.types.Base.{Base}
-use Rattle.lgx_machine.specs.declared.types.Base.TheVariants.{Bool as OneBit, Sint, Int, Dint, Timer, Counter, User}
-use Rattle.lgx_machine.specs.declared.types.DataType.{DataType}
-use Rattle.lgx_machine.specs.declared.types.TypeDecl.{TypeDecl}
-use Rattle.lgx_machine.specs.TypeFaults.{among, parts, reached_to, reaches_itself}
-use Rattle.lgx_machine.proofs.Reaching.{parts_there, reach_more}
+use Rattle.spec_language.specs.declared.types.Base.{Base}
+use Rattle.spec_language.specs.declared.types.Base.TheVariants.{Bool as OneBit, Sint, Int, Dint, Timer, Counter, User}
+use Rattle.spec_language.specs.declared.types.DataType.{DataType}
+use Rattle.spec_language.specs.declared.types.TypeDecl.{TypeDecl}
+use Rattle.spec_language.specs.TypeFaults.{among, parts, reached_to, reaches_itself}
+use Rattle.spec_language.proofs.Reaching.{parts_there, reach_more}
 use Rattle.lgx_types.specs.Walk.{number_of, users, types_at}
 use Rattle.lgx_types.specs.Rings.{Reaches, AllSeen, Keeps, IsSearch, left}
 use Rattle.lgx_types.proofs.Rings.{reach_bounded, reach_back}

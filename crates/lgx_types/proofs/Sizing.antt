@@ -1,20 +1,20 @@
 -- Sizes that are worked out member by member.
 use Rattle.std.specs.Prelude.{◌≡◌, ℕ, zero, suc, ◌+◌, ◌*◌, ◌<◌, ◌≤◌, ◌⊎◌, Bool, true, false, ◌||◌, ◌==◌, List, [], ◌∷◌, ◌++◌, length, map, drop, flat_map, slice_get, slice_index, Option, Some, None, option_map, unwrap_or, Ok, Err, refl}
 use Rattle.std.proofs.Common.{ap, sym, subst, arith, ◌∙◌, get_or, drop-cons, inl, inr, eqb-true, eq-eqb}
-use Rattle.lgx_machine.proofs.Reaching.{or_right}
+use Rattle.spec_language.proofs.Reaching.{or_right}
 use Rattle.std.proofs.lemmas.Bool.{or_left}
-use Rattle.lgx_machine.specs.declared.types.Base.{Base}
-use Rattle.lgx_machine.specs.declared.types.Base.TheVariants.{Bool as OneBit, Sint, Int, Dint, Timer, Counter, User}
-use Rattle.lgx_machine.specs.declared.types.DataType.{DataType}
-use Rattle.lgx_machine.specs.declared.types.TypeDecl.{TypeDecl}
-use Rattle.lgx_machine.specs.declared.types.MemberDecl.{MemberDecl}
-use Rattle.lgx_machine.specs.Layout.{find, type_of, round_up, alignment_of, begin_after, element_in, sized_in, size_in, end_from, structure_in, sizes_to, members_of}
-use Rattle.lgx_machine.specs.TypeFaults.{user_number, parts, among, reaches_itself}
-use Rattle.lgx_machine.proofs.Subscripts.{get_mapped, each_get}
+use Rattle.spec_language.specs.declared.types.Base.{Base}
+use Rattle.spec_language.specs.declared.types.Base.TheVariants.{Bool as OneBit, Sint, Int, Dint, Timer, Counter, User}
+use Rattle.spec_language.specs.declared.types.DataType.{DataType}
+use Rattle.spec_language.specs.declared.types.TypeDecl.{TypeDecl}
+use Rattle.spec_language.specs.declared.types.MemberDecl.{MemberDecl}
+use Rattle.spec_language.specs.Layout.{find, type_of, round_up, alignment_of, begin_after, element_in, sized_in, size_in, end_from, structure_in, sizes_to, members_of}
+use Rattle.spec_language.specs.TypeFaults.{user_number, parts, among, reaches_itself}
+use Rattle.spec_language.proofs.Subscripts.{get_mapped, each_get}
 use Rattle.std.specs.List.{AllByRecursion as Each}
 use Rattle.std.proofs.lemmas.List.{length-map}
 use Rattle.lgx_types.specs.Tables.{HasMembers}
-use Rattle.lgx_machine.proofs.SizesSettle.{get_there}
+use Rattle.spec_language.proofs.SizesSettle.{get_there}
 use Rattle.lgx_types.specs.declared.walk.Mark.{Mark}
 use Rattle.lgx_types.specs.declared.walk.Mark.TheVariants.{Fresh, Open, Done}
 use Rattle.lgx_types.specs.declared.walk.Frame.{Frame}

@@ -3,22 +3,22 @@ use Rattle.std.specs.Prelude.{map, ◌≡◌, ℕ, zero, suc, ◌+◌, ◌<◌, 
 use Rattle.std.specs.List.{AllByRecursion as Each, range_with_len}
 use Rattle.std.proofs.Common.{ap, sym, subst, arith, ◌∙◌, inl, inr}
 use Rattle.std.proofs.lemmas.List.{ext_get_or}
-use Rattle.lgx_machine.specs.declared.types.TypeDecl.{TypeDecl}
-use Rattle.lgx_machine.specs.declared.types.TypeCode.{TypeCode}
-use Rattle.lgx_machine.specs.declared.types.TypeCode.TheVariants.{Y3, Y5}
-use Rattle.lgx_machine.specs.declared.types.TypeFault.{TypeFault}
-use Rattle.lgx_machine.specs.FirstCause.{where_true, first}
-use Rattle.lgx_machine.specs.Layout.{type_of, structure_in, sizes_to, sizes}
-use Rattle.lgx_machine.specs.LayoutLaws.{IsEven}
-use Rattle.lgx_machine.specs.TypeFaults.{structure_faults, of_structure, reaches_itself, type_fault}
-use Rattle.lgx_machine.proofs.Subscripts.{each_map}
-use Rattle.lgx_machine.proofs.SizesSettle.{settles, starts, members_even, enumerated_none, sizes_length}
+use Rattle.spec_language.specs.declared.types.TypeDecl.{TypeDecl}
+use Rattle.spec_language.specs.declared.types.TypeCode.{TypeCode}
+use Rattle.spec_language.specs.declared.types.TypeCode.TheVariants.{Y3, Y5}
+use Rattle.spec_language.specs.declared.types.TypeFault.{TypeFault}
+use Rattle.spec_base.specs.FirstCause.{where_true, first}
+use Rattle.spec_language.specs.Layout.{type_of, structure_in, sizes_to, sizes}
+use Rattle.spec_language.specs.LayoutLaws.{IsEven}
+use Rattle.spec_language.specs.TypeFaults.{structure_faults, of_structure, reaches_itself, type_fault}
+use Rattle.spec_language.proofs.Subscripts.{each_map}
+use Rattle.spec_language.proofs.SizesSettle.{settles, starts, members_even, enumerated_none, sizes_length}
 use Rattle.lgx_types.specs.declared.error.TypeError.TheVariants.{Fault}
 use Rattle.lgx_types.specs.Outlines.{name_faults}
 use Rattle.lgx_types.specs.Walk.{capped, IsSized}
 use Rattle.lgx_types.specs.Rings.{IsFirstRing}
 use Rattle.lgx_types.specs.Tables.{IsSmall, IsLarge, IsTable, IsFirstFault, HasMembers, places_of}
-use Rattle.lgx_machine.specs.declared.types.Member.{Member}
+use Rattle.spec_language.specs.declared.types.Member.{Member}
 use Rattle.lgx_types.proofs.Found.{is_first_more, lt_true, lt_false}
 use Rattle.lgx_types.proofs.Placed.{small_index}
 

@@ -2,10 +2,10 @@
 use Rattle.std.specs.Prelude.{◌≡◌, ◌≢◌, ℕ, zero, suc, ◌+◌, ◌-◌, ◌<◌, ◌⊎◌, true, List, [], ◌∷◌, ◌++◌, length, map, replicate, drop, slice_get, slice_set, slice_index, Some, refl}
 use Rattle.std.proofs.Common.{ap, sym, subst, arith, ◌∙◌, inl, inr, get_or, length-append}
 use Rattle.std.proofs.lemmas.List.Sums.{sum_by-set}
-use Rattle.lgx_machine.specs.declared.types.TypeDecl.{TypeDecl}
-use Rattle.lgx_machine.specs.Layout.{round_up}
-use Rattle.lgx_machine.specs.TypeFaults.{parts, among, reached_to, reaches_itself}
-use Rattle.lgx_machine.proofs.Reaching.{parts_there, reach_more}
+use Rattle.spec_language.specs.declared.types.TypeDecl.{TypeDecl}
+use Rattle.spec_language.specs.Layout.{round_up}
+use Rattle.spec_language.specs.TypeFaults.{parts, among, reached_to, reaches_itself}
+use Rattle.spec_language.proofs.Reaching.{parts_there, reach_more}
 use Rattle.lgx_types.specs.declared.walk.Mark.{Mark}
 use Rattle.lgx_types.specs.declared.walk.Mark.TheVariants.{Fresh, Open, Done}
 use Rattle.lgx_types.specs.declared.walk.Frame.{Frame}

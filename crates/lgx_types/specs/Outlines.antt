@@ -1,16 +1,16 @@
 -- Declarations with each member's type found.
 use Rattle.std.specs.Prelude.{◌≡◌, ℕ, ◌<◌, ◌%◌, Bool, true, false, not, ◌&&◌, ◌==◌, List, [], ◌++◌, map, length, flat_map, Option, Some, None, is_none, if◌then◌else◌, ⊤}
 use Rattle.std.specs.List.{AllByRecursion as Each, enumerate_from}
-use Rattle.lgx_machine.specs.declared.types.Base.{Base}
-use Rattle.lgx_machine.specs.declared.types.DataType.{DataType}
-use Rattle.lgx_machine.specs.declared.types.TypeDecl.{TypeDecl}
-use Rattle.lgx_machine.specs.declared.types.MemberDecl.{MemberDecl}
-use Rattle.lgx_machine.specs.declared.types.TypeCode.{TypeCode}
-use Rattle.lgx_machine.specs.declared.types.TypeCode.TheVariants.{Y1, Y2, Y4}
-use Rattle.lgx_machine.specs.declared.types.TypeFault.{TypeFault}
-use Rattle.lgx_machine.specs.FirstCause.{where_true, first}
-use Rattle.lgx_machine.specs.Layout.{find, type_of}
-use Rattle.lgx_machine.specs.TypeFaults.{of_member, is_bool, member_faults, structure_faults, is_uneven}
+use Rattle.spec_language.specs.declared.types.Base.{Base}
+use Rattle.spec_language.specs.declared.types.DataType.{DataType}
+use Rattle.spec_language.specs.declared.types.TypeDecl.{TypeDecl}
+use Rattle.spec_language.specs.declared.types.MemberDecl.{MemberDecl}
+use Rattle.spec_language.specs.declared.types.TypeCode.{TypeCode}
+use Rattle.spec_language.specs.declared.types.TypeCode.TheVariants.{Y1, Y2, Y4}
+use Rattle.spec_language.specs.declared.types.TypeFault.{TypeFault}
+use Rattle.spec_base.specs.FirstCause.{where_true, first}
+use Rattle.spec_language.specs.Layout.{find, type_of}
+use Rattle.spec_language.specs.TypeFaults.{of_member, is_bool, member_faults, structure_faults, is_uneven}
 use Rattle.lgx_types.specs.declared.error.TypeError.{TypeError}
 use Rattle.lgx_types.specs.declared.error.TypeError.TheVariants.{Fault, Memory}
 use Rattle.lgx_types.specs.Tables.{HasMembers}

@@ -1,7 +1,7 @@
 -- Which structures a structure reaches, found by going from structure to structure.
 use Rattle.std.specs.Prelude.{◌≡◌, ℕ, ◌+◌, ◌<◌, ◌⊎◌, Bool, true, false, cond, List, length, sum_by, slice_get, Some}
-use Rattle.lgx_machine.specs.declared.types.TypeDecl.{TypeDecl}
-use Rattle.lgx_machine.specs.TypeFaults.{among, parts, reached_to, reaches_itself}
+use Rattle.spec_language.specs.declared.types.TypeDecl.{TypeDecl}
+use Rattle.spec_language.specs.TypeFaults.{among, parts, reached_to, reaches_itself}
 
 -- structure i reaches structure x
 abbrev pub Reaches : List TypeDecl → ℕ → ℕ → Type 0

@@ -1,14 +1,14 @@
 -- What is asked of the table of types, and what it answers.
 use Rattle.std.specs.Prelude.{◌≡◌, ℕ, ◌+◌, ◌*◌, ◌<◌, ◌≤◌, List, [], ◌∷◌, slice_index, length, map, Some, None, ⊤}
 use Rattle.std.specs.List.{AllByRecursion as Each}
-use Rattle.lgx_machine.specs.declared.types.Base.{Base}
-use Rattle.lgx_machine.specs.declared.types.Base.TheVariants.{Bool as OneBit, Sint, Int, Dint, Timer, Counter, User}
-use Rattle.lgx_machine.specs.declared.types.DataType.{DataType}
-use Rattle.lgx_machine.specs.declared.types.TypeDecl.{TypeDecl}
-use Rattle.lgx_machine.specs.declared.types.Member.{Member}
-use Rattle.lgx_machine.specs.Layout.{sizes, size_in, begin_after, type_of}
-use Rattle.lgx_machine.specs.LayoutLaws.{IsEven}
-use Rattle.lgx_machine.specs.TypeFaults.{type_fault}
+use Rattle.spec_language.specs.declared.types.Base.{Base}
+use Rattle.spec_language.specs.declared.types.Base.TheVariants.{Bool as OneBit, Sint, Int, Dint, Timer, Counter, User}
+use Rattle.spec_language.specs.declared.types.DataType.{DataType}
+use Rattle.spec_language.specs.declared.types.TypeDecl.{TypeDecl}
+use Rattle.spec_language.specs.declared.types.Member.{Member}
+use Rattle.spec_language.specs.Layout.{sizes, size_in, begin_after, type_of}
+use Rattle.spec_language.specs.LayoutLaws.{IsEven}
+use Rattle.spec_language.specs.TypeFaults.{type_fault}
 use Rattle.lgx_types.specs.declared.error.TypeError.{TypeError}
 use Rattle.lgx_types.specs.declared.error.TypeError.TheVariants.{Fault, Memory}
 

@@ -1,11 +1,11 @@
 -- Working out the sizes of structures, each behind those inside it.
 use Rattle.std.specs.Prelude.{◌≡◌, ℕ, zero, suc, ◌+◌, ◌*◌, ◌/◌, ◌<◌, ◌≤◌, min, false, true, List, [], ◌∷◌, length, drop, flat_map, sum_by, slice_get, slice_index, Option, Some, None, Result, Ok, Err}
-use Rattle.lgx_machine.specs.declared.types.Base.{Base}
-use Rattle.lgx_machine.specs.declared.types.Base.TheVariants.{Bool as OneBit, Sint, Int, Dint, Timer, Counter, User}
-use Rattle.lgx_machine.specs.declared.types.DataType.{DataType}
-use Rattle.lgx_machine.specs.declared.types.TypeDecl.{TypeDecl}
-use Rattle.lgx_machine.specs.Layout.{begin_after, size_in, sizes_to, members_of}
-use Rattle.lgx_machine.specs.TypeFaults.{among, parts, reaches_itself}
+use Rattle.spec_language.specs.declared.types.Base.{Base}
+use Rattle.spec_language.specs.declared.types.Base.TheVariants.{Bool as OneBit, Sint, Int, Dint, Timer, Counter, User}
+use Rattle.spec_language.specs.declared.types.DataType.{DataType}
+use Rattle.spec_language.specs.declared.types.TypeDecl.{TypeDecl}
+use Rattle.spec_language.specs.Layout.{begin_after, size_in, sizes_to, members_of}
+use Rattle.spec_language.specs.TypeFaults.{among, parts, reaches_itself}
 use Rattle.lgx_types.specs.declared.walk.Mark.{Mark}
 use Rattle.lgx_types.specs.declared.walk.Mark.TheVariants.{Fresh, Open, Done}
 use Rattle.lgx_types.specs.declared.walk.Frame.{Frame}

@@ -1,8 +1,8 @@
 // The built-in types, and the members of a TIMER and of a COUNTER.
 ghost use Rattle.std.specs.Prelude.{◌≡◌, ◌≤◌, IfSome};
-ghost use Rattle.lgx_machine.specs.Layout.{built_ins, looked_up, bit_at, word_at, timer_members, counter_members};
+ghost use Rattle.spec_language.specs.Layout.{built_ins, looked_up, bit_at, word_at, timer_members, counter_members};
 
-use lgx_machine::{Base, DataType, Member};
+use spec_language::{Base, DataType, Member};
 use lgx_num::same;
 
 pub fn built_in(name: &[u8]) -> Option<Base>

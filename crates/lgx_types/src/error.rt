@@ -2,7 +2,7 @@
 ghost use Rattle.std.specs.Prelude.{◌≡◌};
 ghost use Rattle.lgx_types.specs.declared.error.TypeError.TheVariants.{Fault, Memory as NoMemory};
 
-use lgx_machine::TypeFault;
+use spec_language::TypeFault;
 use lgx_num::Memory as NoMemory;
 use std::alloc::{AllocError, AllocFailed};
 

@@ -5,7 +5,7 @@ ghost use Rattle.lgx_types.specs.Tables.{places_from};
 
 use crate::size::size_in;
 use crate::walk::{alignment, round_up};
-use lgx_machine::{DataType, Member};
+use spec_language::{DataType, Member};
 use lgx_num::{List, Memory};
 use std::alloc::Global;
 

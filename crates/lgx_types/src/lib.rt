@@ -18,5 +18,5 @@ mod tests;
 mod walk;
 
 pub use error::TypeError;
-pub use lgx_machine::{Base, DataType, Member, MemberDecl, TypeCode, TypeDecl, TypeFault};
+pub use spec_language::{Base, DataType, Member, MemberDecl, TypeCode, TypeDecl, TypeFault};
 pub use table::TypeTable;

@@ -1,11 +1,11 @@
 // The types of all members, found by their names, and what is wrong with names and members.
 ghost use Rattle.std.specs.Prelude.{◌≡◌, ◌<◌, [], length, IfOk, IfErr};
 ghost use Rattle.std.specs.List.{AllByRecursion as Each, position_from};
-ghost use Rattle.lgx_machine.specs.declared.types.TypeCode.TheVariants.{Y6};
-ghost use Rattle.lgx_machine.specs.TypeFaults.{of_structure};
+ghost use Rattle.spec_language.specs.declared.types.TypeCode.TheVariants.{Y6};
+ghost use Rattle.spec_language.specs.TypeFaults.{of_structure};
 ghost use Rattle.lgx_types.specs.declared.error.TypeError.TheVariants.{Fault};
 ghost use Rattle.lgx_num.specs.Name.{same};
-ghost use Rattle.lgx_machine.specs.Layout.{find, members_of, type_of};
+ghost use Rattle.spec_language.specs.Layout.{find, members_of, type_of};
 ghost use Rattle.lgx_types.specs.Tables.{HasMembers};
 ghost use Rattle.lgx_types.specs.Walk.{types_at};
 ghost use Rattle.lgx_types.specs.Outlines.{IsFirst, first_wrong, faults_by, faults_in, name_faults, member_names, outline};
@@ -13,7 +13,7 @@ ghost use Rattle.lgx_types.specs.Outlines.{IsFirst, first_wrong, faults_by, faul
 use crate::error::TypeError;
 use crate::names::Names;
 use crate::structures::Structures;
-use lgx_machine::{Base, DataType, MemberDecl, TypeCode, TypeDecl, TypeFault};
+use spec_language::{Base, DataType, MemberDecl, TypeCode, TypeDecl, TypeFault};
 use lgx_num::{List, Name};
 use std::alloc::Global;
 use std::marker::Model;
@@ -28,7 +28,7 @@ pub struct Resolved {
 
 impl Model for Resolved {
     ghost use Rattle.std.specs.Prelude.{List as Items};
-    ghost use Rattle.lgx_machine.specs.declared.types.TypeDecl.{TypeDecl};
+    ghost use Rattle.spec_language.specs.declared.types.TypeDecl.{TypeDecl};
     ghost use Rattle.lgx_types.specs.Outlines.{IsResolved};
 
     ghost Value = { Items TypeDecl };

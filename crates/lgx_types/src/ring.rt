@@ -1,13 +1,13 @@
 // Structures that reach themselves.
 ghost use Rattle.std.specs.Prelude.{◌≡◌, ℕ, ◌<◌, ◌≤◌, ◌++◌, ◌∷◌, [], ◌⊎◌, true, false, List, length, replicate, slice_get, Some, IfOk};
-ghost use Rattle.lgx_machine.specs.TypeFaults.{among, parts, reaches_itself};
-ghost use Rattle.lgx_machine.specs.declared.types.TypeDecl.{TypeDecl};
+ghost use Rattle.spec_language.specs.TypeFaults.{among, parts, reaches_itself};
+ghost use Rattle.spec_language.specs.declared.types.TypeDecl.{TypeDecl};
 ghost use Rattle.lgx_types.specs.Tables.{IsNumbered};
 ghost use Rattle.lgx_types.specs.Walk.{IsRing, number_of};
 ghost use Rattle.lgx_types.specs.Rings.{Reaches, AllSeen, IsSearch, IsFirstRing, Keeps, left};
 
 use crate::resolved::Resolved;
-use lgx_machine::Base;
+use spec_language::Base;
 use lgx_num::Memory;
 use std::alloc::Global;
 

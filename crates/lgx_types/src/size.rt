@@ -1,8 +1,8 @@
 // Sizes of types.
 ghost use Rattle.std.specs.Prelude.{◌≡◌, ◌≤◌};
-ghost use Rattle.lgx_machine.specs.Layout.{element_in, size_in};
+ghost use Rattle.spec_language.specs.Layout.{element_in, size_in};
 
-use lgx_machine::{Base, DataType};
+use spec_language::{Base, DataType};
 
 // The size of an element in bytes, where a list has those of the structures.
 fn element_in(sizes: &[u32], base: Base) -> u32

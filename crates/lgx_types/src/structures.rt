@@ -1,14 +1,14 @@
 // The declared structures, found by their names.
 ghost use Rattle.std.specs.Prelude.{◌≡◌, ◌<◌, length, nat_lt, ◌||◌, false, is_some, option_map, slice_get, Some, IfOk};
 ghost use Rattle.std.specs.Option.{option_or, option_map_or};
-ghost use Rattle.lgx_machine.specs.declared.types.Base.TheVariants.{User};
-ghost use Rattle.lgx_machine.specs.declared.types.TypeDecl.{TypeDecl};
-ghost use Rattle.lgx_machine.specs.Layout.{find};
-ghost use Rattle.lgx_machine.specs.TypeFaults.{name_taken};
+ghost use Rattle.spec_language.specs.declared.types.Base.TheVariants.{User};
+ghost use Rattle.spec_language.specs.declared.types.TypeDecl.{TypeDecl};
+ghost use Rattle.spec_language.specs.Layout.{find};
+ghost use Rattle.spec_language.specs.TypeFaults.{name_taken};
 
 use crate::built_in::built_in;
 use crate::names::Names;
-use lgx_machine::{Base, MemberDecl, TypeDecl};
+use spec_language::{Base, MemberDecl, TypeDecl};
 use lgx_num::{List, Memory, Name};
 use std::alloc::Global;
 use std::marker::Model;
@@ -22,7 +22,7 @@ pub struct Structures {
 
 impl Model for Structures {
     ghost use Rattle.std.specs.Prelude.{◌≡◌, List as Items};
-    ghost use Rattle.lgx_machine.specs.declared.types.TypeDecl.{TypeDecl};
+    ghost use Rattle.spec_language.specs.declared.types.TypeDecl.{TypeDecl};
     ghost use Rattle.lgx_types.specs.Outlines.{names_of};
 
     ghost Value = { Items TypeDecl };

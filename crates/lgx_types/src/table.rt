@@ -1,10 +1,10 @@
 // The table of types.
 ghost use Rattle.std.specs.Prelude.{◌≡◌, ◌<◌, ◌≤◌, None, [], length, map, take, IfSome, IfNone, IfErr, IfOk, OnOk};
 ghost use Rattle.std.specs.List.{AllByRecursion as Each};
-ghost use Rattle.lgx_machine.specs.declared.types.TypeCode.{TypeCode};
-ghost use Rattle.lgx_machine.specs.Layout.{find, member, size_of, sizes};
-ghost use Rattle.lgx_machine.specs.LayoutLaws.{SoundTypes};
-ghost use Rattle.lgx_machine.specs.TypeFaults.{of_structure, type_fault};
+ghost use Rattle.spec_language.specs.declared.types.TypeCode.{TypeCode};
+ghost use Rattle.spec_language.specs.Layout.{find, member, size_of, sizes};
+ghost use Rattle.spec_language.specs.LayoutLaws.{SoundTypes};
+ghost use Rattle.spec_language.specs.TypeFaults.{of_structure, type_fault};
 ghost use Rattle.lgx_types.specs.declared.error.TypeError.TheVariants.{Fault};
 ghost use Rattle.lgx_types.specs.Tables.{HasSize, HasMembers, IsFirstFault, IsLarge, IsSmall, places_of};
 
@@ -15,7 +15,7 @@ use crate::resolved::Resolved;
 use crate::ring::first_ring;
 use crate::size::size_in;
 use crate::walk::{Settled, settle};
-use lgx_machine::{Base, DataType, Member, TypeCode, TypeDecl, TypeFault, sizes_are_settled};
+use spec_language::{Base, DataType, Member, TypeCode, TypeDecl, TypeFault, sizes_are_settled};
 use lgx_num::{List, Memory, Name};
 use std::alloc::Global;
 use std::marker::Model;
@@ -32,7 +32,7 @@ pub struct TypeTable {
 
 impl Model for TypeTable {
     ghost use Rattle.std.specs.Prelude.{List as Items};
-    ghost use Rattle.lgx_machine.specs.declared.types.TypeDecl.{TypeDecl};
+    ghost use Rattle.spec_language.specs.declared.types.TypeDecl.{TypeDecl};
     ghost use Rattle.lgx_types.specs.Tables.{IsTable};
 
     ghost Value = { Items TypeDecl };

@@ -1,12 +1,12 @@
 // The sizes of structures, each worked out behind those inside it.
 ghost use Rattle.std.specs.Prelude.{◌≡◌, ℕ, ◌+◌, ◌*◌, ◌<◌, ◌≤◌, true, [], ◌∷◌, ◌++◌, length, drop, slice_get, slice_set, map, replicate, Some, IfOk, IfSome, IfNone, OnOk};
-ghost use Rattle.lgx_machine.specs.Layout.{begin_after, round_up, alignment};
-ghost use Rattle.lgx_machine.specs.TypeFaults.{among, parts, reaches_itself};
+ghost use Rattle.spec_language.specs.Layout.{begin_after, round_up, alignment};
+ghost use Rattle.spec_language.specs.TypeFaults.{among, parts, reaches_itself};
 ghost use Rattle.lgx_types.specs.declared.walk.Mark.TheVariants.{Done, Fresh, Open};
 ghost use Rattle.lgx_types.specs.Walk.{capped, sized_by, element_of, IsSized, IsBegun, AreMarks, IsWalk, IsPassed, IsRing, IsSettled, size_of_mark, spent, types_at};
 
 use crate::resolved::Resolved;
-use lgx_machine::{Base, DataType};
+use spec_language::{Base, DataType};
 use lgx_num::Memory;
 use std::alloc::Global;
 

@@ -4,7 +4,7 @@ ghost use Rattle.lgx_tags.specs.Walk.{NamesLie};
 ghost use Rattle.lgx_types.specs.Tables.{HasSize};
 
 use super::*;
-use lgx_machine::{Base, DataType, MemberDecl, TypeDecl};
+use spec_language::{Base, DataType, MemberDecl, TypeDecl};
 use lgx_num::{List, Memory, Name, Steps, same};
 use lgx_types::TypeError;
 use std::process::Abort;
@@ -15,7 +15,7 @@ use std::test::Fail;
 struct Nothing;
 
 impl Names for Nothing {
-    ghost use Rattle.lgx_machine.specs.declared.tag.TagCode.TheVariants.{G3};
+    ghost use Rattle.spec_language.specs.declared.tag.TagCode.TheVariants.{G3};
 
     ghost named = { λ _ _. Err G3 };
 

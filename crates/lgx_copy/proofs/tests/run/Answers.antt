@@ -1,6 +1,6 @@
 use Rattle.std.proofs.Common.{◌≡◌, [], ◌∷◌, length, arith}
 use Rattle.std.proofs.lemmas.Grind.{common_steps}
-use Rattle.lgx_machine.specs.declared.bound.Arg.TheVariants.{Number}
+use Rattle.spec_scan.specs.declared.bound.Arg.TheVariants.{Number}
 use Rattle.lgx_copy.proofs.Lying.{blocks_lie}
 use Rattle.lgx_copy.proofs.tests.run.Goals as goal
 

@@ -1,9 +1,9 @@
 use Rattle.std.proofs.Common.{◌≡◌, ℕ, length, IsTrue, ap, ◌∙◌}
 use Rattle.lgx_num.specs.Image.{Lies}
-use Rattle.lgx_machine.specs.declared.bound.Arg.{Arg}
-use Rattle.lgx_machine.specs.declared.bound.Arg.TheVariants.{Number, Cell, Timer, Counter, Block, FlagOf, Other}
-use Rattle.lgx_machine.specs.Arguments.{arg, place_of}
-use Rattle.lgx_machine.specs.Arithmetic.{dest}
+use Rattle.spec_scan.specs.declared.bound.Arg.{Arg}
+use Rattle.spec_scan.specs.declared.bound.Arg.TheVariants.{Number, Cell, Timer, Counter, Block, FlagOf, Other}
+use Rattle.spec_scan.specs.Arguments.{arg, place_of}
+use Rattle.spec_scan.specs.Arithmetic.{dest}
 use Rattle.lgx_image.specs.Args.{ArgLies}
 use Rattle.lgx_math.specs.Families.{is_place}
 use Rattle.lgx_math.proofs.math.run_math.Goals as goal

@@ -1,5 +1,5 @@
 use Rattle.std.proofs.Common.{◌≡◌, Some}
-use Rattle.lgx_machine.specs.Arguments.{bind}
+use Rattle.spec_scan.specs.Arguments.{bind}
 use Rattle.lgx_prescan.proofs.Kept.{written}
 use Rattle.lgx_prescan.proofs.instruction.prescan_ins.Goals as goal
 

@@ -1,7 +1,7 @@
 use Rattle.std.specs.Prelude.{fold, flat_map}
 use Rattle.std.proofs.Common.{sym, ap, ◌∙◌}
 use Rattle.std.proofs.lemmas.List.{drop_all}
-use Rattle.lgx_machine.specs.Prescan.{prescan_ins}
+use Rattle.spec_scan.specs.Prescan.{prescan_ins}
 use Rattle.lgx_image.proofs.Spreads.{no_change_is_spread}
 use Rattle.lgx_prescan.proofs.Folds.{code_instructions, reached_code, code_ready}
 use Rattle.lgx_prescan.proofs.program.prescan.Goals as goal

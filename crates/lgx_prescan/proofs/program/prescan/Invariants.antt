@@ -1,7 +1,7 @@
 use Rattle.std.proofs.Common.{◌≡◌, ℕ, length, drop}
 use Rattle.std.specs.Prelude.{fold, flat_map}
 use Rattle.std.specs.List.{AllByRecursion as Each}
-use Rattle.lgx_machine.specs.Prescan.{prescan_ins}
+use Rattle.spec_scan.specs.Prescan.{prescan_ins}
 use Rattle.lgx_image.specs.Grains.{Spread}
 use Rattle.lgx_prog.specs.Executes.{executes}
 use Rattle.lgx_prog.specs.FlatProgram.{routine_at}

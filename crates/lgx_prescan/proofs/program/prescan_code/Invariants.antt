@@ -1,7 +1,7 @@
 use Rattle.std.proofs.Common.{◌≡◌, length, drop}
 use Rattle.std.specs.Prelude.{fold}
 use Rattle.std.specs.List.{AllByRecursion as Each}
-use Rattle.lgx_machine.specs.Prescan.{prescan_ins}
+use Rattle.spec_scan.specs.Prescan.{prescan_ins}
 use Rattle.lgx_image.specs.Grains.{Spread}
 use Rattle.lgx_prog.specs.Executes.{executes}
 use Rattle.lgx_prog.specs.Ready.{IsReady}

@@ -1,5 +1,5 @@
 use Rattle.std.proofs.Common.{◌≡◌}
-use Rattle.lgx_machine.specs.Position.{ProgramRungs}
+use Rattle.spec_scan.specs.Position.{ProgramRungs}
 use Rattle.lgx_prog.specs.Search.{AreFlat}
 use Rattle.lgx_prog.proofs.Reaches.{Searched}
 use Rattle.lgx_prog.proofs.reach.reached.Given as goal

@@ -1,6 +1,6 @@
 use Rattle.std.proofs.Common.{◌≡◌, drop}
 use Rattle.std.specs.List.{position_from}
-use Rattle.lgx_machine.specs.Tasks.{is_continuous}
+use Rattle.spec_tables.specs.Tasks.{is_continuous}
 use Rattle.lgx_sched.proofs.table.continuous_task.Given as goal
 
 abbrev pub invariant-loop-t : goal.invariant-loop-t

@@ -1,6 +1,6 @@
 use Rattle.std.proofs.Common.{◌≡◌, ◌<◌, refl, length, Some, None, ap, sym, ◌∙◌, arith, length-append}
 use Rattle.std.proofs.lemmas.Bool.Decides.{nat_tests}
-use Rattle.lgx_machine.specs.OperandForm.{tokens}
+use Rattle.spec_language.specs.OperandForm.{tokens}
 use Rattle.lgx_tags.specs.Parts.{part_seen}
 use Rattle.lgx_tags.specs.Shapes.{shape_behind, then_on, goes_on}
 use Rattle.lgx_tags.proofs.WalkShapes.{on_part, not_end, form_named, depth_grows}

@@ -1,6 +1,6 @@
 use Rattle.std.proofs.Common.{◌≡◌, ◌+◌, ◌≤◌, length}
 use Rattle.std.specs.Option.{is_some}
-use Rattle.lgx_machine.specs.OperandForm.{tokens, form}
+use Rattle.spec_language.specs.OperandForm.{tokens, form}
 use Rattle.lgx_tags.specs.Shapes.{goes_on}
 use Rattle.lgx_tags.proofs.form.is_form.Given as goal
 

@@ -1,6 +1,6 @@
 use Rattle.std.proofs.Common.{◌+◌, ◌≤◌, arith, drop, get_or}
-use Rattle.lgx_machine.specs.declared.types.Base.TheVariants.{Bool as OneBit}
-use Rattle.lgx_machine.specs.Layout.{size_of}
+use Rattle.spec_language.specs.declared.types.Base.TheVariants.{Bool as OneBit}
+use Rattle.spec_language.specs.Layout.{size_of}
 use Rattle.lgx_tags.specs.Layouts.{lay_end}
 use Rattle.lgx_tags.specs.declared.layout.Numbered.{Numbered}
 use Rattle.lgx_tags.proofs.Rows.{lay_within}

@@ -1,8 +1,8 @@
 use Rattle.std.proofs.Common.{◌≡◌, true, refl, sym, subst, ◌∙◌, Ok}
 use Rattle.std.specs.Option.{is_some}
 use Rattle.std.proofs.lemmas.Result.{err_from_is_err_and}
-use Rattle.lgx_machine.specs.OperandForm.{form, tokens}
-use Rattle.lgx_machine.specs.Resolution.{in_form}
+use Rattle.spec_language.specs.OperandForm.{form, tokens}
+use Rattle.spec_language.specs.Resolution.{in_form}
 use Rattle.lgx_tags.specs.declared.resolve.Subscripts.{Subscripts}
 use Rattle.lgx_tags.specs.Parts.{part_seen}
 use Rattle.lgx_tags.specs.Walk.{subscripts_of, Answers, step, end_behind}

@@ -1,6 +1,6 @@
 use Rattle.std.proofs.Common.{◌≡◌, length}
-use Rattle.lgx_machine.specs.OperandForm.{tokens}
-use Rattle.lgx_machine.specs.Resolution.{in_form}
+use Rattle.spec_language.specs.OperandForm.{tokens}
+use Rattle.spec_language.specs.Resolution.{in_form}
 use Rattle.lgx_tags.specs.Walk.{subscripts_of, walked, AllPlaced}
 use Rattle.lgx_tags.proofs.resolve.resolve_text.Given as goal
 

@@ -1,9 +1,9 @@
 use Rattle.std.proofs.Common.{◌≡◌, ◌∙◌, ap, sym, get_or, true}
 use Rattle.std.specs.Prelude.{List, Some, slice_get, slice_index_or, Err}
-use Rattle.lgx_machine.specs.declared.tag.Scope.{Scope}
-use Rattle.lgx_machine.specs.declared.tag.TagCode.TheVariants.{G7}
-use Rattle.lgx_machine.specs.Declarations.{Entry, alias}
-use Rattle.lgx_machine.specs.Resolution.{in_form, numbers_alone}
+use Rattle.spec_language.specs.declared.tag.Scope.{Scope}
+use Rattle.spec_language.specs.declared.tag.TagCode.TheVariants.{G7}
+use Rattle.spec_language.specs.Declarations.{Entry, alias}
+use Rattle.spec_language.specs.Resolution.{in_form, numbers_alone}
 use Rattle.lgx_tags.specs.Chains.{Known, answer, named_by, is_open}
 use Rattle.lgx_tags.proofs.Declares.{all_placed}
 use Rattle.lgx_tags.proofs.Passes.{alias_of, entry_at}

@@ -1,9 +1,9 @@
 use Rattle.std.proofs.Common.{◌≡◌, ◌∙◌, ap, sym, subst}
 use Rattle.std.specs.Prelude.{List, []}
-use Rattle.lgx_machine.specs.declared.types.TypeDecl.{TypeDecl}
-use Rattle.lgx_machine.specs.Declarations.{bytes}
-use Rattle.lgx_machine.specs.Resolution.{in_form, numbers_alone}
-use Rattle.lgx_machine.specs.ResolutionLaws.{LiesIn}
+use Rattle.spec_language.specs.declared.types.TypeDecl.{TypeDecl}
+use Rattle.spec_language.specs.Declarations.{bytes}
+use Rattle.spec_language.specs.Resolution.{in_form, numbers_alone}
+use Rattle.spec_language.specs.ResolutionLaws.{LiesIn}
 use Rattle.lgx_tags.specs.Chains.{named_by}
 use Rattle.lgx_tags.proofs.Declares.{all_placed}
 use Rattle.lgx_tags.proofs.Passes.{names_lie}

@@ -1,7 +1,7 @@
 use Rattle.std.proofs.Common.{◌≡◌, ℕ, false, true, sym, ◌∙◌, ap}
 use Rattle.lgx_num.specs.Name.{is_name}
-use Rattle.lgx_machine.specs.OperandForm.{are_digits}
-use Rattle.lgx_machine.specs.Resolution.{find_bit}
+use Rattle.spec_language.specs.OperandForm.{are_digits}
+use Rattle.spec_language.specs.Resolution.{find_bit}
 use Rattle.lgx_tags.proofs.WalkNames.{not_true}
 use Rattle.lgx_tags.proofs.WalkNumbers.{dotted_digits, dotted_none}
 use Rattle.lgx_tags.proofs.subscript.find_dotted.Goals as goal

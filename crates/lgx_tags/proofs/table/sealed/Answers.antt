@@ -1,8 +1,8 @@
 use Rattle.std.proofs.Common.{◌≡◌, ◌∙◌, ℕ, ap, sym, subst, arith, length}
 use Rattle.std.specs.Prelude.{List}
 use Rattle.std.specs.List.{AllByRecursion as Each}
-use Rattle.lgx_machine.specs.Declarations.{Entry, Declarations}
-use Rattle.lgx_machine.specs.Resolution.{seal_fault}
+use Rattle.spec_language.specs.Declarations.{Entry, Declarations}
+use Rattle.spec_language.specs.Resolution.{seal_fault}
 use Rattle.lgx_tags.specs.Chains.{Known, Partly, bad_from, count_aliases}
 use Rattle.lgx_tags.specs.Layouts.{laid_of, known_from}
 use Rattle.lgx_tags.specs.declared.layout.Laid.{Laid}

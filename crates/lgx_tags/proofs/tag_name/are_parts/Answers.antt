@@ -1,7 +1,7 @@
 use Rattle.std.proofs.Common.{◌≡◌, ◌<◌, ◌+◌, ◌-◌, true, arith}
 use Rattle.std.specs.Prelude.{◌&&◌}
-use Rattle.lgx_machine.specs.TextLines.{pieces}
-use Rattle.lgx_machine.specs.OperandForm.{is_part}
+use Rattle.spec_base.specs.Pieces.{pieces}
+use Rattle.spec_language.specs.OperandForm.{is_part}
 use Rattle.lgx_tags.specs.TagNames.{are_parts}
 use Rattle.lgx_tags.proofs.WalkNames.{parts_more}
 use Rattle.lgx_tags.proofs.tag_name.are_parts.Goals as goal

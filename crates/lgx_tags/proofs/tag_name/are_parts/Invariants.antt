@@ -1,5 +1,5 @@
 use Rattle.std.proofs.Common.{◌≡◌, ◌-◌}
-use Rattle.lgx_machine.specs.TextLines.{pieces}
+use Rattle.spec_base.specs.Pieces.{pieces}
 use Rattle.lgx_tags.specs.TagNames.{are_parts}
 use Rattle.lgx_tags.proofs.tag_name.are_parts.Given as goal
 

@@ -1,4 +1,4 @@
-use Rattle.lgx_machine.specs.declared.types.Base.TheVariants.{Bool as OneBit, Dint}
+use Rattle.spec_language.specs.declared.types.Base.TheVariants.{Bool as OneBit, Dint}
 use Rattle.lgx_tags.proofs.FreshTables.{fresh_tag, fresh_alias}
 use Rattle.lgx_tags.proofs.tests.declare.Goals as goal
 

@@ -1,10 +1,10 @@
 use Rattle.std.proofs.Common.{◌∙◌, ◌≡◌, ap, arith, sym, subst, List, ℕ, Bool, ◌++◌, ◌∷◌, take}
-use Rattle.lgx_machine.specs.declared.types.DataType.{DataType}
-use Rattle.lgx_machine.specs.Layout.{type_of}
-use Rattle.lgx_machine.specs.declared.types.MemberDecl.{MemberDecl}
+use Rattle.spec_language.specs.declared.types.DataType.{DataType}
+use Rattle.spec_language.specs.Layout.{type_of}
+use Rattle.spec_language.specs.declared.types.MemberDecl.{MemberDecl}
 use Rattle.std.proofs.lemmas.Result.{err_from_is_err_and}
 use Rattle.std.specs.Prelude.{nat_lt, []}
-use Rattle.lgx_machine.specs.TypeFaults.{member_faults, repeated}
+use Rattle.spec_language.specs.TypeFaults.{member_faults, repeated}
 use Rattle.lgx_types.specs.Outlines.{faults_by, IsFirst, outline}
 use Rattle.lgx_types.proofs.Found.{first_here, none_here, taken_before, take_map_more}
 use Rattle.lgx_types.proofs.resolved.members_of.Goals as goal

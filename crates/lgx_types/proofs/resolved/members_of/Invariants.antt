@@ -1,7 +1,7 @@
 use Rattle.std.proofs.Common.{◌≡◌, take, drop}
 use Rattle.std.specs.Prelude.{flat_map}
 use Rattle.std.specs.List.{enumerate_from}
-use Rattle.lgx_machine.specs.TypeFaults.{member_faults}
+use Rattle.spec_language.specs.TypeFaults.{member_faults}
 use Rattle.lgx_types.specs.Outlines.{faults_in, member_names, outline}
 use Rattle.lgx_types.proofs.resolved.members_of.Given as goal
 

@@ -1,5 +1,5 @@
 use Rattle.std.proofs.Common.{◌≡◌, ◌<◌, ℕ, false}
-use Rattle.lgx_machine.specs.TypeFaults.{reaches_itself}
+use Rattle.spec_language.specs.TypeFaults.{reaches_itself}
 use Rattle.lgx_types.proofs.ring.first_ring.Given as goal
 
 abbrev pub invariant-loop-i : goal.invariant-loop-i

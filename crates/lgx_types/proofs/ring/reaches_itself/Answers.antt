@@ -1,7 +1,7 @@
 use Rattle.std.proofs.Common.{◌≡◌, ◌∙◌, arith, length, refl, inl, inr, false, ap, ◌++◌, ◌∷◌, [], List}
 use Rattle.std.specs.Prelude.{replicate}
 use Rattle.std.proofs.lemmas.Grind.{common_steps}
-use Rattle.lgx_machine.specs.declared.types.TypeDecl.{TypeDecl}
+use Rattle.spec_language.specs.declared.types.TypeDecl.{TypeDecl}
 use Rattle.lgx_types.specs.Rings.{IsSearch}
 use Rattle.lgx_types.proofs.Seen.{none_seen, search_all, search_pop, seen_is, waits_there, left_less}
 use Rattle.lgx_types.proofs.ring.reaches_itself.Goals as goal

@@ -1,7 +1,7 @@
 use Rattle.std.proofs.Common.{◌≡◌, true, sym, subst}
 use Rattle.std.proofs.lemmas.Result.{IfOk-weaker}
-use Rattle.lgx_machine.specs.declared.types.Base.{Base}
-use Rattle.lgx_machine.specs.TypeFaults.{among}
+use Rattle.spec_language.specs.declared.types.Base.{Base}
+use Rattle.spec_language.specs.TypeFaults.{among}
 use Rattle.lgx_types.specs.Walk.{number_of}
 use Rattle.lgx_types.proofs.Seen.{see_old, own_there, not_user}
 use Rattle.lgx_types.proofs.ring.see.Goals as goal

@@ -1,6 +1,6 @@
 use Rattle.std.proofs.Common.{arith}
-use Rattle.lgx_machine.specs.declared.types.Base.TheVariants.{Bool as OneBit}
-use Rattle.lgx_machine.specs.declared.types.DataType.{DataType}
+use Rattle.spec_language.specs.declared.types.Base.TheVariants.{Bool as OneBit}
+use Rattle.spec_language.specs.declared.types.DataType.{DataType}
 use Rattle.lgx_types.proofs.Seen.{numbered_at, seen_next, seen_all, part_at}
 use Rattle.lgx_types.proofs.ring.see_parts.Goals as goal
 

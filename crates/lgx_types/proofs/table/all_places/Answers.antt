@@ -1,5 +1,5 @@
 use Rattle.std.proofs.Common.{arith, ◌≡◌, ◌∙◌, ap, length, List, ◌++◌, ◌∷◌, [], map, take}
-use Rattle.lgx_machine.specs.declared.types.Member.{Member}
+use Rattle.spec_language.specs.declared.types.Member.{Member}
 use Rattle.lgx_types.proofs.Placed.{ends_small, placed_by, all_next, all_end}
 use Rattle.lgx_types.proofs.table.all_places.Goals as goal
 

@@ -1,7 +1,7 @@
 use Rattle.std.proofs.Common.{◌≡◌, ℕ, suc, ◌+◌, ◌<◌, List, [], ◌∷◌, length, subst, sym, arith, refl, ap, get_or, inl, inr}
 use Rattle.std.specs.Prelude.{slice_get, Some, ◌⊎◌}
 use Rattle.std.specs.List.{AllByRecursion as Each}
-use Rattle.lgx_machine.specs.declared.types.TypeDecl.{TypeDecl}
+use Rattle.spec_language.specs.declared.types.TypeDecl.{TypeDecl}
 use Rattle.lgx_types.specs.Tables.{HasMembers}
 use Rattle.lgx_types.proofs.Found.{get_some}
 use Rattle.lgx_types.proofs.tests.have_members.Goals as goal

@@ -1,6 +1,6 @@
 use Rattle.std.proofs.Common.{◌≡◌, ◌<◌, ℕ}
 use Rattle.std.specs.Prelude.{slice_get, Some}
-use Rattle.lgx_machine.specs.declared.types.TypeDecl.{TypeDecl}
+use Rattle.spec_language.specs.declared.types.TypeDecl.{TypeDecl}
 use Rattle.lgx_types.specs.Tables.{HasMembers}
 use Rattle.lgx_types.proofs.tests.have_members.Given as goal
 

@@ -1,5 +1,5 @@
 use Rattle.std.proofs.Common.{◌≡◌, ℕ, ◌<◌, length, take, get_or}
-use Rattle.lgx_machine.specs.Connections.{words_of}
+use Rattle.spec_tables.specs.Connections.{words_of}
 use Rattle.lgx_conn.proofs.conns.Conns.new.Given as goal
 
 abbrev pub invariant-loop-def : goal.invariant-loop-def

@@ -4,7 +4,7 @@ use Rattle.std.proofs.lemmas.Int.{to_z-of_z}
 use Rattle.std.proofs.lemmas.List.{get_or_read}
 use mir.Val.{SFits}
 use mir.Syntax.{w32}
-use Rattle.lgx_machine.specs.Forces.{masked}
+use Rattle.spec_tables.specs.Forces.{masked}
 use Rattle.lgx_force.specs.declared.table.Kept.{Kept}
 use Rattle.lgx_force.specs.Seen.{force_of}
 use Rattle.lgx_force.proofs.Words.{forced-on, fits_seen}

@@ -1,6 +1,6 @@
 -- The front of the queues is the chosen task.
 use Rattle.std.proofs.Common.{ℕ, Option, sym, ◌∙◌, ap, subst}
-use Rattle.lgx_machine.specs.Tasks.{or_else}
+use Rattle.spec_tables.specs.Tasks.{or_else}
 use Rattle.lgx_sched.specs.Ready.{front_of}
 use Rattle.lgx_sched.specs.StandsFor.{StandsFor}
 use Rattle.lgx_sched.proofs.Chosen.{next_task-chosen}

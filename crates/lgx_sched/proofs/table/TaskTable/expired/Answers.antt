@@ -1,6 +1,6 @@
 -- The first task that has run out is that of the list.
 use Rattle.std.proofs.Common.{List, Option, ap, ◌∙◌, subst, sym}
-use Rattle.lgx_machine.specs.declared.task.TaskDef.{TaskDef}
+use Rattle.spec_tables.specs.declared.task.TaskDef.{TaskDef}
 use Rattle.lgx_sched.specs.declared.table.Up.{Up}
 use Rattle.lgx_sched.specs.StandsFor.{StandsFor}
 use Rattle.lgx_sched.specs.Ready.{run_out_from}

@@ -1,7 +1,7 @@
 -- The task is down, and up again where it is the continuous one.
 use Rattle.std.proofs.Common.{◌≡◌, List, [], None, length, ◌<◌, ap, ◌∙◌, subst, sym}
-use Rattle.lgx_machine.specs.declared.task.TaskDef.{TaskDef}
-use Rattle.lgx_machine.specs.Tasks.{no_task, is_continuous, finish}
+use Rattle.spec_tables.specs.declared.task.TaskDef.{TaskDef}
+use Rattle.spec_tables.specs.Tasks.{no_task, is_continuous, finish}
 use Rattle.lgx_sched.specs.Ready.{Ready, def_of, up_of, up_last}
 use Rattle.lgx_sched.specs.StandsFor.{StandsFor}
 use Rattle.std.proofs.lemmas.List.{get_or_default}

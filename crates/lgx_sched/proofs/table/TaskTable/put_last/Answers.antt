@@ -1,6 +1,6 @@
 -- The front has room behind its own queue, and the table stays one.
 use Rattle.std.proofs.Common.{◌≡◌, List, [], Some, None, length, ◌<◌, ap, ◌∙◌, subst, sym}
-use Rattle.lgx_machine.specs.declared.task.TaskDef.{TaskDef}
+use Rattle.spec_tables.specs.declared.task.TaskDef.{TaskDef}
 use Rattle.lgx_sched.specs.Ready.{Ready, def_of, place_of, front_of}
 use Rattle.lgx_sched.proofs.Tables.{last_from, known_front, room_for_last}
 use Rattle.lgx_sched.proofs.table.TaskTable.put_last.Goals as goal

@@ -1,6 +1,6 @@
 -- A task that is down has room in its queue, and the table stays one.
 use Rattle.std.proofs.Common.{◌≡◌, List, [], None, length, ◌<◌, ap, ◌∙◌, subst, sym}
-use Rattle.lgx_machine.specs.declared.task.TaskDef.{TaskDef}
+use Rattle.spec_tables.specs.declared.task.TaskDef.{TaskDef}
 use Rattle.lgx_sched.specs.Ready.{Ready, up_of, place_of}
 use Rattle.lgx_sched.proofs.Tables.{up_from}
 use Rattle.lgx_sched.proofs.Sound.{room-up}

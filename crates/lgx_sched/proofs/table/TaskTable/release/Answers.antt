@@ -2,7 +2,7 @@
 use Rattle.std.proofs.Common.{None, length, ◌<◌, ap, ◌∙◌, subst, sym, arith}
 use Rattle.lgx_sched.specs.Ready.{Ready, up_last}
 use Rattle.lgx_sched.specs.StandsFor.{StandsFor}
-use Rattle.lgx_machine.specs.Tasks.{release}
+use Rattle.spec_tables.specs.Tasks.{release}
 use Rattle.std.proofs.lemmas.List.{get_or_read}
 use Rattle.lgx_sched.proofs.Calls.{none_of}
 use Rattle.lgx_sched.proofs.Tables.{stands-release}

@@ -2,7 +2,7 @@
 use Rattle.std.proofs.Common.{ap, ◌∙◌, subst, sym}
 use Rattle.lgx_sched.specs.Ready.{Ready, to_the_end}
 use Rattle.lgx_sched.specs.StandsFor.{StandsFor}
-use Rattle.lgx_machine.specs.Tasks.{rotate}
+use Rattle.spec_tables.specs.Tasks.{rotate}
 use Rattle.lgx_sched.proofs.Calls.{none_of}
 use Rattle.lgx_sched.proofs.Tables.{stands-rotate, stands-rotate_none, stands-rotate_open}
 use Rattle.lgx_sched.proofs.table.TaskTable.rotate.Goals as goal

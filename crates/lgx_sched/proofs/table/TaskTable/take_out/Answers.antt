@@ -1,6 +1,6 @@
 -- The task that is to run is the first of its queue, and the table stays one without it.
 use Rattle.std.proofs.Common.{◌≡◌, List, [], Some, None, length, ◌<◌, ap, ◌∙◌, subst, sym, arith}
-use Rattle.lgx_machine.specs.declared.task.TaskDef.{TaskDef}
+use Rattle.spec_tables.specs.declared.task.TaskDef.{TaskDef}
 use Rattle.lgx_sched.specs.Ready.{Ready, def_of, place_of, next_task}
 use Rattle.lgx_sched.proofs.Tables.{down_from, known_task}
 use Rattle.lgx_sched.proofs.table.TaskTable.take_out.Goals as goal

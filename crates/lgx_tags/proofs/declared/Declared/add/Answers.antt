@@ -1,8 +1,8 @@
 use Rattle.std.proofs.Common.{◌≡◌, ◌<◌, length, ◌++◌, [], ◌∷◌, ◌∙◌, ap, sym, subst}
 use Rattle.std.specs.Prelude.{List, position, None}
-use Rattle.lgx_machine.specs.declared.tag.Scope.{Scope}
-use Rattle.lgx_machine.specs.Declarations.{Entry, Declarations, is_named, bytes}
-use Rattle.lgx_machine.specs.Resolution.{aliases}
+use Rattle.spec_language.specs.declared.tag.Scope.{Scope}
+use Rattle.spec_language.specs.Declarations.{Entry, Declarations, is_named, bytes}
+use Rattle.spec_language.specs.Resolution.{aliases}
 use Rattle.lgx_tags.specs.Keys.{key_of}
 use Rattle.lgx_tags.specs.Tables.{IsKept, IsLetIn, keys_of}
 use Rattle.lgx_tags.specs.declared.key.Key.{Key}

@@ -1,8 +1,8 @@
 use Rattle.std.proofs.Common.{◌≡◌, ◌<◌, length, ◌++◌, [], ◌∷◌, ◌∙◌, ap, sym, subst, refl}
 use Rattle.std.specs.List.{AllByRecursion as Each}
-use Rattle.lgx_machine.specs.Declarations.{Entry, Declarations, bytes, alias}
+use Rattle.spec_language.specs.Declarations.{Entry, Declarations, bytes, alias}
 use Rattle.lgx_tags.specs.Tables.{IsLetIn}
-use Rattle.lgx_machine.specs.Resolution.{aliases}
+use Rattle.spec_language.specs.Resolution.{aliases}
 use Rattle.lgx_tags.proofs.Declares.{bytes_same, one_alias}
 use Rattle.lgx_tags.proofs.declared.Declared.alias.Goals as goal
 

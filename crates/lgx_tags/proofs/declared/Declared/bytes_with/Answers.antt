@@ -1,8 +1,8 @@
 use Rattle.std.proofs.Common.{◌≡◌, ◌+◌, ◌∙◌, ap, subst, refl}
-use Rattle.lgx_machine.specs.declared.types.TypeDecl.{TypeDecl}
+use Rattle.spec_language.specs.declared.types.TypeDecl.{TypeDecl}
 use Rattle.std.specs.Prelude.{List}
-use Rattle.lgx_machine.specs.Layout.{round_up, size_of}
-use Rattle.lgx_machine.specs.Declarations.{Entry, Declarations, bytes, tag, declared_as}
+use Rattle.spec_language.specs.Layout.{round_up, size_of}
+use Rattle.spec_language.specs.Declarations.{Entry, Declarations, bytes, tag, declared_as}
 use Rattle.lgx_tags.proofs.Spans.{span}
 use Rattle.lgx_tags.proofs.Declares.{ArePlaced, all_placed, bytes_more}
 use Rattle.lgx_tags.proofs.declared.Declared.bytes_with.Goals as goal

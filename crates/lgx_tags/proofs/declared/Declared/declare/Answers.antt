@@ -1,6 +1,6 @@
 use Rattle.std.proofs.Common.{◌<◌, ◌++◌, [], ◌∷◌, length, sym, subst}
-use Rattle.lgx_machine.specs.Declarations.{Entry, Declarations}
-use Rattle.lgx_machine.specs.Resolution.{aliases}
+use Rattle.spec_language.specs.Declarations.{Entry, Declarations}
+use Rattle.spec_language.specs.Resolution.{aliases}
 use Rattle.lgx_tags.proofs.Declares.{tag_no_alias}
 use Rattle.lgx_tags.proofs.declared.Declared.declare.Goals as goal
 

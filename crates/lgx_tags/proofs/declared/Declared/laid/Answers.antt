@@ -1,7 +1,7 @@
 use Rattle.std.proofs.Common.{◌≡◌, ◌≤◌, ◌∙◌, ℕ, ap, sym, subst}
 use Rattle.std.specs.Prelude.{List, flat_map, IfOk}
 use Rattle.std.specs.List.{AllByRecursion as Each}
-use Rattle.lgx_machine.specs.Declarations.{Entry, Declarations}
+use Rattle.spec_language.specs.Declarations.{Entry, Declarations}
 use Rattle.lgx_types.specs.Tables.{HasSize}
 use Rattle.lgx_tags.specs.Layouts.{rows_of, order_of, lay, lay_end, laid_of}
 use Rattle.lgx_tags.specs.declared.layout.Numbered.{Numbered}

@@ -1,5 +1,5 @@
 use Rattle.std.proofs.Common.{◌≡◌, ◌∙◌, sym, true}
-use Rattle.lgx_machine.specs.Declarations.{is_name_in}
+use Rattle.spec_language.specs.Declarations.{is_name_in}
 use Rattle.lgx_tags.proofs.Declares.{taken, free_name}
 use Rattle.lgx_tags.proofs.declared.Declared.name_fault.Goals as goal
 

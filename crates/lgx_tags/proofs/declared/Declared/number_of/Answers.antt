@@ -1,6 +1,6 @@
 use Rattle.std.proofs.Common.{◌≡◌, ◌∙◌, ap, sym}
 use Rattle.std.specs.Prelude.{position}
-use Rattle.lgx_machine.specs.Declarations.{Declarations, is_named}
+use Rattle.spec_language.specs.Declarations.{Declarations, is_named}
 use Rattle.lgx_tags.specs.Keys.{key_of}
 use Rattle.lgx_tags.specs.Tables.{keys_of}
 use Rattle.lgx_tags.specs.declared.key.Key.{Key}

@@ -1,6 +1,6 @@
 use Rattle.std.proofs.Common.{subst}
-use Rattle.lgx_machine.specs.Declarations.{Declarations}
-use Rattle.lgx_machine.specs.ResolutionLaws.{Sound}
+use Rattle.spec_language.specs.Declarations.{Declarations}
+use Rattle.spec_language.specs.ResolutionLaws.{Sound}
 use Rattle.lgx_tags.proofs.Sounds.{all_sound}
 use Rattle.lgx_tags.proofs.declared.Declared.types.Goals as goal
 

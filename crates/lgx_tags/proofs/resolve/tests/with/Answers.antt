@@ -1,13 +1,13 @@
 use Rattle.std.specs.Prelude.{◌≡◌, ℕ, ◌+◌, ◌*◌, ◌<◌, ◌≤◌, Bool, true, false, if◌then◌else◌, List, [], Result, Ok, refl}
 use Rattle.std.proofs.Common.{sym, subst, arith}
-use Rattle.lgx_machine.specs.declared.types.DataType.{DataType}
-use Rattle.lgx_machine.specs.declared.types.TypeDecl.{TypeDecl}
-use Rattle.lgx_machine.specs.declared.tag.TagCode.{TagCode}
-use Rattle.lgx_machine.specs.declared.tag.Found.{Found}
-use Rattle.lgx_machine.specs.Layout.{single, size_of}
-use Rattle.lgx_machine.specs.ResolutionLaws.{LiesIn, EndsBy}
-use Rattle.lgx_machine.proofs.TypesFit.{width_of, begins_at}
-use Rattle.lgx_machine.proofs.Binds.{ok_inj}
+use Rattle.spec_language.specs.declared.types.DataType.{DataType}
+use Rattle.spec_language.specs.declared.types.TypeDecl.{TypeDecl}
+use Rattle.spec_language.specs.declared.tag.TagCode.{TagCode}
+use Rattle.spec_language.specs.declared.tag.Found.{Found}
+use Rattle.spec_language.specs.Layout.{single, size_of}
+use Rattle.spec_language.specs.ResolutionLaws.{LiesIn, EndsBy}
+use Rattle.spec_language.proofs.TypesFit.{width_of, begins_at}
+use Rattle.spec_base.proofs.Binds.{ok_inj}
 use Rattle.lgx_num.specs.Name.{same}
 use Rattle.lgx_types.specs.Tables.{HasSize}
 use Rattle.lgx_tags.specs.Walk.{NamesLie}

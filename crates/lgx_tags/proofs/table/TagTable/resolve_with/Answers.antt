@@ -1,9 +1,9 @@
 use Rattle.std.proofs.Common.{◌≡◌, ◌∙◌, ap, sym, subst}
 use Rattle.std.specs.Prelude.{List, []}
-use Rattle.lgx_machine.specs.declared.types.TypeDecl.{TypeDecl}
-use Rattle.lgx_machine.specs.Declarations.{Declarations, bytes}
-use Rattle.lgx_machine.specs.Resolution.{in_form, named}
-use Rattle.lgx_machine.specs.ResolutionLaws.{LiesIn}
+use Rattle.spec_language.specs.declared.types.TypeDecl.{TypeDecl}
+use Rattle.spec_language.specs.Declarations.{Declarations, bytes}
+use Rattle.spec_language.specs.Resolution.{in_form, named}
+use Rattle.spec_language.specs.ResolutionLaws.{LiesIn}
 use Rattle.lgx_tags.specs.Chains.{Answer, named_by, Walked}
 use Rattle.lgx_tags.specs.Tables.{Table}
 use Rattle.lgx_tags.specs.Walk.{Answers, subscripts_of}

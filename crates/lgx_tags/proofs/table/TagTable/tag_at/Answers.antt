@@ -1,9 +1,9 @@
 use Rattle.std.proofs.Common.{◌≡◌, ◌∙◌, ap, sym, arith, length, get_or}
 use Rattle.std.specs.Prelude.{List, Some, slice_get}
 use Rattle.std.proofs.lemmas.Option.{slice_get-get_or, slice_get_past}
-use Rattle.lgx_machine.specs.declared.types.Base.TheVariants.{Bool as OneBit}
-use Rattle.lgx_machine.specs.declared.tag.Scope.{Scope}
-use Rattle.lgx_machine.specs.Declarations.{Declarations}
+use Rattle.spec_language.specs.declared.types.Base.TheVariants.{Bool as OneBit}
+use Rattle.spec_language.specs.declared.tag.Scope.{Scope}
+use Rattle.spec_language.specs.Declarations.{Declarations}
 use Rattle.lgx_tags.specs.Layouts.{laid_of}
 use Rattle.lgx_tags.specs.Sealing.{spans_of}
 use Rattle.lgx_tags.specs.Tables.{Table}

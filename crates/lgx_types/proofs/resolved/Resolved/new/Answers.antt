@@ -1,10 +1,10 @@
 use Rattle.std.proofs.Common.{◌∙◌, ◌≡◌, ap, sym, List, ℕ, ◌++◌, ◌∷◌, [], take, true, false, map}
 use Rattle.std.specs.Prelude.{slice_get, Some}
 use Rattle.std.proofs.lemmas.Result.{err_from_is_err_and}
-use Rattle.lgx_machine.specs.declared.types.TypeDecl.{TypeDecl}
-use Rattle.lgx_machine.specs.declared.types.DataType.{DataType}
-use Rattle.lgx_machine.specs.TypeFaults.{structure_faults, name_taken, of_structure}
-use Rattle.lgx_machine.specs.declared.types.TypeCode.TheVariants.{Y6}
+use Rattle.spec_language.specs.declared.types.TypeDecl.{TypeDecl}
+use Rattle.spec_language.specs.declared.types.DataType.{DataType}
+use Rattle.spec_language.specs.TypeFaults.{structure_faults, name_taken, of_structure}
+use Rattle.spec_language.specs.declared.types.TypeCode.TheVariants.{Y6}
 use Rattle.lgx_types.specs.declared.error.TypeError.TheVariants.{Fault}
 use Rattle.lgx_types.specs.Outlines.{outline, member_names}
 use Rattle.lgx_types.proofs.Found.{first_here, none_here, take_map_more, get_some, taken_first, not_taken}

@@ -1,7 +1,7 @@
 use Rattle.std.proofs.Common.{◌≡◌, take, drop, map}
 use Rattle.std.specs.Prelude.{flat_map}
 use Rattle.std.specs.List.{enumerate_from}
-use Rattle.lgx_machine.specs.TypeFaults.{structure_faults}
+use Rattle.spec_language.specs.TypeFaults.{structure_faults}
 use Rattle.lgx_types.specs.Outlines.{name_faults, member_names, outline}
 use Rattle.lgx_types.proofs.resolved.Resolved.new.Given as goal
 

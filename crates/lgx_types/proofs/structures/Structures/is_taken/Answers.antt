@@ -1,5 +1,5 @@
 use Rattle.std.proofs.Common.{◌∙◌, ◌≡◌, ap, get_or}
-use Rattle.lgx_machine.specs.declared.types.TypeDecl.{TypeDecl}
+use Rattle.spec_language.specs.declared.types.TypeDecl.{TypeDecl}
 use Rattle.lgx_types.proofs.Found.{taken_is, get_at}
 use Rattle.lgx_types.proofs.structures.Structures.is_taken.Goals as goal
 

@@ -1,6 +1,6 @@
 use Rattle.std.proofs.Common.{◌≡◌, refl}
-use Rattle.lgx_machine.specs.Layout.{member}
-use Rattle.lgx_machine.specs.declared.types.Base.TheVariants.{User}
+use Rattle.spec_language.specs.Layout.{member}
+use Rattle.spec_language.specs.declared.types.Base.TheVariants.{User}
 use Rattle.lgx_types.proofs.Placed.{laid_member, member_low}
 use Rattle.lgx_types.proofs.table.TypeTable.member.Goals as goal
 

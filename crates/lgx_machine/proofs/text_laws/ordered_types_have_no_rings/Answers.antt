@@ -1,5 +1,0 @@
-use Rattle.lgx_machine.proofs.Reaching.{no_rings_in_order}
-use Rattle.lgx_machine.proofs.text_laws.ordered_types_have_no_rings.Goals as goal
-
-pub returns : goal.returns
-returns c = no_rings_in_order

@@ -1,0 +1,106 @@
+-- Checking keeps outlines.
+use Rattle.std.specs.Prelude.{◌≡◌, ℕ, suc, ◌+◌, Bool, true, false, if◌then◌else◌, List, [], ◌∷◌, ◌++◌, map, length, filter_map, Option, Some, None, Result, Ok, Err, option_map, refl}
+use Rattle.std.specs.Result.{result_ok, result_err}
+use Rattle.std.proofs.Common.{ap, sym}
+use Rattle.lgx_num.specs.declared.place.Operand.{Operand}
+use Rattle.lgx_rung.specs.Tree.{Tree, end, one, fork, Legs, last, leg, Source, SourceIns, instructions, leg_instructions}
+use Rattle.lgx_rung.specs.declared.op.Op.{Op}
+use Rattle.lgx_rung.specs.declared.fault.CheckCode.{CheckCode}
+use Rattle.lgx_rung.specs.declared.fault.CheckCode.TheVariants.{C1}
+use Rattle.spec_language.specs.Operands.{Want, is_optional, kinds, paired}
+use Rattle.lgx_rung.specs.declared.ins.Ins.{Ins}
+use Rattle.std.specs.Prelude.{nat_le}
+use Rattle.spec_language.specs.Checked.{code_number, label_faults, length_faults, CheckScope, Spot, Label, labels, behind, operand_of, operands_of, lesser, least, answered, settled, instruction_of, checked_tree, checked_legs, checked_from}
+use Rattle.spec_language.specs.CheckedLaws.{tree_map, legs_map, source_outline, outline, KeepsOutline}
+use Rattle.spec_base.proofs.Binds.{bind_ok, ok_inj, err_not_ok}
+
+-- ---- one instruction
+
+-- a list with one more in front, where there is a list
+pub longer : (w : Want) (t : List ℕ) (o : Option (List (Want × List ℕ))) (ps : List (Want × List ℕ)) → option_map (λ rest. (w, t) ∷ rest) o ≡ Some ps → (rest : List (Want × List ℕ)) × (o ≡ Some rest) × (ps ≡ (w, t) ∷ rest)
+longer w t (Some rest) ps p = (rest, refl, cc p)
+longer w t None ps p = absurd (cc p)
+
+-- texts that are paired keep their number
+pub paired_length : (ws : List Want) (ts : List (List ℕ)) (ps : List (Want × List ℕ)) → paired ws ts ≡ Some ps → length ps ≡ length ts
+paired_length [] [] ps p = cc p
+paired_length [] (t ∷ ts) ps p = absurd (cc p)
+paired_length (w ∷ ws) [] ps p = go (is_optional w) (paired_length ws [] ps) p
+  where
+    go : (b : Bool) → (paired ws [] ≡ Some ps → length ps ≡ 0) → (if b then paired ws [] else None) ≡ Some ps → length ps ≡ 0
+    go true known q = known q
+    go false known q = absurd (cc q)
+paired_length (w ∷ ws) (t ∷ ts) ps p =
+    let l = longer w t (paired ws ts) ps p in
+    rw l.2 (ap suc (paired_length ws ts l.0 l.1))
+
+pub some_lesser : (c : CheckCode) (o : Option CheckCode) → lesser c o ≡ None → ⊥
+some_lesser c None p = cc p
+some_lesser c (Some d) p = go (nat_le (code_number c) (code_number d)) p
+  where
+    go : (b : Bool) → (if b then Some c else Some d) ≡ None → ⊥
+    go true q = cc q
+    go false q = cc q
+
+-- where there is no least code there is none, and every operand stands for something
+pub none_least : (cs : List CheckCode) → least cs ≡ None → cs ≡ []
+none_least [] p = refl
+none_least (c ∷ cs) p = absurd (some_lesser c (least cs) p)
+
+pub all_there : (rs : List (Result Operand CheckCode)) (cs : List CheckCode) → (filter_map result_err rs ++ cs) ≡ [] → length (filter_map result_ok rs) ≡ length rs
+all_there [] cs p = refl
+all_there (Ok o ∷ rs) cs p = ap suc (all_there rs cs p)
+all_there (Err e ∷ rs) cs p = absurd (cc p)
+
+pub answered_outline : (spot : Spot) (op : Op) (args : List Operand) (o : Option CheckCode) (made : Ins) → answered spot op args o ≡ Ok made → (o ≡ None) × (made ≡ record { op = op; args = args })
+answered_outline spot op args None made p = (refl, sym (ok_inj _ _ p))
+answered_outline spot op args (Some code) made p = err_not_ok _ _ p
+
+pub operands_length : (s : CheckScope) (ls : List Label) (spot : Spot) (ps : List (Want × List ℕ)) → length (map (operand_of s ls spot) ps) ≡ length ps
+operands_length s ls spot [] = refl
+operands_length s ls spot (p ∷ ps) = ap suc (operands_length s ls spot ps)
+
+pub instruction_outline : (s : CheckScope) (ls : List Label) (spot : Spot) (i : SourceIns) (made : Ins) → instruction_of s ls spot i ≡ Ok made → outline made ≡ source_outline i
+instruction_outline s ls spot i made p = go (paired (kinds i.op) i.texts) refl p
+  where
+    go : (o : Option (List (Want × List ℕ))) → paired (kinds i.op) i.texts ≡ o → settled ls spot i (operands_of s ls spot o) ≡ Ok made → outline made ≡ source_outline i
+    go None q r =
+        let codes : List CheckCode = C1 ∷ (label_faults ls spot i ++ length_faults spot) in
+        let a : (least codes ≡ None) × (made ≡ record { op = i.op; args = [] }) = answered_outline spot i.op [] (least codes) made r in
+        absurd (cc (none_least codes a.0))
+    go (Some ps) q r =
+        let a = answered_outline spot i.op _ _ made r in
+        let there : length (filter_map result_ok (map (operand_of s ls spot) ps)) ≡ length (map (operand_of s ls spot) ps) = all_there (map (operand_of s ls spot) ps) _ (none_least _ a.0) in
+        rw (a.1, there, operands_length s ls spot ps, paired_length (kinds i.op) i.texts ps q) refl
+
+-- ---- rungs
+
+mutual
+  pub tree_outline : (s : CheckScope) (ls : List Label) (spot : Spot) (t : Tree SourceIns) (made : Tree Ins) → checked_tree (instruction_of s ls) spot t ≡ Ok made → tree_map outline made ≡ tree_map source_outline t
+  tree_outline s ls spot end made p = rw (← ok_inj _ _ p) refl
+  tree_outline s ls spot (one i rest) made p =
+      let a = bind_ok (instruction_of s ls spot i) _ made p in
+      let b = bind_ok (checked_tree (instruction_of s ls) (behind 1 spot) rest) _ made a.2 in
+      rw (← ok_inj _ _ b.2, instruction_outline s ls spot i a.0 a.1, tree_outline s ls (behind 1 spot) rest b.0 b.1) refl
+  tree_outline s ls spot (fork t legs rest) made p =
+      let a = bind_ok (checked_tree (instruction_of s ls) (behind 0 spot) t) _ made p in
+      let b = bind_ok (checked_legs (instruction_of s ls) (behind (length (instructions t)) spot) legs) _ made a.2 in
+      let c = bind_ok (checked_tree (instruction_of s ls) (behind (length (instructions t) + length (leg_instructions legs)) spot) rest) _ made b.2 in
+      rw (← ok_inj _ _ c.2, tree_outline s ls _ t a.0 a.1, legs_outline s ls _ legs b.0 b.1, tree_outline s ls _ rest c.0 c.1) refl
+
+  pub legs_outline : (s : CheckScope) (ls : List Label) (spot : Spot) (legs : Legs SourceIns) (made : Legs Ins) → checked_legs (instruction_of s ls) spot legs ≡ Ok made → legs_map outline made ≡ legs_map source_outline legs
+  legs_outline s ls spot last made p = rw (← ok_inj _ _ p) refl
+  legs_outline s ls spot (leg t legs) made p =
+      let a = bind_ok (checked_tree (instruction_of s ls) spot t) _ made p in
+      let b = bind_ok (checked_legs (instruction_of s ls) (behind (length (instructions t)) spot) legs) _ made a.2 in
+      rw (← ok_inj _ _ b.2, tree_outline s ls _ t a.0 a.1, legs_outline s ls _ legs b.0 b.1) refl
+
+pub rungs_outline : (s : CheckScope) (ls : List Label) (rung before : ℕ) (rungs : List Source) (made : List (Tree Ins)) → checked_from (instruction_of s ls) rung before rungs ≡ Ok made → map (tree_map outline) made ≡ map (tree_map source_outline) rungs
+rungs_outline s ls rung before [] made p = rw (← ok_inj _ _ p) refl
+rungs_outline s ls rung before (r ∷ rs) made p =
+    let a = bind_ok (checked_tree (instruction_of s ls) (record { rung = rung; ins = 0; before = before; leads = true }) r) _ made p in
+    let b = bind_ok (checked_from (instruction_of s ls) (suc rung) (before + length (instructions r)) rs) _ made a.2 in
+    rw (← ok_inj _ _ b.2, tree_outline s ls _ r a.0 a.1, rungs_outline s ls (suc rung) (before + length (instructions r)) rs b.0 b.1) refl
+
+pub proved_outline : KeepsOutline
+proved_outline scope rungs made p = rungs_outline scope (labels rungs) 0 0 rungs made p

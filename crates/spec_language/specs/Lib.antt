@@ -1,0 +1,11 @@
+pub mod Layout
+pub mod TypeFaults
+pub mod OperandForm
+pub mod Declarations
+pub mod Resolution
+pub mod Operands
+pub mod Checked
+pub mod FormLaws
+pub mod LayoutLaws
+pub mod ResolutionLaws
+pub mod CheckedLaws

@@ -1,0 +1,3 @@
+pub mod OrderlyTables
+pub mod OrderlyRuns
+pub mod OrderlyLaws

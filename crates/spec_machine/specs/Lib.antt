@@ -1,0 +1,12 @@
+pub mod Commands
+pub mod Project
+pub mod Edits
+pub mod State
+pub mod Releases
+pub mod ProcessorStep
+pub mod Ticks
+pub mod Actions
+pub mod Events
+pub mod Machine
+pub mod Report
+pub mod TaskLaws

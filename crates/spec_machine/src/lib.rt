@@ -1,0 +1,14 @@
+//! The ladder machine: what each event does to the controller, and what is answered and reported (1756-PM005, 1756-PM008).
+#![tactic(auto)]
+
+mod answer;
+mod event;
+mod line;
+mod reply;
+mod task_laws;
+
+pub use answer::{Mark, Moment, Outcome, TickReport, What};
+pub use event::{Accept, Action, Event, RungEdit, Text};
+pub use line::Line;
+pub use reply::{EditFault, Mode, ModeFault, Reply};
+pub use task_laws::tasks_stay_orderly;

@@ -1,0 +1,12 @@
+pub mod Arguments
+pub mod Bits
+pub mod StatusWords
+pub mod Timers
+pub mod Counters
+pub mod Comparisons
+pub mod Arithmetic
+pub mod Copies
+pub mod Position
+pub mod Instructions
+pub mod Scan
+pub mod Prescan

@@ -1,0 +1,6 @@
+pub mod Counting
+pub mod Legal
+pub mod Partial
+pub mod TraceView
+pub mod Refusals
+pub mod Stages

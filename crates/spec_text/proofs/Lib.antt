@@ -1,0 +1,3 @@
+pub mod JoinedRuns
+pub mod KeptScripts
+pub mod WithinLimits

@@ -1,0 +1,6 @@
+pub mod TextLines
+pub mod ActionText
+pub mod JournalText
+pub mod Scripts
+pub mod ScriptText
+pub mod ReportText
