@@ -1,17 +1,17 @@
 // The bit instructions. Each answers the condition that goes on.
 ghost use Rattle.std.specs.Prelude.{◌≡◌, ◌&&◌, not, false, true, if◌then◌else◌, length};
-ghost use Rattle.lgx_num.specs.Image.{number, write, Lies};
+ghost use Rattle.lgx_num.specs.Image.{number, write, InBounds};
 ghost use Rattle.spec_scan.specs.Arguments.{is_one, bit_number};
 ghost use Rattle.spec_scan.specs.Bits.{bits};
-ghost use Rattle.lgx_image.specs.Args.{ArgsLie};
-ghost use Rattle.lgx_image.specs.Grains.{Spread};
+ghost use Rattle.lgx_image.specs.Args.{ArgsInBounds};
+ghost use Rattle.lgx_image.specs.Grains.{ChangesOnlyMarked};
 ghost use Rattle.lgx_bits.specs.Written.{WritesPlaces};
 
 use crate::operand::{is_on, is_set, place_at, put_bit};
 use lgx_image::Image;
-use spec_scan::Bound;
 use lgx_num::{Flags, Place};
 use lgx_rung::Op;
+use spec_scan::Bound;
 
 /// Executes a bit instruction, and answers the condition that goes on (1756-RM003).
 ///
@@ -26,10 +26,10 @@ pub fn run_bits(
     image: &mut Image,
 ) -> bool
     requires places { WritesPlaces op args.now }
-    requires lie { ArgsLie args.now (length image.old.bytes) }
+    requires lie { ArgsInBounds args.now (length image.old.bytes) }
     ensures goes_on { result ≡ (bits op args.now on first flags image.old.bytes).on }
     ensures bytes { image.new.bytes ≡ (bits op args.now on first flags image.old.bytes).image }
-    ensures spread { Spread image.old image.new }
+    ensures only_marked { ChangesOnlyMarked image.old image.new }
 {
     match op {
         Op::Xic => on && is_on(args.at(0), first, flags, image),
@@ -47,10 +47,10 @@ pub fn run_bits(
 
 /// OTE: the bit is the condition.
 fn ote(bit: Place, on: bool, image: &mut Image) -> bool
-    requires { Lies bit (length image.old.bytes) }
+    requires { InBounds bit (length image.old.bytes) }
     ensures goes_on { result ≡ on }
     ensures bytes { image.new.bytes ≡ write image.old.bytes bit (bit_number on) }
-    ensures spread { Spread image.old image.new }
+    ensures only_marked { ChangesOnlyMarked image.old image.new }
 {
     put_bit(bit, on, image);
     on
@@ -58,10 +58,10 @@ fn ote(bit: Place, on: bool, image: &mut Image) -> bool
 
 /// OTL: a true condition sets the bit.
 fn otl(bit: Place, on: bool, image: &mut Image) -> bool
-    requires { Lies bit (length image.old.bytes) }
+    requires { InBounds bit (length image.old.bytes) }
     ensures goes_on { result ≡ on }
     ensures bytes { image.new.bytes ≡ (if on then write image.old.bytes bit (bit_number true) else image.old.bytes) }
-    ensures spread { Spread image.old image.new }
+    ensures only_marked { ChangesOnlyMarked image.old image.new }
 {
     if on {
         put_bit(bit, true, image);
@@ -71,10 +71,10 @@ fn otl(bit: Place, on: bool, image: &mut Image) -> bool
 
 /// OTU: a true condition clears the bit.
 fn otu(bit: Place, on: bool, image: &mut Image) -> bool
-    requires { Lies bit (length image.old.bytes) }
+    requires { InBounds bit (length image.old.bytes) }
     ensures goes_on { result ≡ on }
     ensures bytes { image.new.bytes ≡ (if on then write image.old.bytes bit (bit_number false) else image.old.bytes) }
-    ensures spread { Spread image.old image.new }
+    ensures only_marked { ChangesOnlyMarked image.old image.new }
 {
     if on {
         put_bit(bit, false, image);
@@ -84,10 +84,10 @@ fn otu(bit: Place, on: bool, image: &mut Image) -> bool
 
 /// ONS: the condition goes on in the scan in which it becomes true. The storage bit keeps it for the next scan.
 fn ons(storage: Place, on: bool, image: &mut Image) -> bool
-    requires { Lies storage (length image.old.bytes) }
+    requires { InBounds storage (length image.old.bytes) }
     ensures goes_on { result ≡ (on && not (is_one (number image.old.bytes storage))) }
     ensures bytes { image.new.bytes ≡ write image.old.bytes storage (bit_number on) }
-    ensures spread { Spread image.old image.new }
+    ensures only_marked { ChangesOnlyMarked image.old image.new }
 {
     let was_on = is_set(storage, image);
     put_bit(storage, on, image);
@@ -96,11 +96,11 @@ fn ons(storage: Place, on: bool, image: &mut Image) -> bool
 
 /// OSR: the output is 1 in the scan in which the condition becomes true. The output is written before the storage bit.
 fn osr(storage: Place, output: Place, on: bool, image: &mut Image) -> bool
-    requires storage { Lies storage (length image.old.bytes) }
-    requires output { Lies output (length image.old.bytes) }
+    requires storage { InBounds storage (length image.old.bytes) }
+    requires output { InBounds output (length image.old.bytes) }
     ensures goes_on { result ≡ on }
     ensures bytes { image.new.bytes ≡ write (write image.old.bytes output (bit_number (on && not (is_one (number image.old.bytes storage))))) storage (bit_number on) }
-    ensures spread { Spread image.old image.new }
+    ensures only_marked { ChangesOnlyMarked image.old image.new }
 {
     let was_on = is_set(storage, image);
     put_bit(output, on && !was_on, image);
@@ -111,12 +111,12 @@ fn osr(storage: Place, output: Place, on: bool, image: &mut Image) -> bool
 /// OSF: the output is 1 in the scan in which the condition becomes false. With a true condition the storage bit is written
 /// before the output, and with a false one behind it.
 fn osf(storage: Place, output: Place, on: bool, image: &mut Image) -> bool
-    requires storage { Lies storage (length image.old.bytes) }
-    requires output { Lies output (length image.old.bytes) }
+    requires storage { InBounds storage (length image.old.bytes) }
+    requires output { InBounds output (length image.old.bytes) }
     ensures goes_on { result ≡ on }
     ensures rises { on ≡ true → image.new.bytes ≡ write (write image.old.bytes storage (bit_number true)) output (bit_number false) }
     ensures falls { on ≡ false → image.new.bytes ≡ write (write image.old.bytes output (bit_number (is_one (number image.old.bytes storage)))) storage (bit_number false) }
-    ensures spread { Spread image.old image.new }
+    ensures only_marked { ChangesOnlyMarked image.old image.new }
 {
     if on {
         put_bit(storage, true, image);

@@ -1,18 +1,18 @@
 // Operands as bits.
 ghost use Rattle.std.specs.Prelude.{◌≡◌, ℕ, length};
 ghost use Rattle.spec_scan.specs.Arguments.{arg, bit_value, place_of, is_one, bit_number};
-ghost use Rattle.lgx_image.specs.Args.{ArgLies};
-ghost use Rattle.lgx_image.specs.Grains.{Spread};
-ghost use Rattle.lgx_num.specs.Image.{number, write, Lies};
+ghost use Rattle.lgx_image.specs.Args.{ArgInBounds};
+ghost use Rattle.lgx_image.specs.Grains.{ChangesOnlyMarked};
+ghost use Rattle.lgx_num.specs.Image.{number, write, InBounds};
 ghost use Rattle.lgx_bits.specs.Written.{IsPlace};
 
 use lgx_image::Image;
-use spec_scan::{Arg, Bound};
 use lgx_num::{Flag, Flags, Place};
+use spec_scan::{Arg, Bound};
 
 /// Whether an operand's bit is 1: the bit at a place, or a status flag.
 pub(crate) fn is_on(arg: Arg, first: bool, flags: Flags, image: &Image) -> bool
-    requires { ArgLies arg (length image.now.bytes) }
+    requires { ArgInBounds arg (length image.now.bytes) }
     ensures { result ≡ bit_value first flags image.now.bytes arg }
 {
     match arg {
@@ -30,7 +30,7 @@ pub(crate) fn is_on(arg: Arg, first: bool, flags: Flags, image: &Image) -> bool
 pub(crate) fn place_at(args: &Bound, i: usize) -> Place
     requires { IsPlace (arg args.now i) }
     ensures value { result ≡ place_of (arg args.now i) }
-    ensures lies { (len : ℕ) → ArgLies (arg args.now i) len → Lies result len }
+    ensures lies { (len : ℕ) → ArgInBounds (arg args.now i) len → InBounds result len }
 {
     match args.at(i) {
         Arg::Cell(place) => place,
@@ -40,7 +40,7 @@ pub(crate) fn place_at(args: &Bound, i: usize) -> Place
 
 /// Whether the bit at a place is 1.
 pub(crate) fn is_set(place: Place, image: &Image) -> bool
-    requires { Lies place (length image.now.bytes) }
+    requires { InBounds place (length image.now.bytes) }
     ensures { result ≡ is_one (number image.now.bytes place) }
 {
     image.get(place) > 0
@@ -48,9 +48,9 @@ pub(crate) fn is_set(place: Place, image: &Image) -> bool
 
 /// Puts a bit at a place.
 pub(crate) fn put_bit(place: Place, bit: bool, image: &mut Image)
-    requires { Lies place (length image.old.bytes) }
+    requires { InBounds place (length image.old.bytes) }
     ensures bytes { image.new.bytes ≡ write image.old.bytes place (bit_number bit) }
-    ensures spread { Spread image.old image.new }
+    ensures only_marked { ChangesOnlyMarked image.old image.new }
 {
     image.put(place, i32::from(bit));
 }

@@ -1,12 +1,12 @@
 // Each bit instruction with both conditions and all values of its bits, and the status flags.
 ghost use Rattle.std.specs.Prelude.{◌≡◌, ◌<◌};
-ghost use Rattle.lgx_num.specs.Image.{Lies};
+ghost use Rattle.lgx_num.specs.Image.{InBounds};
 
 use super::*;
 use lgx_image::Image;
-use spec_scan::{Arg, Bound};
 use lgx_num::{Flag, Flags, Kind, Memory, Place};
 use lgx_rung::Op;
+use spec_scan::{Arg, Bound};
 use std::alloc::Global;
 
 const NO_FLAGS: Flags = Flags {
@@ -18,7 +18,7 @@ const NO_FLAGS: Flags = Flags {
 // A bit of an image of two bytes.
 fn bit(at: u32) -> Place
     requires { at < 16 }
-    ensures { Lies result 2 }
+    ensures { InBounds result 2 }
 {
     Place {
         kind: Kind::Bool,
@@ -34,8 +34,8 @@ fn run(
     storage: (Place, i32),
     output: (Place, i32),
 ) -> Result<(bool, i32, i32), Memory>
-    requires storage { Lies storage.0 2 }
-    requires output { Lies output.0 2 }
+    requires storage { InBounds storage.0 2 }
+    requires output { InBounds output.0 2 }
 {
     let mut image = Image::new(alloc, 2)?;
     image.put(storage.0, storage.1);

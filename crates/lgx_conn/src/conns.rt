@@ -5,8 +5,8 @@ ghost use Rattle.lgx_num.specs.Name.{same};
 ghost use Rattle.spec_tables.specs.Connections.{slot, io_word, no_conn, trigger_at};
 ghost use Rattle.lgx_conn.specs.Numbered.{IsSmall};
 
+use lgx_num::{Items, Memory, Name};
 use spec_tables::{ConnDef, ConnFault, Slot};
-use lgx_num::{List as Items, Memory, Name};
 use std::alloc::Global;
 use std::marker::Model;
 

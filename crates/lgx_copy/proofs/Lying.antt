@@ -8,8 +8,8 @@ use Rattle.spec_scan.specs.declared.bound.Arg.TheVariants.{Number, Cell, Timer, 
 use Rattle.spec_scan.specs.declared.bound.Copying.{Copying}
 use Rattle.spec_scan.specs.Arguments.{arg, byte_of, size_of, room_of}
 use Rattle.spec_scan.specs.Copies.{elements, elements_in, copy_of}
-use Rattle.lgx_image.specs.Args.{ArgLies, ArgsLie}
-use Rattle.lgx_copy.specs.CopyLies.{IsFillSize, SourceLies, CopyLies, BlockEnds, StoresInteger, BlocksLie}
+use Rattle.lgx_image.specs.Args.{ArgInBounds, ArgsInBounds}
+use Rattle.lgx_copy.specs.CopyInBounds.{IsFillSize, SourceInBounds, CopyInBounds, BlockEnds, StoresInteger, BlocksInBounds}
 
 -- ---- one element of those that are left
 
@@ -17,7 +17,7 @@ pub element_lies : (at left size len : ℕ) → 0 < left → at + left * size �
 element_lies at zero size len some lies = absurd (omega arith)
 element_lies at (suc others) size len some lies = let more : suc others * size ≡ others * size + size = suc-mul others size in omega arith
 
-pub source_fits : (fill : Option ℤ) (c : Copying) (len : ℕ) → 0 < c.left → len ≤ 262144 → SourceLies fill c len → c.source + c.size < 2 ^ 32
+pub source_fits : (fill : Option ℤ) (c : Copying) (len : ℕ) → 0 < c.left → len ≤ 262144 → SourceInBounds fill c len → c.source + c.size < 2 ^ 32
 source_fits None c len some room lies =
     let ends : c.source + c.size ≤ len = element_lies c.source c.left c.size len some lies in omega arith
 source_fits (Some v) c len some room lies =
@@ -31,7 +31,7 @@ whole_elements left room size few =
     let whole : room / size * size ≤ room = div-mul-le_self room size in
     omega (arith, most, whole)
 
-room_lies : (a : Arg) (len bytes : ℕ) → ArgLies a len → BlockEnds a len → bytes ≤ room_of a → byte_of a + bytes ≤ len
+room_lies : (a : Arg) (len bytes : ℕ) → ArgInBounds a len → BlockEnds a len → bytes ≤ room_of a → byte_of a + bytes ≤ len
 room_lies (Number n) len bytes lies ends within = omega arith
 room_lies (Cell p) len bytes lies ends within = omega arith
 room_lies (Timer at) len bytes lies ends within = omega arith
@@ -40,7 +40,7 @@ room_lies (Block at size stop) len bytes lies ends within = omega (arith, lies.0
 room_lies (FlagOf f) len bytes lies ends within = omega arith
 room_lies Other len bytes lies ends within = omega arith
 
-byte_lies : (a : Arg) (len : ℕ) → ArgLies a len → byte_of a ≤ len
+byte_lies : (a : Arg) (len : ℕ) → ArgInBounds a len → byte_of a ≤ len
 byte_lies (Number n) len lies = omega arith
 byte_lies (Cell p) len lies = omega arith
 byte_lies (Timer at) len lies = omega arith
@@ -53,11 +53,11 @@ few_for_target : (op : Op) (args : List Arg) (image : List ℕ) → elements op 
 few_for_target Fll args image = omega arith
 few_for_target _ args image = omega arith
 
-target_lies : (op : Op) (args : List Arg) (image : List ℕ) → ArgLies (arg args 1) (length image) → BlockEnds (arg args 1) (length image) → byte_of (arg args 1) + elements op args image * size_of (arg args 1) ≤ length image
+target_lies : (op : Op) (args : List Arg) (image : List ℕ) → ArgInBounds (arg args 1) (length image) → BlockEnds (arg args 1) (length image) → byte_of (arg args 1) + elements op args image * size_of (arg args 1) ≤ length image
 target_lies op args image lies ends =
     room_lies (arg args 1) (length image) (elements op args image * size_of (arg args 1)) lies ends (whole_elements (elements op args image) (room_of (arg args 1)) (size_of (arg args 1)) (few_for_target op args image))
 
-source_lies : (left : ℕ) (args : List Arg) (image : List ℕ) → ArgLies (arg args 0) (length image) → BlockEnds (arg args 0) (length image) → left ≤ elements_in args (arg args 0) → byte_of (arg args 0) + left * size_of (arg args 1) ≤ length image
+source_lies : (left : ℕ) (args : List Arg) (image : List ℕ) → ArgInBounds (arg args 0) (length image) → BlockEnds (arg args 0) (length image) → left ≤ elements_in args (arg args 0) → byte_of (arg args 0) + left * size_of (arg args 1) ≤ length image
 source_lies left args image lies ends few =
     room_lies (arg args 0) (length image) (left * size_of (arg args 1)) lies ends (whole_elements left (room_of (arg args 0)) (size_of (arg args 1)) few)
 
@@ -65,7 +65,7 @@ source_lies left args image lies ends few =
 sum_fits : (source target bytes len : ℕ) → len ≤ 262144 → source ≤ len → target + bytes ≤ len → source + bytes < 2 ^ 32
 sum_fits source target bytes len room here there = omega arith
 
-start_lies : (op : Op) (args : List Arg) (image : List ℕ) → length image ≤ 262144 → ArgsLie args (length image) → BlocksLie op args (length image) → CopyLies (copy_of op args image (elements op args image)) (length image)
+start_lies : (op : Op) (args : List Arg) (image : List ℕ) → length image ≤ 262144 → ArgsInBounds args (length image) → BlocksInBounds op args (length image) → CopyInBounds (copy_of op args image (elements op args image)) (length image)
 start_lies Fll args image room lie blocks = record {
   target = target_lies Fll args image (lie 1) (blocks.ends 1);
   source = (blocks.integer, sum_fits (byte_of (arg args 0)) (byte_of (arg args 1)) (elements Fll args image * size_of (arg args 1)) (length image) room (byte_lies (arg args 0) (length image) (lie 0)) (target_lies Fll args image (lie 1) (blocks.ends 1)));
@@ -75,7 +75,7 @@ start_lies op args image room lie blocks = record {
   source = source_lies (elements op args image) args image (lie 0) (blocks.ends 0) (omega arith);
 }
 
-pub copy_lies : (op : Op) (args : List Arg) (image : List ℕ) (c : Copying) → c ≡ copy_of op args image (elements op args image) → length image ≤ 262144 → ArgsLie args (length image) → BlocksLie op args (length image) → CopyLies c (length image)
+pub copy_lies : (op : Op) (args : List Arg) (image : List ℕ) (c : Copying) → c ≡ copy_of op args image (elements op args image) → length image ≤ 262144 → ArgsInBounds args (length image) → BlocksInBounds op args (length image) → CopyInBounds c (length image)
 copy_lies op args image c is room lie blocks = rw is (start_lies op args image room lie blocks)
 
 -- ---- operands that are given one by one
@@ -84,7 +84,7 @@ stores : (op : Op) (source target : Arg) (n : ℤ) → IsFillSize (size_of targe
 stores Fll source target n integer = integer
 stores _ source target n integer = tt
 
-pub blocks_lie : (op : Op) (source target : Arg) (n : ℤ) (len : ℕ) → BlockEnds source len → BlockEnds target len → IsFillSize (size_of target) → BlocksLie op (source ∷ target ∷ Number n ∷ []) len
+pub blocks_lie : (op : Op) (source target : Arg) (n : ℤ) (len : ℕ) → BlockEnds source len → BlockEnds target len → IsFillSize (size_of target) → BlocksInBounds op (source ∷ target ∷ Number n ∷ []) len
 blocks_lie op source target n len here there integer = record { ends = ends; integer = stores op source target n integer }
   where
     ends : (i : ℕ) → BlockEnds (arg (source ∷ target ∷ Number n ∷ []) i) len

@@ -1,1 +1,1 @@
-pub mod CopyLies
+pub mod CopyInBounds

@@ -4,24 +4,24 @@ ghost use Rattle.std.specs.Int.{w32, to_le_bytes};
 ghost use Rattle.lgx_num.specs.Number.{low_bits};
 ghost use Rattle.lgx_num.specs.Image.{splice};
 ghost use Rattle.spec_scan.specs.Copies.{copy_element, after_element};
-ghost use Rattle.lgx_image.specs.Grains.{Spread};
-ghost use Rattle.lgx_copy.specs.CopyLies.{IsFillSize, CopyLies};
+ghost use Rattle.lgx_image.specs.Grains.{ChangesOnlyMarked};
+ghost use Rattle.lgx_copy.specs.CopyInBounds.{IsFillSize, CopyInBounds};
 
 use lgx_image::Image;
-use spec_scan::Copying;
 use lgx_num::{Kind, Place};
+use spec_scan::Copying;
 
 /// Copies one element, read whole before it is written, and answers whether one is left.
 ///
 /// There must be an element left, and what is left must lie in the image.
 pub fn next(copying: &mut Copying, image: &mut Image) -> bool
     requires left { 0 < copying.old.left }
-    requires lies { CopyLies copying.old (length image.old.bytes) }
+    requires lies { CopyInBounds copying.old (length image.old.bytes) }
     ensures more { result ≡ nat_lt 0 copying.new.left }
     ensures copying { copying.new ≡ after_element copying.old }
     ensures bytes { image.new.bytes ≡ copy_element copying.old image.old.bytes }
-    ensures spread { Spread image.old image.new }
-    ensures lies { CopyLies copying.new (length image.new.bytes) }
+    ensures only_marked { ChangesOnlyMarked image.old image.new }
+    ensures lies { CopyInBounds copying.new (length image.new.bytes) }
 {
     prove!(copying.target <= image.len());
     copy_element(*copying, image);
@@ -44,9 +44,9 @@ fn advance(copying: &mut Copying)
 /// Writes one element: the value of a fill, or what the source has now.
 fn copy_element(copying: Copying, image: &mut Image)
     requires left { 0 < copying.left }
-    requires lies { CopyLies copying (length image.old.bytes) }
+    requires lies { CopyInBounds copying (length image.old.bytes) }
     ensures bytes { image.new.bytes ≡ copy_element copying image.old.bytes }
-    ensures spread { Spread image.old image.new }
+    ensures only_marked { ChangesOnlyMarked image.old image.new }
 {
     match copying.fill {
         Some(value) => fill(value, copying.target, copying.size, image),
@@ -59,7 +59,7 @@ fn fill(value: i32, target: u32, size: u32, image: &mut Image)
     requires size { IsFillSize size }
     requires target { target + size ≤ length image.old.bytes }
     ensures bytes { image.new.bytes ≡ splice image.old.bytes target (take size (to_le_bytes w32 (low_bits 32 value))) }
-    ensures spread { Spread image.old image.new }
+    ensures only_marked { ChangesOnlyMarked image.old image.new }
 {
     prove!(target <= image.len());
     match size {

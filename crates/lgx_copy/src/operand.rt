@@ -1,7 +1,7 @@
 // The operands of a copy.
 ghost use Rattle.std.specs.Prelude.{◌≡◌, ◌≤◌, length};
 ghost use Rattle.spec_scan.specs.Arguments.{byte_of, size_of, room_of, value_of};
-ghost use Rattle.lgx_image.specs.Args.{ArgLies};
+ghost use Rattle.lgx_image.specs.Args.{ArgInBounds};
 
 use lgx_image::Image;
 use spec_scan::Arg;
@@ -39,7 +39,7 @@ pub(crate) fn room_of(arg: Arg) -> u32
 
 /// A number, or the number at a place.
 pub(crate) fn value_of(arg: Arg, image: &Image) -> i32
-    requires { ArgLies arg (length image.now.bytes) }
+    requires { ArgInBounds arg (length image.now.bytes) }
     ensures { result ≡ value_of image.now.bytes arg }
 {
     match arg {

@@ -2,23 +2,23 @@
 ghost use Rattle.std.specs.Prelude.{◌≡◌, ◌<◌, ◌≤◌, length, IfSome};
 ghost use Rattle.spec_scan.specs.Arguments.{arg as operand, size_of};
 ghost use Rattle.spec_scan.specs.Copies.{positive, asked, elements, fill_of, is_sync, start_copy, elements_in};
-ghost use Rattle.lgx_image.specs.Args.{ArgsLie};
-ghost use Rattle.lgx_copy.specs.CopyLies.{CopyLies, BlocksLie};
+ghost use Rattle.lgx_image.specs.Args.{ArgsInBounds};
+ghost use Rattle.lgx_copy.specs.CopyInBounds.{CopyInBounds, BlocksInBounds};
 
 use crate::operand::{byte_of, room_of, size_of, value_of};
 use lgx_image::Image;
-use spec_scan::{Arg, Bound, Copying};
 use lgx_rung::Op;
+use spec_scan::{Arg, Bound, Copying};
 
 /// The copy or fill that begins; None exactly where it has no element.
 ///
 /// It has as many elements as the length asks for, but no more than lie whole up to the end of the destination's tag
 /// and, for COP and CPS, of the source's (profile). FLL keeps the value that its source has now.
 pub fn start_copy(op: Op, args: &Bound, image: &Image) -> Option<Copying>
-    requires { ArgsLie args.now (length image.now.bytes) }
+    requires { ArgsInBounds args.now (length image.now.bytes) }
     ensures value { result ≡ start_copy op args.now image.now.bytes }
     ensures left { IfSome result (λ copying. 0 < copying.left) }
-    ensures lies { BlocksLie op args.now (length image.now.bytes) → IfSome result (λ copying. CopyLies copying (length image.now.bytes)) }
+    ensures lies { BlocksInBounds op args.now (length image.now.bytes) → IfSome result (λ copying. CopyInBounds copying (length image.now.bytes)) }
 {
     // The numbers of two bytes of an image have a sum of 32 bits.
     prove!(image.len() <= 262_144);
@@ -48,7 +48,7 @@ fn is_sync(op: Op) -> bool
 
 /// The value that a fill stores.
 fn fill_of(op: Op, args: &Bound, image: &Image) -> Option<i32>
-    requires { ArgsLie args.now (length image.now.bytes) }
+    requires { ArgsInBounds args.now (length image.now.bytes) }
     ensures { result ≡ fill_of op args.now image.now.bytes }
 {
     match op {
@@ -59,7 +59,7 @@ fn fill_of(op: Op, args: &Bound, image: &Image) -> Option<i32>
 
 /// The number of elements.
 fn elements(op: Op, args: &Bound, image: &Image) -> u32
-    requires { ArgsLie args.now (length image.now.bytes) }
+    requires { ArgsInBounds args.now (length image.now.bytes) }
     ensures { result ≡ elements op args.now image.now.bytes }
 {
     let asked = asked(args, image);
@@ -71,7 +71,7 @@ fn elements(op: Op, args: &Bound, image: &Image) -> u32
 
 /// The elements that the length asks for, none where it isn't positive, and the destination has room for.
 fn asked(args: &Bound, image: &Image) -> u32
-    requires { ArgsLie args.now (length image.now.bytes) }
+    requires { ArgsInBounds args.now (length image.now.bytes) }
     ensures { result ≡ asked args.now image.now.bytes }
 {
     let length = positive(value_of(args.at(2), image));

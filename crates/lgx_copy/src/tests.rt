@@ -1,20 +1,20 @@
 // Numbers of elements at their edges, copies that overlap, and fills by low bits, on bytes that begin as 1, 2, .. 16.
 ghost use Rattle.std.specs.Prelude.{◌≡◌, ◌+◌, ◌<◌, ◌≤◌, length, IfOk};
-ghost use Rattle.lgx_num.specs.Image.{Lies};
+ghost use Rattle.lgx_num.specs.Image.{InBounds};
 ghost use Rattle.spec_scan.specs.Arguments.{size_of};
-ghost use Rattle.lgx_image.specs.Args.{ArgLies};
-ghost use Rattle.lgx_copy.specs.CopyLies.{IsFillSize, BlockEnds, CopyLies};
+ghost use Rattle.lgx_image.specs.Args.{ArgInBounds};
+ghost use Rattle.lgx_copy.specs.CopyInBounds.{IsFillSize, BlockEnds, CopyInBounds};
 
 use super::*;
 use lgx_image::Image;
-use spec_scan::{Arg, Bound};
 use lgx_num::{Kind, Memory, Place};
 use lgx_rung::Op;
+use spec_scan::{Arg, Bound};
 use std::alloc::Global;
 
 fn sint(byte: u32) -> Place
     requires { byte < 16 }
-    ensures { Lies result 16 }
+    ensures { InBounds result 16 }
 {
     Place {
         kind: Kind::Sint,
@@ -38,7 +38,7 @@ fn block(at: u32, size: u32, stop: u32) -> Arg
     requires room { at + size ≤ stop }
     requires size { IsFillSize size }
     requires stop { stop ≤ 16 }
-    ensures lies { ArgLies result 16 }
+    ensures lies { ArgInBounds result 16 }
     ensures ends { BlockEnds result 16 }
     ensures size { IsFillSize (size_of result) }
 {
@@ -48,7 +48,7 @@ fn block(at: u32, size: u32, stop: u32) -> Arg
 // How many steps a copy takes to its end, at most 16.
 fn steps_of(copying: &mut Copying, image: &mut Image) -> u32
     requires left { 0 < copying.old.left }
-    requires lies { CopyLies copying.old (length image.old.bytes) }
+    requires lies { CopyInBounds copying.old (length image.old.bytes) }
     ensures { length image.new.bytes ≡ length image.old.bytes }
 {
     for step in 1..17 {
@@ -67,9 +67,9 @@ fn run(
     target: Arg,
     count: i32,
 ) -> Result<(u32, [i32; 16]), Memory>
-    requires source { ArgLies source 16 }
+    requires source { ArgInBounds source 16 }
     requires source_ends { BlockEnds source 16 }
-    requires target { ArgLies target 16 }
+    requires target { ArgInBounds target 16 }
     requires target_ends { BlockEnds target 16 }
     requires integer { IsFillSize (size_of target) }
 {

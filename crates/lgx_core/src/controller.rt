@@ -6,7 +6,7 @@ ghost use Rattle.lgx_core.specs.Machine.{put_initial};
 
 use crate::answer::{Mode, ModeFault, Moment, Reply, What};
 use crate::project::{BitOp, Initial, Ins, Project};
-use lgx_num::{List, Memory};
+use lgx_num::{Items, Memory};
 use std::alloc::Global;
 use std::marker::Model;
 
@@ -21,7 +21,7 @@ pub(crate) struct Scan {
 /// A controller in a mode, with the scan of its one program where it is in the midst of one, and one bit for each tag.
 #[derive(Drop)]
 pub struct Controller {
-    rungs: List<List<Ins>>,
+    rungs: Items<Items<Ins>>,
     mode: Mode,
     scan: Option<Scan>,
     bits: Vec<bool>,
@@ -67,7 +67,7 @@ impl Scan {
     }
 
     // At a routine's first instruction.
-    fn enter(rungs: &[List<Ins>]) -> Scan
+    fn enter(rungs: &[Items<Ins>]) -> Scan
         ensures place { position_of rungs.now result ≡ enter rungs.now }
         ensures within { IsWithin rungs.now result }
     {
@@ -75,7 +75,7 @@ impl Scan {
     }
 
     // Past ends of rungs and rungs without instructions.
-    fn settled(self, rungs: &[List<Ins>]) -> Scan
+    fn settled(self, rungs: &[Items<Ins>]) -> Scan
         requires { IsWithin rungs.now self }
         ensures place { position_of rungs.now result ≡ settle (position_of rungs.now self) }
         ensures within { IsWithin rungs.now result }
@@ -88,7 +88,7 @@ impl Scan {
     }
 
     // The next instruction and the scan behind it; none at the routine's end.
-    fn next(self, rungs: &[List<Ins>]) -> Option<(Ins, Scan)>
+    fn next(self, rungs: &[Items<Ins>]) -> Option<(Ins, Scan)>
         requires { IsWithin rungs.now self }
         ensures ended { IfNone result ((position_of rungs.now self).rest ≡ []) }
         ensures first { IfSome result (λ n. position_of rungs.now self
@@ -133,7 +133,7 @@ fn prescan_rung(bits: &mut [bool], rung: &[Ins])
     }
 }
 
-fn prescan(bits: &mut [bool], rungs: &[List<Ins>])
+fn prescan(bits: &mut [bool], rungs: &[Items<Ins>])
     requires { IsTrue (rungs_fit (length bits.old) rungs.now) }
     ensures { bits.new ≡ prescan bits.old rungs.now }
 {

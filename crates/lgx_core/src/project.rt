@@ -1,7 +1,7 @@
 // A project: one program of one continuous task, over BOOL tags that it names by number.
 ghost use Rattle.std.specs.Prelude.{◌≡◌};
 
-use lgx_num::{List, Name};
+use lgx_num::{Items, Name};
 use std::marker::Model;
 
 /// The bit instructions of a first project (1756-RM003, bit instructions).
@@ -52,9 +52,9 @@ pub struct Project {
     pub task: Name,
     pub program: Name,
     pub tags: u32,
-    pub rungs: List<List<Ins>>,
-    pub initial: List<Initial>,
-    pub watches: List<Watch>,
+    pub rungs: Items<Items<Ins>>,
+    pub initial: Items<Initial>,
+    pub watches: Items<Watch>,
 }
 
 impl Model for Project {

@@ -1,5 +1,5 @@
-pub mod Cursor
-pub mod Stands
+pub mod FrameView
+pub mod Represents
 pub mod Settling
 pub mod Families
 pub mod Rows

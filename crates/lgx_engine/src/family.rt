@@ -2,12 +2,12 @@
 ghost use Rattle.std.specs.Prelude.{◌≡◌};
 ghost use Rattle.spec_scan.specs.Arguments.{byte_of};
 ghost use Rattle.spec_scan.specs.Instructions.{acts_when_false, target};
-ghost use Rattle.lgx_prog.specs.Ready.{IsRoutine, IsTask, operand_at};
+ghost use Rattle.lgx_prog.specs.Executable.{IsRoutine, IsTask, operand_at};
 ghost use Rattle.lgx_engine.specs.Families.{family_of};
 
-use spec_scan::Arg;
 use lgx_num::Operand;
 use lgx_rung::Op;
+use spec_scan::Arg;
 
 /// The instructions that one function executes.
 #[derive(Clone, Copy)]
@@ -19,7 +19,7 @@ pub(crate) enum Family {
     Comparison,
     Arithmetic,
     Copy,
-    Control,
+    ProgramControl,
 }
 
 /// The family of an instruction.
@@ -41,8 +41,9 @@ pub(crate) fn family_of(op: Op) -> Family
         }
         Op::And | Op::Or | Op::Xor | Op::Not | Op::Mvm | Op::Clr => Family::Arithmetic,
         Op::Cop | Op::Cps | Op::Fll => Family::Copy,
-        Op::Jsr | Op::Ret | Op::Tnd | Op::Jmp | Op::Lbl | Op::Mcr | Op::Nop => Family::Control,
-        Op::Uid | Op::Uie | Op::Event => Family::Control,
+        Op::Jsr | Op::Ret | Op::Tnd | Op::Jmp | Op::Lbl | Op::Mcr | Op::Nop =>
+            Family::ProgramControl,
+        Op::Uid | Op::Uie | Op::Event => Family::ProgramControl,
     }
 }
 

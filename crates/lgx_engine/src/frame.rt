@@ -11,7 +11,7 @@ pub(crate) const FRAMES: usize = 25;
 
 /// An open branch: the condition at its start, and whether a leg that is done, or one without instructions, gave true.
 #[derive(Clone, Copy, Default)]
-pub(crate) struct Mark {
+pub(crate) struct OpenBranch {
     pub(crate) start: bool,
     pub(crate) any: bool,
 }
@@ -33,14 +33,14 @@ pub(crate) struct Frame {
     pub(crate) pc: usize,
     pub(crate) on: bool,
     pub(crate) zone: Zone,
-    pub(crate) marks: ArrayVec<Mark, FORKS>,
+    pub(crate) marks: ArrayVec<OpenBranch, FORKS>,
 }
 
 impl Model for Frame {
     ghost use Rattle.std.specs.Prelude.{reverse};
-    ghost use Rattle.lgx_engine.specs.Cursor.{Cursor, zone_of};
+    ghost use Rattle.lgx_engine.specs.FrameView.{FrameView, zone_of};
 
-    ghost Value = { Cursor };
+    ghost Value = { FrameView };
 
     ghost view = { λ f. record { routine = f.routine; pc = f.pc; on = f.on; zone = zone_of f.zone; marks = reverse f.marks.items } };
 }
@@ -54,9 +54,9 @@ pub struct Position {
 
 impl Model for Position {
     ghost use Rattle.std.specs.Prelude.{reverse};
-    ghost use Rattle.lgx_engine.specs.Cursor.{Standing};
+    ghost use Rattle.lgx_engine.specs.FrameView.{PositionView};
 
-    ghost Value = { Standing };
+    ghost Value = { PositionView };
 
     ghost view = { λ p. record { frames = reverse p.frames.items; copy = p.copying } };
 }

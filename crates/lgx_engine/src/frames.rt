@@ -4,24 +4,24 @@ ghost use Rattle.lgx_rung.specs.Tree.{Tree, one};
 ghost use Rattle.lgx_rung.specs.declared.ins.Ins.{Ins};
 ghost use Rattle.spec_scan.specs.Position.{Frame as MachineFrame, ProgramRungs, enter};
 ghost use Rattle.lgx_prog.specs.FlatProgram.{Program, IsFlatProgram};
-ghost use Rattle.lgx_engine.specs.Rows.{does_of};
-ghost use Rattle.lgx_engine.specs.Stands.{AllStand};
-ghost use Rattle.lgx_engine.specs.Steps.{StandsIn, NextFor, NextIs, HasNext, goes_on};
+ghost use Rattle.lgx_engine.specs.Rows.{control_of};
+ghost use Rattle.lgx_engine.specs.Represents.{RepresentsFrames};
+ghost use Rattle.lgx_engine.specs.Steps.{RepresentsIn, NextFor, NextIs, HasNext, frame_after};
 
 use crate::frame::{FRAMES, Frame};
 use crate::moves::{code_of, entered, step_on};
 use crate::row::RowStep;
 use crate::settling::piece_at;
 use arrayvec::ArrayVec;
-use lgx_rung::Ins;
 use lgx_prog::{Code, FlatProgram};
+use lgx_rung::Ins;
 
 /// The instruction before which the innermost routine stands; None where it is at its end, or where there is none.
 pub(crate) fn next_ins<'a>(
     program: &'a FlatProgram,
     frames: &ArrayVec<Frame, FRAMES>,
 ) -> Option<&'a Ins>
-    ensures next { (fs : List MachineFrame) → AllStand program.now (reverse frames.now.items) fs → NextIs fs (option_map (λ i. i.now) result) }
+    ensures next { (fs : List MachineFrame) → RepresentsFrames program.now (reverse frames.now.items) fs → NextIs fs (option_map (λ i. i.now) result) }
     ensures room { IsSome result → HasNext (reverse frames.now.items) }
 {
     ins_at(program, frames.last()?)
@@ -29,7 +29,7 @@ pub(crate) fn next_ins<'a>(
 
 /// The instruction before which a routine in progress stands; None where it is at its end.
 fn ins_at<'a>(program: &'a FlatProgram, frame: &Frame) -> Option<&'a Ins>
-    ensures next { (f : MachineFrame) → StandsIn program.now frame.now f → NextFor f (option_map (λ i. i.now) result) }
+    ensures next { (f : MachineFrame) → RepresentsIn program.now frame.now f → NextFor f (option_map (λ i. i.now) result) }
     ensures room { IsSome result → frame.now.pc + 1 < 2 ^ 64 }
 {
     match piece_at(code_of(program, frame), frame) {
@@ -40,7 +40,7 @@ fn ins_at<'a>(program: &'a FlatProgram, frame: &Frame) -> Option<&'a Ins>
 
 /// The condition of the innermost routine; false where there is none.
 pub(crate) fn condition(frames: &ArrayVec<Frame, FRAMES>) -> bool
-    ensures { (f : MachineFrame) (outer : List MachineFrame) (program : Program) → AllStand program (reverse frames.now.items) (f ∷ outer) → result ≡ f.on }
+    ensures { (f : MachineFrame) (outer : List MachineFrame) (program : Program) → RepresentsFrames program (reverse frames.now.items) (f ∷ outer) → result ≡ f.on }
 {
     match frames.last() {
         Some(frame) => frame.on,
@@ -49,10 +49,14 @@ pub(crate) fn condition(frames: &ArrayVec<Frame, FRAMES>) -> bool
 }
 
 /// The innermost routine goes on behind its instruction, as this asks for.
-pub(crate) fn step_top(program: &FlatProgram, frames: &mut ArrayVec<Frame, FRAMES>, step: RowStep)
-    requires stands { (rungs : ProgramRungs) × (f : MachineFrame) × (outer : List MachineFrame) × (i : Ins) × (rest : Tree Ins) × IsFlatProgram program.now rungs × AllStand program.now (reverse frames.old.items) (f ∷ outer) × (f.rest ≡ one i rest) }
+pub(crate) fn finish_instruction(
+    program: &FlatProgram,
+    frames: &mut ArrayVec<Frame, FRAMES>,
+    step: RowStep,
+)
+    requires stands { (rungs : ProgramRungs) × (f : MachineFrame) × (outer : List MachineFrame) × (i : Ins) × (rest : Tree Ins) × IsFlatProgram program.now rungs × RepresentsFrames program.now (reverse frames.old.items) (f ∷ outer) × (f.rest ≡ one i rest) }
     requires room { HasNext (reverse frames.old.items) }
-    ensures stands { (rungs : ProgramRungs) (f : MachineFrame) (outer : List MachineFrame) (i : Ins) (rest : Tree Ins) → IsFlatProgram program.now rungs → AllStand program.now (reverse frames.old.items) (f ∷ outer) → f.rest ≡ one i rest → AllStand program.now (reverse frames.new.items) (goes_on rungs (does_of step.does) (record f { rest = rest; on = step.on }) ∷ outer) }
+    ensures stands { (rungs : ProgramRungs) (f : MachineFrame) (outer : List MachineFrame) (i : Ins) (rest : Tree Ins) → IsFlatProgram program.now rungs → RepresentsFrames program.now (reverse frames.old.items) (f ∷ outer) → f.rest ≡ one i rest → RepresentsFrames program.now (reverse frames.new.items) (frame_after rungs (control_of step.control) (record f { rest = rest; on = step.on }) ∷ outer) }
     ensures length { length frames.new.items ≡ length frames.old.items }
 {
     if let Some(frame) = frames.last_mut() {
@@ -64,7 +68,7 @@ pub(crate) fn step_top(program: &FlatProgram, frames: &mut ArrayVec<Frame, FRAME
 pub(crate) fn call(program: &FlatProgram, frames: &mut ArrayVec<Frame, FRAMES>, routine: u32)
     requires flat { (rungs : ProgramRungs) × IsFlatProgram program.now rungs }
     requires room { length frames.old.items < 25 }
-    ensures stands { (rungs : ProgramRungs) (fs : List MachineFrame) → IsFlatProgram program.now rungs → AllStand program.now (reverse frames.old.items) fs → AllStand program.now (reverse frames.new.items) (enter rungs routine ∷ fs) }
+    ensures stands { (rungs : ProgramRungs) (fs : List MachineFrame) → IsFlatProgram program.now rungs → RepresentsFrames program.now (reverse frames.old.items) fs → RepresentsFrames program.now (reverse frames.new.items) (enter rungs routine ∷ fs) }
     ensures length { length frames.new.items ≡ length frames.old.items + 1 }
 {
     frames.push(entered(program, routine));

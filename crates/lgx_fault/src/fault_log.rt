@@ -4,8 +4,8 @@ ghost use Rattle.spec_tables.specs.declared.fault.Fault.{Fault};
 ghost use Rattle.lgx_fault.specs.Kept.{last_faults};
 
 use circular_buffer::HeapCircularBuffer;
-use spec_tables::Fault;
 use lgx_num::Memory;
+use spec_tables::Fault;
 use std::alloc::Global;
 use std::marker::Model;
 

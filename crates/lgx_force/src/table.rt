@@ -3,8 +3,8 @@ ghost use Rattle.std.specs.Prelude.{◌≡◌, ◌<◌, length, map, option_map,
 ghost use Rattle.spec_tables.specs.Forces.{no_forces, install, enable, disable, remove_all, forced, masked};
 ghost use Rattle.lgx_force.specs.Seen.{Answers, force_of};
 
-use spec_tables::ForceFault;
 use lgx_num::Memory;
+use spec_tables::ForceFault;
 use std::alloc::Global;
 use std::marker::Model;
 

@@ -4,7 +4,7 @@ use Rattle.std.proofs.lemmas.Bool.{cases_eq, cases_lt, false≢true}
 use Rattle.std.proofs.lemmas.List.{get_or_past}
 use Rattle.lgx_num.specs.declared.number.Kind.{Kind}
 use Rattle.lgx_num.specs.declared.number.Kind.TheVariants.{Bool as KBool, Sint, Int, Dint}
-use Rattle.lgx_image.specs.Grains.{grain_of, grains_in, bytes_in, is_marked, mark_piece}
+use Rattle.lgx_image.specs.Grains.{grain_of, grains_in, bytes_in, is_marked, mark_range}
 use Rattle.lgx_image.specs.Laws.{PieceIsMarked, OtherMarksStay, AlignedPlaceInOneGrain}
 
 -- ---- grains
@@ -38,9 +38,9 @@ aligned_place_in_one_grain p byte aligned above below = same_grain p.kind (p.at 
 
 -- ---- marks
 
-pub length-mark_piece : (marks : List Bool) (at n : ℕ) → length (mark_piece marks at n) ≡ length marks
-length-mark_piece marks at zero = refl
-length-mark_piece marks at (suc n) = length-mark_piece (set marks (grain_of at) true) (at + 1) n ∙ length-set marks (grain_of at) true
+pub length-mark_range : (marks : List Bool) (at n : ℕ) → length (mark_range marks at n) ≡ length marks
+length-mark_range marks at zero = refl
+length-mark_range marks at (suc n) = length-mark_range (set marks (grain_of at) true) (at + 1) n ∙ length-set marks (grain_of at) true
 
 -- a mark that is set stays set
 set_stays : (marks : List Bool) (h g : ℕ) → is_marked marks g ≡ true → is_marked (set marks h true) g ≡ true
@@ -52,16 +52,16 @@ set_stays marks h g is = elim (cases_eq g h) [
   | inr other ↦ get_or-set_other marks h g true false other ∙ is
 ]
 
-pub mark_piece-stays : (marks : List Bool) (at n g : ℕ) → is_marked marks g ≡ true → is_marked (mark_piece marks at n) g ≡ true
-mark_piece-stays marks at zero g is = is
-mark_piece-stays marks at (suc n) g is = mark_piece-stays (set marks (grain_of at) true) (at + 1) n g (set_stays marks (grain_of at) g is)
+pub mark_range-stays : (marks : List Bool) (at n g : ℕ) → is_marked marks g ≡ true → is_marked (mark_range marks at n) g ≡ true
+mark_range-stays marks at zero g is = is
+mark_range-stays marks at (suc n) g is = mark_range-stays (set marks (grain_of at) true) (at + 1) n g (set_stays marks (grain_of at) g is)
 
 pub piece_is_marked : PieceIsMarked
 piece_is_marked marks at zero grain within holds = absurd (omega (arith, holds.1, holds.2))
 piece_is_marked marks at (suc n) grain within holds = elim (cases_eq holds.0 at) [
   | inl first ↦
       let here : grain_of at ≡ grain = ap grain_of (sym first) ∙ holds.3 in
-      mark_piece-stays (set marks (grain_of at) true) (at + 1) n grain (rw here (get_or-set_same marks grain true false within))
+      mark_range-stays (set marks (grain_of at) true) (at + 1) n grain (rw here (get_or-set_same marks grain true false within))
   | inr later ↦
       piece_is_marked (set marks (grain_of at) true) (at + 1) n grain
       (omega (arith, length-set marks (grain_of at) true))

@@ -6,19 +6,19 @@ use Rattle.lgx_num.specs.declared.number.Kind.{Kind}
 use Rattle.lgx_num.specs.declared.number.Kind.TheVariants.{Bool as KBool, Sint, Int, Dint}
 use Rattle.lgx_num.specs.declared.place.Place.{Place}
 use Rattle.lgx_num.specs.Number.{signed_bytes, signed_of}
-use Rattle.lgx_num.specs.Image.{number_of, write, write_of, piece, splice, LiesAt, Lies}
+use Rattle.lgx_num.specs.Image.{number_of, write, write_of, piece, splice, InBoundsAt, InBounds}
 use Rattle.lgx_num.proofs.Images.{splice_before, splice_behind, length-splice, piece-same, write_keeps_length}
-use Rattle.lgx_image.specs.Grains.{Marked, grain_of, grains_in, bytes_in, is_marked, mark_piece, Spread}
-use Rattle.lgx_image.specs.Laws.{NoChangeIsSpread, ChangesAreSpread, UnmarkedPlacesStay}
-use Rattle.lgx_image.proofs.Marks.{grain_of-below, mark_piece-stays, piece_is_marked}
+use Rattle.lgx_image.specs.Grains.{ImageView, grain_of, grains_in, bytes_in, is_marked, mark_range, ChangesOnlyMarked}
+use Rattle.lgx_image.specs.Laws.{NoChangeNeedsMarks, ChangesFollowOneAnother, UnmarkedPlacesStay}
+use Rattle.lgx_image.proofs.Marks.{grain_of-below, mark_range-stays, piece_is_marked}
 use Rattle.lgx_image.proofs.Pieces.{length-piece}
 
 -- ---- how they compose
 
-pub no_change_is_spread : NoChangeIsSpread
+pub no_change_is_spread : NoChangeNeedsMarks
 no_change_is_spread image = record { stays_marked = λ g is. is; same_bytes = λ b unmarked. refl; same_length = refl }
 
-pub changes_are_spread : ChangesAreSpread
+pub changes_are_spread : ChangesFollowOneAnother
 changes_are_spread first second third one two = record {
   stays_marked = λ g is. two.stays_marked g (one.stays_marked g is);
   same_bytes = λ b unmarked. two.same_bytes b unmarked ∙ one.same_bytes b (unmarked_before second.marks third.marks two.stays_marked (grain_of b) unmarked);
@@ -33,10 +33,10 @@ changes_are_spread first second third one two = record {
         by_mark true is = absurd (false≢true (sym unmarked ∙ stays g is))
 
 pub unmarked_place_stays : UnmarkedPlacesStay
-unmarked_place_stays old new p spread unmarked = same p.kind p.at unmarked
+unmarked_place_stays old new p only_marked unmarked = same p.kind p.at unmarked
   where
     byte : (at b : ℕ) → is_marked new.marks (grain_of b) ≡ false → get_or new.bytes b 0 ≡ get_or old.bytes b 0
-    byte at b none = spread.same_bytes b none
+    byte at b none = only_marked.same_bytes b none
 
     same : (k : Kind) (at : ℕ) → ((b : ℕ) → at / 8 ≤ b → b < at / 8 + bytes_in k → is_marked new.marks (grain_of b) ≡ false) → number_of k new.bytes at ≡ number_of k old.bytes at
     same KBool at none = ap (λ x. pos (bit_at x (at % 8))) (byte at (at / 8) (none (at / 8) (omega arith) (omega arith)))
@@ -47,9 +47,9 @@ unmarked_place_stays old new p spread unmarked = same p.kind p.at unmarked
 -- ---- writes and copies
 
 -- a change of a piece whose grains are marked
-pub spread_piece : (old new : Marked) (at size : ℕ) → length old.marks ≡ grains_in (length old.bytes) → length new.bytes ≡ length old.bytes → at + size ≤ length old.bytes → new.marks ≡ mark_piece old.marks at size → ((b : ℕ) → (b < at) ⊎ (at + size ≤ b) → get_or new.bytes b 0 ≡ get_or old.bytes b 0) → Spread old new
+pub spread_piece : (old new : ImageView) (at size : ℕ) → length old.marks ≡ grains_in (length old.bytes) → length new.bytes ≡ length old.bytes → at + size ≤ length old.bytes → new.marks ≡ mark_range old.marks at size → ((b : ℕ) → (b < at) ⊎ (at + size ≤ b) → get_or new.bytes b 0 ≡ get_or old.bytes b 0) → ChangesOnlyMarked old new
 spread_piece old new at size grains len room marks outside = record {
-  stays_marked = λ g is. rw marks (mark_piece-stays old.marks at size g is);
+  stays_marked = λ g is. rw marks (mark_range-stays old.marks at size g is);
   same_bytes = λ b unmarked. elim (cases_lt b at) [
     | inl before ↦ outside b (inl before)
     | inr on ↦ elim (cases_lt b (at + size)) [
@@ -75,13 +75,13 @@ outside_write Dint image at v b (inl before) = splice_before image (at / 8) (sig
 outside_write Dint image at v b (inr behind) = splice_behind image (at / 8) (signed_bytes w32 v) b behind
 
 -- the bytes of a place are in the image
-pub bytes_lie : (k : Kind) (at len : ℕ) → LiesAt k at len → at / 8 + bytes_in k ≤ len
+pub bytes_lie : (k : Kind) (at len : ℕ) → InBoundsAt k at len → at / 8 + bytes_in k ≤ len
 bytes_lie KBool at len lies = omega (arith, lies.1)
 bytes_lie Sint at len lies = omega (arith, lies.0, lies.1)
 bytes_lie Int at len lies = omega (arith, lies.0, lies.1)
 bytes_lie Dint at len lies = omega (arith, lies.0, lies.1)
 
-pub spread_write : (old new : Marked) (p : Place) (v : ℤ) → length old.marks ≡ grains_in (length old.bytes) → Lies p (length old.bytes) → new.bytes ≡ write old.bytes p v → new.marks ≡ mark_piece old.marks (p.at / 8) (bytes_in p.kind) → Spread old new
+pub spread_write : (old new : ImageView) (p : Place) (v : ℤ) → length old.marks ≡ grains_in (length old.bytes) → InBounds p (length old.bytes) → new.bytes ≡ write old.bytes p v → new.marks ≡ mark_range old.marks (p.at / 8) (bytes_in p.kind) → ChangesOnlyMarked old new
 spread_write old new p v grains lies bytes marks =
     spread_piece old new (p.at / 8) (bytes_in p.kind) grains
     (ap length bytes ∙ write_keeps_length old.bytes p v)
@@ -89,7 +89,7 @@ spread_write old new p v grains lies bytes marks =
     marks
     (λ b apart. ap (λ m. get_or m b 0) bytes ∙ outside_write p.kind old.bytes p.at v b apart)
 
-pub spread_copy : (old new : Marked) (source target size : ℕ) → length old.marks ≡ grains_in (length old.bytes) → target + size ≤ length old.bytes → new.bytes ≡ splice old.bytes target (piece old.bytes source size) → new.marks ≡ mark_piece old.marks target size → Spread old new
+pub spread_copy : (old new : ImageView) (source target size : ℕ) → length old.marks ≡ grains_in (length old.bytes) → target + size ≤ length old.bytes → new.bytes ≡ splice old.bytes target (piece old.bytes source size) → new.marks ≡ mark_range old.marks target size → ChangesOnlyMarked old new
 spread_copy old new source target size grains room bytes marks =
     spread_piece old new target size grains
     (ap length bytes ∙ length-splice old.bytes target (piece old.bytes source size))

@@ -6,10 +6,10 @@ use Rattle.std.proofs.lemmas.Nat.{shr-shr}
 use Rattle.std.proofs.lemmas.Nat.Bits.{bit_at-zero, bit_at_above, bit_at_set_same, bit_at_set_other}
 use Rattle.std.proofs.lemmas.List.{get_or_past, ext_get_or, get_or-replicate, length-replicate}
 use Rattle.std.proofs.lemmas.List.FromFn.{length-map-range_with_len, get_or-map-range_with_len}
-use Rattle.lgx_image.specs.Grains.{Marked, grain_of, grains_in, is_marked, mark_piece, NextMarked}
+use Rattle.lgx_image.specs.Grains.{ImageView, grain_of, grains_in, is_marked, mark_range, NextMarked}
 use Rattle.lgx_image.specs.Words.{bit_of_words, marks_of, NextBit, LeastBit}
 use Rattle.lgx_image.specs.Laws.{HoldsByte}
-use Rattle.lgx_image.proofs.Marks.{grain_of-is, length-mark_piece, piece_is_marked, other_marks_stay}
+use Rattle.lgx_image.proofs.Marks.{grain_of-is, length-mark_range, piece_is_marked, other_marks_stay}
 
 -- ---- marks of words
 
@@ -67,18 +67,18 @@ bit_set_other words g k within other = elim (cases_eq (k / 64) (g / 64)) [
 holds_byte : (at size g : ℕ) → 0 < size → at / 64 ≤ g → g ≤ (at + size - 1) / 64 → HoldsByte g at size
 holds_byte at size g some above below = (max at (64 * g), omega arith, omega arith, grain_of-is (max at (64 * g)) ∙ omega arith)
 
-pub marks_of-piece : (old new : List ℕ) (at size n : ℕ) → 0 < size → ((g : ℕ) → grain_of at ≤ g → g ≤ grain_of (at + size - 1) → bit_of_words new g ≡ true) → ((g : ℕ) → (g < grain_of at) ⊎ (grain_of (at + size - 1) < g) → bit_of_words new g ≡ bit_of_words old g) → marks_of new n ≡ mark_piece (marks_of old n) at size
+pub marks_of-piece : (old new : List ℕ) (at size n : ℕ) → 0 < size → ((g : ℕ) → grain_of at ≤ g → g ≤ grain_of (at + size - 1) → bit_of_words new g ≡ true) → ((g : ℕ) → (g < grain_of at) ⊎ (grain_of (at + size - 1) < g) → bit_of_words new g ≡ bit_of_words old g) → marks_of new n ≡ mark_range (marks_of old n) at size
 marks_of-piece old new at size n some covered others =
-    ext_get_or false (marks_of new n) (mark_piece (marks_of old n) at size)
-    (length-marks_of new n ∙ sym (length-mark_piece (marks_of old n) at size ∙ length-marks_of old n))
+    ext_get_or false (marks_of new n) (mark_range (marks_of old n) at size)
+    (length-marks_of new n ∙ sym (length-mark_range (marks_of old n) at size ∙ length-marks_of old n))
     (λ g below.
     let within : g < n = omega (arith, length-marks_of new n) in
     marks_of-at new n g within ∙ each g within)
   where
-    outside : (g : ℕ) → g < n → (g < grain_of at) ⊎ (grain_of (at + size - 1) < g) → (HoldsByte g at size → ⊥) → bit_of_words new g ≡ is_marked (mark_piece (marks_of old n) at size) g
+    outside : (g : ℕ) → g < n → (g < grain_of at) ⊎ (grain_of (at + size - 1) < g) → (HoldsByte g at size → ⊥) → bit_of_words new g ≡ is_marked (mark_range (marks_of old n) at size) g
     outside g within apart none = others g apart ∙ sym (other_marks_stay (marks_of old n) at size g none ∙ marks_of-at old n g within)
 
-    each : (g : ℕ) → g < n → bit_of_words new g ≡ is_marked (mark_piece (marks_of old n) at size) g
+    each : (g : ℕ) → g < n → bit_of_words new g ≡ is_marked (mark_range (marks_of old n) at size) g
     each g within =
         let first = grain_of-is at in
         let last = grain_of-is (at + size - 1) in
@@ -176,8 +176,8 @@ mark_past words n from next past is k above = elim (cases_lt k n) [
 -- ---- an image as its callers see it
 
 -- it has a mark for each of its grains
-pub grains_of_view : (bytes words : List ℕ) (image : Marked) → (record { bytes = bytes; marks = marks_of words (grains_in (length bytes)) }) ≡ image → length image.marks ≡ grains_in (length image.bytes)
+pub grains_of_view : (bytes words : List ℕ) (image : ImageView) → (record { bytes = bytes; marks = marks_of words (grains_in (length bytes)) }) ≡ image → length image.marks ≡ grains_in (length image.bytes)
 grains_of_view bytes words image is =
-    let same = ap (λ (m : Marked). length m.marks) is in
-    let count = ap (λ (m : Marked). grains_in (length m.bytes)) is in
+    let same = ap (λ (m : ImageView). length m.marks) is in
+    let count = ap (λ (m : ImageView). grains_in (length m.bytes)) is in
     sym same ∙ length-marks_of words (grains_in (length bytes)) ∙ count

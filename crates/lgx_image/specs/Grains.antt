@@ -6,7 +6,7 @@ use Rattle.lgx_num.specs.declared.number.Kind.TheVariants.{Bool as KBool, Sint, 
 use Rattle.lgx_image.specs.declared.grain.TheConstants.{GRAIN}
 
 -- the bytes of all tags, and for each grain whether it is marked
-pub record Marked : Type 0 where
+pub record ImageView : Type 0 where
   pub bytes : List ℕ
   pub marks : List Bool
 
@@ -34,9 +34,9 @@ abbrev pub is_marked : List Bool → ℕ → Bool
 is_marked marks grain = slice_index_or marks grain false
 
 -- the marks when the grains that hold bytes of a piece, from byte at on, are marked too
-abbrev pub mark_piece : List Bool → ℕ → ℕ → List Bool
-mark_piece marks at zero = marks
-mark_piece marks at (suc n) = mark_piece (slice_set marks (grain_of at) true) (at + 1) n
+abbrev pub mark_range : List Bool → ℕ → ℕ → List Bool
+mark_range marks at zero = marks
+mark_range marks at (suc n) = mark_range (slice_set marks (grain_of at) true) (at + 1) n
 
 -- the least marked grain that isn't below from, or none
 abbrev pub NextMarked : List Bool → ℕ → Option ℕ → Type 0
@@ -45,7 +45,7 @@ NextMarked marks from (Some next) = (from ≤ next) × (is_marked marks next ≡
 
 -- what every change of an image keeps: a mark that was set stays set, and the bytes of each grain that isn't marked
 -- afterwards are as before
-pub record Spread (old new : Marked) : Type 0 where
+pub record ChangesOnlyMarked (old new : ImageView) : Type 0 where
   pub stays_marked : (grain : ℕ) → is_marked old.marks grain ≡ true → is_marked new.marks grain ≡ true
   pub same_bytes : (byte : ℕ) → is_marked new.marks (grain_of byte) ≡ false → slice_index new.bytes byte ≡ slice_index old.bytes byte
   pub same_length : length new.bytes ≡ length old.bytes

@@ -2,31 +2,31 @@
 use Rattle.std.specs.Prelude.{◌≡◌, ℕ, ◌/◌, ◌%◌, ◌+◌, ◌<◌, ◌≤◌, true, false, List, Bool, length}
 use Rattle.lgx_num.specs.declared.place.Place.{Place}
 use Rattle.lgx_num.specs.Image.{number}
-use Rattle.lgx_image.specs.Grains.{Marked, Spread, grain_of, bytes_in, is_marked, mark_piece}
+use Rattle.lgx_image.specs.Grains.{ImageView, ChangesOnlyMarked, grain_of, bytes_in, is_marked, mark_range}
 
 -- no change is spread, and one change after another is
-abbrev pub NoChangeIsSpread : Type 0
-NoChangeIsSpread = (image : Marked) → Spread image image
+abbrev pub NoChangeNeedsMarks : Type 0
+NoChangeNeedsMarks = (image : ImageView) → ChangesOnlyMarked image image
 
-abbrev pub ChangesAreSpread : Type 0
-ChangesAreSpread = (first second third : Marked) → Spread first second → Spread second third → Spread first third
+abbrev pub ChangesFollowOneAnother : Type 0
+ChangesFollowOneAnother = (first second third : ImageView) → ChangesOnlyMarked first second → ChangesOnlyMarked second third → ChangesOnlyMarked first third
 
 -- a place of which no byte lies in a marked grain has the number that it had before
 abbrev pub Unmarked : List Bool → Place → Type 0
 Unmarked marks p = (byte : ℕ) → p.at / 8 ≤ byte → byte < p.at / 8 + bytes_in p.kind → is_marked marks (grain_of byte) ≡ false
 
 abbrev pub UnmarkedPlacesStay : Type 0
-UnmarkedPlacesStay = (old new : Marked) (p : Place) → Spread old new → Unmarked new.marks p → number new.bytes p ≡ number old.bytes p
+UnmarkedPlacesStay = (old new : ImageView) (p : Place) → ChangesOnlyMarked old new → Unmarked new.marks p → number new.bytes p ≡ number old.bytes p
 
 -- a grain is marked where it was, or where it holds a byte of the piece, and nowhere else
 abbrev pub HoldsByte : ℕ → ℕ → ℕ → Type 0
 HoldsByte grain at size = (byte : ℕ) × (at ≤ byte) × (byte < at + size) × (grain_of byte ≡ grain)
 
 abbrev pub PieceIsMarked : Type 0
-PieceIsMarked = (marks : List Bool) (at size grain : ℕ) → grain < length marks → HoldsByte grain at size → is_marked (mark_piece marks at size) grain ≡ true
+PieceIsMarked = (marks : List Bool) (at size grain : ℕ) → grain < length marks → HoldsByte grain at size → is_marked (mark_range marks at size) grain ≡ true
 
 abbrev pub OtherMarksStay : Type 0
-OtherMarksStay = (marks : List Bool) (at size grain : ℕ) → (HoldsByte grain at size → ⊥) → is_marked (mark_piece marks at size) grain ≡ is_marked marks grain
+OtherMarksStay = (marks : List Bool) (at size grain : ℕ) → (HoldsByte grain at size → ⊥) → is_marked (mark_range marks at size) grain ≡ is_marked marks grain
 
 -- the bytes of a place that is aligned to its size lie in one grain
 abbrev pub AlignedPlaceInOneGrain : Type 0

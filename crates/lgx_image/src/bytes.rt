@@ -1,14 +1,14 @@
 // Numbers in the bytes of an image, and where subscripts lead.
 ghost use Rattle.std.specs.Prelude.{◌≡◌, ◌+◌, ◌*◌, ◌≤◌, length, IfSome};
-ghost use Rattle.lgx_num.specs.Image.{number, write, piece, splice, Lies, step_by, bit_of};
-ghost use Rattle.lgx_num.specs.Paths.{PathLies};
+ghost use Rattle.lgx_num.specs.Image.{number, write, piece, splice, InBounds, step_by, bit_of};
+ghost use Rattle.lgx_num.specs.Paths.{PathInBounds};
 ghost use Rattle.lgx_image.specs.Words.{cut_step};
 
 use lgx_num::{Index, Kind, Path, Place, bytes_of};
 
 /// The number at a place.
 pub(crate) fn number_at(bytes: &[u8], place: Place) -> i32
-    requires { Lies place (length bytes.now) }
+    requires { InBounds place (length bytes.now) }
     ensures { result ≡ number bytes.now place }
 {
     let at = (place.at / 8) as usize;
@@ -22,7 +22,7 @@ pub(crate) fn number_at(bytes: &[u8], place: Place) -> i32
 
 /// Puts the low bits of a value at a place.
 pub(crate) fn write_at(bytes: &mut [u8], place: Place, value: i32)
-    requires { Lies place (length bytes.old) }
+    requires { InBounds place (length bytes.old) }
     ensures after { bytes.new ≡ write bytes.old place value }
     ensures len { length bytes.new ≡ length bytes.old }
 {
@@ -68,7 +68,7 @@ pub(crate) fn copy_piece(bytes: &mut [u8], source: u32, target: u32, size: u32)
 /// A sum that doesn't fit is cut off: it comes only where a later subscript is out of range.
 pub(crate) fn first_bit(bytes: &[u8], path: &Path) -> Option<u32>
     requires room { length bytes.now ≤ 262144 }
-    requires lies { PathLies path.now (length bytes.now) (λ to. to ≤ 8 * length bytes.now) }
+    requires lies { PathInBounds path.now (length bytes.now) (λ to. to ≤ 8 * length bytes.now) }
     ensures value { result ≡ bit_of bytes.now path.now }
 {
     let mut at = path.at;

@@ -1,6 +1,6 @@
 // Grains of an image, and the words that keep their marks.
 ghost use Rattle.std.specs.Prelude.{◌≡◌, ℕ, ◌+◌, ◌/◌, ◌<◌, ◌≤◌, ◌≢◌, true, false, length, replicate};
-ghost use Rattle.lgx_image.specs.Grains.{grain_of, grains_in, mark_piece};
+ghost use Rattle.lgx_image.specs.Grains.{grain_of, grains_in, mark_range};
 ghost use Rattle.lgx_image.specs.Words.{bit_of_words, marks_of, NextBit, LeastBit};
 
 /// The bytes of a grain, by which an image marks what was written.
@@ -32,10 +32,10 @@ pub(crate) fn grains_in(bytes: u32) -> u32
 }
 
 /// Sets the marks of the grains that hold bytes of a piece.
-pub(crate) fn mark_piece(words: &mut [u64], at: u32, size: u32)
+pub(crate) fn mark_range(words: &mut [u64], at: u32, size: u32)
     requires room { at + size ≤ 262144 }
     requires words { length words.old ≡ 64 }
-    ensures marks { (grains : ℕ) → marks_of words.new grains ≡ mark_piece (marks_of words.old grains) at size }
+    ensures marks { (grains : ℕ) → marks_of words.new grains ≡ mark_range (marks_of words.old grains) at size }
     ensures len { length words.new ≡ length words.old }
 {
     if size == 0 {

@@ -1,15 +1,15 @@
 // The image: the bytes of all tags, with the marks of what was written.
 ghost use Rattle.std.specs.Prelude.{◌≡◌, ◌+◌, ◌/◌, ◌≤◌, length, replicate, false, IfOk, IfSome, option_map};
-ghost use Rattle.lgx_num.specs.Image.{number, write, piece, splice, Lies, bit_of};
+ghost use Rattle.lgx_num.specs.Image.{number, write, piece, splice, InBounds, bit_of};
 ghost use Rattle.spec_scan.specs.Arguments.{bind};
-ghost use Rattle.lgx_image.specs.Grains.{grains_in, bytes_in, mark_piece, NextMarked, Spread};
-ghost use Rattle.lgx_image.specs.Args.{place_at, PlaceLies, OperandsLie, ArgsLie};
+ghost use Rattle.lgx_image.specs.Grains.{grains_in, bytes_in, mark_range, NextMarked, ChangesOnlyMarked};
+ghost use Rattle.lgx_image.specs.Args.{place_at, CellInBounds, OperandsInBounds, ArgsInBounds};
 
 use crate::bytes::{copy_piece, first_bit, number_at, write_at};
-use crate::grain::{WORDS, grains_in, mark_piece, next_bit, no_marks};
+use crate::grain::{WORDS, grains_in, mark_range, next_bit, no_marks};
 use crate::operands::bind_all;
-use spec_scan::Bound;
 use lgx_num::{Kind, Memory, Operand, Path, Place};
+use spec_scan::Bound;
 use std::alloc::Global;
 use std::marker::Model;
 
@@ -24,10 +24,10 @@ pub struct Image {
 
 impl Model for Image {
     ghost use Rattle.std.specs.Prelude.{◌≤◌, length};
-    ghost use Rattle.lgx_image.specs.Grains.{Marked, grains_in};
+    ghost use Rattle.lgx_image.specs.Grains.{ImageView, grains_in};
     ghost use Rattle.lgx_image.specs.Words.{marks_of};
 
-    ghost Value = { Marked };
+    ghost Value = { ImageView };
 
     ghost view = { λ i. record { bytes = i.bytes.items; marks = marks_of i.marks (grains_in (length i.bytes.items)) } };
 
@@ -58,7 +58,7 @@ impl Image {
 
     /// The number at a place, which lies in the image.
     pub fn get(&self, place: Place) -> i32
-        requires { Lies place (length self.now.bytes) }
+        requires { InBounds place (length self.now.bytes) }
         ensures { result ≡ number self.now.bytes place }
     {
         number_at(&self.bytes, place)
@@ -66,13 +66,13 @@ impl Image {
 
     /// Stores the low bits of a value at a place, which lies in the image, and marks the grains of its bytes.
     pub fn put(&mut self, place: Place, value: i32)
-        requires { Lies place (length self.old.bytes) }
+        requires { InBounds place (length self.old.bytes) }
         ensures bytes { self.new.bytes ≡ write self.old.bytes place value }
-        ensures marks { self.new.marks ≡ mark_piece self.old.marks (place.at / 8) (bytes_in place.kind) }
-        ensures spread { Spread self.old self.new }
+        ensures marks { self.new.marks ≡ mark_range self.old.marks (place.at / 8) (bytes_in place.kind) }
+        ensures only_marked { ChangesOnlyMarked self.old self.new }
     {
         write_at(&mut self.bytes, place, value);
-        mark_piece(&mut self.marks, place.at / 8, bytes_in(place.kind));
+        mark_range(&mut self.marks, place.at / 8, bytes_in(place.kind));
     }
 
     /// Copies `size` bytes from byte `source` to byte `target`, read whole before they are written, and marks the grains
@@ -81,18 +81,18 @@ impl Image {
         requires source { source + size ≤ length self.old.bytes }
         requires target { target + size ≤ length self.old.bytes }
         ensures bytes { self.new.bytes ≡ splice self.old.bytes target (piece self.old.bytes source size) }
-        ensures marks { self.new.marks ≡ mark_piece self.old.marks target size }
-        ensures spread { Spread self.old self.new }
+        ensures marks { self.new.marks ≡ mark_range self.old.marks target size }
+        ensures only_marked { ChangesOnlyMarked self.old self.new }
     {
         copy_piece(&mut self.bytes, source, target, size);
-        mark_piece(&mut self.marks, target, size);
+        mark_range(&mut self.marks, target, size);
     }
 
     /// The place that a path leads to; None where a subscript is negative or not below its length.
     pub fn place(&self, path: &Path) -> Option<Place>
-        requires { PlaceLies path.now (length self.now.bytes) }
+        requires { CellInBounds path.now (length self.now.bytes) }
         ensures value { result ≡ option_map (place_at path.now.kind) (bit_of self.now.bytes path.now) }
-        ensures lies { IfSome result (λ place. Lies place (length self.now.bytes)) }
+        ensures lies { IfSome result (λ place. InBounds place (length self.now.bytes)) }
     {
         let at = first_bit(&self.bytes, path)?;
         Some(Place {
@@ -105,9 +105,9 @@ impl Image {
     /// not below its length.
     pub fn bind(&self, args: &[Operand]) -> Option<Bound>
         requires room { length args.now ≤ 3 }
-        requires lie { OperandsLie args.now (length self.now.bytes) }
+        requires lie { OperandsInBounds args.now (length self.now.bytes) }
         ensures value { result ≡ bind self.now.bytes args.now }
-        ensures lie { IfSome result (λ bound. ArgsLie bound (length self.now.bytes)) }
+        ensures lie { IfSome result (λ bound. ArgsInBounds bound (length self.now.bytes)) }
     {
         bind_all(&self.bytes, args)
     }

@@ -1,7 +1,7 @@
 // Edges of the image: places at both ends, marks of a copy, subscripts at their bounds.
 ghost use Rattle.std.specs.Prelude.{◌≡◌, IsTrue, length};
-ghost use Rattle.lgx_num.specs.Image.{Lies};
-ghost use Rattle.lgx_image.specs.Args.{PlaceLies};
+ghost use Rattle.lgx_num.specs.Image.{InBounds};
+ghost use Rattle.lgx_image.specs.Args.{CellInBounds};
 
 use super::*;
 use lgx_num::{Index, Kind, Memory, Operand, Path, Place, Steps};
@@ -13,7 +13,7 @@ fn place(kind: Kind, at: u32) -> Place
 }
 
 fn lies(place: Place, len: u32) -> bool
-    ensures { IsTrue result → Lies place len }
+    ensures { IsTrue result → InBounds place len }
 {
     let at = u64::from(place.at);
     let end = 8 * u64::from(len);
@@ -129,7 +129,7 @@ fn subscript(at: u32, stride: u32, length: u32) -> Index
 
 // A SINT of an array of 2 by 3 by 4 by 5 from byte 16 on, with a DINT for each subscript before it.
 fn nested() -> Path
-    ensures { PlaceLies result 136 }
+    ensures { CellInBounds result 136 }
 {
     let mut steps = Steps::new();
     steps.push(subscript(0, 480, 2));

@@ -7,8 +7,8 @@ abbrev pub next_count : ℕ → ℕ
 next_count count = min (count + 1) (2 ^ 64 - 1)
 
 -- the count is greater than before, or stands at its last value
-abbrev pub Rose : ℕ → ℕ → Type 0
-Rose before now = min (before + 1) (2 ^ 64 - 1) ≤ now
+abbrev pub FaultsRose : ℕ → ℕ → Type 0
+FaultsRose before now = min (before + 1) (2 ^ 64 - 1) ≤ now
 
 -- where it is told what is held, that grew by a first part of the bytes
 abbrev pub AppendsPart : Option (List ℕ) → Option (List ℕ) → List ℕ → Type 0

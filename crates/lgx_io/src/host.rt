@@ -4,7 +4,7 @@ ghost use Rattle.std.specs.Bool.{OnTrue, OnFalse};
 ghost use Rattle.std.specs.Io.{ReadsAtMost, WritesAtMost};
 ghost use Rattle.std.specs.Io.KnownBytes.{Appends, Consumes, IsAtEnd, Keeps};
 ghost use Rattle.lgx_io.specs.Files.{max_bytes, IsCause};
-ghost use Rattle.lgx_io.specs.Sink.{next_count, Rose, AppendsPart};
+ghost use Rattle.lgx_io.specs.Sink.{next_count, FaultsRose, AppendsPart};
 
 use crate::files::{FailedRead, FileFault, Files, MAX_BYTES, ReadCause};
 use crate::sink::{Sink, SinkFault};
@@ -185,7 +185,7 @@ impl<'a, P: Print> Sink for HostSink<'a, P> {
 
     fn put(&mut self, bytes: &[u8]) -> Result<(), SinkFault>
         ensures ok { OnOk result (Appends None None bytes.now) }
-        ensures failed { IsErrOf result SinkFault.Failed → Rose self.old self.new }
+        ensures failed { IsErrOf result SinkFault.Failed → FaultsRose self.old self.new }
         ensures part { IsErrOf result SinkFault.Failed → AppendsPart None None bytes.now }
         ensures no_fault { IsErrOf result SinkFault.Memory → self.new ≡ self.old }
         ensures later { self.old ≤ self.new }

@@ -4,7 +4,7 @@ ghost use Rattle.std.specs.Str.{bytes_eq};
 ghost use Rattle.std.specs.Io.KnownBytes.{Appends};
 ghost use Rattle.lgx_io.specs.declared.files.ReadCause.TheVariants as cause;
 ghost use Rattle.lgx_io.specs.Files.{max_bytes, added, IsCause};
-ghost use Rattle.lgx_io.specs.Sink.{next_count, Rose, AppendsPart};
+ghost use Rattle.lgx_io.specs.Sink.{next_count, FaultsRose, AppendsPart};
 ghost use Rattle.lgx_io.specs.Memory.{stored, failed_reads, contents_at, Answers, whole_or_too_long, fails_next, read_answer, calls_after, kept_next};
 
 use crate::files::{FailedRead, FileFault, Files, MAX_BYTES, ReadCause};
@@ -219,7 +219,7 @@ impl Sink for MemSink {
 
     fn put(&mut self, bytes: &[u8]) -> Result<(), SinkFault>
         ensures ok { OnOk result (Appends (Some self.old.held) (Some self.new.held) bytes.now) }
-        ensures failed { IsErrOf result SinkFault.Failed → Rose self.old.faults self.new.faults }
+        ensures failed { IsErrOf result SinkFault.Failed → FaultsRose self.old.faults self.new.faults }
         ensures part { IsErrOf result SinkFault.Failed →
             AppendsPart (Some self.old.held) (Some self.new.held) bytes.now }
         ensures memory { IsErrOf result SinkFault.Memory → Some self.new.held ≡ Some self.old.held }

@@ -2,7 +2,7 @@
 ghost use Rattle.std.specs.Prelude.{◌≡◌, ◌≤◌, List, ℕ, Option, OnOk, IsErrOf};
 ghost use Rattle.std.specs.Io.KnownBytes.{Appends};
 ghost use Rattle.lgx_io.specs.declared.sink.SinkFault.TheVariants.{Memory};
-ghost use Rattle.lgx_io.specs.Sink.{Rose, AppendsPart};
+ghost use Rattle.lgx_io.specs.Sink.{FaultsRose, AppendsPart};
 
 use std::alloc::{AllocError, AllocFailed};
 
@@ -46,7 +46,7 @@ pub trait Sink {
     /// added, maybe none of it or all.
     fn put(&mut self, bytes: &[u8]) -> Result<(), SinkFault>
         ensures ok { OnOk result (Appends (held self.old) (held self.new) bytes.now) }
-        ensures failed { IsErrOf result SinkFault.Failed → Rose (faults self.old) (faults self.new) }
+        ensures failed { IsErrOf result SinkFault.Failed → FaultsRose (faults self.old) (faults self.new) }
         ensures part { IsErrOf result SinkFault.Failed → AppendsPart (held self.old) (held self.new) bytes.now }
         ensures memory { IsErrOf result SinkFault.Memory → held self.new ≡ held self.old }
         ensures no_fault { IsErrOf result SinkFault.Memory → faults self.new ≡ faults self.old }

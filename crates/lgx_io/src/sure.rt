@@ -2,7 +2,7 @@
 ghost use Rattle.std.specs.Prelude.{◌≡◌, ◌≤◌, ◌++◌, [], List, ℕ, Some, length, OnOk, IfOk, IfErr, IfSome, IsErrOf};
 ghost use Rattle.std.specs.Io.KnownBytes.{Appends};
 ghost use Rattle.lgx_io.specs.Files.{max_bytes, added, IsCause};
-ghost use Rattle.lgx_io.specs.Sink.{Rose, AppendsPart};
+ghost use Rattle.lgx_io.specs.Sink.{FaultsRose, AppendsPart};
 ghost use Rattle.lgx_io.specs.Memory.{stored, contents_or_empty, whole_or_too_long, too_long_reads, Answers};
 
 use crate::files::{FileFault, Files};

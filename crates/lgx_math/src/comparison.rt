@@ -1,7 +1,7 @@
 // The comparisons.
 ghost use Rattle.std.specs.Prelude.{◌≡◌, length, IsTrue};
 ghost use Rattle.spec_scan.specs.Comparisons.{compare, holds, is_within, is_equal_under};
-ghost use Rattle.lgx_image.specs.Args.{ArgsLie};
+ghost use Rattle.lgx_image.specs.Args.{ArgsInBounds};
 ghost use Rattle.lgx_math.specs.Families.{compares};
 
 use crate::operands::value_of;
@@ -14,7 +14,7 @@ use lgx_rung::Op;
 /// compare with.
 pub fn compare(op: Op, args: &Bound, image: &Image) -> bool
     requires family { IsTrue (compares op) }
-    requires lie { ArgsLie args.now (length image.now.bytes) }
+    requires lie { ArgsInBounds args.now (length image.now.bytes) }
     ensures { result ≡ compare op args.now image.now.bytes }
 {
     let a = value_of(args.at(0), image);

@@ -2,8 +2,8 @@
 ghost use Rattle.std.specs.Prelude.{◌≡◌, length, IsTrue, pos, int_lt};
 ghost use Rattle.spec_scan.specs.Arguments.{arg};
 ghost use Rattle.spec_scan.specs.Arithmetic.{math, dest, is_zero};
-ghost use Rattle.lgx_image.specs.Args.{ArgsLie};
-ghost use Rattle.lgx_image.specs.Grains.{Spread};
+ghost use Rattle.lgx_image.specs.Args.{ArgsInBounds};
+ghost use Rattle.lgx_image.specs.Grains.{ChangesOnlyMarked};
 ghost use Rattle.lgx_math.specs.Families.{computes, is_place};
 
 use crate::operands::{place_of, value_of};
@@ -18,12 +18,12 @@ use lgx_rung::Op;
 /// The instructions are ADD, SUB, MUL, DIV, MOD, NEG, ABS, MOV, AND, OR, XOR, NOT, MVM and CLR (1756-RM003).
 pub fn run_math(op: Op, args: &Bound, flags: &mut Flags, image: &mut Image) -> bool
     requires family { IsTrue (computes op) }
-    requires lie { ArgsLie args.now (length image.old.bytes) }
+    requires lie { ArgsInBounds args.now (length image.old.bytes) }
     requires destination { IsTrue (is_place (arg args.now (dest op))) }
     ensures due { result ≡ (math op args.now image.old.bytes).flags.v }
     ensures flags { flags.new ≡ (math op args.now image.old.bytes).flags }
     ensures bytes { image.new.bytes ≡ (math op args.now image.old.bytes).image }
-    ensures spread { Spread image.old image.new }
+    ensures only_marked { ChangesOnlyMarked image.old image.new }
 {
     let place = place_of(args.at(dest(op)));
     let a = value_of(args.at(0), image);

@@ -1,8 +1,8 @@
 // What the operands of an instruction hold, and where a result goes.
 ghost use Rattle.std.specs.Prelude.{◌≡◌, length, IsTrue};
-ghost use Rattle.lgx_num.specs.Image.{Lies};
+ghost use Rattle.lgx_num.specs.Image.{InBounds};
 ghost use Rattle.spec_scan.specs.Arguments.{value_of, place_of};
-ghost use Rattle.lgx_image.specs.Args.{ArgLies};
+ghost use Rattle.lgx_image.specs.Args.{ArgInBounds};
 ghost use Rattle.lgx_math.specs.Families.{is_place};
 
 use lgx_image::{Arg, Image};
@@ -10,7 +10,7 @@ use lgx_num::Place;
 
 /// The number that an operand is, or that stands at its place; 0 for any other operand.
 pub(crate) fn value_of(arg: Arg, image: &Image) -> i32
-    requires { ArgLies arg (length image.now.bytes) }
+    requires { ArgInBounds arg (length image.now.bytes) }
     ensures { result ≡ value_of image.now.bytes arg }
 {
     match arg {

@@ -1,9 +1,9 @@
 // Results, flags and comparisons at the edges of each kind.
 ghost use Rattle.std.specs.Prelude.{◌≡◌, ◌+◌, ◌%◌, ◌≤◌, length, IsTrue};
-ghost use Rattle.lgx_num.specs.Image.{Lies};
+ghost use Rattle.lgx_num.specs.Image.{InBounds};
 ghost use Rattle.spec_scan.specs.Arguments.{arg};
 ghost use Rattle.spec_scan.specs.Arithmetic.{dest};
-ghost use Rattle.lgx_image.specs.Args.{ArgLies, ArgsLie};
+ghost use Rattle.lgx_image.specs.Args.{ArgInBounds, ArgsInBounds};
 ghost use Rattle.lgx_math.specs.Families.{compares, computes, is_place};
 
 use super::*;
@@ -32,16 +32,16 @@ fn compares(op: Op) -> bool
 fn place(kind: Kind, at: u32) -> Place
     requires byte { at % 8 ≡ 0 }
     requires room { at + 32 ≤ 96 }
-    ensures { Lies result 12 }
+    ensures { InBounds result 12 }
 {
     Place { kind, at }
 }
 
 fn operands(op: Op, a: Arg, b: Arg, to: Place) -> Bound
-    requires a { ArgLies a 12 }
-    requires b { ArgLies b 12 }
-    requires to { Lies to 12 }
-    ensures lie { ArgsLie result 12 }
+    requires a { ArgInBounds a 12 }
+    requires b { ArgInBounds b 12 }
+    requires to { InBounds to 12 }
+    ensures lie { ArgsInBounds result 12 }
     ensures destination { IsTrue (is_place (arg result (dest op))) }
 {
     let mut bound = Bound::new();
@@ -59,9 +59,9 @@ fn operands(op: Op, a: Arg, b: Arg, to: Place) -> Bound
 
 fn run(op: Op, a: Arg, b: Arg, to: Place, image: &mut Image) -> Option<Flags>
     requires len { length image.old.bytes ≡ 12 }
-    requires a { ArgLies a 12 }
-    requires b { ArgLies b 12 }
-    requires to { Lies to 12 }
+    requires a { ArgInBounds a 12 }
+    requires b { ArgInBounds b 12 }
+    requires to { InBounds to 12 }
     ensures { length image.new.bytes ≡ 12 }
 {
     let mut flags = Flags {
@@ -187,9 +187,9 @@ fn sources_are_read_at_their_kinds(rt: HostRuntime) -> Result<(), Memory> {
 
 fn holds(op: Op, a: Arg, b: Arg, c: Arg, image: &Image) -> Option<bool>
     requires len { length image.now.bytes ≡ 12 }
-    requires a { ArgLies a 12 }
-    requires b { ArgLies b 12 }
-    requires c { ArgLies c 12 }
+    requires a { ArgInBounds a 12 }
+    requires b { ArgInBounds b 12 }
+    requires c { ArgInBounds c 12 }
 {
     let mut bound = Bound::new();
     bound.push(a);

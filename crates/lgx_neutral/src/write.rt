@@ -4,7 +4,7 @@ ghost use Rattle.lgx_rung.specs.Text.{canon, canon_tokens, list_tokens, operands
 ghost use Rattle.lgx_rung.specs.Tree.{end, one, fork_of};
 ghost use Rattle.lgx_neutral.specs.Writing.{element_tokens, legs_tokens};
 
-use lgx_num::{List, Memory};
+use lgx_num::{Items, Memory};
 use lgx_rung::{Element, Legs, Op, SourceRung, Texts};
 use std::alloc::Global;
 
@@ -76,7 +76,7 @@ fn write_instruction(text: &mut Vec<u8>, op: Op, texts: &Texts) -> Result<(), Me
 }
 
 // Operands with commas between them.
-fn write_operands(text: &mut Vec<u8>, operands: &[List<u8>]) -> Result<(), Memory>
+fn write_operands(text: &mut Vec<u8>, operands: &[Items<u8>]) -> Result<(), Memory>
     ensures { OnOk result (text.new.items ≡ text.old.items ++ canon_tokens (operand_tokens operands.now)) }
 {
     let [first, others @ ..] = operands else {

@@ -7,7 +7,7 @@ use Rattle.std.proofs.lemmas.Nat.Bits.{bit_at_and, bit_at_or, bit_at-pow_same, b
 use Rattle.lgx_num.specs.declared.number.Kind.{Kind}
 use Rattle.lgx_num.specs.declared.number.Kind.TheVariants.{Bool as KBool, Sint, Int, Dint}
 use Rattle.lgx_num.specs.Number.{low_bits, store_low, signed_bytes, signed_of}
-use Rattle.lgx_num.specs.Image.{piece, splice, with_bit, number_of, write_of, bits_of, BeginsWell, LiesAt}
+use Rattle.lgx_num.specs.Image.{piece, splice, with_bit, number_of, write_of, bits_of, IsByteAligned, InBoundsAt}
 use Rattle.lgx_num.specs.Laws.{ReadsWhatWasWritten, OtherPlacesStay, WriteKeepsLength}
 use Rattle.lgx_num.proofs.Numbers.{low_bits_below, signed_of-bytes_8, signed_of-bytes_16, signed_of-bytes_32}
 
@@ -75,7 +75,7 @@ write_of_length Dint image at v = length-splice image (at / 8) (signed_bytes w32
 pub write_keeps_length : WriteKeepsLength
 write_keeps_length image p v = write_of_length p.kind image p.at v
 
-read_back : (k : Kind) (image : List ℕ) (at : ℕ) (v : ℤ) → LiesAt k at (length image) → number_of k (write_of k image at v) at ≡ store_low k v
+read_back : (k : Kind) (image : List ℕ) (at : ℕ) (v : ℤ) → InBoundsAt k at (length image) → number_of k (write_of k image at v) at ≡ store_low k v
 read_back KBool image at v lies =
     let byte = get_or image (at / 8) 0 in
     ap (λ x. pos (bit_at x (at % 8))) (get_or-set_same image (at / 8) (with_bit byte (at % 8) (low_bits 1 v)) 0 (omega (arith, lies.1)))
@@ -97,7 +97,7 @@ abbrev pub Misses : ℕ → ℕ → ℕ → Type 0
 Misses at bits b = (8 * b + 8 ≤ at) ⊎ (at + bits ≤ 8 * b)
 
 -- a byte of which no bit is written stays
-byte_stays : (k : Kind) (image : List ℕ) (at : ℕ) (v : ℤ) (b : ℕ) → BeginsWell k at → Misses at (bits_of k) b → get_or (write_of k image at v) b 0 ≡ get_or image b 0
+byte_stays : (k : Kind) (image : List ℕ) (at : ℕ) (v : ℤ) (b : ℕ) → IsByteAligned k at → Misses at (bits_of k) b → get_or (write_of k image at v) b 0 ≡ get_or image b 0
 byte_stays KBool image at v b well (inl before) = get_or-set_other image (at / 8) b _ 0 (omega arith)
 byte_stays KBool image at v b well (inr behind) = get_or-set_other image (at / 8) b _ 0 (omega arith)
 byte_stays Sint image at v b well (inl before) = splice_before image (at / 8) (signed_bytes w8 v) b (omega arith)
@@ -108,14 +108,14 @@ byte_stays Dint image at v b well (inl before) = splice_before image (at / 8) (s
 byte_stays Dint image at v b well (inr behind) = splice_behind image (at / 8) (signed_bytes w32 v) b (omega arith)
 
 -- so does a piece of such bytes
-piece_stays : (k : Kind) (image : List ℕ) (at : ℕ) (v : ℤ) (from n : ℕ) → BeginsWell k at → (at + bits_of k ≤ 8 * from) ⊎ (8 * (from + n) ≤ at) → piece (write_of k image at v) from n ≡ piece image from n
+piece_stays : (k : Kind) (image : List ℕ) (at : ℕ) (v : ℤ) (from n : ℕ) → IsByteAligned k at → (at + bits_of k ≤ 8 * from) ⊎ (8 * (from + n) ≤ at) → piece (write_of k image at v) from n ≡ piece image from n
 piece_stays k image at v from n well (inl behind) =
     piece-same image (write_of k image at v) from n (λ b above below. byte_stays k image at v b well (inr (omega arith)))
 piece_stays k image at v from n well (inr before) =
     piece-same image (write_of k image at v) from n (λ b above below. byte_stays k image at v b well (inl (omega arith)))
 
 -- a bit in a byte of which no bit is written
-bit_stays : (k : Kind) (image : List ℕ) (at : ℕ) (v : ℤ) (to : ℕ) → BeginsWell k at → Misses at (bits_of k) (to / 8) → number_of KBool (write_of k image at v) to ≡ number_of KBool image to
+bit_stays : (k : Kind) (image : List ℕ) (at : ℕ) (v : ℤ) (to : ℕ) → IsByteAligned k at → Misses at (bits_of k) (to / 8) → number_of KBool (write_of k image at v) to ≡ number_of KBool image to
 bit_stays k image at v to well misses = ap (λ x. pos (bit_at x (to % 8))) (byte_stays k image at v (to / 8) well misses)
 
 -- another bit, of the same byte or not
@@ -130,7 +130,7 @@ other_bit image at v to within other = elim (cases_eq (to / 8) (at / 8)) [
   | inr apart ↦ ap (λ x. pos (bit_at x (to % 8))) (get_or-set_other image (at / 8) (to / 8) _ 0 apart)
 ]
 
-stays : (k j : Kind) (image : List ℕ) (at to : ℕ) (v : ℤ) → LiesAt k at (length image) → BeginsWell j to → (at + bits_of k ≤ to) ⊎ (to + bits_of j ≤ at) → number_of j (write_of k image at v) to ≡ number_of j image to
+stays : (k j : Kind) (image : List ℕ) (at to : ℕ) (v : ℤ) → InBoundsAt k at (length image) → IsByteAligned j to → (at + bits_of k ≤ to) ⊎ (to + bits_of j ≤ at) → number_of j (write_of k image at v) to ≡ number_of j image to
 stays KBool KBool image at to v lies well apart = other_bit image at v to (omega (arith, lies.1)) (λ e. elim apart [ inl p ↦ omega arith | inr p ↦ omega arith ])
 stays Sint KBool image at to v lies well apart =
     bit_stays Sint image at v to lies.0 (elim apart [ inl p ↦ inr (omega (arith, lies.0)) | inr p ↦ inl (omega (arith, lies.0)) ])

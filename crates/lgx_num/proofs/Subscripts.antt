@@ -3,8 +3,8 @@ use Rattle.std.proofs.Common.{◌≡◌, ℕ, ◌+◌, ◌*◌, ◌<◌, List, [
 use Rattle.std.specs.Prelude.{nat_lt}
 use Rattle.std.proofs.lemmas.Bool.{ltb-true}
 use Rattle.lgx_num.specs.declared.place.Index.{Index}
-use Rattle.lgx_num.specs.Image.{number, step_by, moved, steps_at}
-use Rattle.lgx_num.specs.Paths.{Leads}
+use Rattle.lgx_num.specs.Image.{number, step_by, moved, path_offset}
+use Rattle.lgx_num.specs.Paths.{CanReach}
 use Rattle.lgx_num.specs.Laws.{SubscriptsStayInRange}
 
 -- a subscript that leads on is a number in range
@@ -25,10 +25,10 @@ step i (pos n) None to e = none n (nat_lt n i.length) e
 step i (negsuc n) (Some rest) to e = cc
 step i (negsuc n) None to e = cc
 
-leads : (image : List ℕ) (is : List Index) (at to : ℕ) → steps_at image is at ≡ Some to → Leads is at to
+leads : (image : List ℕ) (is : List Index) (at to : ℕ) → path_offset image is at ≡ Some to → CanReach is at to
 leads image [] at to e = cc
 leads image (i ∷ is) at to e =
-    let s = step i (number image i.of) (steps_at image is at) to e in
+    let s = step i (number image i.of) (path_offset image is at) to e in
     (s.0, s.1, s.2, leads image is at s.1 s.3, s.4)
 
 pub subscripts_stay_in_range : SubscriptsStayInRange

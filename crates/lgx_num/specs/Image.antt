@@ -64,22 +64,22 @@ bits_of Int = 16
 bits_of Dint = 32
 
 -- all but a bit begin on a byte
-abbrev pub BeginsWell : Kind → ℕ → Type 0
-BeginsWell KBool at = Unit {0}
-BeginsWell Sint at = at % 8 ≡ 0
-BeginsWell Int at = at % 8 ≡ 0
-BeginsWell Dint at = at % 8 ≡ 0
+abbrev pub IsByteAligned : Kind → ℕ → Type 0
+IsByteAligned KBool at = Unit {0}
+IsByteAligned Sint at = at % 8 ≡ 0
+IsByteAligned Int at = at % 8 ≡ 0
+IsByteAligned Dint at = at % 8 ≡ 0
 
 -- a place lies in an image of this many bytes
-abbrev pub LiesAt : Kind → ℕ → ℕ → Type 0
-LiesAt kind at len = BeginsWell kind at × (at + bits_of kind ≤ 8 * len)
+abbrev pub InBoundsAt : Kind → ℕ → ℕ → Type 0
+InBoundsAt kind at len = IsByteAligned kind at × (at + bits_of kind ≤ 8 * len)
 
-abbrev pub Lies : Place → ℕ → Type 0
-Lies p len = LiesAt p.kind p.at len
+abbrev pub InBounds : Place → ℕ → Type 0
+InBounds p len = InBoundsAt p.kind p.at len
 
 -- two places have no bit in common
-abbrev pub Apart : Place → Place → Type 0
-Apart p q = (p.at + bits_of p.kind ≤ q.at) ⊎ (q.at + bits_of q.kind ≤ p.at)
+abbrev pub AreDisjoint : Place → Place → Type 0
+AreDisjoint p q = (p.at + bits_of p.kind ≤ q.at) ⊎ (q.at + bits_of q.kind ≤ p.at)
 
 -- ---- where subscripts lead
 
@@ -95,10 +95,10 @@ moved (Some a) None = None
 moved None None = None
 
 -- the bit to which subscripts lead from bit at, each read in the image, or none where one is out of range
-abbrev pub steps_at : List ℕ → List Index → ℕ → Option ℕ
-steps_at image [] at = Some at
-steps_at image (i ∷ is) at = moved (step_by i (number image i.of)) (steps_at image is at)
+abbrev pub path_offset : List ℕ → List Index → ℕ → Option ℕ
+path_offset image [] at = Some at
+path_offset image (i ∷ is) at = moved (step_by i (number image i.of)) (path_offset image is at)
 
 -- the first bit of what a path names
 abbrev pub bit_of : List ℕ → Path → Option ℕ
-bit_of image p = steps_at image p.steps p.at
+bit_of image p = path_offset image p.steps p.at

@@ -7,8 +7,8 @@ use Rattle.lgx_num.specs.declared.place.Place.{Place}
 use Rattle.lgx_num.specs.declared.place.Path.{Path}
 use Rattle.lgx_num.specs.Name.{same}
 use Rattle.lgx_num.specs.Number.{store_low, fits, low_bits, bytes_of, dint_of}
-use Rattle.lgx_num.specs.Image.{number, write, bits_of, Lies, Apart, bit_of}
-use Rattle.lgx_num.specs.Paths.{Leads}
+use Rattle.lgx_num.specs.Image.{number, write, bits_of, InBounds, AreDisjoint, bit_of}
+use Rattle.lgx_num.specs.Paths.{CanReach}
 
 -- ---- numbers
 
@@ -34,11 +34,11 @@ BytesOfTheirNumber = (bytes : List ℕ) → length bytes ≡ 4 → EachIndex byt
 
 -- what is read where a value was written is what is kept of it
 abbrev pub ReadsWhatWasWritten : Type 0
-ReadsWhatWasWritten = (image : List ℕ) (p : Place) (v : ℤ) → Lies p (length image) → number (write image p v) p ≡ store_low p.kind v
+ReadsWhatWasWritten = (image : List ℕ) (p : Place) (v : ℤ) → InBounds p (length image) → number (write image p v) p ≡ store_low p.kind v
 
 -- a place that shares no bit with the one that is written stays as it was
 abbrev pub OtherPlacesStay : Type 0
-OtherPlacesStay = (image : List ℕ) (p q : Place) (v : ℤ) → Lies p (length image) → Lies q (length image) → Apart p q → number (write image p v) q ≡ number image q
+OtherPlacesStay = (image : List ℕ) (p q : Place) (v : ℤ) → InBounds p (length image) → InBounds q (length image) → AreDisjoint p q → number (write image p v) q ≡ number image q
 
 -- a write keeps the image's length
 abbrev pub WriteKeepsLength : Type 0
@@ -48,7 +48,7 @@ WriteKeepsLength = (image : List ℕ) (p : Place) (v : ℤ) → length (write im
 
 -- where a path's subscripts are worked out, they lead by numbers in range
 abbrev pub SubscriptsStayInRange : Type 0
-SubscriptsStayInRange = (image : List ℕ) (p : Path) (to : ℕ) → bit_of image p ≡ Some to → Leads p.steps p.at to
+SubscriptsStayInRange = (image : List ℕ) (p : Path) (to : ℕ) → bit_of image p ≡ Some to → CanReach p.steps p.at to
 
 -- ---- names
 

@@ -13,7 +13,7 @@ mod number;
 mod place;
 
 pub use laws::{law_of_bytes, law_of_low_bits, law_of_names, law_of_subscripts, law_of_writes};
-pub use list::List;
+pub use list::Items;
 pub use memory::Memory;
 pub use name::{Name, same};
 pub use number::{Kind, bytes_of, dint_of, fits, store_low};

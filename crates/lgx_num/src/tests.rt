@@ -63,7 +63,7 @@ fn names_ignore_case(rt: HostRuntime) {
 
 #[test]
 fn lists_and_operands(rt: HostRuntime) -> Result<(), Memory> {
-    let list = List::of(vec![in rt.alloc(); 7u8; 3]?);
+    let list = Items::of(vec![in rt.alloc(); 7u8; 3]?);
     assert!(rt; !list.is_empty());
     assert_eq!(rt; list.len(), 3);
     assert_eq!(rt; list.as_slice(), [7, 7, 7].as_slice());

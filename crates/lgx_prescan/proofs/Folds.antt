@@ -8,7 +8,7 @@ use Rattle.spec_scan.specs.Position.{ProgramRungs, Rungs, routine_rungs}
 use Rattle.spec_scan.specs.Prescan.{reached, reached_instructions}
 use Rattle.lgx_prog.specs.Executes.{executes}
 use Rattle.lgx_prog.specs.FlatProgram.{Program, IsFlatProgram, routine_at}
-use Rattle.lgx_prog.specs.Ready.{IsReady, AreReady, IsReadyProgram}
+use Rattle.lgx_prog.specs.Executable.{IsExecutable, AreExecutable, IsExecutableProgram}
 use Rattle.lgx_prog.proofs.Executes.{executes_flat}
 
 abbrev pub code_instructions : Program → ℕ → List Ins
@@ -37,11 +37,11 @@ each_at P [] d all other n = other
 each_at P (x ∷ xs) d all other zero = all.0
 each_at P (x ∷ xs) d all other (suc n) = each_at P xs d all.1 other n
 
-rungs_ready : (len : ℕ) (rungs : Rungs) → AreReady len rungs → Each (IsReady len) (flat_map instructions rungs)
+rungs_ready : (len : ℕ) (rungs : Rungs) → AreExecutable len rungs → Each (IsExecutable len) (flat_map instructions rungs)
 rungs_ready len [] all = tt
-rungs_ready len (r ∷ rs) all = each_append (IsReady len) (instructions r) (flat_map instructions rs) all.0 (rungs_ready len rs all.1)
+rungs_ready len (r ∷ rs) all = each_append (IsExecutable len) (instructions r) (flat_map instructions rs) all.0 (rungs_ready len rs all.1)
 
-pub code_ready : (len : ℕ) (flat : Program) (rungs : ProgramRungs) → IsFlatProgram flat rungs → IsReadyProgram len rungs → (n : ℕ) → Each (IsReady len) (code_instructions flat n)
+pub code_ready : (len : ℕ) (flat : Program) (rungs : ProgramRungs) → IsFlatProgram flat rungs → IsExecutableProgram len rungs → (n : ℕ) → Each (IsExecutable len) (code_instructions flat n)
 code_ready len flat rungs is ready n =
-    subst (Each (IsReady len)) (sym (routine_instructions flat rungs is n))
-    (rungs_ready len (routine_rungs rungs n) (each_at (AreReady len) rungs.routines [] ready tt n))
+    subst (Each (IsExecutable len)) (sym (routine_instructions flat rungs is n))
+    (rungs_ready len (routine_rungs rungs n) (each_at (AreExecutable len) rungs.routines [] ready tt n))

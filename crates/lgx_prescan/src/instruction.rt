@@ -1,27 +1,27 @@
 // The prescan of an instruction.
 ghost use Rattle.std.specs.Prelude.{◌≡◌, ◌+◌, ◌≤◌, true, false, pos, length};
-ghost use Rattle.lgx_num.specs.Image.{write, Lies};
+ghost use Rattle.lgx_num.specs.Image.{write, InBounds};
 ghost use Rattle.spec_scan.specs.Arguments.{bit_number};
 ghost use Rattle.spec_scan.specs.Prescan.{prescan_ins, prescan_one, timer_bits_off};
 ghost use Rattle.spec_scan.specs.StatusWords.{pre, put_acc};
-ghost use Rattle.lgx_image.specs.Args.{ArgsLie};
-ghost use Rattle.lgx_image.specs.Grains.{Spread};
-ghost use Rattle.lgx_prog.specs.Ready.{IsReady};
+ghost use Rattle.lgx_image.specs.Args.{ArgsInBounds};
+ghost use Rattle.lgx_image.specs.Grains.{ChangesOnlyMarked};
+ghost use Rattle.lgx_prog.specs.Executable.{IsExecutable};
 ghost use Rattle.lgx_prescan.specs.Written.{IsWritten};
 
 use crate::operand::{counter_at, place_at, put_bit, timer_at};
 use lgx_image::Image;
-use spec_scan::Bound;
 use lgx_num::Place;
 use lgx_prog::Ins;
 use lgx_rung::Op;
 use lgx_time::words::{self, CD, CU, DN, EN, TT};
+use spec_scan::Bound;
 
 /// The prescan of an instruction: where a subscript is out of range it does nothing.
 pub(crate) fn prescan_ins(ins: &Ins, image: &mut Image)
-    requires { IsReady (length image.old.bytes) ins.now }
+    requires { IsExecutable (length image.old.bytes) ins.now }
     ensures bytes { image.new.bytes ≡ prescan_ins image.old.bytes ins.now }
-    ensures spread { Spread image.old image.new }
+    ensures only_marked { ChangesOnlyMarked image.old image.new }
 {
     if let Some(args) = image.bind(ins.args.as_slice()) {
         prescan_one(ins.op, &args, image);
@@ -31,9 +31,9 @@ pub(crate) fn prescan_ins(ins: &Ins, image: &mut Image)
 /// The prescan of an instruction whose operands have their places.
 fn prescan_one(op: Op, args: &Bound, image: &mut Image)
     requires written { IsWritten op args.now }
-    requires lie { ArgsLie args.now (length image.old.bytes) }
+    requires lie { ArgsInBounds args.now (length image.old.bytes) }
     ensures bytes { image.new.bytes ≡ prescan_one op args.now image.old.bytes }
-    ensures spread { Spread image.old image.new }
+    ensures only_marked { ChangesOnlyMarked image.old image.new }
 {
     match op {
         Op::Ote => put_bit(place_at(args, 0), false, image),
@@ -51,10 +51,10 @@ fn prescan_one(op: Op, args: &Bound, image: &mut Image)
 
 /// OSR and OSF: the storage bit, and the output off.
 fn one_shot(storage: Place, on: bool, output: Place, image: &mut Image)
-    requires storage { Lies storage (length image.old.bytes) }
-    requires output { Lies output (length image.old.bytes) }
+    requires storage { InBounds storage (length image.old.bytes) }
+    requires output { InBounds output (length image.old.bytes) }
     ensures bytes { image.new.bytes ≡ write (write image.old.bytes storage (bit_number on)) output (bit_number false) }
-    ensures spread { Spread image.old image.new }
+    ensures only_marked { ChangesOnlyMarked image.old image.new }
 {
     put_bit(storage, on, image);
     put_bit(output, false, image);
@@ -64,7 +64,7 @@ fn one_shot(storage: Place, on: bool, output: Place, image: &mut Image)
 fn ton(at: u32, image: &mut Image)
     requires { at + 16 ≤ length image.old.bytes }
     ensures bytes { image.new.bytes ≡ put_acc at (pos 0) (timer_bits_off at image.old.bytes) }
-    ensures spread { Spread image.old image.new }
+    ensures only_marked { ChangesOnlyMarked image.old image.new }
 {
     timer_bits_off(at, image);
     words::put_accumulator(at, 0, image);
@@ -75,7 +75,7 @@ fn ton(at: u32, image: &mut Image)
 fn tof(at: u32, image: &mut Image)
     requires { at + 16 ≤ length image.old.bytes }
     ensures bytes { image.new.bytes ≡ put_acc at (pre image.old.bytes at) (timer_bits_off at image.old.bytes) }
-    ensures spread { Spread image.old image.new }
+    ensures only_marked { ChangesOnlyMarked image.old image.new }
 {
     let preset = words::preset(at, image);
     timer_bits_off(at, image);
@@ -86,7 +86,7 @@ fn tof(at: u32, image: &mut Image)
 fn timer_bits_off(at: u32, image: &mut Image)
     requires { at + 16 ≤ length image.old.bytes }
     ensures bytes { image.new.bytes ≡ timer_bits_off at image.old.bytes }
-    ensures spread { Spread image.old image.new }
+    ensures only_marked { ChangesOnlyMarked image.old image.new }
 {
     words::put_bit(at, DN, false, image);
     words::put_bit(at, TT, false, image);

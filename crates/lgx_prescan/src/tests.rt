@@ -1,13 +1,13 @@
 // The prescan of each mnemonic, of routines that call each other, and of a subscript out of range, on an image of 22 words.
 ghost use Rattle.std.specs.Prelude.{◌≡◌, ◌+◌, ◌<◌, ◌≤◌, [], ◌∷◌, length, IfOk};
 ghost use Rattle.std.specs.List.{AllByRecursion as Each};
-ghost use Rattle.lgx_num.specs.Image.{Lies};
-ghost use Rattle.lgx_num.specs.Paths.{OperandLies};
-ghost use Rattle.lgx_prog.specs.Ready.{IsCell, IsTimer, IsCounter, EndsIn, KindsFit, IsReady, AreReady};
+ghost use Rattle.lgx_num.specs.Image.{InBounds};
+ghost use Rattle.lgx_num.specs.Paths.{OperandInBounds};
+ghost use Rattle.lgx_prog.specs.Executable.{IsCell, IsTimer, IsCounter, EndsIn, KindsFit, IsExecutable, AreExecutable};
 
 use super::*;
 use lgx_image::Image;
-use lgx_num::{Index, Kind, List, Memory, Operand, Path, Place, Steps};
+use lgx_num::{Index, Items, Kind, Memory, Operand, Path, Place, Steps};
 use lgx_prog::{FlatProgram, Ins, Node, Rung, Rungs};
 use lgx_rung::Op;
 use std::alloc::Global;
@@ -16,7 +16,7 @@ use std::alloc::Global;
 
 fn bit(at: u32) -> Operand
     requires { at < 704 }
-    ensures lies { OperandLies result 88 }
+    ensures lies { OperandInBounds result 88 }
     ensures ends { EndsIn 88 result }
     ensures kind { IsCell result }
 {
@@ -29,7 +29,7 @@ fn bit(at: u32) -> Operand
 
 // the bit of the first eight ones that byte 4 names
 fn bit_by_subscript() -> Operand
-    ensures lies { OperandLies result 88 }
+    ensures lies { OperandInBounds result 88 }
     ensures ends { EndsIn 88 result }
     ensures kind { IsCell result }
 {
@@ -52,7 +52,7 @@ fn bit_by_subscript() -> Operand
 
 fn timer(byte: u32) -> Operand
     requires { byte + 16 ≤ 88 }
-    ensures lies { OperandLies result 88 }
+    ensures lies { OperandInBounds result 88 }
     ensures ends { EndsIn 88 result }
     ensures kind { IsTimer result }
 {
@@ -65,7 +65,7 @@ fn timer(byte: u32) -> Operand
 
 fn counter(byte: u32) -> Operand
     requires { byte + 12 ≤ 88 }
-    ensures lies { OperandLies result 88 }
+    ensures lies { OperandInBounds result 88 }
     ensures ends { EndsIn 88 result }
     ensures kind { IsCounter result }
 {
@@ -79,40 +79,40 @@ fn counter(byte: u32) -> Operand
 // ---- routines, whose rungs have one instruction each
 
 fn one(alloc: Global, op: Op, operand: Operand) -> Result<Ins, Memory>
-    requires lies { OperandLies operand 88 }
+    requires lies { OperandInBounds operand 88 }
     requires ends { EndsIn 88 operand }
     requires kind { KindsFit op (operand ∷ []) }
-    ensures { IfOk result (λ ins. IsReady 88 ins) }
+    ensures { IfOk result (λ ins. IsExecutable 88 ins) }
 {
     let mut args = Vec::new(alloc);
     args.push(operand)?;
     Ok(Ins {
         op,
-        args: List::of(args),
+        args: Items::of(args),
     })
 }
 
 fn two(alloc: Global, op: Op, first: Operand, second: Operand) -> Result<Ins, Memory>
-    requires first { OperandLies first 88 }
+    requires first { OperandInBounds first 88 }
     requires first_ends { EndsIn 88 first }
-    requires second { OperandLies second 88 }
+    requires second { OperandInBounds second 88 }
     requires second_ends { EndsIn 88 second }
     requires kinds { KindsFit op (first ∷ second ∷ []) }
-    ensures { IfOk result (λ ins. IsReady 88 ins) }
+    ensures { IfOk result (λ ins. IsExecutable 88 ins) }
 {
     let mut args = Vec::new(alloc);
     args.push(first)?;
     args.push(second)?;
     Ok(Ins {
         op,
-        args: List::of(args),
+        args: Items::of(args),
     })
 }
 
 fn add(alloc: Global, rungs: &mut Vec<Rung>, ins: Ins) -> Result<(), Memory>
-    requires ready { IsReady 88 ins }
-    requires before { AreReady 88 rungs.old.items }
-    ensures { AreReady 88 rungs.new.items }
+    requires ready { IsExecutable 88 ins }
+    requires before { AreExecutable 88 rungs.old.items }
+    ensures { AreExecutable 88 rungs.new.items }
 {
     let mut nodes = Vec::new(alloc);
     nodes.push(Node::Ins(ins))?;
@@ -123,7 +123,7 @@ fn add(alloc: Global, rungs: &mut Vec<Rung>, ins: Ins) -> Result<(), Memory>
 // JSR of one routine, and OTE of one bit
 fn caller(alloc: Global, routine: u32, at: u32) -> Result<Rungs, Memory>
     requires { at < 704 }
-    ensures { IfOk result (λ rungs. AreReady 88 rungs) }
+    ensures { IfOk result (λ rungs. AreExecutable 88 rungs) }
 {
     let mut rungs = Vec::new(alloc);
     add(
@@ -132,13 +132,13 @@ fn caller(alloc: Global, routine: u32, at: u32) -> Result<Rungs, Memory>
         one(alloc, Op::Jsr, Operand::Routine(routine))?,
     )?;
     add(alloc, &mut rungs, one(alloc, Op::Ote, bit(at))?)?;
-    Ok(List::of(rungs))
+    Ok(Items::of(rungs))
 }
 
 // the words of the image after the prescan of these routines, the first of which is the main one
 fn run(alloc: Global, routines: &[Rungs], before: &[i32; 22]) -> Result<[i32; 22], Memory>
     requires some { 0 < length routines.now }
-    requires ready { Each (AreReady 88) routines.now }
+    requires ready { Each (AreExecutable 88) routines.now }
 {
     let program = FlatProgram::build(alloc, routines, 0)?;
     let mut image = filled(alloc, before)?;
@@ -148,7 +148,7 @@ fn run(alloc: Global, routines: &[Rungs], before: &[i32; 22]) -> Result<[i32; 22
 
 fn word(number: u32) -> Place
     requires { number < 22 }
-    ensures { Lies result 88 }
+    ensures { InBounds result 88 }
 {
     Place {
         kind: Kind::Dint,
@@ -180,7 +180,7 @@ fn words_of(image: &Image) -> [i32; 22]
 
 // bits 0, 8, 16 and 24, and 32, 40 and 48 of the image
 fn bits_routine(alloc: Global) -> Result<Rungs, Memory>
-    ensures { IfOk result (λ rungs. AreReady 88 rungs) }
+    ensures { IfOk result (λ rungs. AreExecutable 88 rungs) }
 {
     let mut rungs = Vec::new(alloc);
     add(alloc, &mut rungs, one(alloc, Op::Ote, bit(0))?)?;
@@ -189,12 +189,12 @@ fn bits_routine(alloc: Global) -> Result<Rungs, Memory>
     add(alloc, &mut rungs, two(alloc, Op::Osf, bit(32), bit(40))?)?;
     add(alloc, &mut rungs, one(alloc, Op::Otu, bit(48))?)?;
     add(alloc, &mut rungs, one(alloc, Op::Jsr, Operand::Routine(1))?)?;
-    Ok(List::of(rungs))
+    Ok(Items::of(rungs))
 }
 
 // timers at bytes 16, 32 and 48, and counters at 64 and 76
 fn counts_routine(alloc: Global) -> Result<Rungs, Memory>
-    ensures { IfOk result (λ rungs. AreReady 88 rungs) }
+    ensures { IfOk result (λ rungs. AreExecutable 88 rungs) }
 {
     let mut rungs = Vec::new(alloc);
     add(alloc, &mut rungs, one(alloc, Op::Ton, timer(16))?)?;
@@ -202,7 +202,7 @@ fn counts_routine(alloc: Global) -> Result<Rungs, Memory>
     add(alloc, &mut rungs, one(alloc, Op::Rto, timer(48))?)?;
     add(alloc, &mut rungs, one(alloc, Op::Ctu, counter(64))?)?;
     add(alloc, &mut rungs, one(alloc, Op::Ctd, counter(76))?)?;
-    Ok(List::of(rungs))
+    Ok(Items::of(rungs))
 }
 
 #[test]
@@ -291,7 +291,7 @@ fn subscripts_out_of_range(rt: HostRuntime) -> Result<(), Memory> {
         let mut words = [0; 22];
         words[0] = 255;
         words[1] = subscript;
-        words = run(alloc, &[List::of(rungs)], &words)?;
+        words = run(alloc, &[Items::of(rungs)], &words)?;
         assert_eq!(rt; words[0], after, "subscript {subscript}");
     }
     Ok(())

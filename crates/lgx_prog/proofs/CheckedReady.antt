@@ -9,7 +9,7 @@ use Rattle.lgx_num.specs.declared.place.Path.{Path}
 use Rattle.lgx_num.specs.declared.place.Flag.{Flag}
 use Rattle.lgx_num.specs.declared.place.Operand.{Operand}
 use Rattle.lgx_num.specs.declared.place.Operand.TheVariants as operand
-use Rattle.lgx_num.specs.Paths.{OperandLies}
+use Rattle.lgx_num.specs.Paths.{OperandInBounds}
 use Rattle.lgx_rung.specs.declared.op.Op.{Op}
 use Rattle.lgx_rung.specs.declared.op.Op.TheVariants.{Xic, Xio, Ote, Otl, Otu, Ons, Osr, Osf, Ton, Rto, Tof, Ctu, Ctd, Res, Equ, Neq, Les, Leq, Grt, Geq, Lim, Meq, Add, Sub, Mul, Div, Mod, Neg, Abs, Mov, And, Or, Xor, Not, Mvm, Clr, Cop, Cps, Fll, Jsr, Ret, Tnd, Jmp, Lbl, Mcr, Afi, Nop, Uid, Uie, Event}
 use Rattle.lgx_rung.specs.declared.fault.CheckCode.{CheckCode}
@@ -33,10 +33,10 @@ use Rattle.spec_language.specs.Operands.{Want, bool_place, bool_or_flag, integer
 use Rattle.spec_language.specs.Checked.{CheckScope, Spot, Label, labels, label_of, label_faults, length_faults, behind, operand_of, operands_of, code_number, lesser, least, answered, settled, instruction_of, checked_tree, checked_legs, checked_from}
 use Rattle.spec_base.proofs.Binds.{bind_ok, ok_inj, err_not_ok}
 use Rattle.spec_language.proofs.Subscripts.{each_append}
-use Rattle.spec_language.specs.CheckedLaws.{OperandsLie, CheckedLies}
-use Rattle.spec_language.proofs.FoundLie.{found_lies}
-use Rattle.lgx_prog.specs.Ready.{IsCell, IsTimer, IsCounter, IsIntegers, IsRoutine, IsTask, EndsIn, operand_at, KindsFit, IsReady, AreReady}
-use Rattle.lgx_prog.specs.ReadyLaws.{CheckedAreReady}
+use Rattle.spec_language.specs.CheckedLaws.{OperandsLie, CheckedInBounds}
+use Rattle.spec_language.proofs.FoundBounds.{found_lies}
+use Rattle.lgx_prog.specs.Executable.{IsCell, IsTimer, IsCounter, IsIntegers, IsRoutine, IsTask, EndsIn, operand_at, KindsFit, IsExecutable, AreExecutable}
+use Rattle.lgx_prog.specs.ExecutableLaws.{CheckedAreExecutable}
 
 -- ---- what an answer says
 
@@ -389,13 +389,13 @@ module _ (s : CheckScope) (ls : List Label) (sound : Sound s.tags) where
 
 -- ---- both
 
-ready_one : (len : ℕ) (is : List Ins) → Each (IsShaped len) is → Each (λ i. Each (λ o. OperandLies o len) i.args) is → Each (IsReady len) is
+ready_one : (len : ℕ) (is : List Ins) → Each (IsShaped len) is → Each (λ i. Each (λ o. OperandInBounds o len) i.args) is → Each (IsExecutable len) is
 ready_one len [] shaped lie = tt
-ready_one len (i ∷ is) shaped lie = (record { few = shaped.0.few; lie = all_of (λ o. OperandLies o len) i.args lie.0; ends = shaped.0.ends; kinds = shaped.0.kinds }, ready_one len is shaped.1 lie.1)
+ready_one len (i ∷ is) shaped lie = (record { few = shaped.0.few; lie = all_of (λ o. OperandInBounds o len) i.args lie.0; ends = shaped.0.ends; kinds = shaped.0.kinds }, ready_one len is shaped.1 lie.1)
 
-ready_all : (len : ℕ) (rungs : List (Tree Ins)) → AreShaped len rungs → Each (OperandsLie len) rungs → AreReady len rungs
+ready_all : (len : ℕ) (rungs : List (Tree Ins)) → AreShaped len rungs → Each (OperandsLie len) rungs → AreExecutable len rungs
 ready_all len [] shaped lie = tt
 ready_all len (r ∷ rs) shaped lie = (ready_one len (instructions r) shaped.0 lie.0, ready_all len rs shaped.1 lie.1)
 
-pub checked_ready : CheckedLies → CheckedAreReady
+pub checked_ready : CheckedInBounds → CheckedAreExecutable
 checked_ready lies scope rungs made sound p = ready_all (bytes scope.tags) made (rungs_shaped scope (labels rungs) sound 0 0 rungs made p) (lies scope rungs made sound p)

@@ -4,7 +4,7 @@ pub mod NodesFall
 pub mod Flat
 pub mod Depth
 pub mod FlatProgram
-pub mod Ready
+pub mod Executable
 pub mod Executes
 pub mod Search
-pub mod ReadyLaws
+pub mod ExecutableLaws

@@ -14,7 +14,7 @@ mod rung;
 
 pub use code::{Code, FlatRoutine};
 pub use emit::flatten;
-pub use laws::checked_rungs_are_ready;
+pub use laws::checked_rungs_are_executable;
 pub use lgx_rung::Ins;
 pub use program::FlatProgram;
 pub use rung::{Legs, Node, Rung, Rungs};

@@ -7,9 +7,8 @@ ghost use Rattle.lgx_prog.specs.Executes.{called_in};
 ghost use Rattle.lgx_prog.specs.Search.{noted, examined, kept_number, AreFlat, option_list};
 
 use crate::code::{Code, FlatRoutine};
-use lgx_rung::Ins;
 use lgx_num::{Memory, Operand};
-use lgx_rung::Op;
+use lgx_rung::{Ins, Op};
 use std::alloc::Global;
 use std::marker::Model;
 

@@ -1,6 +1,6 @@
 // Checked rungs.
+use lgx_num::Items;
 use lgx_rung::Ins;
-use lgx_num::List;
 use std::marker::Model;
 
 /// An instruction with its checked operands, or a fork (a branch) of legs.
@@ -26,7 +26,7 @@ pub struct Rung {
 }
 
 /// The rungs of a routine.
-pub type Rungs = List<Rung>;
+pub type Rungs = Items<Rung>;
 
 impl Model for Legs {
     ghost use Rattle.std.specs.Prelude.{List, ◌<◌, length};

@@ -3,7 +3,7 @@ ghost use Rattle.std.specs.Prelude.{◌≡◌, ◌+◌, ◌≤◌, ◌<◌, max,
 ghost use Rattle.lgx_rung.specs.Tree.{depth};
 
 use super::*;
-use lgx_num::{List, Memory};
+use lgx_num::{Items, Memory};
 use lgx_rung::Op;
 use std::alloc::Global;
 
@@ -18,7 +18,7 @@ fn none(alloc: Global) -> Rung
 fn one(alloc: Global, op: Op) -> Result<Rung, Memory>
     ensures { IfOk result (λ rung. depth rung ≡ 0) }
 {
-    let args = List::of(Vec::new(alloc));
+    let args = Items::of(Vec::new(alloc));
     let mut nodes = Vec::new(alloc);
     nodes.push(Node::Ins(Ins { op, args }))?;
     Ok(Rung::of(nodes))
@@ -47,8 +47,8 @@ fn letter(piece: &Code) -> u8 {
             Op::Xio => b'b',
             _ => b'?',
         },
-        Code::BranchStart { passes: false } => b'(',
-        Code::BranchStart { passes: true } => b'<',
+        Code::BranchStart { empty_leg: false } => b'(',
+        Code::BranchStart { empty_leg: true } => b'<',
         Code::LegEnd => b',',
         Code::BranchEnd => b')',
     }

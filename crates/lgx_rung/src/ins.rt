@@ -1,10 +1,10 @@
 // Checked instructions.
-use lgx_num::{List, Operand};
 use crate::op::Op;
+use lgx_num::{Items, Operand};
 
 /// An instruction with its checked operands, at most three.
 #[derive(Drop)]
 pub struct Ins {
     pub op: Op,
-    pub args: List<Operand>,
+    pub args: Items<Operand>,
 }

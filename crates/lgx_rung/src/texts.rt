@@ -3,22 +3,22 @@ ghost use Rattle.std.specs.Prelude.{◌≡◌, [], ◌∷◌, ◌++◌, IsTrue, 
 ghost use Rattle.std.specs.List.{list_all};
 ghost use Rattle.lgx_rung.specs.Tokens.{is_operand};
 
-use lgx_num::{List, Memory};
+use lgx_num::{Items, Memory};
 use std::alloc::Global;
 use std::marker::Model;
 
 /// Operand texts, each of one byte or more: letters, digits and `_ : . # - ? [ ]`.
 #[derive(Drop)]
 pub struct Texts {
-    texts: Vec<List<u8>>,
+    texts: Vec<Items<u8>>,
 }
 
 impl Model for Texts {
-    ghost use Rattle.std.specs.Prelude.{ℕ, List as Items, IsTrue};
+    ghost use Rattle.std.specs.Prelude.{ℕ, List, IsTrue};
     ghost use Rattle.std.specs.List.{list_all};
     ghost use Rattle.lgx_rung.specs.Tokens.{is_operand};
 
-    ghost Value = { Items (Items ℕ) };
+    ghost Value = { List (List ℕ) };
 
     ghost view = { λ t. t.texts.items };
 
@@ -41,12 +41,12 @@ impl Texts {
         ensures added { OnOk result (self.new ≡ self.old ++ text.now ∷ []) }
         ensures unchanged { OnErr result (self.new ≡ self.old) }
     {
-        let text = List::of(text.to_vec(alloc)?);
+        let text = Items::of(text.to_vec(alloc)?);
         self.texts.push(text)?;
         Ok(())
     }
 
-    pub fn as_slice(&self) -> &[List<u8>]
+    pub fn as_slice(&self) -> &[Items<u8>]
         ensures texts { result.now ≡ self.now }
         ensures operands { IsTrue (list_all is_operand self.now) }
     {

@@ -5,7 +5,7 @@ use Rattle.std.proofs.lemmas.Bool.{cases_lt, false≢true, eq-eqb, ne_eqb}
 use Rattle.std.proofs.lemmas.Bool.Decides.{nat_tests}
 use Rattle.std.proofs.lemmas.List.{get_or_past, get_or-map, length-map}
 use Rattle.spec_tables.specs.declared.task.TaskDef.{TaskDef}
-use Rattle.spec_tables.specs.Tasks.{Turn, Table, Candidate, candidates, before, least_of, least, or_else, chosen, is_open, turn, task, no_task}
+use Rattle.spec_tables.specs.Tasks.{TaskState, Table, Candidate, candidates, before, least_of, least, or_else, chosen, is_open, state_of, task, no_task}
 use Rattle.lgx_sched.specs.declared.table.Up.{Up}
 use Rattle.lgx_sched.specs.Ready.{Ready, up_of, queue_at, has_open, front_of, next_task}
 use Rattle.lgx_sched.specs.StandsFor.{Each, In, Ascends, rank_of, without_rank, IsUpAt, StandsFor, IsSound, is_it}
@@ -65,13 +65,13 @@ least-beats a (c ∷ cs) i bs = ap (λ (x : Candidate). Some x.task) (least_of-b
 
 -- ---- the candidates
 
-abbrev pub up_candidate : ℕ → TaskDef → Turn → Candidate
+abbrev pub up_candidate : ℕ → TaskDef → TaskState → Candidate
 up_candidate t d u = record { task = t; priority = d.priority; rank = u.rank }
 
 shift : (n k : ℕ) → n + suc k ≡ n + 1 + k
 shift n k = omega arith
 
-Beats-candidates : (a : Candidate) (n : ℕ) (ds : List TaskDef) (us : List (Option Turn)) → ((k : ℕ) (u : Turn) → get_or us k None ≡ Some u → Wins a (up_candidate (n + k) (get_or ds k no_task) u)) → Beats a (candidates n ds us)
+Beats-candidates : (a : Candidate) (n : ℕ) (ds : List TaskDef) (us : List (Option TaskState)) → ((k : ℕ) (u : TaskState) → get_or us k None ≡ Some u → Wins a (up_candidate (n + k) (get_or ds k no_task) u)) → Beats a (candidates n ds us)
 Beats-candidates a n [] us h = tt
 Beats-candidates a n (d ∷ ds) [] h = tt
 Beats-candidates a n (d ∷ ds) (None ∷ us) h =
@@ -84,7 +84,7 @@ Beats-candidates a n (d ∷ ds) (Some x ∷ us) h = (
     zero_more : (m : ℕ) → m + 0 ≡ m
     zero_more m = omega arith
 
-Among-candidates : (n : ℕ) (ds : List TaskDef) (us : List (Option Turn)) (k : ℕ) (u : Turn) → k < length ds → get_or us k None ≡ Some u → Among (up_candidate (n + k) (get_or ds k no_task) u) (candidates n ds us)
+Among-candidates : (n : ℕ) (ds : List TaskDef) (us : List (Option TaskState)) (k : ℕ) (u : TaskState) → k < length ds → get_or us k None ≡ Some u → Among (up_candidate (n + k) (get_or ds k no_task) u) (candidates n ds us)
 Among-candidates n [] us k u l e = absurd (omega arith)
 Among-candidates n (d ∷ ds) [] k u l e = absurd (cc)
 Among-candidates n (d ∷ ds) (None ∷ us) zero u l e = absurd (cc)
@@ -93,18 +93,18 @@ Among-candidates n (d ∷ ds) (None ∷ us) (suc k) u l e =
 Among-candidates n (d ∷ ds) (Some x ∷ us) zero u l e =
     inl (candidate_is n d x u (omega arith) e)
   where
-    candidate_is : (m : ℕ) (d' : TaskDef) (y z : Turn) → m + 0 ≡ m → Some y ≡ Some z → up_candidate (m + 0) d' z ≡ up_candidate m d' y
+    candidate_is : (m : ℕ) (d' : TaskDef) (y z : TaskState) → m + 0 ≡ m → Some y ≡ Some z → up_candidate (m + 0) d' z ≡ up_candidate m d' y
     candidate_is m d' y z e' o = let same : y ≡ z = cc in ap (λ i. up_candidate i d' z) e' ∙ ap (λ w. up_candidate m d' w) (sym same)
 Among-candidates n (d ∷ ds) (Some x ∷ us) (suc k) u l e =
     inr (subst (λ m. Among (up_candidate m (get_or ds k no_task) u) (candidates (n + 1) ds us)) (sym (shift n k)) (Among-candidates (n + 1) ds us k u (omega arith) e))
 
-candidates-none : (n : ℕ) (ds : List TaskDef) (us : List (Option Turn)) → ((k : ℕ) → get_or us k None ≡ None) → candidates n ds us ≡ []
+candidates-none : (n : ℕ) (ds : List TaskDef) (us : List (Option TaskState)) → ((k : ℕ) → get_or us k None ≡ None) → candidates n ds us ≡ []
 candidates-none n [] us h = refl
 candidates-none n (d ∷ ds) [] h = refl
 candidates-none n (d ∷ ds) (None ∷ us) h = candidates-none (n + 1) ds us (λ k. h (suc k))
 candidates-none n (d ∷ ds) (Some x ∷ us) h = absurd (not_both x (h 0))
   where
-    not_both : (y : Turn) → Some y ≡ None → ⊥
+    not_both : (y : TaskState) → Some y ≡ None → ⊥
     not_both y e = cc
 
 -- ---- the front of the queues
@@ -164,41 +164,41 @@ position-is_it test d (x ∷ xs) n (Some (suc m)) shut h =
 
 -- ---- what a table that stands for a list knows of it
 
-pub same_length : (v : Ready) (s : Table) → IsSound v → StandsFor v s → length s.turns ≡ length s.defs
-same_length v s sound h = sym (length-map s.turns (option_map without_rank)) ∙ (sym (ap (λ (xs : List (Option Up)). length xs) h.ups) ∙ (sound.as_many ∙ ap (λ (xs : List TaskDef). length xs) h.defs))
+pub same_length : (v : Ready) (s : Table) → IsSound v → StandsFor v s → length s.states ≡ length s.defs
+same_length v s sound h = sym (length-map s.states (option_map without_rank)) ∙ (sym (ap (λ (xs : List (Option Up)). length xs) h.ups) ∙ (sound.as_many ∙ ap (λ (xs : List TaskDef). length xs) h.defs))
 
-pub within : (us : List (Option Turn)) (k : ℕ) → IsTrue (is_some (get_or us k None)) → k < length us
+pub within : (us : List (Option TaskState)) (k : ℕ) → IsTrue (is_some (get_or us k None)) → k < length us
 within us k w = elim (cases_lt k (length us)) [ inl l ↦ l | inr past ↦ absurd (false≢true (subst (λ x. IsTrue (is_some x)) (get_or_past us k None past) w)) ]
 
-pub some_of : (o : Option Turn) → IsTrue (is_some o) → (u : Turn) × (o ≡ Some u)
+pub some_of : (o : Option TaskState) → IsTrue (is_some o) → (u : TaskState) × (o ≡ Some u)
 some_of None w = absurd (false≢true w)
 some_of (Some u) w = (u, refl)
 
 -- the priority of an up task is one more than the place of its queue
-pub placed : (v : Ready) (s : Table) → IsSound v → StandsFor v s → (k : ℕ) → IsTrue (is_some (turn s k)) → (task s k).priority ≡ (task s k).priority - 1 + 1
+pub placed : (v : Ready) (s : Table) → IsSound v → StandsFor v s → (k : ℕ) → IsTrue (is_some (state_of s k)) → (task s k).priority ≡ (task s k).priority - 1 + 1
 placed v s sound h k w =
-    let l : k < length v.defs = subst (λ n. k < n) (same_length v s sound h ∙ sym (ap (λ (xs : List TaskDef). length xs) h.defs)) (within s.turns k w) in
+    let l : k < length v.defs = subst (λ n. k < n) (same_length v s sound h ∙ sym (ap (λ (xs : List TaskDef). length xs) h.defs)) (within s.states k w) in
     let positive : 0 < (task s k).priority = subst (λ (xs : List TaskDef). 0 < (get_or xs k no_task).priority) h.defs ((sound.priorities k l).0) in
     one_more ((task s k).priority) positive
   where
     one_more : (n : ℕ) → 0 < n → n ≡ n - 1 + 1
     one_more n l = omega arith
 
-pub in_queue : (v : Ready) (s : Table) → IsSound v → StandsFor v s → (k : ℕ) → IsTrue (is_some (turn s k)) → In k (queue_at v ((task s k).priority - 1))
+pub in_queue : (v : Ready) (s : Table) → IsSound v → StandsFor v s → (k : ℕ) → IsTrue (is_some (state_of s k)) → In k (queue_at v ((task s k).priority - 1))
 in_queue v s sound h k w = (h.queues ((task s k).priority - 1)).all k (w, placed v s sound h k w)
 
-all_down_if_none : (v : Ready) (s : Table) → IsSound v → StandsFor v s → ((p : ℕ) → queue_at v p ≡ []) → (k : ℕ) (o : Option Turn) → turn s k ≡ o → o ≡ None
+all_down_if_none : (v : Ready) (s : Table) → IsSound v → StandsFor v s → ((p : ℕ) → queue_at v p ≡ []) → (k : ℕ) (o : Option TaskState) → state_of s k ≡ o → o ≡ None
 all_down_if_none v s sound h empty k None e = refl
 all_down_if_none v s sound h empty k (Some u) e =
     absurd (subst (λ q. In k q) (empty ((task s k).priority - 1)) (in_queue v s sound h k (subst (λ x. IsTrue (is_some x)) (sym e) refl)))
 
-pub up_at_front : (v : Ready) (s : Table) → StandsFor v s → (t p : ℕ) → FrontAt v.queues t p → IsUpAt (turn s) (λ k. (task s k).priority) (p + 1) t
-up_at_front v s h t p f = (subst (λ q. Each (IsUpAt (turn s) (λ k. (task s k).priority) (p + 1)) q) f.starts ((h.queues p).each)).0
+pub up_at_front : (v : Ready) (s : Table) → StandsFor v s → (t p : ℕ) → FrontAt v.queues t p → IsUpAt (state_of s) (λ k. (task s k).priority) (p + 1) t
+up_at_front v s h t p f = (subst (λ q. Each (IsUpAt (state_of s) (λ k. (task s k).priority) (p + 1)) q) f.starts ((h.queues p).each)).0
 
 -- the front of the queues is ahead of every other task
-front_wins : (v : Ready) (s : Table) → IsSound v → StandsFor v s → (t p : ℕ) → FrontAt v.queues t p → (x : Turn) → turn s t ≡ Some x → (task s t).priority ≡ p + 1 → (k : ℕ) (u : Turn) → turn s k ≡ Some u → Wins (up_candidate t (task s t) x) (up_candidate k (task s k) u)
+front_wins : (v : Ready) (s : Table) → IsSound v → StandsFor v s → (t p : ℕ) → FrontAt v.queues t p → (x : TaskState) → state_of s t ≡ Some x → (task s t).priority ≡ p + 1 → (k : ℕ) (u : TaskState) → state_of s k ≡ Some u → Wins (up_candidate t (task s t) x) (up_candidate k (task s k) u)
 front_wins v s sound h t p f x tx pr k u ku =
-    let w : IsTrue (is_some (turn s k)) = subst (λ y. IsTrue (is_some y)) (sym ku) refl in
+    let w : IsTrue (is_some (state_of s k)) = subst (λ y. IsTrue (is_some y)) (sym ku) refl in
     let place = (task s k).priority - 1 in
     let above : (task s k).priority ≡ place + 1 = placed v s sound h k w in
     let mine : In k (queue_at v place) = in_queue v s sound h k w in
@@ -208,11 +208,11 @@ front_wins v s sound h t p f x tx pr k u ku =
         | inl l ↦ inr (before-priority (up_candidate t (task s t) x) (up_candidate k (task s k) u) (lower ((task s t).priority) ((task s k).priority) place p pr above l))
         | inr le ↦
             let place_p : place ≡ p = omega arith in
-            let ahead : Ascends (λ i. rank_of (turn s i)) (t ∷ f.rest) = subst (λ q. Ascends (λ i. rank_of (turn s i)) q) f.starts ((h.queues p).by_rank) in
+            let ahead : Ascends (λ i. rank_of (state_of s i)) (t ∷ f.rest) = subst (λ q. Ascends (λ i. rank_of (state_of s i)) q) f.starts ((h.queues p).by_rank) in
             elim (subst (λ q. In k q) f.starts (subst (λ i. In k (queue_at v i)) place_p mine)) [
               | inl k_t ↦ inl (same_one t k x u (sym k_t) tx ku)
               | inr i ↦ inr (before-rank (up_candidate t (task s t) x) (up_candidate k (task s k) u) (pr ∙ (ap (λ i'. i' + 1) (sym place_p) ∙ sym above))
-                  (subst (λ r. r < u.rank) (ap rank_of tx) (subst (λ r. rank_of (turn s t) < r) (ap rank_of ku) (Each-in (λ j. rank_of (turn s t) < rank_of (turn s j)) f.rest k ahead.0 i))))
+                  (subst (λ r. r < u.rank) (ap rank_of tx) (subst (λ r. rank_of (state_of s t) < r) (ap rank_of ku) (Each-in (λ j. rank_of (state_of s t) < rank_of (state_of s j)) f.rest k ahead.0 i))))
             ]
       ]
     ]
@@ -220,24 +220,24 @@ front_wins v s sound h t p f x tx pr k u ku =
     lower : (a b i j : ℕ) → a ≡ j + 1 → b ≡ i + 1 → j < i → a < b
     lower a b i j e e' l = omega arith
 
-    same_one : (a b : ℕ) (y z : Turn) → a ≡ b → turn s a ≡ Some y → turn s b ≡ Some z → up_candidate a (task s a) y ≡ up_candidate b (task s b) z
+    same_one : (a b : ℕ) (y z : TaskState) → a ≡ b → state_of s a ≡ Some y → state_of s b ≡ Some z → up_candidate a (task s a) y ≡ up_candidate b (task s b) z
     same_one a b y z e ey ez =
-        let e' : turn s b ≡ Some y = subst (λ i. turn s i ≡ Some y) e ey in
+        let e' : state_of s b ≡ Some y = subst (λ i. state_of s i ≡ Some y) e ey in
         let yz : y ≡ z = cc in
         ap (λ i. up_candidate i (task s i) y) e ∙ ap (λ w'. up_candidate b (task s b) w') yz
 
-pub least-front : (v : Ready) (s : Table) → IsSound v → StandsFor v s → (o : Option ℕ) → front_of v.queues ≡ o → least (candidates 0 s.defs s.turns) ≡ o
+pub least-front : (v : Ready) (s : Table) → IsSound v → StandsFor v s → (o : Option ℕ) → front_of v.queues ≡ o → least (candidates 0 s.defs s.states) ≡ o
 least-front v s sound h None e =
-    ap least (candidates-none 0 s.defs s.turns (λ k. all_down_if_none v s sound h (front-none v.queues e) k (turn s k) refl))
+    ap least (candidates-none 0 s.defs s.states (λ k. all_down_if_none v s sound h (front-none v.queues e) k (state_of s k) refl))
 least-front v s sound h (Some t) e =
     let f = front-some v.queues t e in
     let p = f.0 in
     let here = up_at_front v s h t p f.1 in
-    let x = some_of (turn s t) here.0 in
-    let l : t < length s.defs = subst (λ n. t < n) (same_length v s sound h) (within s.turns t here.0) in
-    least-beats (up_candidate t (task s t) x.0) (candidates 0 s.defs s.turns)
-    (subst (λ i. Among (up_candidate i (task s t) x.0) (candidates 0 s.defs s.turns)) (add_zero t) (Among-candidates 0 s.defs s.turns t x.0 l x.1))
-    (Beats-candidates (up_candidate t (task s t) x.0) 0 s.defs s.turns
+    let x = some_of (state_of s t) here.0 in
+    let l : t < length s.defs = subst (λ n. t < n) (same_length v s sound h) (within s.states t here.0) in
+    least-beats (up_candidate t (task s t) x.0) (candidates 0 s.defs s.states)
+    (subst (λ i. Among (up_candidate i (task s t) x.0) (candidates 0 s.defs s.states)) (add_zero t) (Among-candidates 0 s.defs s.states t x.0 l x.1))
+    (Beats-candidates (up_candidate t (task s t) x.0) 0 s.defs s.states
     (λ k u ku. subst (λ i. Wins (up_candidate t (task s t) x.0) (up_candidate i (task s k) u)) (sym (add_zero k)) (front_wins v s sound h t p f.1 x.0 x.1 here.1 k u ku)))
   where
     add_zero : (n : ℕ) → 0 + n ≡ n
@@ -245,20 +245,20 @@ least-front v s sound h (Some t) e =
 
 -- ---- the chosen task
 
-pub open_as_up : (o : Option Turn) → is_open o ≡ has_open (option_map without_rank o)
+pub open_as_up : (o : Option TaskState) → is_open o ≡ has_open (option_map without_rank o)
 open_as_up None = refl
 open_as_up (Some u) = refl
 
-pub turn_as_up : (v : Ready) (s : Table) → StandsFor v s → (t : ℕ) → up_of v t ≡ option_map without_rank (turn s t)
+pub turn_as_up : (v : Ready) (s : Table) → StandsFor v s → (t : ℕ) → up_of v t ≡ option_map without_rank (state_of s t)
 turn_as_up v s h t =
-    ap (λ (xs : List (Option Up)). get_or xs t None) h.ups ∙ elim (cases_lt t (length s.turns)) [
-      | inl l ↦ get_or-map (option_map without_rank) s.turns t None None l
-      | inr past ↦ get_or_past (map (option_map without_rank) s.turns) t None (subst (λ n. n ≤ t) (sym (length-map s.turns (option_map without_rank))) past) ∙ ap (option_map without_rank) (sym (get_or_past s.turns t None past))
+    ap (λ (xs : List (Option Up)). get_or xs t None) h.ups ∙ elim (cases_lt t (length s.states)) [
+      | inl l ↦ get_or-map (option_map without_rank) s.states t None None l
+      | inr past ↦ get_or_past (map (option_map without_rank) s.states) t None (subst (λ n. n ≤ t) (sym (length-map s.states (option_map without_rank))) past) ∙ ap (option_map without_rank) (sym (get_or_past s.states t None past))
     ]
 
-pub first_open : (v : Ready) (s : Table) → IsSound v → StandsFor v s → position_from is_open 0 s.turns ≡ v.opened
+pub first_open : (v : Ready) (s : Table) → IsSound v → StandsFor v s → position_from is_open 0 s.states ≡ v.opened
 first_open v s sound h =
-    position-is_it is_open None s.turns 0 v.opened refl (λ k. open_as_up (turn s k) ∙ (ap has_open (sym (turn_as_up v s h k)) ∙ sound.alone k)) ∙ from_zero v.opened
+    position-is_it is_open None s.states 0 v.opened refl (λ k. open_as_up (state_of s k) ∙ (ap has_open (sym (turn_as_up v s h k)) ∙ sound.alone k)) ∙ from_zero v.opened
   where
     from_zero : (o : Option ℕ) → option_map (λ k. 0 + k) o ≡ o
     from_zero None = refl
@@ -270,4 +270,4 @@ first_open v s sound h =
 -- the table's answer is the definition's
 pub next_task-chosen : (v : Ready) (s : Table) → IsSound v → StandsFor v s → next_task v ≡ chosen s
 next_task-chosen v s sound h =
-    sym (ap (λ o. or_else o (least (candidates 0 s.defs s.turns))) (first_open v s sound h) ∙ ap (λ o. or_else v.opened o) (least-front v s sound h (front_of v.queues) refl))
+    sym (ap (λ o. or_else o (least (candidates 0 s.defs s.states))) (first_open v s sound h) ∙ ap (λ o. or_else v.opened o) (least-front v s sound h (front_of v.queues) refl))

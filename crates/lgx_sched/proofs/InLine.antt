@@ -2,7 +2,7 @@
 use Rattle.std.proofs.Common.{◌≡◌, ℕ, zero, suc, ◌+◌, ◌-◌, ◌<◌, ◌≤◌, Bool, true, false, List, [], ◌∷◌, length, Option, Some, None, inl, inr, refl, sym, ap, ◌∙◌, subst, arith, slice_get, if◌then◌else◌, IfSome, IsNone}
 use Rattle.std.specs.Prelude.{nat_eq}
 use Rattle.std.proofs.lemmas.Bool.{ne_eqb}
-use Rattle.spec_tables.specs.Tasks.{Table, turn, task}
+use Rattle.spec_tables.specs.Tasks.{Table, state_of, task}
 use Rattle.lgx_sched.specs.Ready.{Ready, queue_at, ready_at}
 use Rattle.lgx_sched.specs.StandsFor.{Each, In, Ascends, rank_of, IsUpAt, IsQueueOf, IsAheadOf, IsInLine, AtMostUp, StandsFor}
 use Rattle.lgx_sched.proofs.Queues.{Each-given, Each-in}
@@ -87,10 +87,10 @@ positive p h = ne_eqb p 0 (λ e. absurd (omega arith))
 pub ready_at-place : (v : Ready) (p i : ℕ) → 0 < p → slice_get (queue_at v (p - 1)) i ≡ ready_at v p i
 ready_at-place v p i h = sym (ap (λ b. if b then None else slice_get (queue_at v (p - 1)) i) (positive p h))
 
-queue_of : (v : Ready) (s : Table) (p : ℕ) → 0 < p → StandsFor v s → IsQueueOf (turn s) (λ k. (task s k).priority) p (queue_at v (p - 1))
+queue_of : (v : Ready) (s : Table) (p : ℕ) → 0 < p → StandsFor v s → IsQueueOf (state_of s) (λ k. (task s k).priority) p (queue_at v (p - 1))
 queue_of v s p h st =
     let same : p - 1 + 1 ≡ p = omega arith in
-    subst (λ n. IsQueueOf (turn s) (λ k. (task s k).priority) n (queue_at v (p - 1))) same (st.queues (p - 1))
+    subst (λ n. IsQueueOf (state_of s) (λ k. (task s k).priority) n (queue_at v (p - 1))) same (st.queues (p - 1))
 
 pub ready_in_line : (v : Ready) (s : Table) (p i t : ℕ) → 0 < p → StandsFor v s → ready_at v p i ≡ Some t → IsInLine s p i t
 ready_in_line v s p i t h st e = (Each-in up q t hq.each (get_in q i t got), (firsts i q, (ahead, length-firsts q i t got)))
@@ -99,18 +99,18 @@ ready_in_line v s p i t h st e = (Each-in up q t hq.each (get_in q i t got), (fi
     q = queue_at v (p - 1)
 
     rank : ℕ → ℕ
-    rank k = rank_of (turn s k)
+    rank k = rank_of (state_of s k)
 
     up : ℕ → Type 0
-    up k = IsUpAt (turn s) (λ k. (task s k).priority) p k
+    up k = IsUpAt (state_of s) (λ k. (task s k).priority) p k
 
-    hq : IsQueueOf (turn s) (λ k. (task s k).priority) p q
+    hq : IsQueueOf (state_of s) (λ k. (task s k).priority) p q
     hq = queue_of v s p h st
 
     got : slice_get q i ≡ Some t
     got = from_some (nat_eq p 0) (slice_get q i) t e
 
-    ahead : IsAheadOf (turn s) (λ k. (task s k).priority) p (rank t) (firsts i q)
+    ahead : IsAheadOf (state_of s) (λ k. (task s k).priority) p (rank t) (firsts i q)
     ahead = record {
       each = Each-given up (λ u. rank u < rank t) (λ u. up u × (rank u < rank t)) (λ u a b. (a, b)) (firsts i q) (firsts_each up i q hq.each) (firsts_below rank q i t hq.by_rank got);
       all = λ u w l. firsts_all rank q i t u hq.by_rank got (hq.all u w) l;

@@ -5,16 +5,16 @@ use Rattle.std.proofs.lemmas.Bool.{false≢true}
 use Rattle.std.proofs.lemmas.List.{length-replicate}
 use Rattle.std.proofs.lemmas.List.Folds.{sum_by-replicate}
 use Rattle.spec_tables.specs.declared.task.TaskDef.{TaskDef}
-use Rattle.spec_tables.specs.Tasks.{Turn, turn, task, no_task}
+use Rattle.spec_tables.specs.Tasks.{TaskState, state_of, task, no_task}
 use Rattle.lgx_sched.specs.declared.table.Up.{Up}
 use Rattle.lgx_sched.specs.Ready.{Ready, has_open}
 use Rattle.lgx_sched.specs.StandsFor.{without_rank, IsQueueOf, StandsFor, IsTable, HasPeriod, none_up}
 use Rattle.lgx_sched.proofs.Steps.{IsUp}
 
 abbrev pub fresh : List TaskDef → Ready
-fresh ds = record { defs = ds; ups = replicate (length ds) None; queues = replicate 16 []; opened = None; ran_at = 0 }
+fresh ds = record { defs = ds; ups = replicate (length ds) None; queues = replicate 16 []; opened = None; run_since = 0 }
 
-abbrev pub downs : ℕ → List (Option Turn)
+abbrev pub downs : ℕ → List (Option TaskState)
 downs n = replicate n None
 
 abbrev pub no_ups : ℕ → List (Option Up)
@@ -50,14 +50,14 @@ count_no_up n = sum_by-replicate (λ (o : Option Up). cond (is_some o) 1 0) n No
 
 pub stands-fresh : (ds : List TaskDef) (next : ℕ) → StandsFor (fresh ds) (none_up ds next)
 stands-fresh ds next =
-    let no_one : (k : ℕ) → IsUp (turn (none_up ds next) k) → ⊥ = λ k w. false≢true (subst IsUp (no_turn (length ds) k) w) in
+    let no_one : (k : ℕ) → IsUp (state_of (none_up ds next) k) → ⊥ = λ k w. false≢true (subst IsUp (no_turn (length ds) k) w) in
     record {
       defs = refl;
       ups = ups_down (length ds);
-      ran_at = refl;
+      run_since = refl;
       below = λ k w. absurd (no_one k w);
       differ = λ k i wk wi e. absurd (no_one k wk);
-      queues = λ p. subst (λ q. IsQueueOf (turn (none_up ds next)) (λ t. (task (none_up ds next) t).priority) (p + 1) q) (sym (no_queue 16 p))
+      queues = λ p. subst (λ q. IsQueueOf (state_of (none_up ds next)) (λ t. (task (none_up ds next) t).priority) (p + 1) q) (sym (no_queue 16 p))
           (record { each = tt; all = λ k w. absurd (no_one k w.0); by_rank = tt });
     }
 
@@ -76,8 +76,8 @@ table-fresh ds few priorities periods = (
   (none_up ds 0, stands-fresh ds 0),
 )
 
-pub fresh_from : (ds es : List TaskDef) (us : List (Option Up)) (qs : List (List ℕ)) → es ≡ ds → us ≡ replicate (length ds) None → qs ≡ replicate 16 [] → fresh ds ≡ record { defs = es; ups = us; queues = qs; opened = None; ran_at = 0 }
+pub fresh_from : (ds es : List TaskDef) (us : List (Option Up)) (qs : List (List ℕ)) → es ≡ ds → us ≡ replicate (length ds) None → qs ≡ replicate 16 [] → fresh ds ≡ record { defs = es; ups = us; queues = qs; opened = None; run_since = 0 }
 fresh_from ds es us qs e u q =
-    ap (λ (x : List (List ℕ)). record { defs = ds; ups = replicate (length ds) None; queues = x; opened = None; ran_at = 0 }) (sym q)
-    ∙ (ap (λ (x : List (Option Up)). record { defs = ds; ups = x; queues = qs; opened = None; ran_at = 0 }) (sym u)
-    ∙ ap (λ (x : List TaskDef). record { defs = x; ups = us; queues = qs; opened = None; ran_at = 0 }) (sym e))
+    ap (λ (x : List (List ℕ)). record { defs = ds; ups = replicate (length ds) None; queues = x; opened = None; run_since = 0 }) (sym q)
+    ∙ (ap (λ (x : List (Option Up)). record { defs = ds; ups = x; queues = qs; opened = None; run_since = 0 }) (sym u)
+    ∙ ap (λ (x : List TaskDef). record { defs = x; ups = us; queues = qs; opened = None; run_since = 0 }) (sym e))

@@ -1,11 +1,11 @@
 -- Laws of one queue: the tasks of a priority that are up, each once, by their ranks.
 use Rattle.std.proofs.Common.{◌≡◌, ℕ, ◌<◌, List, [], ◌∷◌, ◌++◌, Option, Some, None, inl, inr, IsTrue, is_some, refl, sym, ap, subst, arith}
 use Rattle.std.proofs.lemmas.Bool.{cases_eq, false≢true}
-use Rattle.spec_tables.specs.Tasks.{Turn}
+use Rattle.spec_tables.specs.Tasks.{TaskState}
 use Rattle.lgx_sched.specs.StandsFor.{Each, In, Ascends, rank_of, IsUpAt, IsQueueOf}
 
 abbrev pub Lookup : Type 0
-Lookup = ℕ → Option Turn
+Lookup = ℕ → Option TaskState
 
 abbrev pub rank_in : Lookup → ℕ → ℕ
 rank_in f t = rank_of (f t)
@@ -68,7 +68,7 @@ other_queue f g pr t p q same other h =
     h
 
 -- a task that was down comes up with a rank above all others
-pub queue-push : (f g : Lookup) (pr : ℕ → ℕ) (t : ℕ) (u : Turn) (q : List ℕ) → ((k : ℕ) → (k ≡ t → ⊥) → g k ≡ f k) → f t ≡ None → g t ≡ Some u → ((k : ℕ) → IsTrue (is_some (f k)) → rank_in f k < u.rank) → IsQueueOf f pr (pr t) q → IsQueueOf g pr (pr t) (q ++ t ∷ [])
+pub queue-push : (f g : Lookup) (pr : ℕ → ℕ) (t : ℕ) (u : TaskState) (q : List ℕ) → ((k : ℕ) → (k ≡ t → ⊥) → g k ≡ f k) → f t ≡ None → g t ≡ Some u → ((k : ℕ) → IsTrue (is_some (f k)) → rank_in f k < u.rank) → IsQueueOf f pr (pr t) q → IsQueueOf g pr (pr t) (q ++ t ∷ [])
 queue-push f g pr t u q same down up below h =
     let apart : (k : ℕ) → IsTrue (is_some (f k)) → k ≡ t → ⊥ = λ k w k_is. false≢true (subst (λ x. IsTrue (is_some x)) down (subst (λ x. IsTrue (is_some (f x))) k_is w)) in
     let kept : (k : ℕ) → IsUpAt f pr (pr t) k → g k ≡ f k = λ k w. same k (apart k w.0) in

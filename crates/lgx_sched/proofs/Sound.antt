@@ -5,7 +5,7 @@ use Rattle.std.proofs.lemmas.Bool.{cases_eq, cases_lt, false≢true, eq-eqb, ne_
 use Rattle.std.proofs.lemmas.List.{get_or-set_same, get_or-set_other, length-set, get_or_past, length-append}
 use Rattle.std.proofs.lemmas.List.Sums.{sum_by-set, sum_by-cons, get_or-le-sum_by, count_by-le-length}
 use Rattle.spec_tables.specs.declared.task.TaskDef.{TaskDef}
-use Rattle.spec_tables.specs.Tasks.{Turn, Table, turn, task, or_else}
+use Rattle.spec_tables.specs.Tasks.{TaskState, Table, state_of, task, or_else}
 use Rattle.lgx_sched.specs.declared.table.Up.{Up}
 use Rattle.lgx_sched.specs.Ready.{Ready, up_of, queue_at, place_of, has_open, front_of, next_task, pushed, popped, up_last, out_of_line, to_the_end, with_up, all_down}
 use Rattle.lgx_sched.specs.StandsFor.{Each, without_rank, IsUpAt, StandsFor, IsSound, is_it}
@@ -35,13 +35,13 @@ head-by v s t (Some o) sound h is e =
 pub head-next : (v : Ready) (s : Table) (t : ℕ) → IsSound v → StandsFor v s → next_task v ≡ Some t → IsHead v t
 head-next v s t sound h e = head-by v s t v.opened sound h refl e
 
-pub up-head : (v : Ready) (s : Table) (t : ℕ) → StandsFor v s → IsHead v t → IsUp (turn s t)
+pub up-head : (v : Ready) (s : Table) (t : ℕ) → StandsFor v s → IsHead v t → IsUp (state_of s t)
 up-head v s t h head =
-    (subst (λ q. Each (IsUpAt (turn s) (λ k. (task s k).priority) (place_of v t + 1)) q) (starts_with (queue_at v (place_of v t)) t head) ((h.queues (place_of v t)).each)).0.0
+    (subst (λ q. Each (IsUpAt (state_of s) (λ k. (task s k).priority) (place_of v t + 1)) q) (starts_with (queue_at v (place_of v t)) t head) ((h.queues (place_of v t)).each)).0.0
 
 pub task-head : (v : Ready) (s : Table) (t : ℕ) → IsSound v → StandsFor v s → IsHead v t → t < length v.defs
 task-head v s t sound h head =
-    subst (λ n. t < n) (same_length v s sound h ∙ sym (ap (λ (xs : List TaskDef). length xs) h.defs)) (within s.turns t (up-head v s t h head))
+    subst (λ n. t < n) (same_length v s sound h ∙ sym (ap (λ (xs : List TaskDef). length xs) h.defs)) (within s.states t (up-head v s t h head))
 
 -- nothing else has something open
 only_mine : (o : Option ℕ) (qs : List (List ℕ)) (t k : ℕ) → or_else o (front_of qs) ≡ Some t → (k ≡ t → ⊥) → is_it o k ≡ false
@@ -66,7 +66,7 @@ count_is us t x l = sum_by-set (λ (o : Option Up). cond (is_some o) 1 0) us t x
 pub room-up : (v : Ready) (t p : ℕ) → IsSound v → t < length v.defs → up_of v t ≡ None → length (queue_at v p) < 32
 room-up v t p sound l down =
     let l' : t < length v.ups = subst (λ n. t < n) (sym sound.as_many) l in
-    let fresh : Option Up = Some (record { start = 0; region = 0; copies = false }) in
+    let fresh : Option Up = Some (record { start = 0; region_count = 0; cps_open = false }) in
     let one : count_by is_some (set v.ups t fresh) + 0 ≡ count_by is_some v.ups + 1 = subst (λ (o : Option Up). count_by is_some (set v.ups t fresh) + cond (is_some o) 1 0 ≡ count_by is_some v.ups + 1) down (count_is v.ups t fresh l') in
     let most = count_by-le-length is_some (set v.ups t fresh) in
     let len = length-set v.ups t fresh in
@@ -121,7 +121,7 @@ first-pushed qs p t k o e = elim (cases_eq k p) [
     kept [] e' = absurd (none_some o e')
     kept (x ∷ xs) e' = e'
 
-up_too : (o : Option Up) (x : Option Turn) → o ≡ option_map without_rank x → IsUp x → is_some o ≡ true
+up_too : (o : Option Up) (x : Option TaskState) → o ≡ option_map without_rank x → IsUp x → is_some o ≡ true
 up_too o None e w = absurd (false≢true w)
 up_too o (Some x) e w = ap (λ (y : Option Up). is_some y) e
 
@@ -130,7 +130,7 @@ up_too o (Some x) e w = ap (λ (y : Option Up). is_some y) e
 pub sound-up : (v : Ready) (t now : ℕ) → IsSound v → t < length v.defs → up_of v t ≡ None → IsSound (up_last t now v)
 sound-up v t now sound l down =
     let l' : t < length v.ups = subst (λ n. t < n) (sym sound.as_many) l in
-    let fresh : Option Up = Some (record { start = now; region = 0; copies = false }) in
+    let fresh : Option Up = Some (record { start = now; region_count = 0; cps_open = false }) in
     record {
       few = sound.few;
       as_many = length-set v.ups t fresh ∙ sound.as_many;
@@ -171,7 +171,7 @@ sound-down v s t sound h next =
       first = tt;
       room =
           let sum = sum-popped v.queues (place_of v t) t (place_fits v sound t l) head in
-          let is_up : is_some (up_of v t) ≡ true = up_too (up_of v t) (turn s t) (turn_as_up v s h t) (up-head v s t h head) in
+          let is_up : is_some (up_of v t) ≡ true = up_too (up_of v t) (state_of s t) (turn_as_up v s h t) (up-head v s t h head) in
           let one : count_by is_some (set v.ups t None) + 1 ≡ count_by is_some v.ups + 0 = subst (λ b. count_by is_some (set v.ups t None) + cond b 1 0 ≡ count_by is_some v.ups + 0) is_up (count_is v.ups t None l') in
           let room = sound.room in
           omega arith;
@@ -216,7 +216,7 @@ sound-with v s t u sound h next =
       ];
       first = head_if (has_open (Some u)) head;
       room =
-          let is_up : is_some (up_of v t) ≡ true = up_too (up_of v t) (turn s t) (turn_as_up v s h t) (up-head v s t h head) in
+          let is_up : is_some (up_of v t) ≡ true = up_too (up_of v t) (state_of s t) (turn_as_up v s h t) (up-head v s t h head) in
           let one : count_by is_some (set v.ups t (Some u)) + 1 ≡ count_by is_some v.ups + 1 = subst (λ b. count_by is_some (set v.ups t (Some u)) + cond b 1 0 ≡ count_by is_some v.ups + 1) is_up (count_is v.ups t (Some u) l') in
           let room = sound.room in
           omega arith;
@@ -267,7 +267,7 @@ length_empty : (qs : List (List ℕ)) → length (no_queues qs) ≡ length qs
 length_empty [] = refl
 length_empty (q ∷ qs) = ap suc (length_empty qs)
 
-pub sound-none : (v : Ready) (ran : ℕ) → IsSound v → IsSound (record (all_down v) { ran_at = ran })
+pub sound-none : (v : Ready) (ran : ℕ) → IsSound v → IsSound (record (all_down v) { run_since = ran })
 sound-none v ran sound = record {
   few = sound.few;
   as_many = length_none v.ups ∙ sound.as_many;

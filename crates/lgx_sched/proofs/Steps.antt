@@ -4,14 +4,14 @@ use Rattle.std.specs.List.{slice_get}
 use Rattle.std.proofs.lemmas.Bool.{cases_eq, false≢true}
 use Rattle.std.proofs.lemmas.List.{get_or-set_same, get_or-set_other, set-set, set-get_or, map-set}
 use Rattle.spec_tables.specs.declared.task.TaskDef.{TaskDef}
-use Rattle.spec_tables.specs.Tasks.{Turn, Table, turn, task, no_task, stop}
+use Rattle.spec_tables.specs.Tasks.{TaskState, Table, state_of, task, no_task, stop}
 use Rattle.lgx_sched.specs.declared.table.Up.{Up}
 use Rattle.lgx_sched.specs.Ready.{Ready, up_of, def_of, queue_at, place_of, pushed, popped, all_down}
 use Rattle.lgx_sched.specs.StandsFor.{rank_of, without_rank, IsQueueOf, StandsFor, IsSound}
 use Rattle.lgx_sched.proofs.Queues.{same_queue, other_queue, queue-push, queue-pop}
 use Rattle.lgx_sched.proofs.Chosen.{same_length, turn_as_up}
 
-abbrev pub IsUp : Option Turn → Type 0
+abbrev pub IsUp : Option TaskState → Type 0
 IsUp o = IsTrue (is_some o)
 
 -- the task is the first of its queue
@@ -43,37 +43,37 @@ place_fits v sound t l = subst (λ n. place_of v t < n) (sym sound.sixteen) (bel
     below : (n : ℕ) → (0 < n) × (n ≤ 16) → n - 1 < 16
     below n b = omega (arith, b.0, b.1)
 
-pub fits_turns : (v : Ready) (s : Table) → IsSound v → StandsFor v s → (t : ℕ) → t < length v.defs → t < length s.turns
+pub fits_turns : (v : Ready) (s : Table) → IsSound v → StandsFor v s → (t : ℕ) → t < length v.defs → t < length s.states
 fits_turns v s sound h t l = subst (λ n. t < n) (ap (λ (xs : List TaskDef). length xs) h.defs ∙ sym (same_length v s sound h)) l
 
 -- ---- the first task of its queue goes down
 
 abbrev pub lowered : ℕ → Table → Table
-lowered t s = record s { turns = set s.turns t None }
+lowered t s = record s { states = set s.states t None }
 
 pub stands-down : (v : Ready) (s : Table) (o : Option ℕ) (t : ℕ) → IsSound v → StandsFor v s → t < length v.defs → IsHead v t → StandsFor (record v { ups = set v.ups t None; queues = popped v.queues (place_of v t); opened = o }) (lowered t s)
 stands-down v s o t sound h l head =
     let l' = fits_turns v s sound h t l in
     let pr : ℕ → ℕ = λ k. (task s k).priority in
-    let here : turn (lowered t s) t ≡ None = get_or-set_same s.turns t None None l' in
-    let same : (k : ℕ) → (k ≡ t → ⊥) → turn (lowered t s) k ≡ turn s k = λ k ne. get_or-set_other s.turns t k None None ne in
-    let apart : (k : ℕ) → IsUp (turn (lowered t s) k) → k ≡ t → ⊥ = λ k w e. false≢true (subst IsUp (ap (λ i. turn (lowered t s) i) e ∙ here) w) in
-    let was : (k : ℕ) → IsUp (turn (lowered t s) k) → turn (lowered t s) k ≡ turn s k = λ k w. same k (apart k w) in
+    let here : state_of (lowered t s) t ≡ None = get_or-set_same s.states t None None l' in
+    let same : (k : ℕ) → (k ≡ t → ⊥) → state_of (lowered t s) k ≡ state_of s k = λ k ne. get_or-set_other s.states t k None None ne in
+    let apart : (k : ℕ) → IsUp (state_of (lowered t s) k) → k ≡ t → ⊥ = λ k w e. false≢true (subst IsUp (ap (λ i. state_of (lowered t s) i) e ∙ here) w) in
+    let was : (k : ℕ) → IsUp (state_of (lowered t s) k) → state_of (lowered t s) k ≡ state_of s k = λ k w. same k (apart k w) in
     let p = place_of v t in
     let fits = place_fits v sound t l in
     record {
       defs = h.defs;
-      ups = ap (λ (xs : List (Option Up)). set xs t None) h.ups ∙ sym (map-set (option_map without_rank) s.turns t None);
-      ran_at = h.ran_at;
+      ups = ap (λ (xs : List (Option Up)). set xs t None) h.ups ∙ sym (map-set (option_map without_rank) s.states t None);
+      run_since = h.run_since;
       below = λ k w. subst (λ x. rank_of x < s.next) (sym (was k w)) (h.below k (subst IsUp (was k w) w));
       differ = λ k i wk wi e. h.differ k i (subst IsUp (was k wk) wk) (subst IsUp (was i wi) wi) (sym (ap rank_of (was k wk)) ∙ (e ∙ ap rank_of (was i wi)));
       queues = λ k. elim (cases_eq k p) [
-        | inl e ↦ subst (λ i. IsQueueOf (turn (lowered t s)) pr (i + 1) (get_or (popped v.queues p) i [])) (sym e)
-            (subst (λ q. IsQueueOf (turn (lowered t s)) pr (p + 1) q) (sym (get_or-set_same v.queues p (drop 1 (queue_at v p)) [] fits))
-            (queue-pop (turn s) (turn (lowered t s)) pr t (p + 1) (drop 1 (queue_at v p)) same here
-            (subst (λ q. IsQueueOf (turn s) pr (p + 1) q) (starts_with (queue_at v p) t head) (h.queues p))))
-        | inr ne ↦ subst (λ q. IsQueueOf (turn (lowered t s)) pr (k + 1) q) (sym (get_or-set_other v.queues p k (drop 1 (queue_at v p)) [] ne))
-            (other_queue (turn s) (turn (lowered t s)) pr t (k + 1) (queue_at v k) same (λ e. ne (cancel k p (pr t) e (priority_is v s sound h t l))) (h.queues k))
+        | inl e ↦ subst (λ i. IsQueueOf (state_of (lowered t s)) pr (i + 1) (get_or (popped v.queues p) i [])) (sym e)
+            (subst (λ q. IsQueueOf (state_of (lowered t s)) pr (p + 1) q) (sym (get_or-set_same v.queues p (drop 1 (queue_at v p)) [] fits))
+            (queue-pop (state_of s) (state_of (lowered t s)) pr t (p + 1) (drop 1 (queue_at v p)) same here
+            (subst (λ q. IsQueueOf (state_of s) pr (p + 1) q) (starts_with (queue_at v p) t head) (h.queues p))))
+        | inr ne ↦ subst (λ q. IsQueueOf (state_of (lowered t s)) pr (k + 1) q) (sym (get_or-set_other v.queues p k (drop 1 (queue_at v p)) [] ne))
+            (other_queue (state_of s) (state_of (lowered t s)) pr t (k + 1) (queue_at v k) same (λ e. ne (cancel k p (pr t) e (priority_is v s sound h t l))) (h.queues k))
       ];
     }
   where
@@ -82,16 +82,16 @@ stands-down v s o t sound h l head =
 
 -- ---- a task comes up behind all others
 
-abbrev pub raised : ℕ → Turn → Table → Table
-raised t u s = record s { turns = set s.turns t (Some u); next = s.next + 1 }
+abbrev pub raised : ℕ → TaskState → Table → Table
+raised t u s = record s { states = set s.states t (Some u); next = s.next + 1 }
 
-pub stands-up : (v : Ready) (s : Table) (o : Option ℕ) (t : ℕ) (u : Turn) → IsSound v → StandsFor v s → t < length v.defs → turn s t ≡ None → u.rank ≡ s.next → StandsFor (record v { ups = set v.ups t (Some (without_rank u)); queues = pushed v.queues (place_of v t) t; opened = o }) (raised t u s)
+pub stands-up : (v : Ready) (s : Table) (o : Option ℕ) (t : ℕ) (u : TaskState) → IsSound v → StandsFor v s → t < length v.defs → state_of s t ≡ None → u.rank ≡ s.next → StandsFor (record v { ups = set v.ups t (Some (without_rank u)); queues = pushed v.queues (place_of v t) t; opened = o }) (raised t u s)
 stands-up v s o t u sound h l down rank =
     let l' = fits_turns v s sound h t l in
     let pr : ℕ → ℕ = λ k. (task s k).priority in
-    let new = turn (raised t u s) in
-    let here : new t ≡ Some u = get_or-set_same s.turns t (Some u) None l' in
-    let same : (k : ℕ) → (k ≡ t → ⊥) → new k ≡ turn s k = λ k ne. get_or-set_other s.turns t k (Some u) None ne in
+    let new = state_of (raised t u s) in
+    let here : new t ≡ Some u = get_or-set_same s.states t (Some u) None l' in
+    let same : (k : ℕ) → (k ≡ t → ⊥) → new k ≡ state_of s k = λ k ne. get_or-set_other s.states t k (Some u) None ne in
     let here_rank : rank_of (new t) ≡ s.next = ap rank_of here ∙ rank in
     let p = place_of v t in
     let pr_t : pr t ≡ p + 1 = priority_is v s sound h t l in
@@ -99,8 +99,8 @@ stands-up v s o t u sound h l down rank =
     let old_below : (k : ℕ) → (k ≡ t → ⊥) → IsUp (new k) → rank_of (new k) < s.next = λ k ne w. subst (λ x. rank_of x < s.next) (sym (same k ne)) (h.below k (subst IsUp (same k ne) w)) in
     record {
       defs = h.defs;
-      ups = ap (λ (xs : List (Option Up)). set xs t (Some (without_rank u))) h.ups ∙ sym (map-set (option_map without_rank) s.turns t (Some u));
-      ran_at = h.ran_at;
+      ups = ap (λ (xs : List (Option Up)). set xs t (Some (without_rank u))) h.ups ∙ sym (map-set (option_map without_rank) s.states t (Some u));
+      run_since = h.run_since;
       below = λ k w. elim (cases_eq k t) [
         | inl e ↦ at_most (rank_of (new k)) s.next (ap (λ i. rank_of (new i)) e ∙ here_rank)
         | inr ne ↦ less (rank_of (new k)) s.next (old_below k ne w)
@@ -119,11 +119,11 @@ stands-up v s o t u sound h l down rank =
         | inl e ↦ subst (λ i. IsQueueOf new pr (i + 1) (get_or (pushed v.queues p t) i [])) (sym e)
             (subst (λ q. IsQueueOf new pr (p + 1) q) (sym (get_or-set_same v.queues p (queue_at v p ++ t ∷ []) [] fits))
             (subst (λ i. IsQueueOf new pr i (queue_at v p ++ t ∷ [])) pr_t
-            (queue-push (turn s) new pr t u (queue_at v p) same down here
-            (λ i w. subst (λ n. rank_of (turn s i) < n) (sym rank) (h.below i w))
-            (subst (λ i. IsQueueOf (turn s) pr i (queue_at v p)) (sym pr_t) (h.queues p)))))
+            (queue-push (state_of s) new pr t u (queue_at v p) same down here
+            (λ i w. subst (λ n. rank_of (state_of s i) < n) (sym rank) (h.below i w))
+            (subst (λ i. IsQueueOf (state_of s) pr i (queue_at v p)) (sym pr_t) (h.queues p)))))
         | inr ne ↦ subst (λ q. IsQueueOf new pr (k + 1) q) (sym (get_or-set_other v.queues p k (queue_at v p ++ t ∷ []) [] ne))
-            (other_queue (turn s) new pr t (k + 1) (queue_at v k) same (λ e. ne (cancel k p (pr t) e pr_t)) (h.queues k))
+            (other_queue (state_of s) new pr t (k + 1) (queue_at v k) same (λ e. ne (cancel k p (pr t) e pr_t)) (h.queues k))
       ];
     }
   where
@@ -141,49 +141,49 @@ stands-up v s o t u sound h l down rank =
 
 -- ---- a turn changes and keeps its rank
 
-pub stands-changed : (v : Ready) (s : Table) (o : Option ℕ) (t : ℕ) (x u : Turn) → IsSound v → StandsFor v s → t < length v.defs → turn s t ≡ Some x → u.rank ≡ x.rank → StandsFor (record v { ups = set v.ups t (Some (without_rank u)); opened = o }) (record s { turns = set s.turns t (Some u) })
+pub stands-changed : (v : Ready) (s : Table) (o : Option ℕ) (t : ℕ) (x u : TaskState) → IsSound v → StandsFor v s → t < length v.defs → state_of s t ≡ Some x → u.rank ≡ x.rank → StandsFor (record v { ups = set v.ups t (Some (without_rank u)); opened = o }) (record s { states = set s.states t (Some u) })
 stands-changed v s o t x u sound h l was rank =
     let l' = fits_turns v s sound h t l in
-    let s' : Table = record s { turns = set s.turns t (Some u) } in
-    let here : turn s' t ≡ Some u = get_or-set_same s.turns t (Some u) None l' in
-    let ranks : (k : ℕ) → rank_of (turn s' k) ≡ rank_of (turn s k) = λ k. elim (cases_eq k t) [
-      | inl e ↦ ap (λ i. rank_of (turn s' i)) e ∙ (ap rank_of here ∙ (rank ∙ (sym (ap rank_of was) ∙ sym (ap (λ i. rank_of (turn s i)) e))))
-      | inr ne ↦ ap rank_of (get_or-set_other s.turns t k (Some u) None ne)
+    let s' : Table = record s { states = set s.states t (Some u) } in
+    let here : state_of s' t ≡ Some u = get_or-set_same s.states t (Some u) None l' in
+    let ranks : (k : ℕ) → rank_of (state_of s' k) ≡ rank_of (state_of s k) = λ k. elim (cases_eq k t) [
+      | inl e ↦ ap (λ i. rank_of (state_of s' i)) e ∙ (ap rank_of here ∙ (rank ∙ (sym (ap rank_of was) ∙ sym (ap (λ i. rank_of (state_of s i)) e))))
+      | inr ne ↦ ap rank_of (get_or-set_other s.states t k (Some u) None ne)
     ] in
-    let ups : (k : ℕ) → is_some (turn s' k) ≡ is_some (turn s k) = λ k. elim (cases_eq k t) [
-      | inl e ↦ ap (λ i. is_some (turn s' i)) e ∙ (ap (λ y. is_some y) here ∙ (sym (ap (λ y. is_some y) was) ∙ sym (ap (λ i. is_some (turn s i)) e)))
-      | inr ne ↦ ap (λ y. is_some y) (get_or-set_other s.turns t k (Some u) None ne)
+    let ups : (k : ℕ) → is_some (state_of s' k) ≡ is_some (state_of s k) = λ k. elim (cases_eq k t) [
+      | inl e ↦ ap (λ i. is_some (state_of s' i)) e ∙ (ap (λ y. is_some y) here ∙ (sym (ap (λ y. is_some y) was) ∙ sym (ap (λ i. is_some (state_of s i)) e)))
+      | inr ne ↦ ap (λ y. is_some y) (get_or-set_other s.states t k (Some u) None ne)
     ] in
-    let back : (k : ℕ) → IsUp (turn s' k) → IsUp (turn s k) = λ k w. subst IsTrue (ups k) w in
+    let back : (k : ℕ) → IsUp (state_of s' k) → IsUp (state_of s k) = λ k w. subst IsTrue (ups k) w in
     record {
       defs = h.defs;
-      ups = ap (λ (xs : List (Option Up)). set xs t (Some (without_rank u))) h.ups ∙ sym (map-set (option_map without_rank) s.turns t (Some u));
-      ran_at = h.ran_at;
+      ups = ap (λ (xs : List (Option Up)). set xs t (Some (without_rank u))) h.ups ∙ sym (map-set (option_map without_rank) s.states t (Some u));
+      run_since = h.run_since;
       below = λ k w. subst (λ n. n < s.next) (sym (ranks k)) (h.below k (back k w));
       differ = λ k i wk wi e. h.differ k i (back k wk) (back i wi) (sym (ranks k) ∙ (e ∙ ranks i));
-      queues = λ k. same_queue (turn s) (turn s') (λ i. (task s i).priority) (k + 1) (queue_at v k)
+      queues = λ k. same_queue (state_of s) (state_of s') (λ i. (task s i).priority) (k + 1) (queue_at v k)
           (λ i w. ((subst IsTrue (sym (ups i)) w.0, w.1), ranks i)) (λ i w. (back i w.0, w.1)) (h.queues k);
     }
 
 -- ---- the first task of its queue goes to its end
 
-pub stands-last : (v : Ready) (s : Table) (t : ℕ) (x : Turn) → IsSound v → StandsFor v s → IsSound (record v { ups = set v.ups t None; queues = popped v.queues (place_of v t); opened = None }) → t < length v.defs → IsHead v t → turn s t ≡ Some x → StandsFor (record v { queues = pushed (popped v.queues (place_of v t)) (place_of v t) t }) (raised t (record x { rank = s.next }) s)
+pub stands-last : (v : Ready) (s : Table) (t : ℕ) (x : TaskState) → IsSound v → StandsFor v s → IsSound (record v { ups = set v.ups t None; queues = popped v.queues (place_of v t); opened = None }) → t < length v.defs → IsHead v t → state_of s t ≡ Some x → StandsFor (record v { queues = pushed (popped v.queues (place_of v t)) (place_of v t) t }) (raised t (record x { rank = s.next }) s)
 stands-last v s t x sound h sound' l head was =
-    let u : Turn = record x { rank = s.next } in
+    let u : TaskState = record x { rank = s.next } in
     let down = stands-down v s None t sound h l head in
-    let here : turn (lowered t s) t ≡ None = get_or-set_same s.turns t None None (fits_turns v s sound h t l) in
+    let here : state_of (lowered t s) t ≡ None = get_or-set_same s.states t None None (fits_turns v s sound h t l) in
     let up = stands-up (record v { ups = set v.ups t None; queues = popped v.queues (place_of v t); opened = None }) (lowered t s) v.opened t u sound' down l here refl in
-    let turns_are : set (set s.turns t None) t (Some u) ≡ set s.turns t (Some u) = set-set s.turns t None (Some u) in
+    let turns_are : set (set s.states t None) t (Some u) ≡ set s.states t (Some u) = set-set s.states t None (Some u) in
     let up_is : up_of v t ≡ Some (without_rank u) = turn_as_up v s h t ∙ ap (option_map without_rank) was in
     let ups_are : set (set v.ups t None) t (Some (without_rank u)) ≡ v.ups =
     set-set v.ups t None (Some (without_rank u)) ∙ (ap (λ y. set v.ups t y) (sym up_is) ∙ set-get_or v.ups t None) in
     let qs = pushed (popped v.queues (place_of v t)) (place_of v t) t in
     subst (λ (xs : List (Option Up)). StandsFor (record v { ups = xs; queues = qs }) (raised t u s)) ups_are
-    (subst (λ (xs : List (Option Turn)). StandsFor (record v { ups = set (set v.ups t None) t (Some (without_rank u)); queues = qs }) (record s { turns = xs; next = s.next + 1 })) turns_are up)
+    (subst (λ (xs : List (Option TaskState)). StandsFor (record v { ups = set (set v.ups t None) t (Some (without_rank u)); queues = qs }) (record s { states = xs; next = s.next + 1 })) turns_are up)
 
 -- ---- every task goes down
 
-abbrev no_turns : List (Option Turn) → List (Option Turn)
+abbrev no_turns : List (Option TaskState) → List (Option TaskState)
 no_turns us = map (λ u. None) us
 
 abbrev no_ups : List (Option Up) → List (Option Up)
@@ -192,7 +192,7 @@ no_ups us = map (λ u. None) us
 abbrev no_queues : List (List ℕ) → List (List ℕ)
 no_queues qs = map (λ q. []) qs
 
-nothing : (us : List (Option Turn)) (t : ℕ) → get_or (no_turns us) t None ≡ None
+nothing : (us : List (Option TaskState)) (t : ℕ) → get_or (no_turns us) t None ≡ None
 nothing [] t = refl
 nothing (u ∷ us) zero = refl
 nothing (u ∷ us) (suc t) = nothing us t
@@ -202,19 +202,19 @@ empty [] k = refl
 empty (q ∷ qs) zero = refl
 empty (q ∷ qs) (suc k) = empty qs k
 
-none_twice : (us : List (Option Turn)) → no_ups (map (option_map without_rank) us) ≡ map (option_map without_rank) (no_turns us)
+none_twice : (us : List (Option TaskState)) → no_ups (map (option_map without_rank) us) ≡ map (option_map without_rank) (no_turns us)
 none_twice [] = refl
 none_twice (u ∷ us) = ap (λ xs. None ∷ xs) (none_twice us)
 
-pub stands-none : (v : Ready) (s : Table) (ran : ℕ) → StandsFor v s → StandsFor (record (all_down v) { ran_at = ran }) (record (stop s) { ran_at = ran })
+pub stands-none : (v : Ready) (s : Table) (ran : ℕ) → StandsFor v s → StandsFor (record (all_down v) { run_since = ran }) (record (stop s) { run_since = ran })
 stands-none v s ran h =
-    let no_one : (k : ℕ) → IsUp (turn (stop s) k) → ⊥ = λ k w. false≢true (subst IsUp (nothing s.turns k) w) in
+    let no_one : (k : ℕ) → IsUp (state_of (stop s) k) → ⊥ = λ k w. false≢true (subst IsUp (nothing s.states k) w) in
     record {
       defs = h.defs;
-      ups = ap no_ups h.ups ∙ none_twice s.turns;
-      ran_at = refl;
+      ups = ap no_ups h.ups ∙ none_twice s.states;
+      run_since = refl;
       below = λ k w. absurd (no_one k w);
       differ = λ k i wk wi e. absurd (no_one k wk);
-      queues = λ p. subst (λ q. IsQueueOf (turn (stop s)) (λ t. (task s t).priority) (p + 1) q) (sym (empty v.queues p))
+      queues = λ p. subst (λ q. IsQueueOf (state_of (stop s)) (λ t. (task s t).priority) (p + 1) q) (sym (empty v.queues p))
           (record { each = tt; all = λ k w. absurd (no_one k w.0); by_rank = tt });
     }

@@ -3,7 +3,7 @@ use Rattle.std.proofs.Common.{◌≡◌, ℕ, ◌+◌, ◌<◌, true, false, Lis
 use Rattle.std.specs.List.{slice_get}
 use Rattle.std.proofs.lemmas.Bool.{false≢true, eq-eqb}
 use Rattle.spec_tables.specs.declared.task.TaskDef.{TaskDef}
-use Rattle.spec_tables.specs.Tasks.{Turn, Table, turn, task, no_task, or_else, chosen, is_open, is_up, put_up, release, last_in_line, unless_open, rotate, with_rank, finish, is_continuous, put_up_if}
+use Rattle.spec_tables.specs.Tasks.{TaskState, Table, state_of, task, no_task, or_else, chosen, is_open, is_up, put_up, release, to_back, unless_open, rotate, with_rank, finish, is_continuous, put_up_if}
 use Rattle.lgx_sched.specs.declared.table.Up.{Up}
 use Rattle.lgx_sched.specs.Ready.{Ready, up_of, def_of, queue_at, place_of, has_open, front_of, next_task, pushed, popped, up_last, out_of_line, to_the_end}
 use Rattle.lgx_sched.specs.StandsFor.{without_rank, StandsFor, IsSound, IsTable, is_it}
@@ -13,10 +13,10 @@ use Rattle.lgx_sched.proofs.Steps.{place_fits, lowered, stands-down, stands-up, 
 use Rattle.lgx_sched.proofs.Sound.{head-next, up-head, task-head, room-last, sound-up, sound-down, sound-last}
 
 -- what is down in the table is down in the list
-pub down_too : (v : Ready) (s : Table) (t : ℕ) → StandsFor v s → up_of v t ≡ None → turn s t ≡ None
-down_too v s t h e = go (turn s t) (sym (turn_as_up v s h t) ∙ e)
+pub down_too : (v : Ready) (s : Table) (t : ℕ) → StandsFor v s → up_of v t ≡ None → state_of s t ≡ None
+down_too v s t h e = go (state_of s t) (sym (turn_as_up v s h t) ∙ e)
   where
-    go : (o : Option Turn) → option_map without_rank o ≡ None → o ≡ None
+    go : (o : Option TaskState) → option_map without_rank o ≡ None → o ≡ None
     go None e' = refl
     go (Some u) e' = absurd (cc)
 
@@ -24,7 +24,7 @@ down_too v s t h e = go (turn s t) (sym (turn_as_up v s h t) ∙ e)
 
 pub stands-put_up : (v : Ready) (s : Table) (t now : ℕ) → IsSound v → StandsFor v s → t < length v.defs → up_of v t ≡ None → StandsFor (up_last t now v) (put_up t now s)
 stands-put_up v s t now sound h l down =
-    stands-up v s v.opened t (record { start = now; rank = s.next; region = 0; copies = false }) sound h l (down_too v s t h down) refl
+    stands-up v s v.opened t (record { start = now; rank = s.next; region_count = 0; cps_open = false }) sound h l (down_too v s t h down) refl
 
 pub table-up : (v : Ready) (t now : ℕ) → IsTable v → t < length v.defs → up_of v t ≡ None → IsTable (up_last t now v)
 table-up v t now is l down =
@@ -46,33 +46,33 @@ table-down v t is next =
 pub next-front : (v : Ready) (t : ℕ) → v.opened ≡ None → front_of v.queues ≡ Some t → next_task v ≡ Some t
 next-front v t none front = ap (λ (o : Option ℕ). or_else o (front_of v.queues)) none ∙ front
 
-pub stands-put_last : (v : Ready) (s : Table) (t : ℕ) → IsSound v → StandsFor v s → v.opened ≡ None → front_of v.queues ≡ Some t → StandsFor (to_the_end t v) (last_in_line t s)
+pub stands-put_last : (v : Ready) (s : Table) (t : ℕ) → IsSound v → StandsFor v s → v.opened ≡ None → front_of v.queues ≡ Some t → StandsFor (to_the_end t v) (to_back t s)
 stands-put_last v s t sound h none front =
     let next = next-front v t none front in
     let head = head-next v s t sound h next in
-    let x = some_of (turn s t) (up-head v s t h head) in
-    subst (λ (o : Option Turn). StandsFor (to_the_end t v) (record s { turns = set s.turns t (with_rank s.next o); next = s.next + 1 })) (sym x.1)
+    let x = some_of (state_of s t) (up-head v s t h head) in
+    subst (λ (o : Option TaskState). StandsFor (to_the_end t v) (record s { states = set s.states t (with_rank s.next o); next = s.next + 1 })) (sym x.1)
     (stands-last v s t x.0 sound h (sound-down v s t sound h next) (task-head v s t sound h head) head x.1)
 
 pub table-last : (v : Ready) (t : ℕ) → IsTable v → v.opened ≡ None → front_of v.queues ≡ Some t → IsTable (to_the_end t v)
 table-last v t is none front =
-    (sound-last v is.1.0 t is.0 is.1.1 none (head-next v is.1.0 t is.0 is.1.1 (next-front v t none front)), (last_in_line t is.1.0, stands-put_last v is.1.0 t is.0 is.1.1 none front))
+    (sound-last v is.1.0 t is.0 is.1.1 none (head-next v is.1.0 t is.0 is.1.1 (next-front v t none front)), (to_back t is.1.0, stands-put_last v is.1.0 t is.0 is.1.1 none front))
 
 -- ---- as the code finds them: the queues after the calls
 
-pub up_from : (v : Ready) (t now p : ℕ) (qs : List (List ℕ)) → IsTable v → t < length v.defs → up_of v t ≡ None → p ≡ place_of v t → qs ≡ pushed v.queues p t → IsTable (record { defs = v.defs; ups = set v.ups t (Some (record { start = now; region = 0; copies = false })); queues = qs; opened = v.opened; ran_at = v.ran_at })
+pub up_from : (v : Ready) (t now p : ℕ) (qs : List (List ℕ)) → IsTable v → t < length v.defs → up_of v t ≡ None → p ≡ place_of v t → qs ≡ pushed v.queues p t → IsTable (record { defs = v.defs; ups = set v.ups t (Some (record { start = now; region_count = 0; cps_open = false })); queues = qs; opened = v.opened; run_since = v.run_since })
 up_from v t now p qs is l down place pushed_is =
-    subst (λ (x : List (List ℕ)). IsTable (record { defs = v.defs; ups = set v.ups t (Some (record { start = now; region = 0; copies = false })); queues = x; opened = v.opened; ran_at = v.ran_at }))
+    subst (λ (x : List (List ℕ)). IsTable (record { defs = v.defs; ups = set v.ups t (Some (record { start = now; region_count = 0; cps_open = false })); queues = x; opened = v.opened; run_since = v.run_since }))
     (ap (λ i. pushed v.queues i t) (sym place) ∙ sym pushed_is) (table-up v t now is l down)
 
-pub down_from : (v : Ready) (t p : ℕ) (qs : List (List ℕ)) → IsTable v → next_task v ≡ Some t → p ≡ place_of v t → qs ≡ popped v.queues p → IsTable (record { defs = v.defs; ups = set v.ups t None; queues = qs; opened = None; ran_at = v.ran_at })
+pub down_from : (v : Ready) (t p : ℕ) (qs : List (List ℕ)) → IsTable v → next_task v ≡ Some t → p ≡ place_of v t → qs ≡ popped v.queues p → IsTable (record { defs = v.defs; ups = set v.ups t None; queues = qs; opened = None; run_since = v.run_since })
 down_from v t p qs is next place popped_is =
-    subst (λ (x : List (List ℕ)). IsTable (record { defs = v.defs; ups = set v.ups t None; queues = x; opened = None; ran_at = v.ran_at }))
+    subst (λ (x : List (List ℕ)). IsTable (record { defs = v.defs; ups = set v.ups t None; queues = x; opened = None; run_since = v.run_since }))
     (ap (λ i. popped v.queues i) (sym place) ∙ sym popped_is) (table-down v t is next)
 
-pub last_from : (v : Ready) (t p : ℕ) (qs rs : List (List ℕ)) → IsTable v → v.opened ≡ None → front_of v.queues ≡ Some t → p ≡ place_of v t → qs ≡ popped v.queues p → rs ≡ pushed qs p t → IsTable (record { defs = v.defs; ups = v.ups; queues = rs; opened = v.opened; ran_at = v.ran_at })
+pub last_from : (v : Ready) (t p : ℕ) (qs rs : List (List ℕ)) → IsTable v → v.opened ≡ None → front_of v.queues ≡ Some t → p ≡ place_of v t → qs ≡ popped v.queues p → rs ≡ pushed qs p t → IsTable (record { defs = v.defs; ups = v.ups; queues = rs; opened = v.opened; run_since = v.run_since })
 last_from v t p qs rs is none front place popped_is pushed_is =
-    subst (λ (x : List (List ℕ)). IsTable (record { defs = v.defs; ups = v.ups; queues = x; opened = v.opened; ran_at = v.ran_at }))
+    subst (λ (x : List (List ℕ)). IsTable (record { defs = v.defs; ups = v.ups; queues = x; opened = v.opened; run_since = v.run_since }))
     (ap (λ i. pushed (popped v.queues i) i t) (sym place) ∙ (ap (λ (x : List (List ℕ)). pushed x p t) (sym popped_is) ∙ sym pushed_is)) (table-last v t is none front)
 
 -- ---- what the calls need of the task
@@ -94,9 +94,9 @@ known_front v t is none front = known_task v t is (next-front v t none front)
 -- ---- the calls by their definitions
 
 is_up_as : (v : Ready) (s : Table) (t : ℕ) → StandsFor v s → is_up s t ≡ is_some (up_of v t)
-is_up_as v s t h = go (turn s t) ∙ ap (λ (o : Option Up). is_some o) (sym (turn_as_up v s h t))
+is_up_as v s t h = go (state_of s t) ∙ ap (λ (o : Option Up). is_some o) (sym (turn_as_up v s h t))
   where
-    go : (o : Option Turn) → is_some o ≡ is_some (option_map without_rank o)
+    go : (o : Option TaskState) → is_some o ≡ is_some (option_map without_rank o)
     go None = refl
     go (Some u) = refl
 
@@ -104,14 +104,14 @@ pub stands-release : (v : Ready) (s : Table) (t now : ℕ) → IsSound v → Sta
 stands-release v s t now sound h l down =
     subst (λ b. StandsFor (up_last t now v) (if b then s else put_up t now s)) (sym (is_up_as v s t h ∙ ap (λ (o : Option Up). is_some o) down)) (stands-put_up v s t now sound h l down)
 
-open_is : (v : Ready) (s : Table) (t : ℕ) → IsSound v → StandsFor v s → is_open (turn s t) ≡ is_it v.opened t
-open_is v s t sound h = open_as_up (turn s t) ∙ (ap has_open (sym (turn_as_up v s h t)) ∙ sound.alone t)
+open_is : (v : Ready) (s : Table) (t : ℕ) → IsSound v → StandsFor v s → is_open (state_of s t) ≡ is_it v.opened t
+open_is v s t sound h = open_as_up (state_of s t) ∙ (ap has_open (sym (turn_as_up v s h t)) ∙ sound.alone t)
 
 pub stands-rotate : (v : Ready) (s : Table) (t : ℕ) → IsSound v → StandsFor v s → v.opened ≡ None → front_of v.queues ≡ Some t → StandsFor (to_the_end t v) (rotate s)
 stands-rotate v s t sound h none front =
     let is_chosen : chosen s ≡ Some t = sym (next_task-chosen v s sound h) ∙ next-front v t none front in
     subst (λ o. StandsFor (to_the_end t v) (unless_open o s)) (sym is_chosen)
-    (subst (λ b. StandsFor (to_the_end t v) (if b then s else last_in_line t s)) (sym (open_is v s t sound h ∙ ap (λ o. is_it o t) none))
+    (subst (λ b. StandsFor (to_the_end t v) (if b then s else to_back t s)) (sym (open_is v s t sound h ∙ ap (λ o. is_it o t) none))
     (stands-put_last v s t sound h none front))
 
 pub stands-rotate_none : (v : Ready) (s : Table) → IsSound v → StandsFor v s → v.opened ≡ None → front_of v.queues ≡ None → StandsFor v (rotate s)
@@ -122,7 +122,7 @@ stands-rotate_at : (v : Ready) (s : Table) (o : Option ℕ) → IsSound v → St
 stands-rotate_at v s None sound h e w = absurd (false≢true w)
 stands-rotate_at v s (Some t) sound h e w =
     subst (λ o. StandsFor v (unless_open o s)) (sym (sym (next_task-chosen v s sound h) ∙ ap (λ (o : Option ℕ). or_else o (front_of v.queues)) e))
-    (subst (λ b. StandsFor v (if b then s else last_in_line t s)) (sym (open_is v s t sound h ∙ (ap (λ o. is_it o t) e ∙ eq-eqb t t refl))) h)
+    (subst (λ b. StandsFor v (if b then s else to_back t s)) (sym (open_is v s t sound h ∙ (ap (λ o. is_it o t) e ∙ eq-eqb t t refl))) h)
 
 pub stands-rotate_open : (v : Ready) (s : Table) → IsSound v → StandsFor v s → is_some v.opened ≡ true → StandsFor v (rotate s)
 stands-rotate_open v s sound h w = stands-rotate_at v s v.opened sound h refl w

@@ -12,7 +12,7 @@ pub record Ready : Type 0 where
   pub ups : List (Option Up)
   pub queues : List (List ℕ)
   pub opened : Option ℕ
-  pub ran_at : ℕ
+  pub run_since : ℕ
 
 abbrev pub up_of : Ready → ℕ → Option Up
 up_of v t = slice_index_or v.ups t None
@@ -30,15 +30,15 @@ place_of v t = (def_of v t).priority - 1
 
 abbrev pub has_open : Option Up → Bool
 has_open None = false
-has_open (Some u) = nat_lt 0 u.region || u.copies
+has_open (Some u) = nat_lt 0 u.region_count || u.cps_open
 
 abbrev pub regions_of : Option Up → ℕ
 regions_of None = 0
-regions_of (Some u) = u.region
+regions_of (Some u) = u.region_count
 
 abbrev pub copies_of : Option Up → Bool
 copies_of None = false
-copies_of (Some u) = u.copies
+copies_of (Some u) = u.cps_open
 
 abbrev pub has_run_out : ℕ → TaskDef → Option Up → Bool
 has_run_out now d None = false
@@ -78,7 +78,7 @@ popped qs p = slice_set qs p (drop 1 (slice_index_or qs p []))
 
 -- a task that was down is up, last in its queue
 abbrev pub up_last : ℕ → ℕ → Ready → Ready
-up_last t now v = record v { ups = slice_set v.ups t (Some (record { start = now; region = 0; copies = false })); queues = pushed v.queues (place_of v t) t }
+up_last t now v = record v { ups = slice_set v.ups t (Some (record { start = now; region_count = 0; cps_open = false })); queues = pushed v.queues (place_of v t) t }
 
 -- the task that is to run is down
 abbrev pub out_of_line : ℕ → Ready → Ready

@@ -3,7 +3,7 @@ use Rattle.std.specs.Prelude.{◌≡◌, ℕ, ◌+◌, ◌<◌, ◌≤◌, Bool,
 use Rattle.spec_tables.specs.declared.task.TaskDef.{TaskDef}
 use Rattle.spec_tables.specs.declared.task.TaskKind.{TaskKind}
 use Rattle.spec_tables.specs.declared.task.TaskKind.TheVariants.{Periodic}
-use Rattle.spec_tables.specs.Tasks.{Turn, Table, turn, task}
+use Rattle.spec_tables.specs.Tasks.{TaskState, Table, state_of, task}
 use Rattle.lgx_sched.specs.declared.table.Up.{Up}
 use Rattle.lgx_sched.specs.declared.table.Release.{Release}
 use Rattle.lgx_sched.specs.declared.table.Release.TheVariants.{Released, Overlap}
@@ -23,49 +23,49 @@ Ascends rank [] = Unit {0}
 Ascends rank (t ∷ ts) = Each (λ u. rank t < rank u) ts × Ascends rank ts
 
 -- the rank of a task that is up
-abbrev pub rank_of : Option Turn → ℕ
+abbrev pub rank_of : Option TaskState → ℕ
 rank_of None = 0
 rank_of (Some u) = u.rank
 
 -- a turn but for its rank
-abbrev pub without_rank : Turn → Up
-without_rank u = record { start = u.start; region = u.region; copies = u.copies }
+abbrev pub without_rank : TaskState → Up
+without_rank u = record { start = u.start; region_count = u.region_count; cps_open = u.cps_open }
 
 -- task t is up and has priority p
-abbrev pub IsUpAt : (ℕ → Option Turn) → (ℕ → ℕ) → ℕ → ℕ → Type 0
-IsUpAt turns priority p t = IsTrue (is_some (turns t)) × (priority t ≡ p)
+abbrev pub IsUpAt : (ℕ → Option TaskState) → (ℕ → ℕ) → ℕ → ℕ → Type 0
+IsUpAt states priority p t = IsTrue (is_some (states t)) × (priority t ≡ p)
 
 -- the tasks of priority p that are up, each once, by their ranks
-pub record IsQueueOf (turns : ℕ → Option Turn) (priority : ℕ → ℕ) (p : ℕ) (q : List ℕ) : Type 0 where
-  pub each : Each (IsUpAt turns priority p) q
-  pub all : (t : ℕ) → IsUpAt turns priority p t → In t q
-  pub by_rank : Ascends (λ t. rank_of (turns t)) q
+pub record IsQueueOf (states : ℕ → Option TaskState) (priority : ℕ → ℕ) (p : ℕ) (q : List ℕ) : Type 0 where
+  pub each : Each (IsUpAt states priority p) q
+  pub all : (t : ℕ) → IsUpAt states priority p t → In t q
+  pub by_rank : Ascends (λ t. rank_of (states t)) q
 
 -- the tasks of priority p that are up with a rank below n, each once, by their ranks
-pub record IsAheadOf (turns : ℕ → Option Turn) (priority : ℕ → ℕ) (p n : ℕ) (q : List ℕ) : Type 0 where
-  pub each : Each (λ t. IsUpAt turns priority p t × (rank_of (turns t) < n)) q
-  pub all : (t : ℕ) → IsUpAt turns priority p t → rank_of (turns t) < n → In t q
-  pub by_rank : Ascends (λ t. rank_of (turns t)) q
+pub record IsAheadOf (states : ℕ → Option TaskState) (priority : ℕ → ℕ) (p n : ℕ) (q : List ℕ) : Type 0 where
+  pub each : Each (λ t. IsUpAt states priority p t × (rank_of (states t) < n)) q
+  pub all : (t : ℕ) → IsUpAt states priority p t → rank_of (states t) < n → In t q
+  pub by_rank : Ascends (λ t. rank_of (states t)) q
 
 -- task t is up with priority p, and exactly i tasks of this priority that are up have a lower rank
 abbrev pub IsInLine : Table → ℕ → ℕ → ℕ → Type 0
 IsInLine s p i t =
-    IsUpAt (turn s) (λ k. (task s k).priority) p t × ((q : List ℕ) × (IsAheadOf (turn s) (λ k. (task s k).priority) p (rank_of (turn s t)) q × (length q ≡ i)))
+    IsUpAt (state_of s) (λ k. (task s k).priority) p t × ((q : List ℕ) × (IsAheadOf (state_of s) (λ k. (task s k).priority) p (rank_of (state_of s t)) q × (length q ≡ i)))
 
 -- at most i tasks of priority p are up, so that none has i of them before it
 abbrev pub AtMostUp : Table → ℕ → ℕ → Type 0
-AtMostUp s p i = (q : List ℕ) × (IsQueueOf (turn s) (λ k. (task s k).priority) p q × (length q ≤ i))
+AtMostUp s p i = (q : List ℕ) × (IsQueueOf (state_of s) (λ k. (task s k).priority) p q × (length q ≤ i))
 
 -- The same tasks are up, with the same starts, regions and open CPS; the tick of the last change to Run is the same; the
 -- ranks of the tasks that are up differ and are below the next; and the up tasks of each priority stand in their queue by
 -- rank. The numbers of the ranks don't matter.
 pub record StandsFor (v : Ready) (s : Table) : Type 0 where
   pub defs : v.defs ≡ s.defs
-  pub ups : v.ups ≡ map (option_map without_rank) s.turns
-  pub ran_at : v.ran_at ≡ s.ran_at
-  pub below : (t : ℕ) → IsTrue (is_some (turn s t)) → rank_of (turn s t) < s.next
-  pub differ : (t u : ℕ) → IsTrue (is_some (turn s t)) → IsTrue (is_some (turn s u)) → rank_of (turn s t) ≡ rank_of (turn s u) → t ≡ u
-  pub queues : (p : ℕ) → IsQueueOf (turn s) (λ t. (task s t).priority) (p + 1) (queue_at v p)
+  pub ups : v.ups ≡ map (option_map without_rank) s.states
+  pub run_since : v.run_since ≡ s.run_since
+  pub below : (t : ℕ) → IsTrue (is_some (state_of s t)) → rank_of (state_of s t) < s.next
+  pub differ : (t u : ℕ) → IsTrue (is_some (state_of s t)) → IsTrue (is_some (state_of s u)) → rank_of (state_of s t) ≡ rank_of (state_of s u) → t ≡ u
+  pub queues : (p : ℕ) → IsQueueOf (state_of s) (λ t. (task s t).priority) (p + 1) (queue_at v p)
 
 -- a release of a task that is up overlaps
 abbrev pub release_answer : Bool → Release
@@ -101,4 +101,4 @@ IsTable v = IsSound v × ((s : Table) × StandsFor v s)
 
 -- the list of a table that was just made: every task is down
 abbrev pub none_up : List TaskDef → ℕ → Table
-none_up defs next = record { defs = defs; turns = replicate (length defs) None; next = next; ran_at = 0 }
+none_up defs next = record { defs = defs; states = replicate (length defs) None; next = next; run_since = 0 }

@@ -2,13 +2,13 @@
 #[derive(Clone, Copy)]
 struct Turn {
     rank: u32,
-    region: u32,
+    region_count: u32,
 }
 
 #[derive(Drop)]
 pub struct Slow {
     priorities: [u8; 4],
-    turns: [Option<Turn>; 4],
+    states: [Option<Turn>; 4],
     next: u32,
 }
 
@@ -16,14 +16,14 @@ impl Slow {
     pub fn new(priorities: [u8; 4]) -> Slow {
         Slow {
             priorities,
-            turns: [None; 4],
+            states: [None; 4],
             next: 0,
         }
     }
 
     fn is_before(&self, t: usize, best: Option<usize>) -> bool {
-        match (self.turns.get(t).copied(), best) {
-            (Some(Some(turn)), Some(b)) => match self.turns.get(b).copied() {
+        match (self.states.get(t).copied(), best) {
+            (Some(Some(turn)), Some(b)) => match self.states.get(b).copied() {
                 Some(Some(other)) if t < 4 && b < 4 => {
                     let (mine, least) = (self.priorities[t], self.priorities[b]);
                     mine < least || (mine == least && turn.rank < other.rank)
@@ -38,8 +38,8 @@ impl Slow {
     pub fn chosen(&self) -> Option<usize> {
         let mut best = None;
         for t in 0..4 {
-            if let Some(turn) = self.turns[t] {
-                if turn.region > 0 {
+            if let Some(turn) = self.states[t] {
+                if turn.region_count > 0 {
                     return Some(t);
                 }
             }
@@ -51,7 +51,7 @@ impl Slow {
     }
 
     pub fn release(&mut self, t: usize) {
-        if t < 4 && self.turns[t].is_none() {
+        if t < 4 && self.states[t].is_none() {
             self.put(t, 0);
         }
     }
@@ -59,8 +59,8 @@ impl Slow {
     pub fn rotate(&mut self) {
         if let Some(t) = self.chosen() {
             if t < 4 {
-                if let Some(turn) = self.turns[t] {
-                    if turn.region == 0 {
+                if let Some(turn) = self.states[t] {
+                    if turn.region_count == 0 {
                         self.put(t, 0);
                     }
                 }
@@ -70,22 +70,25 @@ impl Slow {
 
     pub fn finish(&mut self, t: usize) {
         if t < 4 {
-            self.turns[t] = None;
+            self.states[t] = None;
         }
     }
 
-    pub fn set_region(&mut self, t: usize, region: u32) {
+    pub fn set_region(&mut self, t: usize, region_count: u32) {
         if t < 4 {
-            if let Some(turn) = self.turns[t] {
-                self.turns[t] = Some(Turn { region, ..turn });
+            if let Some(turn) = self.states[t] {
+                self.states[t] = Some(Turn {
+                    region_count,
+                    ..turn
+                });
             }
         }
     }
 
-    fn put(&mut self, t: usize, region: u32) {
+    fn put(&mut self, t: usize, region_count: u32) {
         if t < 4 {
             let rank = self.next;
-            self.turns[t] = Some(Turn { rank, region });
+            self.states[t] = Some(Turn { rank, region_count });
             self.next = rank.wrapping_add(1);
         }
     }

@@ -6,8 +6,8 @@ ghost use Rattle.lgx_sched.specs.Ready.{Ready, up_of, def_of, queue_at, place_of
 ghost use Rattle.lgx_sched.specs.StandsFor.{StandsFor, IsInLine, AtMostUp, IsTable, HasPeriod, none_up, release_answer};
 
 use crate::queue::Queues;
+use lgx_num::{Items, Memory};
 use spec_tables::{TaskDef, TaskKind};
-use lgx_num::{List as Items, Memory};
 use std::alloc::{AllocError, Global};
 use std::marker::Model;
 
@@ -16,8 +16,8 @@ use std::marker::Model;
 #[derive(Clone, Copy)]
 pub struct Up {
     pub start: u32,
-    pub region: u32,
-    pub copies: bool,
+    pub region_count: u32,
+    pub cps_open: bool,
 }
 
 /// What a release did.
@@ -35,7 +35,7 @@ pub struct TaskTable {
     ups: Vec<Option<Up>>,
     queues: Queues,
     opened: Option<u32>,
-    ran_at: u32,
+    run_since: u32,
 }
 
 impl Model for TaskTable {
@@ -45,9 +45,9 @@ impl Model for TaskTable {
 
     ghost use Rattle.lgx_sched.specs.StandsFor.{IsTable};
 
-    ghost view = { λ t. record { defs = t.defs; ups = t.ups.items; queues = t.queues; opened = t.opened; ran_at = t.ran_at } };
+    ghost view = { λ t. record { defs = t.defs; ups = t.ups.items; queues = t.queues; opened = t.opened; run_since = t.run_since } };
 
-    ghost invariant = { λ t. IsTable (record { defs = t.defs; ups = t.ups.items; queues = t.queues; opened = t.opened; ran_at = t.ran_at }) };
+    ghost invariant = { λ t. IsTable (record { defs = t.defs; ups = t.ups.items; queues = t.queues; opened = t.opened; run_since = t.run_since }) };
 }
 
 impl TaskTable {
@@ -67,7 +67,7 @@ impl TaskTable {
             ups,
             queues,
             opened: None,
-            ran_at: 0,
+            run_since: 0,
         })
     }
 
@@ -150,7 +150,7 @@ impl TaskTable {
         ensures stands { (s : Table) → StandsFor self.old s → StandsFor self.new (stop s) }
         ensures defs { self.new.defs ≡ self.old.defs }
     {
-        self.put_all_down(self.ran_at);
+        self.put_all_down(self.run_since);
     }
 
     /// Whether a periodic task is due at the tick `now`.
@@ -159,7 +159,8 @@ impl TaskTable {
         ensures { (s : Table) → StandsFor self.now s → result ≡ due t now s }
     {
         match self.defs.as_slice()[t as usize].kind {
-            TaskKind::Periodic(period) => self.ran_at < now && (now - self.ran_at) % period == 0,
+            TaskKind::Periodic(period) => self.run_since < now
+                && (now - self.run_since) % period == 0,
             TaskKind::Continuous | TaskKind::Event => false,
         }
     }
@@ -172,12 +173,12 @@ impl TaskTable {
     }
 
     /// The number of open regions of a task; 0 where it is down.
-    pub fn region(&self, t: u32) -> u32
+    pub fn region_count(&self, t: u32) -> u32
         requires task { t < length self.now.defs }
         ensures { result ≡ regions_of (up_of self.now t) }
     {
         match self.ups[t as usize] {
-            Some(up) => up.region,
+            Some(up) => up.region_count,
             None => 0,
         }
     }
@@ -193,7 +194,7 @@ impl TaskTable {
         self.change(
             t,
             Up {
-                region: up.region + 1,
+                region_count: up.region_count + 1,
                 ..up
             },
         );
@@ -209,7 +210,7 @@ impl TaskTable {
         self.change(
             t,
             Up {
-                region: up.region.saturating_sub(1),
+                region_count: up.region_count.saturating_sub(1),
                 ..up
             },
         );
@@ -222,7 +223,13 @@ impl TaskTable {
         ensures defs { self.new.defs ≡ self.old.defs }
     {
         let up = self.up_now(t);
-        self.change(t, Up { region: 0, ..up });
+        self.change(
+            t,
+            Up {
+                region_count: 0,
+                ..up
+            },
+        );
     }
 
     /// A CPS of the chosen task `t` starts, or has copied its last element.
@@ -232,7 +239,13 @@ impl TaskTable {
         ensures defs { self.new.defs ≡ self.old.defs }
     {
         let up = self.up_now(t);
-        self.change(t, Up { copies: sync, ..up });
+        self.change(
+            t,
+            Up {
+                cps_open: sync,
+                ..up
+            },
+        );
     }
 
     /// Whether a CPS is in progress.
@@ -253,8 +266,8 @@ impl TaskTable {
         let place = place(self.defs.as_slice(), t);
         self.ups[t as usize] = Some(Up {
             start: now,
-            region: 0,
-            copies: false,
+            region_count: 0,
+            cps_open: false,
         });
         self.queues.push_last(place, t);
     }
@@ -269,14 +282,14 @@ impl TaskTable {
         self.queues.push_last(place, t);
     }
 
-    fn put_all_down(&mut self, ran_at: u32)
-        ensures exact { self.new ≡ record (all_down self.old) { ran_at = ran_at } }
+    fn put_all_down(&mut self, run_since: u32)
+        ensures exact { self.new ≡ record (all_down self.old) { run_since = run_since } }
         ensures table { IsTable self.old }
     {
         put_down(&mut self.ups);
         self.queues.clear();
         self.opened = None;
-        self.ran_at = ran_at;
+        self.run_since = run_since;
     }
 
     fn up_now(&self, t: u32) -> Up
@@ -345,7 +358,7 @@ fn continuous_task(defs: &[TaskDef]) -> Option<u32>
 fn opened_by(t: u32, up: Up) -> Option<u32>
     ensures { result ≡ opened_by t up }
 {
-    if up.region > 0 || up.copies {
+    if up.region_count > 0 || up.cps_open {
         Some(t)
     } else {
         None
@@ -356,7 +369,7 @@ fn has_cps(up: Option<Up>) -> bool
     ensures { result ≡ copies_of up }
 {
     match up {
-        Some(up) => up.copies,
+        Some(up) => up.cps_open,
         None => false,
     }
 }

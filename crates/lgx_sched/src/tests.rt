@@ -38,7 +38,7 @@ fn open_task_keeps_its_place(rt: HostRuntime) -> Result<(), Memory> {
     assert_eq!(rt; table.release(1, 5), Release::Released);
     assert_eq!(rt; table.release(0, 5), Release::Released);
     if let Some(t) = table.chosen() {
-        if t < 2 && table.region(t) < 9 {
+        if t < 2 && table.region_count(t) < 9 {
             table.region_up(t);
         }
     }

@@ -11,7 +11,7 @@ use Rattle.spec_language.specs.declared.tag.TagCode.TheVariants as code
 use Rattle.spec_base.specs.FirstCause.{◌>>=◌, some_or}
 use Rattle.spec_language.specs.Declarations.{Entry, Declarations, same_scope, is_named, entry_of}
 use Rattle.spec_language.specs.Resolution.{seen_from, meant, named_within}
-use Rattle.spec_language.proofs.FoundLie.{and_left}
+use Rattle.spec_language.proofs.FoundBounds.{and_left}
 use Rattle.lgx_tags.specs.Chains.{Answer, Known, number_in, seen_number, answer, answer_at, answer_of, named_by, target_in, value_in, Below, is_g7, is_open}
 use Rattle.lgx_tags.specs.Starts.{start_of}
 use Rattle.lgx_tags.proofs.Starts.{next, seek, entry_found}

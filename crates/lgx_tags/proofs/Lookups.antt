@@ -13,7 +13,7 @@ use Rattle.spec_language.specs.declared.types.TypeDecl.{TypeDecl}
 use Rattle.spec_language.specs.declared.tag.Scope.{Scope}
 use Rattle.spec_language.specs.declared.tag.Scope.TheVariants.{Controller, Program}
 use Rattle.spec_language.specs.Declarations.{Entry, same_scope, is_named}
-use Rattle.spec_language.proofs.FoundLie.{and_left, and_right}
+use Rattle.spec_language.proofs.FoundBounds.{and_left, and_right}
 use Rattle.lgx_tags.specs.Keys.{lowered, key_of}
 use Rattle.lgx_tags.specs.Tables.{IsLetIn, keys_of}
 use Rattle.lgx_tags.specs.declared.key.Key.{Key}

@@ -7,7 +7,7 @@ use Rattle.spec_language.specs.declared.tag.Found.{Found}
 use Rattle.spec_language.specs.Declarations.{Meaning, tag, alias, Entry, Declarations, bytes}
 use Rattle.spec_language.specs.Resolution.{target_of, named_within, aliases}
 use Rattle.spec_language.specs.ResolutionLaws.{Sound, LiesIn}
-use Rattle.spec_language.proofs.FoundLie.{named_lies}
+use Rattle.spec_language.proofs.FoundBounds.{named_lies}
 use Rattle.lgx_tags.specs.Chains.{Known, named_by, open_in, Below, Partly, IsStill, Looked, Passed, Walked}
 use Rattle.lgx_tags.proofs.Declares.{ArePlaced}
 use Rattle.lgx_tags.proofs.Chains.{known_below}

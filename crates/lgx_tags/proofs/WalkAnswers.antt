@@ -11,7 +11,7 @@ use Rattle.spec_language.specs.LayoutLaws.{SoundTypes}
 use Rattle.spec_language.specs.OperandForm.{is_tag_name, Form, tag, Token, word, tokens, form_from, form_of, form}
 use Rattle.spec_language.specs.Resolution.{Subscripts, numbers_alone, resolved, in_form}
 use Rattle.spec_language.specs.ResolutionLaws.{LiesIn}
-use Rattle.spec_language.proofs.FoundLie.{text_lies}
+use Rattle.spec_language.proofs.FoundBounds.{text_lies}
 use Rattle.lgx_tags.specs.Parts.{Part, first_part, begins_marked, before}
 use Rattle.lgx_tags.specs.Walk.{Reading, step, end_behind, walked, Answers, NamesLie}
 use Rattle.lgx_tags.specs.declared.error.TagError.{TagError}

@@ -4,7 +4,7 @@ use Rattle.std.specs.List.{AllByRecursion as Each}
 use Rattle.std.proofs.Common.{sym, subst, arith}
 use Rattle.std.proofs.lemmas.Bool.Decides.{nat_tests}
 use Rattle.lgx_num.specs.Name.{is_name}
-use Rattle.lgx_num.specs.Paths.{Leads}
+use Rattle.lgx_num.specs.Paths.{CanReach}
 use Rattle.lgx_num.specs.declared.place.Index.{Index}
 use Rattle.spec_language.specs.declared.types.Base.{Base}
 use Rattle.spec_language.specs.declared.types.Base.TheVariants.{Bool as OneBit, Sint, Int, Dint, Timer, Counter, User}
@@ -20,7 +20,7 @@ use Rattle.spec_language.specs.OperandForm.{are_digits, digits_number}
 use Rattle.spec_language.specs.Resolution.{is_array, find_member, find_element, find_bit, find_indexed, may_index, index_by, Subscripts}
 use Rattle.spec_language.specs.ResolutionLaws.{LiesIn, width}
 use Rattle.spec_base.proofs.Binds.{bind_ok, ok_inj, err_not_ok, unless_ok}
-use Rattle.spec_language.proofs.FoundLie.{member_lies, element_lies, bit_lies, indexed_lies}
+use Rattle.spec_language.proofs.FoundBounds.{member_lies, element_lies, bit_lies, indexed_lies}
 use Rattle.spec_language.proofs.SizesSettle.{even_none, sizes_length}
 use Rattle.spec_language.proofs.Subscripts.{each_append}
 use Rattle.lgx_types.specs.Tables.{IsNumbered, HasSize}
@@ -31,7 +31,7 @@ use Rattle.lgx_tags.specs.Walk.{find_dotted, Reading, may_open, open_at, close_a
 -- ---- bounds
 
 -- with all subscripts 0 nothing is moved
-leads_none : (is : List Index) (at : ℕ) → Each (λ i. 0 < i.length) is → Leads is at at
+leads_none : (is : List Index) (at : ℕ) → Each (λ i. 0 < i.length) is → CanReach is at at
 leads_none [] at p = refl
 leads_none (i ∷ is) at p = (0, at, p.0, leads_none is at p.1, omega arith)
 

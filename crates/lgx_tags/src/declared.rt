@@ -18,9 +18,9 @@ use crate::key::{Key, ROOM};
 use crate::layout::{Known, Laid, by_scope, in_order, lay, round_up};
 use crate::tag_name::{is_name, is_tag_name};
 use indexmap::IndexSet;
-use spec_language::{DataType, Scope, TagCode};
 use lgx_num::Memory;
 use lgx_types::TypeTable;
+use spec_language::{DataType, Scope, TagCode};
 use std::alloc::Global;
 use std::marker::Model;
 

@@ -5,8 +5,8 @@ ghost use Rattle.spec_language.specs.Resolution.{target_of};
 ghost use Rattle.lgx_tags.specs.Chains.{is_target};
 ghost use Rattle.lgx_tags.specs.Meanings.{type_in};
 
+use lgx_num::{Items, Memory};
 use spec_language::{DataType, Scope};
-use lgx_num::{List, Memory};
 use std::alloc::Global;
 use std::marker::Model;
 
@@ -14,14 +14,14 @@ use std::marker::Model;
 #[derive(Drop)]
 pub(crate) enum Meaning {
     Tag(DataType),
-    Alias(List<u8>),
+    Alias(Items<u8>),
 }
 
 /// A tag or an alias, with its scope and its name as it was written.
 #[derive(Drop)]
 pub(crate) struct Entry {
     scope: Scope,
-    name: List<u8>,
+    name: Items<u8>,
     meaning: Meaning,
 }
 
@@ -35,10 +35,10 @@ impl Model for Entry {
     ghost view = { λ e. record { scope = e.scope; name = e.name; meaning = meaning_of e.meaning } };
 }
 
-fn copied(alloc: Global, text: &[u8]) -> Result<List<u8>, Memory>
+fn copied(alloc: Global, text: &[u8]) -> Result<Items<u8>, Memory>
     ensures { IfOk result (λ copy. copy ≡ text.now) }
 {
-    Ok(List::of(Vec::from_slice(alloc, text)?))
+    Ok(Items::of(Vec::from_slice(alloc, text)?))
 }
 
 impl Entry {

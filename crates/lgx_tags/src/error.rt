@@ -2,8 +2,8 @@
 ghost use Rattle.std.specs.Prelude.{◌≡◌};
 ghost use Rattle.lgx_tags.specs.declared.error.TagError.TheVariants.{Tag, Memory as no_memory};
 
-use spec_language::TagCode;
 use lgx_num::Memory;
+use spec_language::TagCode;
 use std::alloc::AllocFailed;
 
 /// Why a tag wasn't declared, or an operand names no place.

@@ -7,9 +7,9 @@ ghost use Rattle.lgx_tags.specs.Scopes.{IsScopeOf};
 ghost use Rattle.lgx_tags.specs.Layouts.{slot_of, with_entry, rows_of, lay, lay_end, known_from};
 
 use crate::entry::Entry;
-use spec_language::{DataType, Scope, TagCode};
 use lgx_num::Memory;
 use lgx_types::TypeTable;
+use spec_language::{DataType, Scope, TagCode};
 use std::alloc::Global;
 use std::marker::Model;
 

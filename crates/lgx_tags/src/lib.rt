@@ -22,6 +22,6 @@ mod tag_name;
 mod tests;
 
 pub use error::{SealError, TagError};
-pub use spec_language::{Found, Scope, TagCode};
 pub use span::TagSpan;
+pub use spec_language::{Found, Scope, TagCode};
 pub use table::TagTable;

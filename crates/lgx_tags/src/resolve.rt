@@ -12,8 +12,8 @@ use crate::error::TagError;
 use crate::form::is_form;
 use crate::part::{Part, first_part, split_word};
 use crate::subscript::{find_dotted, find_element, find_indexed, is_array, number_of};
-use spec_language::{Found, TagCode};
 use lgx_types::TypeTable;
+use spec_language::{Found, TagCode};
 use std::alloc::Global;
 use std::marker::Model;
 

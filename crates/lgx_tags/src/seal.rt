@@ -11,8 +11,8 @@ use crate::error::TagError;
 use crate::layout::{Known, Spot};
 use crate::part::split_word;
 use crate::resolve::{Names, Subscripts, resolve_text};
-use spec_language::{Found, Scope, TagCode};
 use lgx_num::{Memory, Steps};
+use spec_language::{Found, Scope, TagCode};
 
 /// What the names of tags stand for, seen from one scope, by what is known of the entries.
 #[derive(Drop)]

@@ -9,9 +9,9 @@ ghost use Rattle.lgx_types.specs.Tables.{HasSize};
 ghost use Rattle.lgx_tags.specs.Walk.{find_dotted};
 
 use crate::part::are_digits;
-use spec_language::{Base, DataType, Found, TagCode};
 use lgx_num::{Index, Kind, Name, Place};
 use lgx_types::TypeTable;
+use spec_language::{Base, DataType, Found, TagCode};
 
 /// Whether the type is an array.
 pub(crate) fn is_array(of: DataType) -> bool

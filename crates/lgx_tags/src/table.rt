@@ -17,9 +17,9 @@ use crate::layout::{Known, Laid, known_from};
 use crate::resolve::{Subscripts, resolve_text};
 use crate::seal::{Seen, first_bad, walk};
 use crate::span::TagSpan;
-use spec_language::{DataType, Found, Scope};
 use lgx_num::Memory;
 use lgx_types::TypeTable;
+use spec_language::{DataType, Found, Scope};
 use std::alloc::Global;
 use std::marker::Model;
 

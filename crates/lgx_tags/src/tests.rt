@@ -3,8 +3,8 @@ ghost use Rattle.std.specs.Prelude.{◌≡◌, ◌+◌, ◌<◌, ◌≤◌, true
 ghost use Rattle.lgx_tags.specs.Fresh.{IsFresh};
 
 use crate::{Scope, SealError, TagCode, TagError, TagTable};
-use spec_language::{Base, DataType};
 use lgx_types::TypeTable;
+use spec_language::{Base, DataType};
 use std::alloc::Global;
 use std::process::Abort;
 use std::test::Fail;

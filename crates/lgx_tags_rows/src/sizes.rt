@@ -2,9 +2,9 @@
 ghost use Rattle.std.specs.Prelude.{◌≡◌, false, true, IfOk};
 ghost use Rattle.lgx_tags.specs.Scopes.{IsScopeOf};
 
-use spec_language::{Base, DataType};
 use lgx_tags::{Scope, TagError, TagTable};
 use lgx_types::TypeTable;
+use spec_language::{Base, DataType};
 use std::alloc::Global;
 use std::test::Fail;
 

@@ -1,8 +1,8 @@
 // The counter instructions.
 ghost use Rattle.std.specs.Prelude.{◌≡◌, ◌+◌, ◌≤◌, length, IsTrue};
 ghost use Rattle.lgx_rung.specs.declared.op.Op.TheVariants.{Ctu, Ctd};
-ghost use Rattle.spec_scan.specs.Counters.{one_up, one_down, judged, counter};
-ghost use Rattle.lgx_image.specs.Grains.{Spread};
+ghost use Rattle.spec_scan.specs.Counters.{one_up, one_down, with_done, counter};
+ghost use Rattle.lgx_image.specs.Grains.{ChangesOnlyMarked};
 ghost use Rattle.lgx_time.specs.Families.{is_counter};
 
 use crate::words::{CD, CU, DN, OV, UN, accumulator, bit, is_reached, put_accumulator, put_bit};
@@ -14,7 +14,7 @@ pub fn run_counter(op: Op, at: u32, on: bool, image: &mut Image)
     requires family { IsTrue (is_counter op) }
     requires lies { at + 12 ≤ length image.old.bytes }
     ensures bytes { image.new.bytes ≡ counter op at on image.old.bytes }
-    ensures spread { Spread image.old image.new }
+    ensures only_marked { ChangesOnlyMarked image.old image.new }
 {
     match op {
         Op::Ctu => ctu(at, on, image),
@@ -27,7 +27,7 @@ pub fn run_counter(op: Op, at: u32, on: bool, image: &mut Image)
 fn ctu(at: u32, on: bool, image: &mut Image)
     requires lies { at + 12 ≤ length image.old.bytes }
     ensures bytes { image.new.bytes ≡ counter Ctu at on image.old.bytes }
-    ensures spread { Spread image.old image.new }
+    ensures only_marked { ChangesOnlyMarked image.old image.new }
 {
     if !on {
         put_bit(at, CU, false, image);
@@ -42,7 +42,7 @@ fn ctu(at: u32, on: bool, image: &mut Image)
 fn ctd(at: u32, on: bool, image: &mut Image)
     requires lies { at + 12 ≤ length image.old.bytes }
     ensures bytes { image.new.bytes ≡ counter Ctd at on image.old.bytes }
-    ensures spread { Spread image.old image.new }
+    ensures only_marked { ChangesOnlyMarked image.old image.new }
 {
     if !on {
         put_bit(at, CD, false, image);
@@ -57,7 +57,7 @@ fn ctd(at: u32, on: bool, image: &mut Image)
 fn one_up(at: u32, image: &mut Image)
     requires lies { at + 12 ≤ length image.old.bytes }
     ensures bytes { image.new.bytes ≡ one_up at image.old.bytes }
-    ensures spread { Spread image.old image.new }
+    ensures only_marked { ChangesOnlyMarked image.old image.new }
 {
     match accumulator(at, image).checked_add(1) {
         Some(next) => put_accumulator(at, next, image),
@@ -72,7 +72,7 @@ fn one_up(at: u32, image: &mut Image)
 fn one_down(at: u32, image: &mut Image)
     requires lies { at + 12 ≤ length image.old.bytes }
     ensures bytes { image.new.bytes ≡ one_down at image.old.bytes }
-    ensures spread { Spread image.old image.new }
+    ensures only_marked { ChangesOnlyMarked image.old image.new }
 {
     match accumulator(at, image).checked_sub(1) {
         Some(next) => put_accumulator(at, next, image),
@@ -86,8 +86,8 @@ fn one_down(at: u32, image: &mut Image)
 /// A counter is done exactly where it has come up to its preset.
 fn judge(at: u32, image: &mut Image)
     requires lies { at + 12 ≤ length image.old.bytes }
-    ensures bytes { image.new.bytes ≡ judged at image.old.bytes }
-    ensures spread { Spread image.old image.new }
+    ensures bytes { image.new.bytes ≡ with_done at image.old.bytes }
+    ensures only_marked { ChangesOnlyMarked image.old image.new }
 {
     let done = is_reached(at, image);
     put_bit(at, DN, done, image);

@@ -3,8 +3,8 @@ ghost use Rattle.std.specs.Prelude.{◌≡◌, ◌+◌, ◌≤◌, pos, ◌+ℤ�
 ghost use Rattle.std.specs.Int.{int_min, int_max};
 ghost use Rattle.lgx_rung.specs.declared.op.Op.TheVariants.{Ton, Rto, Tof};
 ghost use Rattle.spec_scan.specs.StatusWords.{en_bit, tt_bit, put_status};
-ghost use Rattle.spec_scan.specs.Timers.{has_negative, add_ticks, counted_on, judged_on, count_on, counted_off, judged_off, count_off, timer};
-ghost use Rattle.lgx_image.specs.Grains.{Spread};
+ghost use Rattle.spec_scan.specs.Timers.{has_negative, add_ticks, counted_on, with_done_on, count_on, counted_off, with_done_off, count_off, timer};
+ghost use Rattle.lgx_image.specs.Grains.{ChangesOnlyMarked};
 ghost use Rattle.lgx_time.specs.Families.{is_timer};
 ghost use Rattle.lgx_time.specs.Numbers.{kept_numbers};
 
@@ -33,7 +33,7 @@ pub fn run_timer(op: Op, at: u32, on: bool, now: u32, image: &mut Image) -> Resu
     ensures err { OnErr result (timer op at on now image.old.bytes ≡ None) }
     ensures negative { IfErr result (λ kept. kept ≡ kept_numbers image.old.bytes at) }
     ensures same { OnErr result (image.new ≡ image.old) }
-    ensures spread { Spread image.old image.new }
+    ensures only_marked { ChangesOnlyMarked image.old image.new }
 {
     match (op, on) {
         (Op::Ton | Op::Rto, true) => count_on(at, now, image),
@@ -61,7 +61,7 @@ fn count_on(at: u32, now: u32, image: &mut Image) -> Result<(), Negative>
     ensures err { OnErr result (count_on at now image.old.bytes ≡ None) }
     ensures negative { IfErr result (λ kept. kept ≡ kept_numbers image.old.bytes at) }
     ensures same { OnErr result (image.new ≡ image.old) }
-    ensures spread { Spread image.old image.new }
+    ensures only_marked { ChangesOnlyMarked image.old image.new }
 {
     check_numbers(at, image)?;
     advance_on(at, now, image);
@@ -77,7 +77,7 @@ fn count_off(at: u32, now: u32, image: &mut Image) -> Result<(), Negative>
     ensures err { OnErr result (count_off at now image.old.bytes ≡ None) }
     ensures negative { IfErr result (λ kept. kept ≡ kept_numbers image.old.bytes at) }
     ensures same { OnErr result (image.new ≡ image.old) }
-    ensures spread { Spread image.old image.new }
+    ensures only_marked { ChangesOnlyMarked image.old image.new }
 {
     if !bit(at, DN, image) {
         stop(at, image);
@@ -94,7 +94,7 @@ fn count_off(at: u32, now: u32, image: &mut Image) -> Result<(), Negative>
 fn ton_off(at: u32, image: &mut Image)
     requires lies { at + 16 ≤ length image.old.bytes }
     ensures bytes { timer Ton at false 0 image.old.bytes ≡ Some image.new.bytes }
-    ensures spread { Spread image.old image.new }
+    ensures only_marked { ChangesOnlyMarked image.old image.new }
 {
     put_bit(at, DN, false, image);
     stop(at, image);
@@ -105,7 +105,7 @@ fn ton_off(at: u32, image: &mut Image)
 fn tof_on(at: u32, now: u32, image: &mut Image)
     requires lies { at + 16 ≤ length image.old.bytes }
     ensures bytes { timer Tof at true now image.old.bytes ≡ Some image.new.bytes }
-    ensures spread { Spread image.old image.new }
+    ensures only_marked { ChangesOnlyMarked image.old image.new }
 {
     put_bit(at, DN, true, image);
     put_bit(at, TT, false, image);
@@ -118,7 +118,7 @@ fn tof_on(at: u32, now: u32, image: &mut Image)
 fn stop(at: u32, image: &mut Image)
     requires lies { at + 16 ≤ length image.old.bytes }
     ensures bytes { image.new.bytes ≡ put_status at en_bit false (put_status at tt_bit false image.old.bytes) }
-    ensures spread { Spread image.old image.new }
+    ensures only_marked { ChangesOnlyMarked image.old image.new }
 {
     put_bit(at, TT, false, image);
     put_bit(at, EN, false, image);
@@ -143,7 +143,7 @@ fn check_numbers(at: u32, image: &Image) -> Result<(), Negative>
 fn advance_on(at: u32, now: u32, image: &mut Image)
     requires lies { at + 16 ≤ length image.old.bytes }
     ensures bytes { image.new.bytes ≡ counted_on at now image.old.bytes }
-    ensures spread { Spread image.old image.new }
+    ensures only_marked { ChangesOnlyMarked image.old image.new }
 {
     if !bit(at, EN, image) {
         put_bit(at, EN, true, image);
@@ -156,7 +156,7 @@ fn advance_on(at: u32, now: u32, image: &mut Image)
 fn advance_off(at: u32, now: u32, image: &mut Image)
     requires lies { at + 16 ≤ length image.old.bytes }
     ensures bytes { image.new.bytes ≡ counted_off at now image.old.bytes }
-    ensures spread { Spread image.old image.new }
+    ensures only_marked { ChangesOnlyMarked image.old image.new }
 {
     if bit(at, EN, image) {
         put_bit(at, EN, false, image);
@@ -169,7 +169,7 @@ fn advance_off(at: u32, now: u32, image: &mut Image)
 fn add_ticks(at: u32, now: u32, image: &mut Image)
     requires lies { at + 16 ≤ length image.old.bytes }
     ensures bytes { image.new.bytes ≡ add_ticks at now image.old.bytes }
-    ensures spread { Spread image.old image.new }
+    ensures only_marked { ChangesOnlyMarked image.old image.new }
 {
     let grown = grown(accumulator(at, image), last_tick(at, image), now);
     put_accumulator(at, grown, image);
@@ -187,8 +187,8 @@ fn grown(acc: i32, last_tick: i32, now: u32) -> i32
 /// A timer that counts with a true condition is done where it has come up to its preset, and else it is timing.
 fn judge_on(at: u32, image: &mut Image)
     requires lies { at + 16 ≤ length image.old.bytes }
-    ensures bytes { image.new.bytes ≡ judged_on at image.old.bytes }
-    ensures spread { Spread image.old image.new }
+    ensures bytes { image.new.bytes ≡ with_done_on at image.old.bytes }
+    ensures only_marked { ChangesOnlyMarked image.old image.new }
 {
     let done = is_reached(at, image);
     put_bit(at, TT, !done, image);
@@ -198,8 +198,8 @@ fn judge_on(at: u32, image: &mut Image)
 /// A timer that counts with a false condition is no longer done where it has come up to its preset, and else it is timing.
 fn judge_off(at: u32, image: &mut Image)
     requires lies { at + 16 ≤ length image.old.bytes }
-    ensures bytes { image.new.bytes ≡ judged_off at image.old.bytes }
-    ensures spread { Spread image.old image.new }
+    ensures bytes { image.new.bytes ≡ with_done_off at image.old.bytes }
+    ensures only_marked { ChangesOnlyMarked image.old image.new }
 {
     if is_reached(at, image) {
         put_bit(at, TT, false, image);

@@ -1,7 +1,7 @@
 //! What stands in a timer or a counter: bits of its status word, and its numbers. `at` is the first byte of either.
 ghost use Rattle.std.specs.Prelude.{◌≡◌, ◌+◌, ◌*◌, ◌<◌, ◌≤◌, length};
 ghost use Rattle.spec_scan.specs.StatusWords.{status, put_status, dint, put_dint, pre, acc, put_acc, last_tick, put_last_tick, is_reached, reset};
-ghost use Rattle.lgx_image.specs.Grains.{Spread};
+ghost use Rattle.lgx_image.specs.Grains.{ChangesOnlyMarked};
 ghost use Rattle.lgx_time.specs.Families.{size_of};
 
 use lgx_image::Image;
@@ -63,7 +63,7 @@ pub fn put_bit(at: u32, number: u32, on: bool, image: &mut Image)
     requires lies { at + 4 ≤ length image.old.bytes }
     requires number { number < 32 }
     ensures bytes { image.new.bytes ≡ put_status at number on image.old.bytes }
-    ensures spread { Spread image.old image.new }
+    ensures only_marked { ChangesOnlyMarked image.old image.new }
 {
     let place = place(Kind::Bool, at, number, image);
     image.put(place, i32::from(on));
@@ -83,7 +83,7 @@ fn put_number(at: u32, offset: u32, value: i32, image: &mut Image)
     requires lies { at + offset + 4 ≤ length image.old.bytes }
     requires offset { offset < 16 }
     ensures bytes { image.new.bytes ≡ put_dint (at + offset) value image.old.bytes }
-    ensures spread { Spread image.old image.new }
+    ensures only_marked { ChangesOnlyMarked image.old image.new }
 {
     let place = place(Kind::Dint, at, 8 * offset, image);
     image.put(place, value);
@@ -109,7 +109,7 @@ pub(crate) fn accumulator(at: u32, image: &Image) -> i32
 pub fn put_accumulator(at: u32, value: i32, image: &mut Image)
     requires lies { at + 12 ≤ length image.old.bytes }
     ensures bytes { image.new.bytes ≡ put_acc at value image.old.bytes }
-    ensures spread { Spread image.old image.new }
+    ensures only_marked { ChangesOnlyMarked image.old image.new }
 {
     put_number(at, ACC, value, image);
 }
@@ -126,7 +126,7 @@ pub(crate) fn last_tick(at: u32, image: &Image) -> i32
 pub(crate) fn put_last_tick(at: u32, now: u32, image: &mut Image)
     requires lies { at + 16 ≤ length image.old.bytes }
     ensures bytes { image.new.bytes ≡ put_last_tick at now image.old.bytes }
-    ensures spread { Spread image.old image.new }
+    ensures only_marked { ChangesOnlyMarked image.old image.new }
 {
     put_number(at, LAST_TICK, now.cast_signed(), image);
 }
@@ -144,7 +144,7 @@ pub(crate) fn is_reached(at: u32, image: &Image) -> bool
 pub fn reset(timer: bool, at: u32, on: bool, image: &mut Image)
     requires lies { at + size_of timer ≤ length image.old.bytes }
     ensures bytes { image.new.bytes ≡ reset at on image.old.bytes }
-    ensures spread { Spread image.old image.new }
+    ensures only_marked { ChangesOnlyMarked image.old image.new }
 {
     if on {
         put_accumulator(at, 0, image);

@@ -2,8 +2,8 @@
 ghost use Rattle.std.specs.Prelude.{◌≡◌, ◌≤◌, IfSome};
 ghost use Rattle.spec_language.specs.Layout.{built_ins, looked_up, bit_at, word_at, timer_members, counter_members};
 
-use spec_language::{Base, DataType, Member};
 use lgx_num::same;
+use spec_language::{Base, DataType, Member};
 
 pub fn built_in(name: &[u8]) -> Option<Base>
     ensures { result ≡ looked_up name.now built_ins }

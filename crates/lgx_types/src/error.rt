@@ -2,8 +2,8 @@
 ghost use Rattle.std.specs.Prelude.{◌≡◌};
 ghost use Rattle.lgx_types.specs.declared.error.TypeError.TheVariants.{Fault, Memory as NoMemory};
 
-use spec_language::TypeFault;
 use lgx_num::Memory as NoMemory;
+use spec_language::TypeFault;
 use std::alloc::{AllocError, AllocFailed};
 
 /// Why there is no table: the first fault of the declarations, or want of memory.

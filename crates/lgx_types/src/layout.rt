@@ -5,12 +5,12 @@ ghost use Rattle.lgx_types.specs.Tables.{places_from};
 
 use crate::size::size_in;
 use crate::walk::{alignment, round_up};
+use lgx_num::{Items, Memory};
 use spec_language::{DataType, Member};
-use lgx_num::{List, Memory};
 use std::alloc::Global;
 
 /// The places of members of these types, in order, where the structures have these sizes.
-pub fn places(alloc: Global, types: &[DataType], sizes: &[u32]) -> Result<List<Member>, Memory>
+pub fn places(alloc: Global, types: &[DataType], sizes: &[u32]) -> Result<Items<Member>, Memory>
     requires { end_of sizes.now 0 types.now ≤ 4096 }
     ensures { IfOk result (λ places. places ≡ places_from sizes.now 0 types.now) }
 {
@@ -22,11 +22,11 @@ pub fn places(alloc: Global, types: &[DataType], sizes: &[u32]) -> Result<List<M
         places.push(Member { of, at: 8 * begin })?;
         at = begin + size_in(sizes, of);
     }
-    Ok(List::of(places))
+    Ok(Items::of(places))
 }
 
 /// The place of member `number` of structure `i`.
-pub fn place_in(places: &[List<Member>], i: u32, number: Option<u32>) -> Option<Member>
+pub fn place_in(places: &[Items<Member>], i: u32, number: Option<u32>) -> Option<Member>
     ensures { result ≡ option_and_then (λ k. slice_get (slice_index_or places.now i []) k) number }
 {
     match number {

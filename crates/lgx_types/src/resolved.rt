@@ -13,8 +13,8 @@ ghost use Rattle.lgx_types.specs.Outlines.{IsFirst, first_wrong, faults_by, faul
 use crate::error::TypeError;
 use crate::names::Names;
 use crate::structures::Structures;
+use lgx_num::{Items, Name};
 use spec_language::{Base, DataType, MemberDecl, TypeCode, TypeDecl, TypeFault};
-use lgx_num::{List, Name};
 use std::alloc::Global;
 use std::marker::Model;
 
@@ -23,15 +23,15 @@ use std::marker::Model;
 pub struct Resolved {
     structures: Structures,
     members: Vec<Names>,
-    outlines: Vec<List<DataType>>,
+    outlines: Vec<Items<DataType>>,
 }
 
 impl Model for Resolved {
-    ghost use Rattle.std.specs.Prelude.{List as Items};
+    ghost use Rattle.std.specs.Prelude.{List};
     ghost use Rattle.spec_language.specs.declared.types.TypeDecl.{TypeDecl};
     ghost use Rattle.lgx_types.specs.Outlines.{IsResolved};
 
-    ghost Value = { Items TypeDecl };
+    ghost Value = { List TypeDecl };
 
     ghost view = { λ r. r.structures };
 
@@ -118,7 +118,7 @@ fn members_of(
     structures: &Structures,
     i: u32,
     members: &[MemberDecl],
-) -> Result<(Names, List<DataType>), TypeError>
+) -> Result<(Names, Items<DataType>), TypeError>
     requires { length members.now < 4294967296 }
     ensures names { IfOk result (λ r. r.0 ≡ member_names members.now) }
     ensures types { IfOk result (λ r. r.1 ≡ outline structures.now members.now) }
@@ -134,7 +134,7 @@ fn members_of(
         let of = resolve(structures, member, first < number, i, number)?;
         types.push(of)?;
     }
-    Ok((names, List::of(types)))
+    Ok((names, Items::of(types)))
 }
 
 // The type of member `k` of structure `i`, where it is known whether an earlier one has its name.

@@ -7,8 +7,8 @@ ghost use Rattle.lgx_types.specs.Walk.{IsRing, number_of};
 ghost use Rattle.lgx_types.specs.Rings.{Reaches, AllSeen, IsSearch, IsFirstRing, Keeps, left};
 
 use crate::resolved::Resolved;
-use spec_language::Base;
 use lgx_num::Memory;
+use spec_language::Base;
 use std::alloc::Global;
 
 /// The first structure that reaches itself, where one is known that does.

@@ -8,24 +8,24 @@ ghost use Rattle.spec_language.specs.TypeFaults.{name_taken};
 
 use crate::built_in::built_in;
 use crate::names::Names;
+use lgx_num::{Items, Memory, Name};
 use spec_language::{Base, MemberDecl, TypeDecl};
-use lgx_num::{List, Memory, Name};
 use std::alloc::Global;
 use std::marker::Model;
 
 /// The declarations, with an index of the structures' names. Contracts see the declarations, in order.
 #[derive(Drop)]
 pub struct Structures {
-    decls: List<TypeDecl>,
+    decls: Items<TypeDecl>,
     names: Names,
 }
 
 impl Model for Structures {
-    ghost use Rattle.std.specs.Prelude.{◌≡◌, List as Items};
+    ghost use Rattle.std.specs.Prelude.{◌≡◌, List};
     ghost use Rattle.spec_language.specs.declared.types.TypeDecl.{TypeDecl};
     ghost use Rattle.lgx_types.specs.Outlines.{names_of};
 
-    ghost Value = { Items TypeDecl };
+    ghost Value = { List TypeDecl };
 
     ghost view = { λ s. s.decls };
 
@@ -44,7 +44,7 @@ impl Structures {
             kept.push(copied(alloc, &decls[i])?)?;
         }
         Ok(Structures {
-            decls: List::of(kept),
+            decls: Items::of(kept),
             names,
         })
     }
@@ -103,7 +103,7 @@ fn copied(alloc: Global, decl: &TypeDecl) -> Result<TypeDecl, Memory>
     }
     Ok(TypeDecl {
         name: decl.name.copied(),
-        members: List::of(members),
+        members: Items::of(members),
     })
 }
 

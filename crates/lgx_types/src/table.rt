@@ -15,8 +15,8 @@ use crate::resolved::Resolved;
 use crate::ring::first_ring;
 use crate::size::size_in;
 use crate::walk::{Settled, settle};
+use lgx_num::{Items, Memory, Name};
 use spec_language::{Base, DataType, Member, TypeCode, TypeDecl, TypeFault, sizes_are_settled};
-use lgx_num::{List, Memory, Name};
 use std::alloc::Global;
 use std::marker::Model;
 
@@ -27,15 +27,15 @@ use std::marker::Model;
 pub struct TypeTable {
     resolved: Resolved,
     sizes: Vec<u32>,
-    places: Vec<List<Member>>,
+    places: Vec<Items<Member>>,
 }
 
 impl Model for TypeTable {
-    ghost use Rattle.std.specs.Prelude.{List as Items};
+    ghost use Rattle.std.specs.Prelude.{List};
     ghost use Rattle.spec_language.specs.declared.types.TypeDecl.{TypeDecl};
     ghost use Rattle.lgx_types.specs.Tables.{IsTable};
 
-    ghost Value = { Items TypeDecl };
+    ghost Value = { List TypeDecl };
 
     ghost view = { λ t. t.resolved };
 
@@ -148,7 +148,7 @@ fn all_places(
     alloc: Global,
     resolved: &Resolved,
     bytes: &[u32],
-) -> Result<Vec<List<Member>>, Memory>
+) -> Result<Vec<Items<Member>>, Memory>
     requires sized { bytes.now ≡ sizes resolved.now }
     requires small { Each IsSmall bytes.now }
     requires sound { SoundTypes resolved.now }

@@ -4,7 +4,7 @@ ghost use Rattle.std.specs.List.{AllByRecursion as Each};
 ghost use Rattle.lgx_types.specs.Tables.{HasMembers};
 
 use super::*;
-use lgx_num::{List, Memory, Name};
+use lgx_num::{Items, Memory, Name};
 use std::alloc::Global;
 
 fn name(text: &[u8]) -> Result<Name, Memory> {
@@ -25,7 +25,7 @@ fn member(text: &[u8], of: &[u8], dim: u32) -> Result<MemberDecl, Memory> {
 fn structure(text: &[u8], members: Vec<MemberDecl>) -> Result<TypeDecl, Memory> {
     Ok(TypeDecl {
         name: name(text)?,
-        members: List::of(members),
+        members: Items::of(members),
     })
 }
 

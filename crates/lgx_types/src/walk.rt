@@ -6,8 +6,8 @@ ghost use Rattle.lgx_types.specs.declared.walk.Mark.TheVariants.{Done, Fresh, Op
 ghost use Rattle.lgx_types.specs.Walk.{capped, sized_by, element_of, IsSized, IsBegun, AreMarks, IsWalk, IsPassed, IsRing, IsSettled, size_of_mark, spent, types_at};
 
 use crate::resolved::Resolved;
-use spec_language::{Base, DataType};
 use lgx_num::Memory;
+use spec_language::{Base, DataType};
 use std::alloc::Global;
 
 // A size that is too large for a structure: all larger ones count as this one.

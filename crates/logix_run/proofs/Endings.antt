@@ -4,7 +4,7 @@ use Rattle.std.specs.Bool.{⊤}
 use Rattle.std.specs.Io.KnownBytes.{Appends}
 use Rattle.lgx_io.specs.declared.files.ReadCause.TheVariants as cause
 use Rattle.lgx_io.specs.Files.{max_bytes}
-use Rattle.lgx_io.specs.Sink.{Rose}
+use Rattle.lgx_io.specs.Sink.{FaultsRose}
 use Rattle.lgx_core.specs.Project.{Plan}
 use Rattle.lgx_core.specs.declared.event.Event.{Event}
 use Rattle.logix_run.specs.declared.status.Status.{Status}
@@ -113,20 +113,20 @@ module _ (told : Told) (before after : Failures) (held now : Option (List ℕ)) 
   ended_failures s (inl e) = failures_written s e.0 e.3 e.2
   ended_failures s (inr e) = failures_stopped s e.0
 
-  rose_written : (s : Status) (contents : Contents) → Writes held now faults count (judged contents words) s → s ≡ status.WriteFault → Rose faults count
+  rose_written : (s : Status) (contents : Contents) → Writes held now faults count (judged contents words) s → s ≡ status.WriteFault → FaultsRose faults count
   rose_written s contents (inl w) is =
       absurd (subst IsWhole (sym w.0 ∙ is) (whole_output contents (replay_of words)))
   rose_written s contents (inr (inl w)) is = w.2
   rose_written s contents (inr (inr w)) is = absurd (cc (w.0, is))
 
-  pub ended_rose : (s : Status) → Ended told before after held now faults count (replay_of words) s → s ≡ status.WriteFault → Rose faults count
+  pub ended_rose : (s : Status) → Ended told before after held now faults count (replay_of words) s → s ≡ status.WriteFault → FaultsRose faults count
   ended_rose s (inl e) is = rose_written s e.0 e.3 is
   ended_rose s (inr e) is =
       let P : Status → Type 0 = λ s. IsStopped told before after (replay_of words) s in
       absurd (subst P is e.0)
 
   -- the status that what is told calls for, where nothing outside fails
-  pub expected : (wanted s : Status) → Adds told held now words s → AddsFailure told before after words s → (s ≡ status.WriteFault → Rose faults count) → ((contents : Contents) → AreRead told words contents → (judged contents words).0 ≡ wanted) → (AddsFailure told before after words status.ReadFault → ⊥) → (AddsFailure told before after words status.TooLong → ⊥) → Calm faults count → IsOrMemory wanted s
+  pub expected : (wanted s : Status) → Adds told held now words s → AddsFailure told before after words s → (s ≡ status.WriteFault → FaultsRose faults count) → ((contents : Contents) → AreRead told words contents → (judged contents words).0 ≡ wanted) → (AddsFailure told before after words status.ReadFault → ⊥) → (AddsFailure told before after words status.TooLong → ⊥) → Calm faults count → IsOrMemory wanted s
   expected wanted status.Ok adds failures rose is_wanted reads short calm = inl (adds.2 ∙ is_wanted adds.0 adds.1)
   expected wanted status.Usage adds failures rose is_wanted reads short calm = inl (adds.2 ∙ is_wanted adds.0 adds.1)
   expected wanted status.Project adds failures rose is_wanted reads short calm = inl (adds.2 ∙ is_wanted adds.0 adds.1)

@@ -2,7 +2,7 @@
 use Rattle.std.proofs.Common.{◌≡◌, ◌⊎◌, inl, inr, ℕ, ◌<◌, ◌≤◌, length, List, Option, Some, None, IsSome, IfSome, refl, sym, ap, ◌∙◌, subst, arith}
 use Rattle.lgx_io.specs.declared.files.ReadCause.TheVariants as cause
 use Rattle.lgx_io.specs.Files.{max_bytes}
-use Rattle.lgx_io.specs.Sink.{Rose}
+use Rattle.lgx_io.specs.Sink.{FaultsRose}
 use Rattle.lgx_core.specs.Project.{Plan}
 use Rattle.lgx_core.specs.declared.event.Event.{Event}
 use Rattle.logix_run.specs.declared.status.Status.{Status}
@@ -84,7 +84,7 @@ told_here P o bytes is h = let Q : Option (List ℕ) → Type 0 = λ o. IfSome o
 no_some : (bytes : List ℕ) → IsSome (project_of bytes) → project_of bytes ≡ None → ⊥
 no_some bytes some none = let P : Option Plan → Type 0 = λ o. IsSome o in let h : IsSome {T = Plan} None = subst P none some in cc
 
-module _ (told : Told) (before after : Failures) (held now : Option (List ℕ)) (faults count : ℕ) (words : List (List ℕ)) (s : Status) (adds : Adds told held now words s) (failures : AddsFailure told before after words s) (rose : s ≡ status.WriteFault → Rose faults count) where
+module _ (told : Told) (before after : Failures) (held now : Option (List ℕ)) (faults count : ℕ) (words : List (List ℕ)) (s : Status) (adds : Adds told held now words s) (failures : AddsFailure told before after words s) (rose : s ≡ status.WriteFault → FaultsRose faults count) where
   pub only_usage : OnlyUsage words s
   only_usage is =
       let P : Status → Type 0 = λ s. Adds told held now words s in

@@ -3,7 +3,7 @@ use Rattle.std.proofs.Common.{◌≡◌, ◌⊎◌, inl, inr, ◌<◌, ◌≤◌
 use Rattle.std.specs.Io.KnownBytes.{Appends}
 use Rattle.lgx_io.specs.declared.sink.SinkFault.{SinkFault}
 use Rattle.lgx_io.specs.declared.sink.SinkFault.TheVariants.{Failed, Memory}
-use Rattle.lgx_io.specs.Sink.{Rose, AppendsPart}
+use Rattle.lgx_io.specs.Sink.{FaultsRose, AppendsPart}
 use Rattle.std.specs.List.{flat_map}
 use Rattle.logix_run.specs.declared.status.Status.{Status}
 use Rattle.logix_run.specs.Status.{status_after}
@@ -81,7 +81,7 @@ flat_map_around text (x ∷ xs) (suc i) d h =
     (r.0, ap (λ t. text x ++ t) r.1 ∙ sym (append_assoc (text x) (flat_map text (take i xs)) (text (get_or xs i d) ++ r.0)))
 
 -- the status after puts
-pub writes_done : (done : Result (Unit {0}) SinkFault) (a b : Option (List ℕ)) (f g : ℕ) (text : List ℕ) (whole s : Status) → OnOk done (Appends a b text) → OnErr done (AppendsPart a b text) → (IsErrOf done Failed → Rose f g) → s ≡ status_after done whole → Writes a b f g (whole, text) s
+pub writes_done : (done : Result (Unit {0}) SinkFault) (a b : Option (List ℕ)) (f g : ℕ) (text : List ℕ) (whole s : Status) → OnOk done (Appends a b text) → OnErr done (AppendsPart a b text) → (IsErrOf done Failed → FaultsRose f g) → s ≡ status_after done whole → Writes a b f g (whole, text) s
 writes_done (Ok x) a b f g text whole s all part failed is = inl (is, all)
 writes_done (Err Failed) a b f g text whole s all part failed is = inr (inl (is, part, failed refl))
 writes_done (Err Memory) a b f g text whole s all part failed is = inr (inr (is, part))

@@ -2,7 +2,7 @@
 use Rattle.std.specs.Prelude.{◌≡◌, ◌⊎◌, ◌≤◌, ℕ, List, length, Option, Some, None, Result, Ok, Err}
 use Rattle.std.specs.Io.KnownBytes.{Appends}
 use Rattle.lgx_io.specs.declared.files.ReadCause.TheVariants as cause
-use Rattle.lgx_io.specs.Sink.{Rose, AppendsPart}
+use Rattle.lgx_io.specs.Sink.{FaultsRose, AppendsPart}
 use Rattle.lgx_core.specs.Project.{Plan}
 use Rattle.logix_run.specs.declared.status.Status.{Status}
 use Rattle.logix_run.specs.declared.status.Status.TheVariants as status
@@ -53,7 +53,7 @@ Ends told before after names (Err status) = IsStopped told before after names st
 -- the status and all of the text, or a first part of the text and why
 abbrev pub Writes : Option (List ℕ) → Option (List ℕ) → ℕ → ℕ → Status × List ℕ → Status → Type 0
 Writes before after faults now output result =
-    ((result ≡ output.0) × Appends before after output.1) ⊎ ((result ≡ status.WriteFault) × AppendsPart before after output.1 × Rose faults now) ⊎ ((result ≡ status.Memory) × AppendsPart before after output.1)
+    ((result ≡ output.0) × Appends before after output.1) ⊎ ((result ≡ status.WriteFault) × AppendsPart before after output.1 × FaultsRose faults now) ⊎ ((result ≡ status.Memory) × AppendsPart before after output.1)
 
 -- how a call ends: it wrote what it judged of the contents that were read, or it stopped before and wrote nothing
 abbrev pub Ended : Told → Failures → Failures → Option (List ℕ) → Option (List ℕ) → ℕ → ℕ → Option (List ℕ × List ℕ) → Status → Type 0

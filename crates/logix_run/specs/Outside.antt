@@ -4,7 +4,7 @@ use Rattle.std.specs.Io.KnownBytes.{Appends}
 use Rattle.lgx_io.specs.declared.files.ReadCause.{ReadCause}
 use Rattle.lgx_io.specs.declared.files.ReadCause.TheVariants as cause
 use Rattle.lgx_io.specs.Files.{max_bytes}
-use Rattle.lgx_io.specs.Sink.{Rose, AppendsPart}
+use Rattle.lgx_io.specs.Sink.{FaultsRose, AppendsPart}
 use Rattle.logix_run.specs.declared.status.Status.{Status}
 use Rattle.logix_run.specs.declared.status.Status.TheVariants as status
 use Rattle.logix_run.specs.Project.{project_of}
@@ -97,4 +97,4 @@ NotFailed before after name = Gains before after name cause.Failed → ⊥
 
 -- the count of faults didn't rise
 abbrev pub Calm : ℕ → ℕ → Type 0
-Calm before after = Rose before after → ⊥
+Calm before after = FaultsRose before after → ⊥

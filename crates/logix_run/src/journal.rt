@@ -4,7 +4,7 @@ ghost use Rattle.logix_run.specs.Journal.{entry_of, entries_of, is_within_limits
 ghost use Rattle.logix_run.specs.Pieces.{pieces};
 
 use crate::pieces::{number_of, split_first};
-use lgx_num::{List, Memory};
+use lgx_num::{Items, Memory};
 use std::alloc::Global;
 
 /// A line of a journal: a change to Run, or so many processor steps.
@@ -80,7 +80,7 @@ fn is_within_limits(entries: &[Entry]) -> bool
 
 /// The journal that the bytes are.
 #[tactic(auto, unfolding(crate::specs::Journal::journal_entries), using(crate::proofs::Bounds::journal_entries_length))]
-pub(crate) fn read_journal(alloc: Global, bytes: &[u8]) -> Result<Option<List<Entry>>, Memory>
+pub(crate) fn read_journal(alloc: Global, bytes: &[u8]) -> Result<Option<Items<Entry>>, Memory>
     ensures entries { IfOk result (λ o. o ≡ journal_entries bytes.now) }
     ensures short { IfOk result (λ o. IfSome o (λ es. length (events_of es) ≤ 4100000)) }
 {
@@ -88,7 +88,7 @@ pub(crate) fn read_journal(alloc: Global, bytes: &[u8]) -> Result<Option<List<En
         return Ok(None);
     };
     if is_within_limits(&entries) {
-        Ok(Some(List::of(entries)))
+        Ok(Some(Items::of(entries)))
     } else {
         Ok(None)
     }

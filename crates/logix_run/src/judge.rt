@@ -9,7 +9,7 @@ use crate::status::Status;
 use crate::words::{Replay, replay_of};
 use lgx_core::Project;
 use lgx_io::Files;
-use lgx_num::List;
+use lgx_num::Items;
 use std::alloc::Global;
 
 /// What the words and the files turned out to be.
@@ -18,7 +18,7 @@ pub(crate) enum Verdict {
     Usage,
     NoProject,
     NoJournal,
-    Report(Project, List<Entry>),
+    Report(Project, Items<Entry>),
 }
 
 // The journal is read only where the project is one.

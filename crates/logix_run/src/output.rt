@@ -4,7 +4,7 @@ ghost use Rattle.logix_run.specs.Status.{status_after};
 ghost use Rattle.logix_run.specs.Journal.{events_of};
 ghost use Rattle.logix_run.specs.Report.{report};
 ghost use Rattle.std.specs.Io.KnownBytes.{Appends};
-ghost use Rattle.lgx_io.specs.Sink.{Rose, AppendsPart};
+ghost use Rattle.lgx_io.specs.Sink.{FaultsRose, AppendsPart};
 ghost use Rattle.logix_run.specs.Judging.{output, IsShort, Writes};
 
 use crate::journal::Entry;
@@ -31,7 +31,7 @@ fn write_run<K: Sink>(
     requires short { length (events_of journal.now) ≤ 4100000 }
     ensures whole { OnOk result (Appends (K.held sink.old) (K.held sink.new) (report project (events_of journal.now))) }
     ensures part { OnErr result (AppendsPart (K.held sink.old) (K.held sink.new) (report project (events_of journal.now))) }
-    ensures failed { IsErrOf result SinkFault.Failed → Rose (K.faults sink.old) (K.faults sink.new) }
+    ensures failed { IsErrOf result SinkFault.Failed → FaultsRose (K.faults sink.old) (K.faults sink.new) }
     ensures later { K.faults sink.old ≤ K.faults sink.new }
 {
     let Ok(mut recorder) = Recorder::new(alloc, project) else {

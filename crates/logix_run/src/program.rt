@@ -1,6 +1,6 @@
 // The program, over any files and any sink.
 ghost use Rattle.std.specs.Prelude.{◌≡◌, map, string_bytes};
-ghost use Rattle.lgx_io.specs.Sink.{Rose};
+ghost use Rattle.lgx_io.specs.Sink.{FaultsRose};
 ghost use Rattle.logix_run.specs.Words.{replay_of};
 ghost use Rattle.logix_run.specs.Judging.{Ended};
 ghost use Rattle.logix_run.specs.Outside.{Adds, AddsFailure};
@@ -44,7 +44,7 @@ pub fn logix_plain<F: Files, K: Sink>(
     // the list of failures gains the file that failed or is too long, and nothing at any other status
     ensures failures { AddsFailure (F.told files.old) (F.failures files.old) (F.failures files.new)
         (map string_bytes words.now) result }
-    ensures write_fault { result ≡ Status.WriteFault → Rose (K.faults sink.old) (K.faults sink.new) }
+    ensures write_fault { result ≡ Status.WriteFault → FaultsRose (K.faults sink.old) (K.faults sink.new) }
     ensures only_usage { OnlyUsage (map string_bytes words.now) result }
     ensures usage { IsUsage (K.faults sink.old) (K.faults sink.new) (map string_bytes words.now) result }
     ensures only_project { OnlyProject (F.told files.old) (map string_bytes words.now) result }

@@ -11,11 +11,11 @@ use crate::fields::{
 use crate::rung::rung_of;
 use crate::tags::Tags;
 use lgx_core::{Initial, Ins, Project, Watch};
-use lgx_num::{List, Memory, Name, same};
+use lgx_num::{Items, Memory, Name, same};
 use serde_json::Value;
 use std::alloc::Global;
 
-type Rungs = Vec<List<Ins>>;
+type Rungs = Vec<Items<Ins>>;
 
 #[tactic(auto, unfolding(crate::specs::Project::tag_name))]
 fn tag_name(value: &Value) -> Option<Name>
@@ -74,7 +74,7 @@ fn rungs_of(alloc: Global, names: &Tags, texts: &[Value]) -> Result<Option<Rungs
             return Ok(None);
         }
         left -= rung.len();
-        rungs.push(List::of(rung))?;
+        rungs.push(Items::of(rung))?;
     }
     Ok(Some(rungs))
 }
@@ -110,7 +110,7 @@ fn program_of(
     alloc: Global,
     names: &Tags,
     value: &Value,
-) -> Result<Option<(Name, List<List<Ins>>)>, Memory>
+) -> Result<Option<(Name, Items<Items<Ins>>)>, Memory>
     requires { length names.now ≤ 4096 }
     ensures program { IfOk result (λ o. o ≡ program_of names.now (view value.now)) }
     ensures fit { IfOk result (λ o. IfSome o (λ p. IsTrue (rungs_fit (length names.now) p.1))) }
@@ -133,7 +133,7 @@ fn program_of(
     let Some(rungs) = routine_of(alloc, names, &main, routine)? else {
         return Ok(None);
     };
-    Ok(Some((name, List::of(rungs))))
+    Ok(Some((name, Items::of(rungs))))
 }
 
 #[tactic(auto, unfolding(crate::specs::Project::task_of))]
@@ -266,7 +266,7 @@ fn the_program(
     alloc: Global,
     names: &Tags,
     value: &Value,
-) -> Result<Option<(Name, List<List<Ins>>)>, Memory>
+) -> Result<Option<(Name, Items<Items<Ins>>)>, Memory>
     requires { length names.now ≤ 4096 }
     ensures program { IfOk result (λ o. o ≡ the_program names.now (view value.now)) }
     ensures fit { IfOk result (λ o. IfSome o (λ p. IsTrue (rungs_fit (length names.now) p.1))) }
@@ -339,8 +339,8 @@ fn plan_of(alloc: Global, value: &Value) -> Result<Option<Project>, Memory>
         program,
         tags: names.len() as u32,
         rungs,
-        initial: List::of(initial),
-        watches: List::of(watches),
+        initial: Items::of(initial),
+        watches: Items::of(watches),
     }))
 }
 

@@ -1,7 +1,7 @@
 // One put.
 ghost use Rattle.std.specs.Prelude.{◌≤◌, OnOk, OnErr, IsErrOf};
 ghost use Rattle.std.specs.Io.KnownBytes.{Appends};
-ghost use Rattle.lgx_io.specs.Sink.{Rose, AppendsPart};
+ghost use Rattle.lgx_io.specs.Sink.{FaultsRose, AppendsPart};
 
 use lgx_io::{Sink, SinkFault};
 
@@ -10,7 +10,7 @@ use lgx_io::{Sink, SinkFault};
 pub(crate) fn put_line<K: Sink>(line: &[u8], sink: &mut K) -> Result<(), SinkFault>
     ensures whole { OnOk result (Appends (K.held sink.old) (K.held sink.new) line.now) }
     ensures part { OnErr result (AppendsPart (K.held sink.old) (K.held sink.new) line.now) }
-    ensures failed { IsErrOf result SinkFault.Failed → Rose (K.faults sink.old) (K.faults sink.new) }
+    ensures failed { IsErrOf result SinkFault.Failed → FaultsRose (K.faults sink.old) (K.faults sink.new) }
     ensures later { K.faults sink.old ≤ K.faults sink.new }
 {
     sink.put(line)

@@ -8,7 +8,7 @@ use crate::journal::Entry;
 use crate::line::{Line, Note};
 use crate::log::Log;
 use lgx_core::{Controller, Mode, Project, Watch, What};
-use lgx_num::{List, Memory, Name};
+use lgx_num::{Items, Memory, Name};
 use std::alloc::Global;
 use std::marker::Model;
 
@@ -16,7 +16,7 @@ use std::marker::Model;
 pub(crate) struct Recorder {
     task: Name,
     program: Name,
-    watches: List<Watch>,
+    watches: Items<Watch>,
     controller: Controller,
     seen: Vec<bool>,
     log: Log,
@@ -134,7 +134,7 @@ impl Recorder {
             tags,
             rungs,
             initial,
-            watches: List::of(Vec::new(alloc)),
+            watches: Items::of(Vec::new(alloc)),
         };
         let controller = Controller::new(alloc, plain)?;
         let seen = look(alloc, watches.as_slice(), &controller)?;

@@ -3,7 +3,7 @@ ghost use Rattle.std.specs.Prelude.{◌≡◌, ◌++◌, ◌≤◌, IfOk, OnOk, 
 ghost use Rattle.std.specs.List.{flat_map};
 ghost use Rattle.std.specs.Fmt.{decimal};
 ghost use Rattle.std.specs.Io.KnownBytes.{Appends};
-ghost use Rattle.lgx_io.specs.Sink.{Rose, AppendsPart};
+ghost use Rattle.lgx_io.specs.Sink.{FaultsRose, AppendsPart};
 ghost use Rattle.logix_run.specs.Report.{reply_text, bit_text, mode_text, names_of, note_text, line_text, end_text, watch_text, recording_text};
 
 use crate::line::{Line, Note};
@@ -125,7 +125,7 @@ fn write_line<K: Sink>(
 ) -> Result<(), SinkFault>
     ensures whole { OnOk result (Appends (K.held sink.old) (K.held sink.new) (line_text (names_of task.now program.now watches.now) line)) }
     ensures part { OnErr result (AppendsPart (K.held sink.old) (K.held sink.new) (line_text (names_of task.now program.now watches.now) line)) }
-    ensures failed { IsErrOf result SinkFault.Failed → Rose (K.faults sink.old) (K.faults sink.new) }
+    ensures failed { IsErrOf result SinkFault.Failed → FaultsRose (K.faults sink.old) (K.faults sink.new) }
     ensures later { K.faults sink.old ≤ K.faults sink.new }
 {
     let text = line_text(alloc, task, program, watches, line)?;
@@ -142,7 +142,7 @@ fn write_lines<K: Sink>(
 ) -> Result<(), SinkFault>
     ensures whole { OnOk result (Appends (K.held sink.old) (K.held sink.new) (flat_map (line_text (names_of task.now program.now watches.now)) lines.now)) }
     ensures part { OnErr result (AppendsPart (K.held sink.old) (K.held sink.new) (flat_map (line_text (names_of task.now program.now watches.now)) lines.now)) }
-    ensures failed { IsErrOf result SinkFault.Failed → Rose (K.faults sink.old) (K.faults sink.new) }
+    ensures failed { IsErrOf result SinkFault.Failed → FaultsRose (K.faults sink.old) (K.faults sink.new) }
     ensures later { K.faults sink.old ≤ K.faults sink.new }
 {
     for line in lines {
@@ -160,7 +160,7 @@ fn write_end<K: Sink>(
 ) -> Result<(), SinkFault>
     ensures whole { OnOk result (Appends (K.held sink.old) (K.held sink.new) (end_text steps mode lost)) }
     ensures part { OnErr result (AppendsPart (K.held sink.old) (K.held sink.new) (end_text steps mode lost)) }
-    ensures failed { IsErrOf result SinkFault.Failed → Rose (K.faults sink.old) (K.faults sink.new) }
+    ensures failed { IsErrOf result SinkFault.Failed → FaultsRose (K.faults sink.old) (K.faults sink.new) }
     ensures later { K.faults sink.old ≤ K.faults sink.new }
 {
     let text = end_text(alloc, steps, mode, lost)?;
@@ -175,7 +175,7 @@ pub(crate) fn write_report<K: Sink>(
 ) -> Result<(), SinkFault>
     ensures whole { OnOk result (Appends (K.held sink.old) (K.held sink.new) (recording_text recorder.now)) }
     ensures part { OnErr result (AppendsPart (K.held sink.old) (K.held sink.new) (recording_text recorder.now)) }
-    ensures failed { IsErrOf result SinkFault.Failed → Rose (K.faults sink.old) (K.faults sink.new) }
+    ensures failed { IsErrOf result SinkFault.Failed → FaultsRose (K.faults sink.old) (K.faults sink.new) }
     ensures later { K.faults sink.old ≤ K.faults sink.new }
 {
     write_lines(

@@ -11,7 +11,7 @@ use Rattle.spec_base.specs.Pieces.{cut, pieces, is_empty}
 use Rattle.spec_language.specs.OperandForm.{is_part, may_lead, is_joined, is_tag_name, are_digits, Form, tag, member, element, indexed, bit, is_bit, Token, word, dot, opening, closing, put_byte, put_token, tokens, dotted, bracketed, begun, form_from, form_of, form}
 use Rattle.spec_language.specs.FormLaws.{SpellsForm, ReadsForms}
 use Rattle.spec_language.proofs.FormsSpelled.{form_spelled}
-use Rattle.spec_language.proofs.FoundLie.{and_left, and_right}
+use Rattle.spec_language.proofs.FoundBounds.{and_left, and_right}
 
 -- ---- plain bytes
 

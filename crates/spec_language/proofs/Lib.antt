@@ -2,8 +2,8 @@ mod Outlines
 pub mod Subscripts
 pub mod TypesFit
 mod TagsFit
-pub mod FoundLie
-mod OperandsLie
+pub mod FoundBounds
+mod OperandBounds
 pub mod Reaching
 pub mod SizesSettle
 mod FormsSpelled

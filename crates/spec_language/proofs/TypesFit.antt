@@ -3,7 +3,7 @@ use Rattle.std.specs.Prelude.{◌≡◌, ℕ, zero, suc, ◌+◌, ◌*◌, ◌%�
 use Rattle.lgx_num.specs.Name.{same}
 use Rattle.std.proofs.Common.{subst, arith}
 use Rattle.std.proofs.Math.Nat.{mul-le-mul_right}
-use Rattle.lgx_num.specs.Image.{BeginsWell}
+use Rattle.lgx_num.specs.Image.{IsByteAligned}
 use Rattle.spec_language.specs.declared.types.Base.{Base}
 use Rattle.spec_language.specs.declared.types.Base.TheVariants.{Bool as OneBit, Sint, Int, Dint, Timer, Counter, User}
 use Rattle.spec_language.specs.declared.types.TypeDecl.{TypeDecl}
@@ -36,7 +36,7 @@ width_of types (User i) zero e = omega arith
 width_of types (User i) (suc n) e = omega arith
 
 -- a number of whole strides on
-pub begins_on : (types : List TypeDecl) (base : Base) (at n : ℕ) → BeginsWell (kind_of base) at → BeginsWell (kind_of base) (at + n * stride types base)
+pub begins_on : (types : List TypeDecl) (base : Base) (at n : ℕ) → IsByteAligned (kind_of base) at → IsByteAligned (kind_of base) (at + n * stride types base)
 begins_on types OneBit at n p = tt
 begins_on types Sint at n p = omega arith
 begins_on types Int at n p = omega arith
@@ -46,7 +46,7 @@ begins_on types Counter at n p = omega arith
 begins_on types (User i) at n p = omega arith
 
 -- whole bytes on from a byte
-pub begins_bytes : (base : Base) (at n : ℕ) → at % 8 ≡ 0 → BeginsWell (kind_of base) (at + 8 * n)
+pub begins_bytes : (base : Base) (at n : ℕ) → at % 8 ≡ 0 → IsByteAligned (kind_of base) (at + 8 * n)
 begins_bytes OneBit at n p = tt
 begins_bytes Sint at n p = omega arith
 begins_bytes Int at n p = omega arith
@@ -74,7 +74,7 @@ bit_fits types (User i) n stop at h p = absurd (omega arith)
 
 -- what is asked of a member at a bit of a structure
 abbrev Within : List TypeDecl → ℕ → Member → Type 0
-Within types size m = (m.at + width types m.of ≤ size) × HasBytes types m.of × ((at : ℕ) → at % 8 ≡ 0 → BeginsWell (kind_of m.of.base) (at + m.at))
+Within types size m = (m.at + width types m.of ≤ size) × HasBytes types m.of × ((at : ℕ) → at % 8 ≡ 0 → IsByteAligned (kind_of m.of.base) (at + m.at))
 
 pub rounded : (types : List TypeDecl) (base : Base) (dim at : ℕ) → at ≤ round_up (alignment_of base dim) at
 rounded types OneBit zero at = omega arith
@@ -125,7 +125,7 @@ looked_up_has {A} P name table x p q = go (find (λ e. same e.0 name) table) ref
     go (Some e) r t = subst P (cc t) (each_find (λ e. P e.1) (λ e. same e.0 name) table e p r)
 
 -- a structure, a TIMER and a COUNTER begin on a byte, and what has no members has none
-pub on_byte : (base : Base) (at : ℕ) → BeginsWell (kind_of base) at → (base ≡ OneBit → ⊥) → at % 8 ≡ 0
+pub on_byte : (base : Base) (at : ℕ) → IsByteAligned (kind_of base) at → (base ≡ OneBit → ⊥) → at % 8 ≡ 0
 on_byte OneBit at p q = absurd (q refl)
 on_byte Sint at p q = p
 on_byte Int at p q = p
@@ -142,5 +142,5 @@ member_fits types base name m s p =
     none : member types OneBit name ≡ Some m → ⊥
     none q = cc q
 
-pub begins_at : (base : Base) (n : ℕ) → BeginsWell (kind_of base) (8 * n)
-begins_at base n = subst (λ (k : ℕ). BeginsWell (kind_of base) k) (omega arith) (begins_bytes base 0 n refl)
+pub begins_at : (base : Base) (n : ℕ) → IsByteAligned (kind_of base) (8 * n)
+begins_at base n = subst (λ (k : ℕ). IsByteAligned (kind_of base) k) (omega arith) (begins_bytes base 0 n refl)

@@ -5,7 +5,7 @@ use Rattle.lgx_rung.specs.Tree.{Tree, end, one, fork, Legs, last, leg, Source, S
 use Rattle.lgx_rung.specs.declared.op.Op.{Op}
 use Rattle.lgx_rung.specs.declared.ins.Ins.{Ins}
 use Rattle.spec_language.specs.Declarations.{bytes}
-use Rattle.lgx_num.specs.Paths.{OperandLies}
+use Rattle.lgx_num.specs.Paths.{OperandInBounds}
 use Rattle.std.specs.List.{AllByRecursion as Each}
 use Rattle.spec_language.specs.ResolutionLaws.{Sound}
 use Rattle.spec_language.specs.Checked.{CheckScope, checked}
@@ -33,7 +33,7 @@ KeepsOutline = (scope : CheckScope) (rungs : List Source) (made : List (Tree Ins
 
 -- every operand of checked rungs lies in the image, for all subscripts in range
 abbrev pub OperandsLie : ℕ → Tree Ins → Type 0
-OperandsLie len t = Each (λ i. Each (λ o. OperandLies o len) i.args) (instructions t)
+OperandsLie len t = Each (λ i. Each (λ o. OperandInBounds o len) i.args) (instructions t)
 
-abbrev pub CheckedLies : Type 0
-CheckedLies = (scope : CheckScope) (rungs : List Source) (made : List (Tree Ins)) → Sound scope.tags → checked scope rungs ≡ Ok made → Each (OperandsLie (bytes scope.tags)) made
+abbrev pub CheckedInBounds : Type 0
+CheckedInBounds = (scope : CheckScope) (rungs : List Source) (made : List (Tree Ins)) → Sound scope.tags → checked scope rungs ≡ Ok made → Each (OperandsLie (bytes scope.tags)) made

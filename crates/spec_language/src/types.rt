@@ -1,5 +1,5 @@
 // Data types, and structures as a project declares them.
-use lgx_num::{List, Name};
+use lgx_num::{Items, Name};
 
 /// What an element is: one of the built-in types, or the structure of this number in the list of declarations.
 #[derive(Clone, Copy, PartialEq, Eq, Debug)]
@@ -24,7 +24,7 @@ pub struct DataType {
 #[derive(Drop)]
 pub struct TypeDecl {
     pub name: Name,
-    pub members: List<MemberDecl>,
+    pub members: Items<MemberDecl>,
 }
 
 /// A member of a structure: its name, the name of its type, and its number of elements, 0 for no array.

@@ -4,32 +4,32 @@ use Rattle.std.specs.Prelude.{IsTrue, is_some}
 use Rattle.spec_scan.specs.declared.bound.Effect.{Effect}
 use Rattle.spec_scan.specs.declared.bound.Effect.TheVariants.{Ran, Up, Down, Trigger, CopyStart, Copied, Left, Minor, Major}
 use Rattle.spec_scan.specs.Scan.{advance}
-use Rattle.spec_tables.specs.Tasks.{Turn, turn, is_up, is_open, chosen}
+use Rattle.spec_tables.specs.Tasks.{TaskState, state_of, is_up, is_open, chosen}
 use Rattle.spec_machine.specs.State.{State, Scan, Progress, progress_of}
 use Rattle.spec_machine.specs.ProcessorStep.{after_effect, scan_step, task_step, with_progress, task_of}
 use Rattle.spec_machine.specs.Machine.{run}
 use Rattle.spec_machine.specs.TaskLaws.{OneOpen, UpInRun, RanksDiffer, RanksBelowNext, StepOfUpTask}
-use Rattle.spec_tables.proofs.TurnLists.{inner, chosen_up}
+use Rattle.spec_tables.proofs.StateLists.{inner, chosen_up}
 use Rattle.spec_machine.proofs.OrderlyRuns.{run_orderly}
 
 -- a turn that is open, or that is there, is a task's that is up
-open_turn : (o : Option Turn) → IsTrue (is_open o) → (u : Turn) × (o ≡ Some u) × (is_open (Some u) ≡ true)
+open_turn : (o : Option TaskState) → IsTrue (is_open o) → (u : TaskState) × (o ≡ Some u) × (is_open (Some u) ≡ true)
 open_turn None h = absurd (let f : false ≡ true → ⊥ = λ p. cc in f h)
 open_turn (Some u) h = (u, refl, h)
 
-up_turn : (o : Option Turn) → IsTrue (is_some o) → (u : Turn) × (o ≡ Some u)
+up_turn : (o : Option TaskState) → IsTrue (is_some o) → (u : TaskState) × (o ≡ Some u)
 up_turn None h = absurd (let f : false ≡ true → ⊥ = λ p. cc in f h)
 up_turn (Some u) h = (u, refl)
 
 pub one_open : OneOpen
 one_open project journal t q h k =
     let s = (run project journal).table in
-    let p = open_turn (turn s t) h in
-    let r = open_turn (turn s q) k in
+    let p = open_turn (state_of s t) h in
+    let r = open_turn (state_of s q) k in
     (run_orderly project journal).alone t q p.0 r.0 p.1 r.1 p.2 r.2
 
 pub up_in_run : UpInRun
-up_in_run project journal t h = let p = up_turn (turn (run project journal).table t) h in (run_orderly project journal).in_run t p.0 p.1
+up_in_run project journal t h = let p = up_turn (state_of (run project journal).table t) h in (run_orderly project journal).in_run t p.0 p.1
 
 pub ranks_differ : RanksDiffer
 ranks_differ project journal t q u v g k e = (run_orderly project journal).differ t q u v g k e

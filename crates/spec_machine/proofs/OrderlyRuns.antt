@@ -17,7 +17,7 @@ use Rattle.spec_machine.specs.declared.event.Action.{Action}
 use Rattle.spec_machine.specs.declared.event.Action.TheVariants.{WordIn, WordOut, Accept, Test, Untest, Assemble, Cancel, ForceInstall, ForceEnable, ForceDisable, ForceRemove, ModeRun, ModeProgram, Clear}
 use Rattle.spec_scan.specs.declared.bound.Effect.{Effect}
 use Rattle.spec_scan.specs.declared.bound.Effect.TheVariants.{Ran, Up, Down, Trigger, CopyStart, Copied, Left, Minor, Major}
-use Rattle.spec_tables.specs.Tasks.{Table, turn, region, chosen, is_up, held, rotate, expired, due}
+use Rattle.spec_tables.specs.Tasks.{Table, state_of, region_count, chosen, is_up, held, rotate, expired, due}
 use Rattle.spec_scan.specs.Scan.{Advanced, advance}
 use Rattle.spec_tables.specs.Forces.{Forces, forced, enable, remove_all}
 use Rattle.spec_tables.specs.Connections.{slot, io_word}
@@ -29,7 +29,7 @@ use Rattle.spec_machine.specs.ProcessorStep.{with_progress, scan_ended, after_ef
 use Rattle.spec_machine.specs.Ticks.{Ticked, quiet, noted, release_if_due, after_watchdogs, tick}
 use Rattle.spec_machine.specs.Actions.{Acted, held_or, after_trigger, triggers, put_in, take_out, install_on, force_replied, edit_replied, run_from, program_from, clear_from, act}
 use Rattle.spec_machine.specs.Machine.{step, run_from as run_on, run}
-use Rattle.spec_tables.proofs.TurnLists.{none_up}
+use Rattle.spec_tables.proofs.StateLists.{none_up}
 use Rattle.spec_machine.proofs.OrderlyTables.{Orderly, chosen_in_run, down_orderly, stop_orderly, region_orderly, copy_orderly, release_orderly, start_orderly, finish_orderly, rotate_orderly}
 
 abbrev pub IsOrderly : State → Type 0
@@ -64,7 +64,7 @@ after_end t p s e h c =
 
 by_effect : (s : State) (t : ℕ) (p : Progress) (n : ℕ) (effect : Effect) → s.mode ≡ Run → IsOrderly s → chosen s.table ≡ Some t → IsOrderly (after_effect s t p n effect).state
 by_effect s t p n Ran e h c = h
-by_effect s t p n Up e h c = region_orderly s.mode s.table t (region (turn s.table t) + 1) h c
+by_effect s t p n Up e h c = region_orderly s.mode s.table t (region_count (state_of s.table t) + 1) h c
 by_effect s t p n Down e h c = region_orderly s.mode s.table t _ h c
 by_effect s t p n (Trigger other) e h c = after_release other s e h
 by_effect s t p n (CopyStart sync) e h c = copy_orderly s.mode s.table t sync h c

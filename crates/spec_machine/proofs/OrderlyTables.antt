@@ -5,17 +5,17 @@ use Rattle.std.specs.Prelude.{unwrap_or, slice_set}
 use Rattle.std.specs.List.{position_from}
 use Rattle.spec_machine.specs.declared.reply.Mode.{Mode}
 use Rattle.spec_machine.specs.declared.reply.Mode.TheVariants.{Run}
-use Rattle.spec_tables.specs.Tasks.{Turn, Table, turn, task, is_up, is_open, chosen, is_continuous, put_up, put_up_if, release, stop, start, finish, with_region, set_region, with_copies, set_copy, with_rank, last_in_line, unless_open, rotate}
-use Rattle.spec_tables.proofs.TurnLists.{after_set, none_up, chosen_up, chosen_open}
+use Rattle.spec_tables.specs.Tasks.{TaskState, Table, state_of, task, is_up, is_open, chosen, is_continuous, put_up, put_up_if, release, stop, start, finish, with_region_count, set_region, with_cps_open, set_copy, with_rank, to_back, unless_open, rotate}
+use Rattle.spec_tables.proofs.StateLists.{after_set, none_up, chosen_up, chosen_open}
 
 pub record Orderly (m : Mode) (s : Table) : Type 0 where
-  pub in_run : (t : ℕ) (u : Turn) → turn s t ≡ Some u → m ≡ Run
-  pub below : (t : ℕ) (u : Turn) → turn s t ≡ Some u → u.rank < s.next
-  pub differ : (t q : ℕ) (u v : Turn) → turn s t ≡ Some u → turn s q ≡ Some v → u.rank ≡ v.rank → t ≡ q
-  pub alone : (t q : ℕ) (u v : Turn) → turn s t ≡ Some u → turn s q ≡ Some v → is_open (Some u) ≡ true → is_open (Some v) ≡ true → t ≡ q
+  pub in_run : (t : ℕ) (u : TaskState) → state_of s t ≡ Some u → m ≡ Run
+  pub below : (t : ℕ) (u : TaskState) → state_of s t ≡ Some u → u.rank < s.next
+  pub differ : (t q : ℕ) (u v : TaskState) → state_of s t ≡ Some u → state_of s q ≡ Some v → u.rank ≡ v.rank → t ≡ q
+  pub alone : (t q : ℕ) (u v : TaskState) → state_of s t ≡ Some u → state_of s q ≡ Some v → is_open (Some u) ≡ true → is_open (Some v) ≡ true → t ≡ q
 
 -- the chosen task is the one that has something open
-pub only_chosen : (m : Mode) (s : Table) (t q : ℕ) (v : Turn) → Orderly m s → chosen s ≡ Some t → turn s q ≡ Some v → is_open (Some v) ≡ true → q ≡ t
+pub only_chosen : (m : Mode) (s : Table) (t q : ℕ) (v : TaskState) → Orderly m s → chosen s ≡ Some t → state_of s q ≡ Some v → is_open (Some v) ≡ true → q ≡ t
 only_chosen m s t q v h c g o = let p = chosen_open s t q v c g o in h.alone q t v p.0 g p.1 o p.2
 
 pub chosen_in_run : (m : Mode) (s : Table) (t : ℕ) → Orderly m s → chosen s ≡ Some t → m ≡ Run
@@ -23,35 +23,35 @@ chosen_in_run m s t h c = let p = chosen_up s t c in h.in_run t p.0 p.1
 
 -- ---- all down
 
-pub down_orderly : (m : Mode) (s : Table) → ((t : ℕ) (u : Turn) → turn s t ≡ Some u → ⊥) → Orderly m s
+pub down_orderly : (m : Mode) (s : Table) → ((t : ℕ) (u : TaskState) → state_of s t ≡ Some u → ⊥) → Orderly m s
 down_orderly m s none = record { in_run = λ t u g. absurd (none t u g); below = λ t u g. absurd (none t u g); differ = λ t q u v g k e. absurd (none t u g); alone = λ t q u v g k o p. absurd (none t u g) }
 
 pub stop_orderly : (m : Mode) (s : Table) → Orderly m (stop s)
-stop_orderly m s = down_orderly m (stop s) (none_up s.turns)
+stop_orderly m s = down_orderly m (stop s) (none_up s.states)
 
 -- ---- a change of the chosen task's turn that keeps its rank
 
 -- the turn x has the rank of the turn that task t has
-abbrev SameRank : Table → ℕ → Option Turn → Type 0
-SameRank s t x = (v : Turn) → x ≡ Some v → (u : Turn) × (turn s t ≡ Some u) × (u.rank ≡ v.rank)
+abbrev SameRank : Table → ℕ → Option TaskState → Type 0
+SameRank s t x = (v : TaskState) → x ≡ Some v → (u : TaskState) × (state_of s t ≡ Some u) × (u.rank ≡ v.rank)
 
-abbrev with_turn : ℕ → Option Turn → Table → Table
-with_turn t x s = record s { turns = slice_set s.turns t x }
+abbrev with_turn : ℕ → Option TaskState → Table → Table
+with_turn t x s = record s { states = slice_set s.states t x }
 
 -- each turn afterwards has the rank of the same task's turn before
-from_before : (s : Table) (t : ℕ) (x : Option Turn) → SameRank s t x → (q : ℕ) (v : Turn) → turn (with_turn t x s) q ≡ Some v → (u : Turn) × (turn s q ≡ Some u) × (u.rank ≡ v.rank)
+from_before : (s : Table) (t : ℕ) (x : Option TaskState) → SameRank s t x → (q : ℕ) (v : TaskState) → state_of (with_turn t x s) q ≡ Some v → (u : TaskState) × (state_of s q ≡ Some u) × (u.rank ≡ v.rank)
 from_before s t x same q v g =
-    elim (after_set s.turns t q x v g) [
-      | inl p ↦ (let r = same v p.1 in (r.0, subst (λ n. turn s n ≡ Some r.0) (sym p.0) r.1, r.2))
+    elim (after_set s.states t q x v g) [
+      | inl p ↦ (let r = same v p.1 in (r.0, subst (λ n. state_of s n ≡ Some r.0) (sym p.0) r.1, r.2))
       | inr p ↦ (v, p, refl)
     ]
 
 -- what has something open afterwards is task t
-open_after : (m : Mode) (s : Table) (t : ℕ) (x : Option Turn) → Orderly m s → chosen s ≡ Some t → (q : ℕ) (v : Turn) → turn (with_turn t x s) q ≡ Some v → is_open (Some v) ≡ true → q ≡ t
+open_after : (m : Mode) (s : Table) (t : ℕ) (x : Option TaskState) → Orderly m s → chosen s ≡ Some t → (q : ℕ) (v : TaskState) → state_of (with_turn t x s) q ≡ Some v → is_open (Some v) ≡ true → q ≡ t
 open_after m s t x h c q v g o =
-    elim (after_set s.turns t q x v g) [ inl p ↦ p.0 | inr p ↦ only_chosen m s t q v h c p o ]
+    elim (after_set s.states t q x v g) [ inl p ↦ p.0 | inr p ↦ only_chosen m s t q v h c p o ]
 
-pub turn_orderly : (m : Mode) (s : Table) (t : ℕ) (x : Option Turn) → Orderly m s → chosen s ≡ Some t → SameRank s t x → Orderly m (with_turn t x s)
+pub turn_orderly : (m : Mode) (s : Table) (t : ℕ) (x : Option TaskState) → Orderly m s → chosen s ≡ Some t → SameRank s t x → Orderly m (with_turn t x s)
 turn_orderly m s t x h c same = record {
   in_run = λ q v g. (let r = from_before s t x same q v g in h.in_run q r.0 r.1);
   below = λ q v g. (let r = from_before s t x same q v g in subst (λ n. n < s.next) r.2 (h.below q r.0 r.1));
@@ -59,59 +59,59 @@ turn_orderly m s t x h c same = record {
   alone = λ q k v w g g' o o'. open_after m s t x h c q v g o ∙ sym (open_after m s t x h c k w g' o');
 }
 
-region_keeps : (n : ℕ) (o : Option Turn) (v : Turn) → with_region n o ≡ Some v → (u : Turn) × (o ≡ Some u) × (u.rank ≡ v.rank)
+region_keeps : (n : ℕ) (o : Option TaskState) (v : TaskState) → with_region_count n o ≡ Some v → (u : TaskState) × (o ≡ Some u) × (u.rank ≡ v.rank)
 region_keeps n None v h = absurd (let f : None ≡ Some v → ⊥ = λ p. cc in f h)
 region_keeps n (Some u) v h = (u, refl, ap (λ o. (unwrap_or o u).rank) h)
 
-copies_keep : (b : Bool) (o : Option Turn) (v : Turn) → with_copies b o ≡ Some v → (u : Turn) × (o ≡ Some u) × (u.rank ≡ v.rank)
+copies_keep : (b : Bool) (o : Option TaskState) (v : TaskState) → with_cps_open b o ≡ Some v → (u : TaskState) × (o ≡ Some u) × (u.rank ≡ v.rank)
 copies_keep b None v h = absurd (let f : None ≡ Some v → ⊥ = λ p. cc in f h)
 copies_keep b (Some u) v h = (u, refl, ap (λ o. (unwrap_or o u).rank) h)
 
 pub region_orderly : (m : Mode) (s : Table) (t n : ℕ) → Orderly m s → chosen s ≡ Some t → Orderly m (set_region t n s)
-region_orderly m s t n h c = turn_orderly m s t (with_region n (turn s t)) h c (region_keeps n (turn s t))
+region_orderly m s t n h c = turn_orderly m s t (with_region_count n (state_of s t)) h c (region_keeps n (state_of s t))
 
 pub copy_orderly : (m : Mode) (s : Table) (t : ℕ) (b : Bool) → Orderly m s → chosen s ≡ Some t → Orderly m (set_copy t b s)
-copy_orderly m s t b h c = turn_orderly m s t (with_copies b (turn s t)) h c (copies_keep b (turn s t))
+copy_orderly m s t b h c = turn_orderly m s t (with_cps_open b (state_of s t)) h c (copies_keep b (state_of s t))
 
 -- ---- a turn with the next rank
 
 -- the turn x has the next rank, and is open only where a turn of task t is
-pub record IsNext (s : Table) (t : ℕ) (x : Option Turn) : Type 0 where
-  pub rank : (v : Turn) → x ≡ Some v → v.rank ≡ s.next
-  pub opens : (v : Turn) → x ≡ Some v → is_open (Some v) ≡ true → (u : Turn) × (turn s t ≡ Some u) × (is_open (Some u) ≡ true)
+pub record IsNext (s : Table) (t : ℕ) (x : Option TaskState) : Type 0 where
+  pub rank : (v : TaskState) → x ≡ Some v → v.rank ≡ s.next
+  pub opens : (v : TaskState) → x ≡ Some v → is_open (Some v) ≡ true → (u : TaskState) × (state_of s t ≡ Some u) × (is_open (Some u) ≡ true)
 
-abbrev with_next : ℕ → Option Turn → Table → Table
-with_next t x s = record s { turns = slice_set s.turns t x; next = s.next + 1 }
+abbrev with_next : ℕ → Option TaskState → Table → Table
+with_next t x s = record s { states = slice_set s.states t x; next = s.next + 1 }
 
-next_below : (m : Mode) (s : Table) (t : ℕ) (x : Option Turn) → Orderly m s → IsNext s t x → (q : ℕ) (v : Turn) → turn (with_next t x s) q ≡ Some v → v.rank < s.next + 1
+next_below : (m : Mode) (s : Table) (t : ℕ) (x : Option TaskState) → Orderly m s → IsNext s t x → (q : ℕ) (v : TaskState) → state_of (with_next t x s) q ≡ Some v → v.rank < s.next + 1
 next_below m s t x h n q v g =
-    elim (after_set s.turns t q x v g) [
+    elim (after_set s.states t q x v g) [
       | inl p ↦ (let e = n.rank v p.1 in omega arith)
       | inr p ↦ (let e = h.below q v p in omega arith)
     ]
 
-next_differ : (m : Mode) (s : Table) (t : ℕ) (x : Option Turn) → Orderly m s → IsNext s t x → (q k : ℕ) (v w : Turn) → turn (with_next t x s) q ≡ Some v → turn (with_next t x s) k ≡ Some w → v.rank ≡ w.rank → q ≡ k
+next_differ : (m : Mode) (s : Table) (t : ℕ) (x : Option TaskState) → Orderly m s → IsNext s t x → (q k : ℕ) (v w : TaskState) → state_of (with_next t x s) q ≡ Some v → state_of (with_next t x s) k ≡ Some w → v.rank ≡ w.rank → q ≡ k
 next_differ m s t x h n q k v w g g' e =
-    elim (after_set s.turns t q x v g) [
-      | inl p ↦ elim (after_set s.turns t k x w g') [
+    elim (after_set s.states t q x v g) [
+      | inl p ↦ elim (after_set s.states t k x w g') [
         | inl p' ↦ p.0 ∙ sym p'.0
         | inr p' ↦ (let a = n.rank v p.1 in let b = h.below k w p' in absurd (omega arith))
       ]
-      | inr p ↦ elim (after_set s.turns t k x w g') [
+      | inr p ↦ elim (after_set s.states t k x w g') [
         | inl p' ↦ (let a = n.rank w p'.1 in let b = h.below q v p in absurd (omega arith))
         | inr p' ↦ h.differ q k v w p p' e
       ]
     ]
 
 -- what is open afterwards was open before
-next_open : (s : Table) (t : ℕ) (x : Option Turn) → IsNext s t x → (q : ℕ) (v : Turn) → turn (with_next t x s) q ≡ Some v → is_open (Some v) ≡ true → (u : Turn) × (turn s q ≡ Some u) × (is_open (Some u) ≡ true)
+next_open : (s : Table) (t : ℕ) (x : Option TaskState) → IsNext s t x → (q : ℕ) (v : TaskState) → state_of (with_next t x s) q ≡ Some v → is_open (Some v) ≡ true → (u : TaskState) × (state_of s q ≡ Some u) × (is_open (Some u) ≡ true)
 next_open s t x n q v g o =
-    elim (after_set s.turns t q x v g) [
-      | inl p ↦ (let r = n.opens v p.1 o in (r.0, subst (λ k. turn s k ≡ Some r.0) (sym p.0) r.1, r.2))
+    elim (after_set s.states t q x v g) [
+      | inl p ↦ (let r = n.opens v p.1 o in (r.0, subst (λ k. state_of s k ≡ Some r.0) (sym p.0) r.1, r.2))
       | inr p ↦ (v, p, o)
     ]
 
-pub next_orderly : (s : Table) (t : ℕ) (x : Option Turn) → Orderly Run s → IsNext s t x → Orderly Run (with_next t x s)
+pub next_orderly : (s : Table) (t : ℕ) (x : Option TaskState) → Orderly Run s → IsNext s t x → Orderly Run (with_next t x s)
 next_orderly s t x h n = record {
   in_run = λ q v g. refl;
   below = next_below Run s t x h n;
@@ -119,7 +119,7 @@ next_orderly s t x h n = record {
   alone = λ q k v w g g' o o'. (let r = next_open s t x n q v g o in let r' = next_open s t x n k w g' o' in h.alone q k r.0 r'.0 r.1 r'.1 r.2 r'.2);
 }
 
-new_turn : (s : Table) (t now : ℕ) → IsNext s t (Some (record { start = now; rank = s.next; region = 0; copies = false }))
+new_turn : (s : Table) (t now : ℕ) → IsNext s t (Some (record { start = now; rank = s.next; region_count = 0; cps_open = false }))
 new_turn s t now = record {
   rank = λ v e. sym (ap (λ o. (unwrap_or o v).rank) e);
   opens = λ v e o. absurd (let f : false ≡ true → ⊥ = λ p. cc in f (ap is_open e ∙ o));
@@ -140,19 +140,19 @@ put_up_if_orderly s None now h = h
 put_up_if_orderly s (Some t) now h = put_up_orderly s t now h
 
 pub start_orderly : (s : Table) (now : ℕ) → Orderly Run (start now s)
-start_orderly s now = put_up_if_orderly (record (stop s) { ran_at = now }) (position_from (λ d. is_continuous d.kind) 0 s.defs) now (down_orderly Run (record (stop s) { ran_at = now }) (none_up s.turns))
+start_orderly s now = put_up_if_orderly (record (stop s) { run_since = now }) (position_from (λ d. is_continuous d.kind) 0 s.defs) now (down_orderly Run (record (stop s) { run_since = now }) (none_up s.states))
 
 pub finish_orderly : (s : Table) (t now : ℕ) → Orderly Run s → chosen s ≡ Some t → Orderly Run (finish t now s)
 finish_orderly s t now h c =
     put_up_if_orderly (with_turn t None s) (cond (is_continuous (task s t).kind) (Some t) None) now (turn_orderly Run s t None h c (λ v e. absurd (let f : None ≡ Some v → ⊥ = λ p. cc in f e)))
 
-rank_next : (s : Table) (t : ℕ) (o : Option Turn) → turn s t ≡ o → IsNext s t (with_rank s.next o)
+rank_next : (s : Table) (t : ℕ) (o : Option TaskState) → state_of s t ≡ o → IsNext s t (with_rank s.next o)
 rank_next s t None g = record { rank = λ v e. absurd (let f : None ≡ Some v → ⊥ = λ p. cc in f e); opens = λ v e o. absurd (let f : None ≡ Some v → ⊥ = λ p. cc in f e) }
 rank_next s t (Some u) g = record { rank = λ v e. sym (ap (λ o. (unwrap_or o v).rank) e); opens = λ v e o. (u, g, ap is_open e ∙ o) }
 
 unless_open_orderly : (s : Table) (o : Option ℕ) → Orderly Run s → Orderly Run (unless_open o s)
 unless_open_orderly s None h = h
-unless_open_orderly s (Some t) h = either Run (is_open (turn s t)) s (last_in_line t s) h (next_orderly s t (with_rank s.next (turn s t)) h (rank_next s t (turn s t) refl))
+unless_open_orderly s (Some t) h = either Run (is_open (state_of s t)) s (to_back t s) h (next_orderly s t (with_rank s.next (state_of s t)) h (rank_next s t (state_of s t) refl))
 
 pub rotate_orderly : (s : Table) → Orderly Run s → Orderly Run (rotate s)
 rotate_orderly s h = unless_open_orderly s (chosen s) h

@@ -1,8 +1,5 @@
 -- What an accept of rung edits is and keeps.
-use Rattle.std.specs.Prelude.{ℕ, ◌-◌, List, length, take, drop, Bool, not, ◌&&◌, ◌||◌, nat_le, nat_eq}
-use Rattle.std.specs.List.{list_any, prefix_len, suffix_len}
-use Rattle.std.specs.Str.{bytes_eq}
-use Rattle.lgx_rung.specs.Tokens.{is_blank}
+use Rattle.std.specs.Prelude.{ℕ, List, Bool, ◌&&◌, nat_le}
 use Rattle.spec_machine.specs.declared.event.RungEdit.{RungEdit}
 
 -- the names of a program and of its routine, and the edits of it in order
@@ -17,13 +14,3 @@ accept_command program routine edits = record { program = program; routine = rou
 -- an accept has 1 to 16 edits
 abbrev pub is_edit_count : ℕ → Bool
 is_edit_count n = nat_le 1 n && nat_le n 16
-
--- ---- the text of a rung edit
-
--- a text without the blanks of neutral text at its ends
-abbrev pub trimmed : List ℕ → List ℕ
-trimmed text = let front = drop (prefix_len is_blank text) text in take (length front - suffix_len is_blank front) front
-
--- what a rung edit keeps as its text: at most 65,536 bytes, no line feed and no `|`, and no blank at its ends
-abbrev pub is_edit_text : List ℕ → Bool
-is_edit_text text = nat_le (length text) 65536 && not (list_any (λ c. nat_eq c 10 || nat_eq c 124) text) && bytes_eq (trimmed text) text

@@ -1,3 +1,4 @@
+pub mod EditText
 pub mod Commands
 pub mod Project
 pub mod Edits

@@ -74,7 +74,7 @@ abbrev pub plan_of : Project → Plan
 plan_of p = record { tags = p.tags; names = p.names; schedule = p.schedule; conns = p.conns }
 
 abbrev pub all_down : Project → Table
-all_down p = record { defs = p.tasks; turns = map (λ d. None) p.tasks; next = 0; ran_at = 0 }
+all_down p = record { defs = p.tasks; states = map (λ d. None) p.tasks; next = 0; run_since = 0 }
 
 -- The controller starts in Program at tick 0.
 abbrev pub start : Project → State

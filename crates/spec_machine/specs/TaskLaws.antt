@@ -2,7 +2,7 @@
 use Rattle.std.specs.Prelude.{◌≡◌, ℕ, ◌<◌, IsTrue, List, Some}
 use Rattle.spec_machine.specs.declared.event.Event.{Event}
 use Rattle.spec_machine.specs.declared.reply.Mode.TheVariants.{Run}
-use Rattle.spec_tables.specs.Tasks.{Turn, turn, is_up, is_open}
+use Rattle.spec_tables.specs.Tasks.{TaskState, state_of, is_up, is_open}
 use Rattle.spec_machine.specs.Project.{Project}
 use Rattle.spec_machine.specs.State.{State}
 use Rattle.spec_machine.specs.ProcessorStep.{processor_step, task_of}
@@ -10,11 +10,11 @@ use Rattle.spec_machine.specs.Machine.{run}
 
 -- At most one task has something open.
 abbrev pub OneOpen : Type 0
-OneOpen = (project : Project) (journal : List Event) (t q : ℕ) → IsTrue (is_open (turn (run project journal).table t)) → IsTrue (is_open (turn (run project journal).table q)) → t ≡ q
+OneOpen = (project : Project) (journal : List Event) (t q : ℕ) → IsTrue (is_open (state_of (run project journal).table t)) → IsTrue (is_open (state_of (run project journal).table q)) → t ≡ q
 
 -- A task that has something open is up.
 abbrev pub OpenIsUp : Type 0
-OpenIsUp = (s : State) (t : ℕ) → IsTrue (is_open (turn s.table t)) → IsTrue (is_up s.table t)
+OpenIsUp = (s : State) (t : ℕ) → IsTrue (is_open (state_of s.table t)) → IsTrue (is_up s.table t)
 
 -- Tasks are up in Run alone, so outside Run nothing is open.
 abbrev pub UpInRun : Type 0
@@ -22,10 +22,10 @@ UpInRun = (project : Project) (journal : List Event) (t : ℕ) → IsTrue (is_up
 
 -- The ranks of tasks that are up differ, and each is below the next rank.
 abbrev pub RanksDiffer : Type 0
-RanksDiffer = (project : Project) (journal : List Event) (t q : ℕ) (u v : Turn) → turn (run project journal).table t ≡ Some u → turn (run project journal).table q ≡ Some v → u.rank ≡ v.rank → t ≡ q
+RanksDiffer = (project : Project) (journal : List Event) (t q : ℕ) (u v : TaskState) → state_of (run project journal).table t ≡ Some u → state_of (run project journal).table q ≡ Some v → u.rank ≡ v.rank → t ≡ q
 
 abbrev pub RanksBelowNext : Type 0
-RanksBelowNext = (project : Project) (journal : List Event) (t : ℕ) (u : Turn) → turn (run project journal).table t ≡ Some u → u.rank < (run project journal).table.next
+RanksBelowNext = (project : Project) (journal : List Event) (t : ℕ) (u : TaskState) → state_of (run project journal).table t ≡ Some u → u.rank < (run project journal).table.next
 
 -- A step is of a task that was up before it.
 abbrev pub StepOfUpTask : Type 0

@@ -1,8 +1,8 @@
 // Actions of modules and engineers, and the events of a run.
 ghost use Rattle.std.specs.Prelude.{◌≡◌, IsTrue};
-ghost use Rattle.spec_machine.specs.Commands.{is_edit_text};
+ghost use Rattle.spec_machine.specs.EditText.{is_edit_text};
 
-use lgx_num::{List, Name};
+use lgx_num::{Items, Name};
 use std::marker::Model;
 
 /// The text of a rung edit, seen as its bytes: at most 65,536 of them, with no line feed and no `|` among them, and
@@ -14,7 +14,7 @@ pub struct Text {
 
 impl Model for Text {
     ghost use Rattle.std.specs.Prelude.{ℕ, List, IsTrue};
-    ghost use Rattle.spec_machine.specs.Commands.{is_edit_text};
+    ghost use Rattle.spec_machine.specs.EditText.{is_edit_text};
 
     ghost Value = { List ℕ };
 
@@ -53,7 +53,7 @@ pub enum RungEdit {
 pub struct Accept {
     pub program: Name,
     pub routine: Name,
-    pub edits: List<RungEdit>,
+    pub edits: Items<RungEdit>,
 }
 
 impl Model for Accept {

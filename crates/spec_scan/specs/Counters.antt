@@ -17,14 +17,14 @@ one_down at image =
     if int_eq (acc image at) (least Dint) then put_status at un_bit true (put_acc at (greatest Dint) image) else put_acc at (acc image at +ℤ negsuc 0) image
 
 -- After each of them the counter is done exactly where its accumulator has come up to the preset (profile).
-abbrev pub judged : ℕ → List ℕ → List ℕ
-judged at image = put_status at dn_bit (is_reached image at) image
+abbrev pub with_done : ℕ → List ℕ → List ℕ
+with_done at image = put_status at dn_bit (is_reached image at) image
 
 -- CTU counts where its condition became true, which is where CU was 0; CTD likewise by CD. The overflow and underflow
 -- bits stay until RES (profile).
 abbrev pub counter : Op → ℕ → Bool → List ℕ → List ℕ
-counter Ctu at true image = judged at (if status image at cu_bit then image else one_up at (put_status at cu_bit true image))
-counter Ctu at false image = judged at (put_status at cu_bit false image)
-counter Ctd at true image = judged at (if status image at cd_bit then image else one_down at (put_status at cd_bit true image))
-counter Ctd at false image = judged at (put_status at cd_bit false image)
+counter Ctu at true image = with_done at (if status image at cu_bit then image else one_up at (put_status at cu_bit true image))
+counter Ctu at false image = with_done at (put_status at cu_bit false image)
+counter Ctd at true image = with_done at (if status image at cd_bit then image else one_down at (put_status at cd_bit true image))
+counter Ctd at false image = with_done at (put_status at cd_bit false image)
 counter _ at on image = image

@@ -11,11 +11,11 @@ has_negative image at = int_lt (pre image at) (pos 0) || int_lt (acc image at) (
 
 -- The accumulator with the ticks since the last count. It stays at its greatest value, and time that runs backwards
 -- adds nothing.
-abbrev pub grown : List ℕ → ℕ → ℕ → ℤ
-grown image at now = int_min (pos 2147483647) (acc image at +ℤ int_max (pos 0) (pos now -ℤ last_tick image at))
+abbrev pub accumulated : List ℕ → ℕ → ℕ → ℤ
+accumulated image at now = int_min (pos 2147483647) (acc image at +ℤ int_max (pos 0) (pos now -ℤ last_tick image at))
 
 abbrev pub add_ticks : ℕ → ℕ → List ℕ → List ℕ
-add_ticks at now image = put_acc at (grown image at now) image
+add_ticks at now image = put_acc at (accumulated image at now) image
 
 -- ---- TON and RTO with a true condition (profile)
 
@@ -26,12 +26,12 @@ counted_on at now image =
     (if not (status image at dn_bit) then add_ticks at now image else image)
 
 -- Done where the accumulator has come up to the preset, and else timing.
-abbrev pub judged_on : ℕ → List ℕ → List ℕ
-judged_on at image = put_status at dn_bit (is_reached image at) (put_status at tt_bit (not (is_reached image at)) image)
+abbrev pub with_done_on : ℕ → List ℕ → List ℕ
+with_done_on at image = put_status at dn_bit (is_reached image at) (put_status at tt_bit (not (is_reached image at)) image)
 
 abbrev pub count_on : ℕ → ℕ → List ℕ → Option (List ℕ)
 count_on at now image =
-    if has_negative image at then None else Some (judged_on at (put_last_tick at now (counted_on at now image)))
+    if has_negative image at then None else Some (with_done_on at (put_last_tick at now (counted_on at now image)))
 
 -- ---- TOF with a false condition
 
@@ -40,15 +40,15 @@ abbrev pub counted_off : ℕ → ℕ → List ℕ → List ℕ
 counted_off at now image = if status image at en_bit then put_status at en_bit false image else add_ticks at now image
 
 -- No longer done where the accumulator has come up to the preset, and else timing.
-abbrev pub judged_off : ℕ → List ℕ → List ℕ
-judged_off at image =
+abbrev pub with_done_off : ℕ → List ℕ → List ℕ
+with_done_off at image =
     if is_reached image at then put_status at dn_bit false (put_status at tt_bit false image) else put_status at tt_bit true image
 
 -- Where the timer isn't done it stands still, and its numbers aren't looked at.
 abbrev pub count_off : ℕ → ℕ → List ℕ → Option (List ℕ)
 count_off at now image =
     if not (status image at dn_bit) then Some (put_status at en_bit false (put_status at tt_bit false image)) else
-    (if has_negative image at then None else Some (judged_off at (put_last_tick at now (counted_off at now image))))
+    (if has_negative image at then None else Some (with_done_off at (put_last_tick at now (counted_off at now image))))
 
 -- ---- the three timers
 

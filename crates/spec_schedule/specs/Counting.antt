@@ -21,29 +21,29 @@ use Rattle.spec_schedule.specs.declared.trace.Table.{Table}
 pub record Counted : Type 0 where
   pub up : Bool
   pub ended : ℕ
-  pub region : ℕ
-  pub copies : Bool
+  pub region_count : ℕ
+  pub cps_open : Bool
   pub downs : ℕ
 
 abbrev pub uncounted : Counted
-uncounted = record { up = false; ended = 0; region = 0; copies = false; downs = 0 }
+uncounted = record { up = false; ended = 0; region_count = 0; cps_open = false; downs = 0 }
 
 abbrev pub is_open : Counted → Bool
-is_open c = nat_lt 0 c.region || c.copies
+is_open c = nat_lt 0 c.region_count || c.cps_open
 
 -- a task that goes down has no region and no CPS
 abbrev pub gone_down : Counted → Counted
-gone_down c = record { up = false; ended = 0; region = 0; copies = false; downs = if c.up then c.downs + 1 else c.downs }
+gone_down c = record { up = false; ended = 0; region_count = 0; cps_open = false; downs = if c.up then c.downs + 1 else c.downs }
 
 abbrev pub released : Counted → Counted
 released c = record c { up = true; ended = 0 }
 
 -- the region grows by 1 at an Up and falls by 1 at a Down, unless it is 0; a CPS stands from its start to its end
 abbrev pub marked : TraceMark → Counted → Counted
-marked Up c = record c { region = c.region + 1 }
-marked Down c = record c { region = c.region - 1 }
-marked Sync c = record c { copies = true }
-marked SyncEnd c = record c { copies = false }
+marked Up c = record c { region_count = c.region_count + 1 }
+marked Down c = record c { region_count = c.region_count - 1 }
+marked Sync c = record c { cps_open = true }
+marked SyncEnd c = record c { cps_open = false }
 marked _ c = c
 
 -- A program has ended, and the region with it. A task goes down with its last program; a continuous one is released
@@ -52,7 +52,7 @@ abbrev pub went : AuditTask → Counted → Counted
 went d c = if d.continuous then released (gone_down c) else gone_down c
 
 abbrev pub program_ended : AuditTask → Counted → Counted
-program_ended d c = if nat_lt (c.ended + 1) d.programs then record c { ended = c.ended + 1; region = 0 } else went d c
+program_ended d c = if nat_lt (c.ended + 1) d.programs then record c { ended = c.ended + 1; region_count = 0 } else went d c
 
 -- every task goes down at a major fault, a watchdog's too, and at a change to Program that is answered `Done`
 abbrev pub stops : TraceEvent → Bool
@@ -83,7 +83,7 @@ steps_here e t = elim (stepping e) [ None ↦ false | Some u ↦ nat_eq u t ]
 
 -- what a processor step of the task does to its counts
 abbrev pub stepped : AuditTask → TraceEvent → Counted → Counted
-stepped d (Began _ _ _) c = record c { region = 0 }
+stepped d (Began _ _ _) c = record c { region_count = 0 }
 stepped d (Step _ _ mark _) c = marked mark c
 stepped d (Left _ _ true) c = program_ended d c
 stepped d _ c = c
@@ -133,14 +133,14 @@ edited_from g e (n ∷ ns) = edited_at g e n ∷ edited_from (g + 1) e ns
 -- ---- along the trace
 
 -- an event, and what is counted just before it
-pub record Place : Type 0 where
+pub record CountedEvent : Type 0 where
   pub tasks : List Counted
   pub programs : List Numbers
   pub event : TraceEvent
 
-abbrev pub places_from : List AuditTask → List Counted → List Numbers → List TraceEvent → List Place
-places_from ds cs ns [] = []
-places_from ds cs ns (e ∷ es) = record { tasks = cs; programs = ns; event = e } ∷ places_from ds (counted_from 0 ds e cs) (edited_from 0 e ns) es
+abbrev pub counted_events_from : List AuditTask → List Counted → List Numbers → List TraceEvent → List CountedEvent
+counted_events_from ds cs ns [] = []
+counted_events_from ds cs ns (e ∷ es) = record { tasks = cs; programs = ns; event = e } ∷ counted_events_from ds (counted_from 0 ds e cs) (edited_from 0 e ns) es
 
-abbrev pub places : Table → List TraceEvent → List Place
-places table trace = places_from table.tasks (map (λ d. uncounted) table.tasks) (replicate table.programs unedited) trace
+abbrev pub counted_events : Table → List TraceEvent → List CountedEvent
+counted_events table trace = counted_events_from table.tasks (map (λ d. uncounted) table.tasks) (replicate table.programs unedited) trace

@@ -6,7 +6,7 @@ use Rattle.spec_schedule.specs.declared.trace.TraceEvent.{TraceEvent}
 use Rattle.spec_schedule.specs.declared.trace.TraceEvent.TheVariants.{Idle, Began, Step, Left, Tick, Act}
 use Rattle.spec_schedule.specs.declared.trace.AuditTask.{AuditTask}
 use Rattle.spec_schedule.specs.declared.trace.Table.{Table}
-use Rattle.spec_schedule.specs.Counting.{Counted, uncounted, is_open, unedited, selected, stepping, steps_here, Place, places}
+use Rattle.spec_schedule.specs.Counting.{Counted, uncounted, is_open, unedited, selected, stepping, steps_here, CountedEvent, counted_events}
 
 abbrev pub no_task : AuditTask
 no_task = record { continuous = false; priority = 0; programs = 0 }
@@ -14,7 +14,7 @@ no_task = record { continuous = false; priority = 0; programs = 0 }
 abbrev pub priority_of : Table → ℕ → ℕ
 priority_of table t = (slice_index_or table.tasks t no_task).priority
 
-abbrev pub at : Place → ℕ → Counted
+abbrev pub at : CountedEvent → ℕ → Counted
 at x t = slice_index_or x.tasks t uncounted
 
 -- ---- the priority law
@@ -25,15 +25,15 @@ some_up test t [] cs = false
 some_up test t (d ∷ ds) [] = false
 some_up test t (d ∷ ds) (c ∷ cs) = (c.up && test t d.priority) || some_up test (t + 1) ds cs
 
-abbrev pub higher_up : Table → Place → ℕ → Bool
+abbrev pub higher_up : Table → CountedEvent → ℕ → Bool
 higher_up table x t = some_up (λ u p. nat_lt p (priority_of table t)) 0 table.tasks x.tasks
 
 -- a step of t: t is counted up, and where a task of higher priority is, t has a region or a CPS open
-abbrev pub may_step : Table → Place → ℕ → Bool
+abbrev pub may_step : Table → CountedEvent → ℕ → Bool
 may_step table x t = (at x t).up && (is_open (at x t) || not (higher_up table x t))
 
 -- an idle step stands only where no task is counted up
-abbrev pub keeps_priority : Table → Place → Bool
+abbrev pub keeps_priority : Table → CountedEvent → Bool
 keeps_priority table x = check x.event
   where
     check : TraceEvent → Bool
@@ -49,7 +49,7 @@ abbrev pub another_open : ℕ → ℕ → List Counted → Bool
 another_open t u [] = false
 another_open t u (c ∷ cs) = (is_open c && not (nat_eq u t)) || another_open t (u + 1) cs
 
-abbrev pub keeps_region : Place → Bool
+abbrev pub keeps_region : CountedEvent → Bool
 keeps_region x = elim (stepping x.event) [ None ↦ true | Some t ↦ not (another_open t 0 x.tasks) ]
 
 -- each of a list with those behind it
@@ -64,11 +64,11 @@ is_tick (Tick _ _ _) = true
 is_tick _ = false
 
 -- the places from here on that stand before the next tick
-abbrev pub before_tick : List Place → List Place
+abbrev pub before_tick : List CountedEvent → List CountedEvent
 before_tick xs = take_while (λ x. not (is_tick x.event)) xs
 
 -- t hasn't gone down from the one place up to the other
-abbrev pub stays : ℕ → Place → Place → Bool
+abbrev pub stays : ℕ → CountedEvent → CountedEvent → Bool
 stays t x y = nat_eq (at x t).downs (at y t).downs
 
 -- who steps, of the tasks with a priority
@@ -76,7 +76,7 @@ abbrev pub of_priority : Table → ℕ → Option ℕ → Option ℕ
 of_priority table p None = None
 of_priority table p (Some t) = if nat_eq (priority_of table t) p then Some t else None
 
-abbrev pub who_steps : Table → ℕ → List Place → List ℕ
+abbrev pub who_steps : Table → ℕ → List CountedEvent → List ℕ
 who_steps table p xs = filter_map (λ x. of_priority table p (stepping x.event)) xs
 
 -- t isn't among them behind another one
@@ -84,22 +84,22 @@ abbrev pub keeps_on : ℕ → List ℕ → Bool
 keeps_on t us = not (list_any (λ u. nat_eq u t) (drop (prefix_len (λ u. nat_eq u t) us) us))
 
 -- between two steps of t, while t stays up and no tick stands between them, no other task of its priority steps
-abbrev pub keeps_turn : Table → Place → List Place → Bool
+abbrev pub keeps_turn : Table → CountedEvent → List CountedEvent → Bool
 keeps_turn table x xs = elim (stepping x.event) [
   | None ↦ true
   | Some t ↦ keeps_on t (who_steps table (priority_of table t) (take_while (λ y. stays t x y) (before_tick xs)))
 ]
 
 -- at place y every other task of t's priority that was counted up at place k has gone down
-abbrev pub others_went : Table → ℕ → Place → Place → Bool
+abbrev pub others_went : Table → ℕ → CountedEvent → CountedEvent → Bool
 others_went table t k y = not (some_up (λ u p. nat_eq p (priority_of table t) && not (nat_eq u t) && stays u k y) 0 table.tasks k.tasks)
 
-abbrev pub gives_turn : Table → ℕ → Place → List Place → Bool
+abbrev pub gives_turn : Table → ℕ → CountedEvent → List CountedEvent → Bool
 gives_turn table t k ys = list_all (λ y. not (steps_here y.event t) || others_went table t k y) (before_tick ys)
 
 -- t could be passed over at tick k: it hasn't gone down since its step x, has nothing open, and no task of higher
 -- priority is counted up
-abbrev pub is_turn : Table → ℕ → Place → Place → Bool
+abbrev pub is_turn : Table → ℕ → CountedEvent → CountedEvent → Bool
 is_turn table t x k = stays t x k && not (is_open (at k t)) && not (higher_up table k t)
 
 -- what stands behind actions alone, if it is a tick
@@ -107,23 +107,23 @@ abbrev pub is_action : TraceEvent → Bool
 is_action (Act _ _ _ _ _) = true
 is_action _ = false
 
-abbrev pub behind_actions : List Place → List Place
+abbrev pub behind_actions : List CountedEvent → List CountedEvent
 behind_actions xs = drop (prefix_len (λ x. is_action x.event) xs) xs
 
-abbrev pub after_tick : Table → ℕ → Place → List Place → Bool
+abbrev pub after_tick : Table → ℕ → CountedEvent → List CountedEvent → Bool
 after_tick table t x [] = true
 after_tick table t x (k ∷ ys) = not (is_tick k.event && is_turn table t x k) || gives_turn table t k ys
 
 -- Let a tick follow a step of t with no other step and no other tick between them. Where t could be passed over at it, t
 -- steps again before the next tick only after every other task of its priority that was up just before the tick has gone
 -- down.
-abbrev pub gives_way : Table → Place → List Place → Bool
+abbrev pub gives_way : Table → CountedEvent → List CountedEvent → Bool
 gives_way table x xs = elim (stepping x.event) [ None ↦ true | Some t ↦ after_tick table t x (behind_actions xs) ]
 
 -- ---- the version law
 
 -- a begin has the number that the edits before it select, by their answers alone
-abbrev pub keeps_version : Place → Bool
+abbrev pub keeps_version : CountedEvent → Bool
 keeps_version x = check x.event
   where
     check : TraceEvent → Bool
@@ -135,11 +135,11 @@ keeps_version x = check x.event
 -- whether the priority law, the two parts of the turn law and the version law hold of a trace, and the law of regions
 abbrev pub verdicts : Table → List TraceEvent → List Bool
 verdicts table trace =
-    let xs = places table trace in
+    let xs = counted_events table trace in
     list_all (keeps_priority table) xs ∷ each_from (keeps_turn table) xs ∷ each_from (gives_way table) xs ∷ list_all keeps_version xs ∷ list_all keeps_region xs ∷ []
 
 pub record Legal (table : Table) (trace : List TraceEvent) : Type 0 where
-  pub priority : IsTrue (list_all (keeps_priority table) (places table trace))
-  pub turns : IsTrue (each_from (keeps_turn table) (places table trace))
-  pub ticks : IsTrue (each_from (gives_way table) (places table trace))
-  pub versions : IsTrue (list_all keeps_version (places table trace))
+  pub priority : IsTrue (list_all (keeps_priority table) (counted_events table trace))
+  pub turns : IsTrue (each_from (keeps_turn table) (counted_events table trace))
+  pub ticks : IsTrue (each_from (gives_way table) (counted_events table trace))
+  pub versions : IsTrue (list_all keeps_version (counted_events table trace))

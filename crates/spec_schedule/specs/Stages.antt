@@ -47,7 +47,7 @@ is_refusal _ = true
 -- ---- the version law of the rungs
 
 -- the rungs that the accepted commands select, and for one task those that were selected at its last begin
-pub record Chosen : Type 0 where
+pub record SelectedRungs : Type 0 where
   pub books : List Book
   pub begun : Option ProgramRungs
 
@@ -69,11 +69,11 @@ begins t (OfStep m) books begun = go m.what
     go _ = begun
 begins t _ books begun = begun
 
-abbrev pub chosen_after : ℕ → Chosen → Stage → Chosen
-chosen_after t c x = record { books = commanded x.before x.event x.answer c.books; begun = begins t x.answer c.books c.begun }
+abbrev pub selected_after : ℕ → SelectedRungs → Stage → SelectedRungs
+selected_after t c x = record { books = commanded x.before x.event x.answer c.books; begun = begins t x.answer c.books c.begun }
 
 abbrev pub begun_by : ℕ → List Book → List Stage → Option ProgramRungs
-begun_by t books xs = (fold (chosen_after t) (record { books = books; begun = None }) xs).begun
+begun_by t books xs = (fold (selected_after t) (record { books = books; begun = None }) xs).begun
 
 abbrev pub scan_of : State → ℕ → Option Scan
 scan_of s t = (progress_of s t).scan

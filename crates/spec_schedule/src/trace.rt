@@ -1,5 +1,5 @@
 // What a trace tells of each event, as numbers alone: the laws of the schedule are told over it by counting.
-use lgx_num::List;
+use lgx_num::Items;
 
 /// What the instruction or the copied element of a step did: a region count up or down, a trigger of a task, and
 /// the start or the end of a copy, which is `Sync` for a synchronous one.
@@ -90,6 +90,6 @@ pub struct AuditTask {
 /// The tasks, and the number of programs in the project.
 #[derive(Drop)]
 pub struct Table {
-    pub tasks: List<AuditTask>,
+    pub tasks: Items<AuditTask>,
     pub programs: u32,
 }

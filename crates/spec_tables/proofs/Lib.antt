@@ -1,1 +1,1 @@
-pub mod TurnLists
+pub mod StateLists

@@ -9,18 +9,18 @@ use Rattle.spec_tables.specs.declared.task.TaskDef.{TaskDef}
 
 -- what the table keeps of a task that is up: the tick of its start, its rank, the number of its open regions, and
 -- whether it has a CPS in progress
-pub record Turn : Type 0 where
+pub record TaskState : Type 0 where
   pub start : ℕ
   pub rank : ℕ
-  pub region : ℕ
-  pub copies : Bool
+  pub region_count : ℕ
+  pub cps_open : Bool
 
 -- the tasks in project order, the turn of each that is up, the next rank, and the tick of the last change to Run
 pub record Table : Type 0 where
   pub defs : List TaskDef
-  pub turns : List (Option Turn)
+  pub states : List (Option TaskState)
   pub next : ℕ
-  pub ran_at : ℕ
+  pub run_since : ℕ
 
 abbrev pub no_task : TaskDef
 no_task = record { kind = Event; priority = 0; watchdog = 0 }
@@ -28,38 +28,38 @@ no_task = record { kind = Event; priority = 0; watchdog = 0 }
 abbrev pub task : Table → ℕ → TaskDef
 task s t = slice_index_or s.defs t no_task
 
-abbrev pub turn : Table → ℕ → Option Turn
-turn s t = slice_index_or s.turns t None
+abbrev pub state_of : Table → ℕ → Option TaskState
+state_of s t = slice_index_or s.states t None
 
 abbrev pub is_up : Table → ℕ → Bool
-is_up s t = is_some (turn s t)
+is_up s t = is_some (state_of s t)
 
 -- ---- the chosen task
 
 -- a task has something open where its region count is positive or its CPS is in progress
-abbrev pub is_open : Option Turn → Bool
+abbrev pub is_open : Option TaskState → Bool
 is_open None = false
-is_open (Some u) = nat_lt 0 u.region || u.copies
+is_open (Some u) = nat_lt 0 u.region_count || u.cps_open
 
-abbrev pub has_cps : Option Turn → Bool
-has_cps None = false
-has_cps (Some u) = u.copies
+abbrev pub has_open_cps : Option TaskState → Bool
+has_open_cps None = false
+has_open_cps (Some u) = u.cps_open
 
 -- some task has a CPS in progress
 abbrev pub held : Table → Bool
-held s = list_any has_cps s.turns
+held s = list_any has_open_cps s.states
 
 pub record Candidate : Type 0 where
   pub task : ℕ
   pub priority : ℕ
   pub rank : ℕ
 
-abbrev pub candidate : ℕ → TaskDef → Option Turn → List Candidate
+abbrev pub candidate : ℕ → TaskDef → Option TaskState → List Candidate
 candidate t d None = []
 candidate t d (Some u) = record { task = t; priority = d.priority; rank = u.rank } ∷ []
 
 -- the tasks that are up, where the first of the table is number t
-abbrev pub candidates : ℕ → List TaskDef → List (Option Turn) → List Candidate
+abbrev pub candidates : ℕ → List TaskDef → List (Option TaskState) → List Candidate
 candidates t [] us = []
 candidates t (d ∷ ds) [] = []
 candidates t (d ∷ ds) (u ∷ us) = candidate t d u ++ candidates (t + 1) ds us
@@ -79,13 +79,13 @@ least (a ∷ others) = Some ((least_of a others).task)
 -- The task that has something open, if there is one; else the up task that is least by priority and then by rank; else
 -- none.
 abbrev pub chosen : Table → Option ℕ
-chosen s = or_else (position_from is_open 0 s.turns) (least (candidates 0 s.defs s.turns))
+chosen s = or_else (position_from is_open 0 s.states) (least (candidates 0 s.defs s.states))
 
 -- ---- up and down
 
 -- up: the present tick is its start, and it has the next rank
 abbrev pub put_up : ℕ → ℕ → Table → Table
-put_up t now s = record s { turns = slice_set s.turns t (Some (record { start = now; rank = s.next; region = 0; copies = false })); next = s.next + 1 }
+put_up t now s = record s { states = slice_set s.states t (Some (record { start = now; rank = s.next; region_count = 0; cps_open = false })); next = s.next + 1 }
 
 -- A release puts a task up that is down. A task that is up overlaps, and stays as it is.
 abbrev pub release : ℕ → ℕ → Table → Table
@@ -97,7 +97,7 @@ is_continuous _ = false
 
 -- every task down
 abbrev pub stop : Table → Table
-stop s = record s { turns = map (λ u. None) s.turns }
+stop s = record s { states = map (λ u. None) s.states }
 
 abbrev pub put_up_if : Option ℕ → ℕ → Table → Table
 put_up_if None now s = s
@@ -108,36 +108,36 @@ continuous_task s = position_from (λ d. is_continuous d.kind) 0 s.defs
 
 -- The change to Run puts every task down and releases the continuous one. Ranks go on.
 abbrev pub start : ℕ → Table → Table
-start now s = put_up_if (continuous_task s) now (record (stop s) { ran_at = now })
+start now s = put_up_if (continuous_task s) now (record (stop s) { run_since = now })
 
 -- After its last program a task goes down; the continuous task is released again at once.
 abbrev pub finish : ℕ → ℕ → Table → Table
-finish t now s = put_up_if (if is_continuous (task s t).kind then Some t else None) now (record s { turns = slice_set s.turns t None })
+finish t now s = put_up_if (if is_continuous (task s t).kind then Some t else None) now (record s { states = slice_set s.states t None })
 
 -- ---- regions and copies of a task
 
-abbrev pub with_region : ℕ → Option Turn → Option Turn
-with_region n None = None
-with_region n (Some u) = Some (record u { region = n })
+abbrev pub with_region_count : ℕ → Option TaskState → Option TaskState
+with_region_count n None = None
+with_region_count n (Some u) = Some (record u { region_count = n })
 
-abbrev pub with_copies : Bool → Option Turn → Option Turn
-with_copies b None = None
-with_copies b (Some u) = Some (record u { copies = b })
+abbrev pub with_cps_open : Bool → Option TaskState → Option TaskState
+with_cps_open b None = None
+with_cps_open b (Some u) = Some (record u { cps_open = b })
 
-abbrev pub region : Option Turn → ℕ
-region None = 0
-region (Some u) = u.region
+abbrev pub region_count : Option TaskState → ℕ
+region_count None = 0
+region_count (Some u) = u.region_count
 
 abbrev pub set_region : ℕ → ℕ → Table → Table
-set_region t n s = record s { turns = slice_set s.turns t (with_region n (turn s t)) }
+set_region t n s = record s { states = slice_set s.states t (with_region_count n (state_of s t)) }
 
 -- UID opens a region
 abbrev pub region_up : ℕ → Table → Table
-region_up t s = set_region t (region (turn s t) + 1) s
+region_up t s = set_region t (region_count (state_of s t) + 1) s
 
 -- UIE closes one, and does nothing where none is open (profile)
 abbrev pub region_down : ℕ → Table → Table
-region_down t s = set_region t (region (turn s t) - 1) s
+region_down t s = set_region t (region_count (state_of s t) - 1) s
 
 -- the end of a program scan closes all (profile)
 abbrev pub region_clear : ℕ → Table → Table
@@ -145,26 +145,26 @@ region_clear t s = set_region t 0 s
 
 -- a CPS starts, or has copied its last element
 abbrev pub set_copy : ℕ → Bool → Table → Table
-set_copy t b s = record s { turns = slice_set s.turns t (with_copies b (turn s t)) }
+set_copy t b s = record s { states = slice_set s.states t (with_cps_open b (state_of s t)) }
 
 -- ---- the tick
 
-abbrev pub with_rank : ℕ → Option Turn → Option Turn
+abbrev pub with_rank : ℕ → Option TaskState → Option TaskState
 with_rank n None = None
 with_rank n (Some u) = Some (record u { rank = n })
 
-abbrev pub last_in_line : ℕ → Table → Table
-last_in_line t s = record s { turns = slice_set s.turns t (with_rank s.next (turn s t)); next = s.next + 1 }
+abbrev pub to_back : ℕ → Table → Table
+to_back t s = record s { states = slice_set s.states t (with_rank s.next (state_of s t)); next = s.next + 1 }
 
 abbrev pub unless_open : Option ℕ → Table → Table
 unless_open None s = s
-unless_open (Some t) s = if is_open (turn s t) then s else last_in_line t s
+unless_open (Some t) s = if is_open (state_of s t) then s else to_back t s
 
 -- The chosen task takes the next rank, unless it has something open. So equal priorities take turns at ticks (profile).
 abbrev pub rotate : Table → Table
 rotate s = unless_open (chosen s) s
 
-abbrev pub has_expired : ℕ → TaskDef → Option Turn → Bool
+abbrev pub has_expired : ℕ → TaskDef → Option TaskState → Bool
 has_expired now d None = false
 has_expired now d (Some u) = nat_le d.watchdog (now - u.start)
 
@@ -172,14 +172,14 @@ abbrev pub this_or : Bool → ℕ → Option ℕ → Option ℕ
 this_or true t other = Some t
 this_or false t other = other
 
-abbrev pub expired_from : ℕ → ℕ → List TaskDef → List (Option Turn) → Option ℕ
+abbrev pub expired_from : ℕ → ℕ → List TaskDef → List (Option TaskState) → Option ℕ
 expired_from now t [] us = None
 expired_from now t (d ∷ ds) [] = None
 expired_from now t (d ∷ ds) (u ∷ us) = this_or (has_expired now d u) t (expired_from now (t + 1) ds us)
 
 -- The first task in project order that has been up for its watchdog's ticks or more.
 abbrev pub expired : ℕ → Table → Option ℕ
-expired now s = expired_from now 0 s.defs s.turns
+expired now s = expired_from now 0 s.defs s.states
 
 abbrev pub divides_by_period : ℕ → TaskKind → Bool
 divides_by_period since (Periodic n) = nat_eq (since % n) 0
@@ -188,4 +188,4 @@ divides_by_period since _ = false
 -- A periodic task is due at each tick that lies a positive multiple of its period after the tick of the last change to
 -- Run.
 abbrev pub due : ℕ → ℕ → Table → Bool
-due t now s = nat_lt s.ran_at now && divides_by_period (now - s.ran_at) ((task s t).kind)
+due t now s = nat_lt s.run_since now && divides_by_period (now - s.run_since) ((task s t).kind)

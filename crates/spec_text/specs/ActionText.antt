@@ -12,7 +12,7 @@ use Rattle.spec_machine.specs.declared.event.Action.TheVariants.{WordIn, WordOut
 use Rattle.spec_machine.specs.Commands.{accept_command, is_edit_count}
 use Rattle.spec_base.specs.Pieces.{pieces}
 use Rattle.spec_text.specs.TextLines.{words, first_word, behind_word, spaced, number_of, signed_of}
-use Rattle.spec_machine.specs.Commands.{trimmed}
+use Rattle.spec_machine.specs.EditText.{trimmed}
 
 infixl 10 ◌>>=◌
 abbrev pub ◌>>=◌ : {A B : Type 0} → Option A → (A → Option B) → Option B

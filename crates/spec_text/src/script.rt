@@ -1,5 +1,5 @@
 // Scripts: what each lane does, and when; and the causes for which a text is no journal or script.
-use lgx_num::List;
+use lgx_num::Items;
 use spec_machine::Action;
 use std::marker::Model;
 
@@ -17,7 +17,7 @@ pub struct Timed {
 pub struct Script {
     pub steps: u32,
     pub pace: u32,
-    pub lanes: List<List<Timed>>,
+    pub lanes: Items<Items<Timed>>,
 }
 
 impl Model for Script {

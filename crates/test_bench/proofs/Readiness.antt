@@ -10,7 +10,7 @@ use Rattle.lgx_prog.specs.declared.code.Code.TheVariants.{RungStart, Execute, Br
 use Rattle.lgx_prog.specs.Executes.{executes}
 use Rattle.lgx_prog.specs.Flat.{Flat, IsFlat}
 use Rattle.lgx_prog.specs.FlatProgram.{Program, routine_at, IsFlatProgram}
-use Rattle.lgx_prog.specs.Ready.{IsReady, AreReady, IsReadyProgram}
+use Rattle.lgx_prog.specs.Executable.{IsExecutable, AreExecutable, IsExecutableProgram}
 use Rattle.lgx_prog.proofs.Executes.{executes_flat}
 
 -- ---- code, piece by piece
@@ -36,14 +36,14 @@ each_of_flat : {A B : Type 0} (P : B → Type 0) (f : A → List B) (xs : List A
 each_of_flat P f [] p = tt
 each_of_flat P f (x ∷ xs) p = let r = each_split P (f x) (flat_map f xs) p in (r.0, each_of_flat P f xs r.1)
 
-routine_ready : (len : ℕ) (flat : Flat) (rungs : Rungs) → IsFlat flat rungs → Each (IsReady len) (executes flat.code) → AreReady len rungs
+routine_ready : (len : ℕ) (flat : Flat) (rungs : Rungs) → IsFlat flat rungs → Each (IsExecutable len) (executes flat.code) → AreExecutable len rungs
 routine_ready len flat rungs is ready =
-    each_of_flat (IsReady len) instructions rungs (subst (Each (IsReady len)) (ap executes is.code ∙ executes_flat rungs) ready)
+    each_of_flat (IsExecutable len) instructions rungs (subst (Each (IsExecutable len)) (ap executes is.code ∙ executes_flat rungs) ready)
 
 each_from : (P : Rungs → Type 0) (rs : List Rungs) → ((n : ℕ) → n < length rs → P (get_or rs n [])) → Each P rs
 each_from P [] f = tt
 each_from P (r ∷ rs) f = (f 0 (omega arith), each_from P rs (λ n h. f (suc n) (omega arith)))
 
-pub program_ready : (len : ℕ) (flat : Program) (program : ProgramRungs) → IsFlatProgram flat program → ((n : ℕ) → n < length program.routines → Each (IsReady len) (executes (routine_at flat n).code)) → IsReadyProgram len program
+pub program_ready : (len : ℕ) (flat : Program) (program : ProgramRungs) → IsFlatProgram flat program → ((n : ℕ) → n < length program.routines → Each (IsExecutable len) (executes (routine_at flat n).code)) → IsExecutableProgram len program
 program_ready len flat program is ready =
-    each_from (AreReady len) program.routines (λ n h. routine_ready len (routine_at flat n) (routine_rungs program n) (is.routines n) (ready n h))
+    each_from (AreExecutable len) program.routines (λ n h. routine_ready len (routine_at flat n) (routine_rungs program n) (is.routines n) (ready n h))

@@ -4,8 +4,8 @@ ghost use Rattle.lgx_num.specs.Image.{number, write};
 ghost use Rattle.spec_scan.specs.Position.{ProgramRungs, Position as MachinePosition, first_position};
 ghost use Rattle.spec_scan.specs.Scan.{advance as machine_advance};
 ghost use Rattle.lgx_prog.specs.FlatProgram.{IsFlatProgram};
-ghost use Rattle.lgx_engine.specs.Stands.{Runs, Stands};
-ghost use Rattle.lgx_engine.specs.Steps.{Advances};
+ghost use Rattle.lgx_engine.specs.Represents.{IsRunOf, Represents};
+ghost use Rattle.lgx_engine.specs.Steps.{MatchesStep};
 
 use crate::errors::Refusal;
 use crate::ready::program_is_ready;
@@ -75,7 +75,7 @@ impl Bench {
 
     /// Begins a new scan. Tags and flags stay.
     pub fn restart(&mut self)
-        ensures position { (rungs : ProgramRungs) → IsFlatProgram self.old.program rungs → Stands self.new.program self.new.place (first_position rungs) }
+        ensures position { (rungs : ProgramRungs) → IsFlatProgram self.old.program rungs → Represents self.new.program self.new.place (first_position rungs) }
         ensures same_image { self.new.image ≡ self.old.image }
         ensures same_flags { self.new.flags ≡ self.old.flags }
     {
@@ -84,7 +84,7 @@ impl Bench {
 
     /// Makes a step of the scan, at a tick, in a first scan or not.
     pub fn step(&mut self, now: u32, first: bool) -> Effect
-        ensures { (rungs : ProgramRungs) (p : MachinePosition) → Runs self.old.program self.old.place rungs p (length self.old.image.bytes) → Advances self.old.program rungs (machine_advance rungs p self.old.image.bytes now first self.old.flags) self.new.place self.new.image.bytes self.new.flags result }
+        ensures { (rungs : ProgramRungs) (p : MachinePosition) → IsRunOf self.old.program self.old.place rungs p (length self.old.image.bytes) → MatchesStep self.old.program rungs (machine_advance rungs p self.old.image.bytes now first self.old.flags) self.new.place self.new.image.bytes self.new.flags result }
     {
         advance(
             &self.program,

@@ -1,11 +1,11 @@
 // Whether instructions are ready: a test, made when a program is loaded, of what the engine asks of them.
 ghost use Rattle.std.specs.Prelude.{◌≡◌, ◌<◌, true, ℕ, [], ◌∷◌};
 ghost use Rattle.std.specs.List.{All, AllByRecursion as Each};
-ghost use Rattle.lgx_num.specs.Image.{LiesAt, BeginsWell, bits_of};
-ghost use Rattle.lgx_num.specs.Paths.{PathLies, BytesLie, OperandLies};
+ghost use Rattle.lgx_num.specs.Image.{InBoundsAt, IsByteAligned, bits_of};
+ghost use Rattle.lgx_num.specs.Paths.{PathInBounds, BytesInBounds, OperandInBounds};
 ghost use Rattle.lgx_prog.specs.Executes.{executes};
 ghost use Rattle.lgx_prog.specs.FlatProgram.{routine_at};
-ghost use Rattle.lgx_prog.specs.Ready.{IsReady, EndsIn, KindsFit, IsCell, IsTimer, IsCounter, IsIntegers, IsRoutine, IsTask, operand_at};
+ghost use Rattle.lgx_prog.specs.Executable.{IsExecutable, EndsIn, KindsFit, IsCell, IsTimer, IsCounter, IsIntegers, IsRoutine, IsTask, operand_at};
 
 use lgx_num::{Kind, Operand, Path};
 use lgx_prog::{Code, FlatProgram, Ins};
@@ -14,7 +14,7 @@ use lgx_rung::Op;
 /// Whether every instruction in the code of a program's routines is ready for an image of `len` bytes. There are `count`
 /// routines.
 pub fn program_is_ready(program: &FlatProgram, count: usize, len: u32) -> bool
-    ensures { result ≡ true → (n : ℕ) → n < count → Each (IsReady len) (executes (routine_at program.now n).code) }
+    ensures { result ≡ true → (n : ℕ) → n < count → Each (IsExecutable len) (executes (routine_at program.now n).code) }
 {
     for number in 0..count {
         if !code_is_ready(program.code(number), len) {
@@ -26,7 +26,7 @@ pub fn program_is_ready(program: &FlatProgram, count: usize, len: u32) -> bool
 
 /// Whether every instruction in flat code is ready for an image of `len` bytes.
 fn code_is_ready(code: &[Code], len: u32) -> bool
-    ensures { result ≡ true → Each (IsReady len) (executes code.now) }
+    ensures { result ≡ true → Each (IsExecutable len) (executes code.now) }
 {
     for piece in code {
         if !piece_is_ready(piece, len) {
@@ -38,7 +38,7 @@ fn code_is_ready(code: &[Code], len: u32) -> bool
 
 /// Whether a piece of code is ready: an instruction, if it is one.
 fn piece_is_ready(piece: &Code, len: u32) -> bool
-    ensures { result ≡ true → Each (IsReady len) (executes (piece.now ∷ [])) }
+    ensures { result ≡ true → Each (IsExecutable len) (executes (piece.now ∷ [])) }
 {
     match piece {
         Code::Execute(ins) => is_ready(ins, len),
@@ -48,7 +48,7 @@ fn piece_is_ready(piece: &Code, len: u32) -> bool
 
 /// Whether an instruction is ready for an image of `len` bytes; never where an operand has a variable subscript.
 pub fn is_ready(ins: &Ins, len: u32) -> bool
-    ensures { result ≡ true → IsReady len ins.now }
+    ensures { result ≡ true → IsExecutable len ins.now }
 {
     let args = ins.args.as_slice();
     args.len() <= 3 && all_lie(args, len) && kinds_fit(ins.op, args)
@@ -56,7 +56,7 @@ pub fn is_ready(ins: &Ins, len: u32) -> bool
 
 /// Whether all operands lie in the image.
 fn all_lie(args: &[Operand], len: u32) -> bool
-    ensures lie { result ≡ true → All (λ o. OperandLies o len) args.now }
+    ensures lie { result ≡ true → All (λ o. OperandInBounds o len) args.now }
     ensures ends { result ≡ true → All (EndsIn len) args.now }
 {
     for operand in args {
@@ -69,7 +69,7 @@ fn all_lie(args: &[Operand], len: u32) -> bool
 
 /// Whether an operand lies in the image.
 fn lies(operand: &Operand, len: u32) -> bool
-    ensures lie { result ≡ true → OperandLies operand.now len }
+    ensures lie { result ≡ true → OperandInBounds operand.now len }
     ensures ends { result ≡ true → EndsIn len operand.now }
 {
     match operand {
@@ -87,7 +87,7 @@ fn lies(operand: &Operand, len: u32) -> bool
 
 /// Whether a path without subscripts leads to a number in the image.
 fn cell_lies(path: &Path, len: u32) -> bool
-    ensures { result ≡ true → PathLies path.now len (λ to. LiesAt path.now.kind to len) }
+    ensures { result ≡ true → PathInBounds path.now len (λ to. InBoundsAt path.now.kind to len) }
 {
     path.steps.is_empty()
         && begins_well(path.kind, path.at)
@@ -95,7 +95,7 @@ fn cell_lies(path: &Path, len: u32) -> bool
 }
 
 fn begins_well(kind: Kind, at: u32) -> bool
-    ensures { result ≡ true → BeginsWell kind at }
+    ensures { result ≡ true → IsByteAligned kind at }
 {
     match kind {
         Kind::Bool => true,
@@ -116,7 +116,7 @@ fn bits_of(kind: Kind) -> u64
 
 /// Whether so many bytes from where a path without subscripts leads end at or before byte `end`.
 fn bytes_lie(path: &Path, size: u32, end: u32) -> bool
-    ensures { result ≡ true → (len : ℕ) → PathLies path.now len (BytesLie size end) }
+    ensures { result ≡ true → (len : ℕ) → PathInBounds path.now len (BytesInBounds size end) }
 {
     path.steps.is_empty()
         && path.at % 8 == 0

@@ -7,7 +7,7 @@ ghost use Rattle.lgx_prog.specs.Nodes.{tree_of};
 use crate::errors::Refusal;
 use crate::tags::operand;
 use lgx_neutral::read_rung;
-use lgx_num::{List, Operand};
+use lgx_num::{Items, Operand};
 use lgx_prog::{Ins, Legs, Node, Rung, Rungs};
 use lgx_rung::{Element, Legs as SourceLegs, Op, SourceRung, Texts};
 use std::alloc::Global;
@@ -29,7 +29,7 @@ fn read_routine(alloc: Global, text: &str) -> Result<Rungs, Refusal> {
             rungs.push(read_one(alloc, rung.as_bytes())?)?;
         }
     }
-    Ok(List::of(rungs))
+    Ok(Items::of(rungs))
 }
 
 /// A rung by its text.
@@ -88,10 +88,10 @@ fn ins_of(alloc: Global, op: Op, texts: &Texts) -> Result<Ins, Refusal> {
     }
     Ok(Ins {
         op,
-        args: List::of(args),
+        args: Items::of(args),
     })
 }
 
-fn operand_of(op: Op, number: usize, text: &List<u8>) -> Result<Operand, Refusal> {
+fn operand_of(op: Op, number: usize, text: &Items<u8>) -> Result<Operand, Refusal> {
     operand(op, number, text.as_slice()).ok_or(Refusal::Operand)
 }

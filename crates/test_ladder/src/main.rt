@@ -3,9 +3,9 @@
 //! Lines that begin with `#` say why a row is so. What differs is printed, and at the end how many rows there were.
 #![tactic(auto)]
 
-use test_bench::{Refusal, judge_row};
 use std::alloc::Global;
 use std::io;
+use test_bench::{Refusal, judge_row};
 
 fn main(rt: HostRuntime) -> io::Result<()> {
     let mut rows = 0u32;

@@ -27,9 +27,9 @@ fn program_without_rungs(rt: HostRuntime) {
         task: Name::read(b"T").expect(&rt, "a name"),
         program: Name::read(b"P").expect(&rt, "a name"),
         tags: 0,
-        rungs: List::of(Vec::new(alloc)),
-        initial: List::of(Vec::new(alloc)),
-        watches: List::of(Vec::new(alloc)),
+        rungs: Items::of(Vec::new(alloc)),
+        initial: Items::of(Vec::new(alloc)),
+        watches: Items::of(Vec::new(alloc)),
     };
     let mut controller = Controller::new(alloc, project).expect(&rt, "memory");
     assert_eq!(rt; controller.mode_run(), Reply::Done);
@@ -61,15 +61,15 @@ fn rung_writes_its_output(rt: HostRuntime) {
         task: Name::read(b"T").expect(&rt, "a name"),
         program: Name::read(b"P").expect(&rt, "a name"),
         tags: 2,
-        rungs: List::of(vec![in alloc; List::of(rung)].expect(&rt, "memory")),
-        initial: List::of(vec![in alloc;
+        rungs: Items::of(vec![in alloc; Items::of(rung)].expect(&rt, "memory")),
+        initial: Items::of(vec![in alloc;
             Initial {
                 tag: 0,
                 value: true
             },
         ]
         .expect(&rt, "memory")),
-        watches: List::of(vec![in alloc; watch.copied()].expect(&rt, "memory")),
+        watches: Items::of(vec![in alloc; watch.copied()].expect(&rt, "memory")),
     };
     let mut controller = Controller::new(alloc, project).expect(&rt, "memory");
     assert_eq!(rt; controller.cpu().what, What::Idle);

@@ -4,9 +4,9 @@ ghost use Rattle.lgx_tags.specs.Walk.{NamesLie};
 ghost use Rattle.lgx_types.specs.Tables.{HasSize};
 
 use super::*;
-use spec_language::{Base, DataType, MemberDecl, TypeDecl};
-use lgx_num::{List, Memory, Name, Steps, same};
+use lgx_num::{Items, Memory, Name, Steps, same};
 use lgx_types::TypeError;
+use spec_language::{Base, DataType, MemberDecl, TypeDecl};
 use std::process::Abort;
 use std::test::Fail;
 
@@ -112,7 +112,7 @@ fn pair(alloc: Global, name: &[u8], member_name: &[u8], of: &[u8]) -> Result<Typ
     members.push(member(member_name, of, 2).ok_or("no name")?)?;
     Ok(TypeDecl {
         name: Name::read(name).ok_or("no name")?,
-        members: List::of(members),
+        members: Items::of(members),
     })
 }
 

@@ -1,10 +1,10 @@
 use Rattle.std.proofs.Common.{◌≡◌, ◌<◌, length}
-use Rattle.lgx_copy.specs.CopyLies.{CopyLies}
+use Rattle.lgx_copy.specs.CopyInBounds.{CopyInBounds}
 use Rattle.lgx_copy.proofs.tests.steps_of.Given as goal
 
 abbrev pub invariant-loop-step : goal.invariant-loop-step
 invariant-loop-step l = record {
   left : 0 < l.copying.left;
-  lies : CopyLies l.copying (length l.image.bytes);
+  lies : CopyInBounds l.copying (length l.image.bytes);
   same_length : length l.image.bytes ≡ length l.fn.image.bytes;
 }

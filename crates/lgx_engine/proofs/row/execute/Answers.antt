@@ -1,5 +1,5 @@
 use Rattle.std.proofs.Common.{ap}
-use Rattle.lgx_image.specs.Grains.{Marked}
+use Rattle.lgx_image.specs.Grains.{ImageView}
 use Rattle.lgx_engine.proofs.Bound.{writes_places, timer_lies, counter_lies, can_be_reset, destination_is_place, blocks_lie}
 use Rattle.lgx_engine.proofs.FamilyRows.{timer_rows, math_rows}
 use Rattle.lgx_engine.proofs.row.execute.Goals as goal
@@ -29,10 +29,10 @@ pub returns-in-Timer-clause-row : goal.returns-in-Timer-clause-row
 returns-in-Timer-clause-row c = λ frames deep.
     let counted = rw c.at.ensures at c.count_time.ensures.counted in
     let fault = rw c.at.ensures at c.count_time.ensures.fault in
-    rw c.only-in-Timer.ensures
-    (timer_rows c.args.ins.now.args c.args.bound.now c.args.scan.on c.args.scan.now c.args.scan.first frames c.args.flags.now c.args.image.now.bytes c.requires.bound c.args.ins.now.op c.count_time.new.image.bytes c.count_time.result c.in-Timer.ensures c.requires.acts counted (λ none. ((fault none).0, ap (λ (m : Marked). m.bytes) (fault none).1)))
+    rw c.pass_on-in-Timer.ensures
+    (timer_rows c.args.ins.now.args c.args.bound.now c.args.scan.on c.args.scan.now c.args.scan.first frames c.args.flags.now c.args.image.now.bytes c.requires.bound c.args.ins.now.op c.count_time.new.image.bytes c.count_time.result c.in-Timer.ensures c.requires.acts counted (λ none. ((fault none).0, ap (λ (m : ImageView). m.bytes) (fault none).1)))
 
 pub returns-in-Arithmetic-clause-row : goal.returns-in-Arithmetic-clause-row
 returns-in-Arithmetic-clause-row c = λ frames deep.
-    rw c.only-in-Arithmetic.ensures
+    rw c.pass_on-in-Arithmetic.ensures
     (math_rows c.args.ins.now.args c.args.bound.now c.args.scan.on c.args.scan.now c.args.scan.first frames c.args.flags.now c.args.image.now.bytes c.requires.bound c.args.ins.now.op c.compute.new.flags c.compute.new.image.bytes c.compute.result c.in-Arithmetic.ensures c.requires.acts c.compute.ensures.due c.compute.ensures.flags c.compute.ensures.bytes)

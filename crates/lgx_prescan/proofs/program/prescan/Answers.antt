@@ -10,7 +10,7 @@ pub loop-routine-init : goal.loop-routine-init
 loop-routine-init c = record {
   bytes = ap (λ ns. fold prescan_ins c.args.image.now.bytes (flat_map (code_instructions c.args.program.now) ns)) c.reached-routine-items.ensures;
   ready = code_ready _ c.args.program.now c.requires.0 c.requires.1 c.requires.2;
-  spread = no_change_is_spread _;
+  only_marked = no_change_is_spread _;
 }
 
 pub returns-clause-bytes : goal.returns-clause-bytes

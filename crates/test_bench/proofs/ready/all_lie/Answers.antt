@@ -3,19 +3,19 @@ use Rattle.std.specs.List.{All}
 use Rattle.std.proofs.lemmas.List.{take_all}
 use Rattle.std.proofs.lemmas.List.Elements.{All-more}
 use Rattle.lgx_num.specs.declared.place.Operand.{Operand}
-use Rattle.lgx_num.specs.Paths.{OperandLies}
-use Rattle.lgx_prog.specs.Ready.{EndsIn}
+use Rattle.lgx_num.specs.Paths.{OperandInBounds}
+use Rattle.lgx_prog.specs.Executable.{EndsIn}
 use Rattle.test_bench.proofs.ready.all_lie.Goals as goal
 
 pub loop-operand-preserved : goal.loop-operand-preserved
 loop-operand-preserved c = record {
-  lie = All-more (λ o. OperandLies o c.args.len) c.args.args.now c.loop-operand.operand-index c.operand-item.result c.loop-operand-test.true c.loop-operand.invariant.lie (subst (λ (o : Operand). OperandLies o c.args.len) c.operand-item.is (c.if-not-lies.ensures.lie refl));
+  lie = All-more (λ o. OperandInBounds o c.args.len) c.args.args.now c.loop-operand.operand-index c.operand-item.result c.loop-operand-test.true c.loop-operand.invariant.lie (subst (λ (o : Operand). OperandInBounds o c.args.len) c.operand-item.is (c.if-not-lies.ensures.lie refl));
   ends = All-more (EndsIn c.args.len) c.args.args.now c.loop-operand.operand-index c.operand-item.result c.loop-operand-test.true c.loop-operand.invariant.ends (subst (EndsIn c.args.len) c.operand-item.is (c.if-not-lies.ensures.ends refl));
 }
 
 pub returns-clause-lie : goal.returns-clause-lie
 returns-clause-lie c _ =
-    subst (λ (xs : List Operand). All (λ o. OperandLies o c.args.len) xs) (take_all c.loop-operand.operand-index c.args.args.now c.loop-operand-test.false) c.loop-operand.invariant.lie
+    subst (λ (xs : List Operand). All (λ o. OperandInBounds o c.args.len) xs) (take_all c.loop-operand.operand-index c.args.args.now c.loop-operand-test.false) c.loop-operand.invariant.lie
 
 pub returns-clause-ends : goal.returns-clause-ends
 returns-clause-ends c _ =

@@ -4,6 +4,6 @@ use Rattle.lgx_image.proofs.Words.{grains_of_view}
 use Rattle.lgx_image.proofs.Spreads.{spread_copy}
 use Rattle.lgx_image.proofs.image.Image.copy_element.Goals as goal
 
-pub returns-clause-spread : goal.returns-clause-spread
-returns-clause-spread c =
+pub returns-clause-only_marked : goal.returns-clause-only_marked
+returns-clause-only_marked c =
     spread_copy c.args.self.now _ c.args.source c.args.target c.args.size (grains_of_view c.self.inside.bytes.items c.self.inside.marks c.args.self.now c.self.view_is) c.requires.target (grind (arith, common_steps)) (grind (arith, common_steps))

@@ -4,6 +4,6 @@ use Rattle.lgx_image.proofs.Words.{grains_of_view}
 use Rattle.lgx_image.proofs.Spreads.{spread_write}
 use Rattle.lgx_image.proofs.image.Image.put.Goals as goal
 
-pub returns-clause-spread : goal.returns-clause-spread
-returns-clause-spread c =
+pub returns-clause-only_marked : goal.returns-clause-only_marked
+returns-clause-only_marked c =
     spread_write c.args.self.now _ c.args.place c.args.value (grains_of_view c.self.inside.bytes.items c.self.inside.marks c.args.self.now c.self.view_is) c.requires (grind (arith, common_steps)) (grind (arith, common_steps))

@@ -25,10 +25,10 @@ pub returns-then-is_continuous-clause-stands : goal.returns-then-is_continuous-c
 returns-then-is_continuous-clause-stands c = λ s h.
     let known : (ds : List TaskDef) → c.args.self.now.defs ≡ ds → c.args.t < length ds = λ ds e. subst (λ (xs : List TaskDef). c.args.t < length xs) e (known_task c.args.self.now c.args.t c.take_out.ensures.table c.requires.chosen) in
     subst (λ (v : Ready). StandsFor v (finish c.args.t c.args.now s)) (sym (c.put_up.ensures ∙ ap (λ (v : Ready). up_last c.args.t c.args.now v) c.take_out.ensures.exact))
-    (stands-finish c.args.self.now s c.args.t c.args.now c.take_out.ensures.table h c.requires.chosen (ap (λ (xs : List TaskDef). is_continuous (def_of (record { defs = xs; ups = []; queues = []; opened = None; ran_at = 0 }) c.args.t).kind) (ap (λ (v : Ready). v.defs) (sym c.take_out.ensures.exact) ∙ (ap (λ (v : Ready). v.defs) (sym c.self.view_is) ∙ sym c.as_slice.ensures)) ∙ (sym (c.is_continuous.ensures ∙ ap (λ (d : TaskDef). is_continuous d.kind) (get_or_default c.as_slice.result.now c.args.t _ no_task (known c.as_slice.result.now (ap (λ (v : Ready). v.defs) (sym c.take_out.ensures.exact) ∙ (ap (λ (v : Ready). v.defs) (sym c.self.view_is) ∙ sym c.as_slice.ensures))))) ∙ c.if-is_continuous.true)))
+    (stands-finish c.args.self.now s c.args.t c.args.now c.take_out.ensures.table h c.requires.chosen (ap (λ (xs : List TaskDef). is_continuous (def_of (record { defs = xs; ups = []; queues = []; opened = None; run_since = 0 }) c.args.t).kind) (ap (λ (v : Ready). v.defs) (sym c.take_out.ensures.exact) ∙ (ap (λ (v : Ready). v.defs) (sym c.self.view_is) ∙ sym c.as_slice.ensures)) ∙ (sym (c.is_continuous.ensures ∙ ap (λ (d : TaskDef). is_continuous d.kind) (get_or_default c.as_slice.result.now c.args.t _ no_task (known c.as_slice.result.now (ap (λ (v : Ready). v.defs) (sym c.take_out.ensures.exact) ∙ (ap (λ (v : Ready). v.defs) (sym c.self.view_is) ∙ sym c.as_slice.ensures))))) ∙ c.if-is_continuous.true)))
 
 pub returns-else-is_continuous-clause-stands : goal.returns-else-is_continuous-clause-stands
 returns-else-is_continuous-clause-stands c = λ s h.
     let known : (ds : List TaskDef) → c.args.self.now.defs ≡ ds → c.args.t < length ds = λ ds e. subst (λ (xs : List TaskDef). c.args.t < length xs) e (known_task c.args.self.now c.args.t c.take_out.ensures.table c.requires.chosen) in
     subst (λ (v : Ready). StandsFor v (finish c.args.t c.args.now s)) (sym c.take_out.ensures.exact)
-    (stands-finish_other c.args.self.now s c.args.t c.args.now c.take_out.ensures.table h c.requires.chosen (ap (λ (xs : List TaskDef). is_continuous (def_of (record { defs = xs; ups = []; queues = []; opened = None; ran_at = 0 }) c.args.t).kind) (ap (λ (v : Ready). v.defs) (sym c.take_out.ensures.exact) ∙ (ap (λ (v : Ready). v.defs) (sym c.self.view_is) ∙ sym c.as_slice.ensures)) ∙ (sym (c.is_continuous.ensures ∙ ap (λ (d : TaskDef). is_continuous d.kind) (get_or_default c.as_slice.result.now c.args.t _ no_task (known c.as_slice.result.now (ap (λ (v : Ready). v.defs) (sym c.take_out.ensures.exact) ∙ (ap (λ (v : Ready). v.defs) (sym c.self.view_is) ∙ sym c.as_slice.ensures))))) ∙ c.if-is_continuous.false)))
+    (stands-finish_other c.args.self.now s c.args.t c.args.now c.take_out.ensures.table h c.requires.chosen (ap (λ (xs : List TaskDef). is_continuous (def_of (record { defs = xs; ups = []; queues = []; opened = None; run_since = 0 }) c.args.t).kind) (ap (λ (v : Ready). v.defs) (sym c.take_out.ensures.exact) ∙ (ap (λ (v : Ready). v.defs) (sym c.self.view_is) ∙ sym c.as_slice.ensures)) ∙ (sym (c.is_continuous.ensures ∙ ap (λ (d : TaskDef). is_continuous d.kind) (get_or_default c.as_slice.result.now c.args.t _ no_task (known c.as_slice.result.now (ap (λ (v : Ready). v.defs) (sym c.take_out.ensures.exact) ∙ (ap (λ (v : Ready). v.defs) (sym c.self.view_is) ∙ sym c.as_slice.ensures))))) ∙ c.if-is_continuous.false)))

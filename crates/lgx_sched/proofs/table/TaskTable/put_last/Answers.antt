@@ -14,7 +14,7 @@ place-place-requires-clause-task c =
 
 pub place-place-requires-clause-priority : goal.place-place-requires-clause-priority
 place-place-requires-clause-priority c =
-    subst (λ (xs : List TaskDef). 0 < (def_of (record { defs = xs; ups = []; queues = []; opened = None; ran_at = 0 }) c.args.t).priority) (sym c.as_slice.ensures)
+    subst (λ (xs : List TaskDef). 0 < (def_of (record { defs = xs; ups = []; queues = []; opened = None; run_since = 0 }) c.args.t).priority) (sym c.as_slice.ensures)
     ((c.self.invariant.0.priorities c.args.t
     (known_front _ c.args.t c.self.invariant
     (subst (λ (v : Ready). v.opened ≡ None) (sym c.self.view_is) c.requires.none_open)
@@ -25,7 +25,7 @@ push_last-requires-clause-room c =
     room_for_last _ c.args.t _ _ c.self.invariant
     (subst (λ (v : Ready). v.opened ≡ None) (sym c.self.view_is) c.requires.none_open)
     (subst (λ (v : Ready). front_of v.queues ≡ Some c.args.t) (sym c.self.view_is) c.requires.front)
-    (c.place-place.ensures ∙ ap (λ (xs : List TaskDef). place_of (record { defs = xs; ups = []; queues = []; opened = None; ran_at = 0 }) c.args.t) c.as_slice.ensures)
+    (c.place-place.ensures ∙ ap (λ (xs : List TaskDef). place_of (record { defs = xs; ups = []; queues = []; opened = None; run_since = 0 }) c.args.t) c.as_slice.ensures)
     c.pop_first.ensures
 
 pub invariant_of-self : goal.invariant_of-self
@@ -33,5 +33,5 @@ invariant_of-self c =
     last_from _ c.args.t _ _ _ c.self.invariant
     (subst (λ (v : Ready). v.opened ≡ None) (sym c.self.view_is) c.requires.none_open)
     (subst (λ (v : Ready). front_of v.queues ≡ Some c.args.t) (sym c.self.view_is) c.requires.front)
-    (c.place-place.ensures ∙ ap (λ (xs : List TaskDef). place_of (record { defs = xs; ups = []; queues = []; opened = None; ran_at = 0 }) c.args.t) c.as_slice.ensures)
+    (c.place-place.ensures ∙ ap (λ (xs : List TaskDef). place_of (record { defs = xs; ups = []; queues = []; opened = None; run_since = 0 }) c.args.t) c.as_slice.ensures)
     c.pop_first.ensures c.push_last.ensures

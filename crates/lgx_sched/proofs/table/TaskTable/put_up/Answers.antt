@@ -17,5 +17,5 @@ invariant_of-self c =
     up_from _ c.args.t c.args.now _ _ c.self.invariant
     (subst (λ (v : Ready). c.args.t < length v.defs) (sym c.self.view_is) c.requires.task)
     (subst (λ (v : Ready). up_of v c.args.t ≡ None) (sym c.self.view_is) c.requires.down)
-    (c.place-place.ensures ∙ ap (λ (xs : List TaskDef). place_of (record { defs = xs; ups = []; queues = []; opened = None; ran_at = 0 }) c.args.t) c.as_slice.ensures)
+    (c.place-place.ensures ∙ ap (λ (xs : List TaskDef). place_of (record { defs = xs; ups = []; queues = []; opened = None; run_since = 0 }) c.args.t) c.as_slice.ensures)
     c.push_last.ensures

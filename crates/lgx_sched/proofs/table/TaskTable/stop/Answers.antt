@@ -5,4 +5,4 @@ use Rattle.lgx_sched.proofs.Calls.{stands-stop}
 use Rattle.lgx_sched.proofs.table.TaskTable.stop.Goals as goal
 
 pub returns-clause-stands : goal.returns-clause-stands
-returns-clause-stands c = λ s h. stands-stop c.args.self.now _ s h (c.put_all_down-2.ensures.exact ∙ ap (λ (v : Ready). record (all_down c.args.self.now) { ran_at = v.ran_at }) c.put_all_down.view_is)
+returns-clause-stands c = λ s h. stands-stop c.args.self.now _ s h (c.put_all_down-2.ensures.exact ∙ ap (λ (v : Ready). record (all_down c.args.self.now) { run_since = v.run_since }) c.put_all_down.view_is)

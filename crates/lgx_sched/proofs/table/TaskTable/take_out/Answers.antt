@@ -12,7 +12,7 @@ place-place-requires-clause-task c =
 
 pub place-place-requires-clause-priority : goal.place-place-requires-clause-priority
 place-place-requires-clause-priority c =
-    subst (λ (xs : List TaskDef). 0 < (def_of (record { defs = xs; ups = []; queues = []; opened = None; ran_at = 0 }) c.args.t).priority) (sym c.as_slice.ensures)
+    subst (λ (xs : List TaskDef). 0 < (def_of (record { defs = xs; ups = []; queues = []; opened = None; run_since = 0 }) c.args.t).priority) (sym c.as_slice.ensures)
     ((c.self.invariant.0.priorities c.args.t
     (known_task _ c.args.t c.self.invariant (subst (λ (v : Ready). next_task v ≡ Some c.args.t) (sym c.self.view_is) c.requires.chosen))).0)
 
@@ -26,5 +26,5 @@ pub invariant_of-self : goal.invariant_of-self
 invariant_of-self c =
     down_from _ c.args.t _ _ c.self.invariant
     (subst (λ (v : Ready). next_task v ≡ Some c.args.t) (sym c.self.view_is) c.requires.chosen)
-    (c.place-place.ensures ∙ ap (λ (xs : List TaskDef). place_of (record { defs = xs; ups = []; queues = []; opened = None; ran_at = 0 }) c.args.t) c.as_slice.ensures)
+    (c.place-place.ensures ∙ ap (λ (xs : List TaskDef). place_of (record { defs = xs; ups = []; queues = []; opened = None; run_since = 0 }) c.args.t) c.as_slice.ensures)
     c.pop_first.ensures

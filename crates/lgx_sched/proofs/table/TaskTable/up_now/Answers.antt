@@ -17,7 +17,7 @@ unreachable-requires c =
     let l = known_task _ c.args.t c.self.invariant (subst (λ (v : Ready). next_task v ≡ Some c.args.t) (sym c.self.view_is) c.requires.chosen) in
     let same = c.self.invariant.0.as_many in
     let u = chosen_up _ c.args.t c.self.invariant (subst (λ (v : Ready). next_task v ≡ Some c.args.t) (sym c.self.view_is) c.requires.chosen) in
-    let read : c.index.result.now ≡ up_of (record { defs = []; ups = c.self.inside.ups.items; queues = []; opened = None; ran_at = 0 }) c.args.t = get_or_read c.self.inside.ups.items c.args.t _ (omega arith) c.index.ensures None in
+    let read : c.index.result.now ≡ up_of (record { defs = []; ups = c.self.inside.ups.items; queues = []; opened = None; run_since = 0 }) c.args.t = get_or_read c.self.inside.ups.items c.args.t _ (omega arith) c.index.ensures None in
     let none = c.in-None.is in
     let some = u.1 in
     cc

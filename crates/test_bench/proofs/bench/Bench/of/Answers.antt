@@ -2,7 +2,7 @@ use Rattle.std.proofs.Common.{ℕ, refl, ap, ◌∙◌, subst, length}
 use Rattle.std.proofs.lemmas.List.{length-replicate}
 use Rattle.spec_scan.specs.Position.{ProgramRungs, first_position}
 use Rattle.lgx_prog.specs.FlatProgram.{IsFlatProgram}
-use Rattle.lgx_prog.specs.Ready.{IsReadyProgram}
+use Rattle.lgx_prog.specs.Executable.{IsExecutableProgram}
 use Rattle.test_bench.proofs.Readiness.{program_ready}
 use Rattle.test_bench.proofs.bench.Bench.of.Goals as goal
 
@@ -10,13 +10,13 @@ pub invariant_of-result : goal.invariant_of-result
 invariant_of-result c =
     let rungs : ProgramRungs = record { routines = c.args.routines.now; main = 0 } in
     let flat : IsFlatProgram c.in_ok-program.program rungs = c.in_ok-program.ensures in
-    let ready : IsReadyProgram c.len.result rungs = program_ready c.len.result c.in_ok-program.program rungs flat (c.if-not-program_is_ready.ensures refl) in (
+    let ready : IsExecutableProgram c.len.result rungs = program_ready c.len.result c.in_ok-program.program rungs flat (c.if-not-program_is_ready.ensures refl) in (
       (
         rungs,
         first_position rungs,
         record {
           program = flat;
-          ready = subst (λ (n : ℕ). IsReadyProgram n rungs) c.len.ensures.value ready;
+          ready = subst (λ (n : ℕ). IsExecutableProgram n rungs) c.len.ensures.value ready;
           position = c.start-position.ensures rungs flat;
           copy = tt;
         },

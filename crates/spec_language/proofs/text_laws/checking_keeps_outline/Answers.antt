@@ -1,5 +1,0 @@
-use Rattle.spec_language.proofs.Outlines.{proved_outline}
-use Rattle.spec_language.proofs.text_laws.checking_keeps_outline.Goals as goal
-
-pub returns : goal.returns
-returns c = proved_outline
