@@ -9,7 +9,7 @@ use Rattle.spec_scan.specs.declared.bound.Copying.{Copying}
 use Rattle.spec_scan.specs.Arguments.{arg, byte_of, size_of, room_of}
 use Rattle.spec_scan.specs.Copies.{elements, elements_in, copy_of}
 use Rattle.lgx_image.specs.Args.{ArgInBounds, ArgsInBounds}
-use Rattle.lgx_copy.specs.CopyInBounds.{IsFillSize, SourceInBounds, CopyInBounds, BlockEnds, StoresInteger, BlocksInBounds}
+use Rattle.lgx_copy.specs.CopyBounds.{IsFillSize, SourceInBounds, CopyInBounds, BlockEnds, StoresInteger, BlocksInBounds}
 
 -- ---- one element of those that are left
 

@@ -1,1 +1,1 @@
-pub mod CopyInBounds
+pub mod CopyBounds

@@ -5,7 +5,7 @@ ghost use Rattle.lgx_num.specs.Number.{low_bits};
 ghost use Rattle.lgx_num.specs.Image.{splice};
 ghost use Rattle.spec_scan.specs.Copies.{copy_element, after_element};
 ghost use Rattle.lgx_image.specs.Grains.{ChangesOnlyMarked};
-ghost use Rattle.lgx_copy.specs.CopyInBounds.{IsFillSize, CopyInBounds};
+ghost use Rattle.lgx_copy.specs.CopyBounds.{IsFillSize, CopyInBounds};
 
 use lgx_image::Image;
 use lgx_num::{Kind, Place};

@@ -3,7 +3,7 @@ ghost use Rattle.std.specs.Prelude.{◌≡◌, ◌<◌, ◌≤◌, length, IfSom
 ghost use Rattle.spec_scan.specs.Arguments.{arg as operand, size_of};
 ghost use Rattle.spec_scan.specs.Copies.{positive, asked, elements, fill_of, is_sync, start_copy, elements_in};
 ghost use Rattle.lgx_image.specs.Args.{ArgsInBounds};
-ghost use Rattle.lgx_copy.specs.CopyInBounds.{CopyInBounds, BlocksInBounds};
+ghost use Rattle.lgx_copy.specs.CopyBounds.{CopyInBounds, BlocksInBounds};
 
 use crate::operand::{byte_of, room_of, size_of, value_of};
 use lgx_image::Image;

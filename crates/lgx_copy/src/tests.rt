@@ -3,7 +3,7 @@ ghost use Rattle.std.specs.Prelude.{◌≡◌, ◌+◌, ◌<◌, ◌≤◌, leng
 ghost use Rattle.lgx_num.specs.Image.{InBounds};
 ghost use Rattle.spec_scan.specs.Arguments.{size_of};
 ghost use Rattle.lgx_image.specs.Args.{ArgInBounds};
-ghost use Rattle.lgx_copy.specs.CopyInBounds.{IsFillSize, BlockEnds, CopyInBounds};
+ghost use Rattle.lgx_copy.specs.CopyBounds.{IsFillSize, BlockEnds, CopyInBounds};
 
 use super::*;
 use lgx_image::Image;

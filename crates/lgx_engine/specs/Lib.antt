@@ -1,4 +1,4 @@
-pub mod FrameView
+pub mod Views
 pub mod Represents
 pub mod Settling
 pub mod Families

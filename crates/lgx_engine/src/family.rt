@@ -2,7 +2,7 @@
 ghost use Rattle.std.specs.Prelude.{◌≡◌};
 ghost use Rattle.spec_scan.specs.Arguments.{byte_of};
 ghost use Rattle.spec_scan.specs.Instructions.{acts_when_false, target};
-ghost use Rattle.lgx_prog.specs.Executable.{IsRoutine, IsTask, operand_at};
+ghost use Rattle.spec_scan.specs.Executable.{IsRoutine, IsTask, operand_at};
 ghost use Rattle.lgx_engine.specs.Families.{family_of};
 
 use lgx_num::Operand;

@@ -38,7 +38,7 @@ pub(crate) struct Frame {
 
 impl Model for Frame {
     ghost use Rattle.std.specs.Prelude.{reverse};
-    ghost use Rattle.lgx_engine.specs.FrameView.{FrameView, zone_of};
+    ghost use Rattle.lgx_engine.specs.Views.{FrameView, zone_of};
 
     ghost Value = { FrameView };
 
@@ -54,7 +54,7 @@ pub struct Position {
 
 impl Model for Position {
     ghost use Rattle.std.specs.Prelude.{reverse};
-    ghost use Rattle.lgx_engine.specs.FrameView.{PositionView};
+    ghost use Rattle.lgx_engine.specs.Views.{PositionView};
 
     ghost Value = { PositionView };
 

@@ -11,8 +11,8 @@ ghost use Rattle.lgx_image.specs.Args.{ArgInBounds, ArgsInBounds};
 ghost use Rattle.lgx_image.specs.Grains.{ChangesOnlyMarked};
 ghost use Rattle.lgx_time.specs.Families.{is_timer};
 ghost use Rattle.lgx_math.specs.Families.{computes, is_place};
-ghost use Rattle.lgx_copy.specs.CopyInBounds.{BlocksInBounds};
-ghost use Rattle.lgx_prog.specs.Executable.{IsExecutable, IsRoutine, KindsFit, operand_at};
+ghost use Rattle.lgx_copy.specs.CopyBounds.{BlocksInBounds};
+ghost use Rattle.spec_scan.specs.Executable.{IsExecutable, IsRoutine, KindsFit, operand_at};
 ghost use Rattle.lgx_engine.specs.Families.{family_of, CanBeReset};
 ghost use Rattle.lgx_engine.specs.Rows.{row_of, ControlInRows, CanFollow};
 
@@ -43,7 +43,7 @@ pub(crate) enum Control {
     Call(u32),
     Return,
     Jump(u64),
-    MarkZone,
+    ToggleZone,
     RegionUp,
     RegionDown,
     TriggerTask(u32),
@@ -84,7 +84,7 @@ pub(crate) fn run_row(
 ) -> RowStep
     requires ready { IsExecutable (length image.old.bytes) ins.now }
     ensures row { (frames : List Frame) → length frames ≡ depth → row ins.now.op ins.now.args on now first frames flags.old image.old.bytes ≡ row_of result flags.new image.new.bytes }
-    ensures position_after { CanFollow result.control depth (length image.new.bytes) }
+    ensures can_follow { CanFollow result.control depth (length image.new.bytes) }
     ensures only_marked { ChangesOnlyMarked image.old image.new }
 {
     if !on && !acts_when_false(ins.op) {
@@ -116,7 +116,7 @@ fn execute(ins: &Ins, bound: &Bound, scan: Scan, flags: &mut Flags, image: &mut 
     requires bound { bind image.old.bytes ins.now.args ≡ Some bound.now }
     requires lie { ArgsInBounds bound.now (length image.old.bytes) }
     ensures row { (frames : List Frame) → length frames ≡ scan.depth → row ins.now.op ins.now.args scan.on scan.now scan.first frames flags.old image.old.bytes ≡ row_of result flags.new image.new.bytes }
-    ensures position_after { CanFollow result.control scan.depth (length image.new.bytes) }
+    ensures can_follow { CanFollow result.control scan.depth (length image.new.bytes) }
     ensures only_marked { ChangesOnlyMarked image.old image.new }
 {
     let op = ins.op;
@@ -138,7 +138,7 @@ fn execute(ins: &Ins, bound: &Bound, scan: Scan, flags: &mut Flags, image: &mut 
         Family::Comparison => pass_on(compare(op, bound, image), Control::Nothing),
         Family::Arithmetic => pass_on(on, compute(op, bound, flags, image)),
         Family::Copy => pass_on(on, begin_copy(op, bound, image)),
-        Family::ProgramControl => pass_on(on, control(ins, scan.depth)),
+        Family::ProgramControl => pass_on(on, program_control(ins, scan.depth)),
     }
 }
 
@@ -178,7 +178,7 @@ fn compute(op: Op, bound: &Bound, flags: &mut Flags, image: &mut Image) -> Contr
     ensures due { result ≡ (if (math op bound.now image.old.bytes).flags.v then Control.MinorFault else Control.Nothing) }
     ensures flags { flags.new ≡ (math op bound.now image.old.bytes).flags }
     ensures bytes { image.new.bytes ≡ (math op bound.now image.old.bytes).image }
-    ensures position_after { (depth len : ℕ) → CanFollow result depth len }
+    ensures can_follow { (depth len : ℕ) → CanFollow result depth len }
     ensures only_marked { ChangesOnlyMarked image.old image.new }
 {
     if run_math(op, bound, flags, image) {
@@ -194,7 +194,7 @@ fn begin_copy(op: Op, bound: &Bound, image: &Image) -> Control
     requires blocks { BlocksInBounds op bound.now (length image.now.bytes) }
     ensures starts { IfSome (start_copy op bound.now image.now.bytes) (λ copying. result ≡ Control.StartCopy copying) }
     ensures nothing { start_copy op bound.now image.now.bytes ≡ None → result ≡ Control.Nothing }
-    ensures position_after { (depth : ℕ) → CanFollow result depth (length image.now.bytes) }
+    ensures can_follow { (depth : ℕ) → CanFollow result depth (length image.now.bytes) }
 {
     match start_copy(op, bound, image) {
         Some(copying) => Control::StartCopy(copying),
@@ -203,17 +203,17 @@ fn begin_copy(op: Op, bound: &Bound, image: &Image) -> Control
 }
 
 /// Calls, jumps, zones, regions and triggers, and what does nothing.
-fn control(ins: &Ins, depth: usize) -> Control
+fn program_control(ins: &Ins, depth: usize) -> Control
     requires family { family_of ins.now.op ≡ Family.ProgramControl }
     requires kinds { KindsFit ins.now.op ins.now.args }
     ensures rows { ControlInRows ins.now.op ins.now.args depth result }
-    ensures position_after { (len : ℕ) → CanFollow result depth len }
+    ensures can_follow { (len : ℕ) → CanFollow result depth len }
 {
     match ins.op {
         Op::Jsr => call(ins, depth),
         Op::Ret | Op::Tnd => Control::Return,
         Op::Jmp => Control::Jump(target(ins.args.as_slice())),
-        Op::Mcr => Control::MarkZone,
+        Op::Mcr => Control::ToggleZone,
         Op::Uid => Control::RegionUp,
         Op::Uie => Control::RegionDown,
         Op::Event => Control::TriggerTask(task_of(ins.args.as_slice())),
@@ -226,7 +226,7 @@ fn control(ins: &Ins, depth: usize) -> Control
 fn call(ins: &Ins, depth: usize) -> Control
     requires { IsRoutine (operand_at ins.now.args 0) }
     ensures call { result ≡ (if nat_lt depth frame_room then Control.Call (target ins.now.args) else Control.MajorFault too_deep) }
-    ensures position_after { (len : ℕ) → CanFollow result depth len }
+    ensures can_follow { (len : ℕ) → CanFollow result depth len }
 {
     if depth < FRAMES {
         Control::Call(routine_of(ins.args.as_slice()))

@@ -8,7 +8,7 @@ use Rattle.spec_scan.specs.Position.{ProgramRungs, Rungs, routine_rungs}
 use Rattle.spec_scan.specs.Prescan.{reached, reached_instructions}
 use Rattle.lgx_prog.specs.Executes.{executes}
 use Rattle.lgx_prog.specs.FlatProgram.{Program, IsFlatProgram, routine_at}
-use Rattle.lgx_prog.specs.Executable.{IsExecutable, AreExecutable, IsExecutableProgram}
+use Rattle.spec_scan.specs.Executable.{IsExecutable, AreExecutable, IsExecutableProgram}
 use Rattle.lgx_prog.proofs.Executes.{executes_flat}
 
 abbrev pub code_instructions : Program → ℕ → List Ins

@@ -6,7 +6,7 @@ ghost use Rattle.spec_scan.specs.Prescan.{prescan_ins, prescan_one, timer_bits_o
 ghost use Rattle.spec_scan.specs.StatusWords.{pre, put_acc};
 ghost use Rattle.lgx_image.specs.Args.{ArgsInBounds};
 ghost use Rattle.lgx_image.specs.Grains.{ChangesOnlyMarked};
-ghost use Rattle.lgx_prog.specs.Executable.{IsExecutable};
+ghost use Rattle.spec_scan.specs.Executable.{IsExecutable};
 ghost use Rattle.lgx_prescan.specs.Written.{IsWritten};
 
 use crate::operand::{counter_at, place_at, put_bit, timer_at};

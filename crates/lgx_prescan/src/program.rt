@@ -6,7 +6,7 @@ ghost use Rattle.spec_scan.specs.Prescan.{prescan_ins, prescan};
 ghost use Rattle.lgx_image.specs.Grains.{ChangesOnlyMarked};
 ghost use Rattle.lgx_prog.specs.Executes.{executes};
 ghost use Rattle.lgx_prog.specs.FlatProgram.{IsFlatProgram};
-ghost use Rattle.lgx_prog.specs.Executable.{IsExecutable, IsExecutableProgram};
+ghost use Rattle.spec_scan.specs.Executable.{IsExecutable, IsExecutableProgram};
 
 use crate::instruction::prescan_ins;
 use lgx_image::Image;

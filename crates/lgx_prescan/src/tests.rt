@@ -3,7 +3,7 @@ ghost use Rattle.std.specs.Prelude.{◌≡◌, ◌+◌, ◌<◌, ◌≤◌, [], 
 ghost use Rattle.std.specs.List.{AllByRecursion as Each};
 ghost use Rattle.lgx_num.specs.Image.{InBounds};
 ghost use Rattle.lgx_num.specs.Paths.{OperandInBounds};
-ghost use Rattle.lgx_prog.specs.Executable.{IsCell, IsTimer, IsCounter, EndsIn, KindsFit, IsExecutable, AreExecutable};
+ghost use Rattle.spec_scan.specs.Executable.{IsCell, IsTimer, IsCounter, EndsIn, KindsFit, IsExecutable, AreExecutable};
 
 use super::*;
 use lgx_image::Image;

@@ -4,4 +4,3 @@ pub mod Executes
 pub mod Searching
 pub mod Reaches
 pub mod Examined
-pub mod CheckedReady

@@ -4,7 +4,5 @@ pub mod NodesFall
 pub mod Flat
 pub mod Depth
 pub mod FlatProgram
-pub mod Executable
 pub mod Executes
 pub mod Search
-pub mod ExecutableLaws

@@ -7,14 +7,12 @@
 
 mod code;
 mod emit;
-mod laws;
 mod program;
 mod reach;
 mod rung;
 
 pub use code::{Code, FlatRoutine};
 pub use emit::flatten;
-pub use laws::checked_rungs_are_executable;
 pub use lgx_rung::Ins;
 pub use program::FlatProgram;
 pub use rung::{Legs, Node, Rung, Rungs};

@@ -30,7 +30,7 @@ use Rattle.lgx_num.specs.Paths.{BytesInBounds, OperandInBounds}
 use Rattle.std.specs.List.{AllByRecursion as Each}
 use Rattle.spec_language.specs.Layout.{size_of, single}
 use Rattle.spec_language.specs.ResolutionLaws.{Sound, EndsBy, LiesIn, elements}
-use Rattle.spec_language.specs.CheckedLaws.{OperandsLie, CheckedInBounds}
+use Rattle.spec_language.specs.CheckedLaws.{OperandsInBounds, CheckedInBounds}
 use Rattle.spec_base.proofs.Binds.{bind_ok, ok_inj, err_not_ok}
 use Rattle.spec_language.proofs.Subscripts.{each_append}
 use Rattle.spec_language.proofs.Outlines.{answered_outline}
@@ -240,12 +240,12 @@ mutual
       let b = bind_ok (checked_legs (instruction_of s ls) (behind (length (instructions t)) spot) legs) _ made a.2 in
       subst (λ (z : Legs Ins). Each (InsLies (bytes s.tags)) (leg_instructions z)) (ok_inj _ _ b.2) (each_append (InsLies (bytes s.tags)) (instructions a.0) (leg_instructions b.0) (tree_lies s ls sound spot t a.0 a.1) (legs_lie s ls sound (behind (length (instructions t)) spot) legs b.0 b.1))
 
-pub rungs_lie : (s : CheckScope) (ls : List Label) (sound : Sound s.tags) (rung before : ℕ) (rungs : List Source) (made : List (Tree Ins)) → checked_from (instruction_of s ls) rung before rungs ≡ Ok made → Each (OperandsLie (bytes s.tags)) made
-rungs_lie s ls sound rung before [] made p = subst (λ (z : List (Tree Ins)). Each (OperandsLie (bytes s.tags)) z) (ok_inj _ _ p) tt
+pub rungs_lie : (s : CheckScope) (ls : List Label) (sound : Sound s.tags) (rung before : ℕ) (rungs : List Source) (made : List (Tree Ins)) → checked_from (instruction_of s ls) rung before rungs ≡ Ok made → Each (OperandsInBounds (bytes s.tags)) made
+rungs_lie s ls sound rung before [] made p = subst (λ (z : List (Tree Ins)). Each (OperandsInBounds (bytes s.tags)) z) (ok_inj _ _ p) tt
 rungs_lie s ls sound rung before (r ∷ rs) made p =
     let a = bind_ok (checked_tree (instruction_of s ls) (record { rung = rung; ins = 0; before = before; leads = true }) r) _ made p in
     let b = bind_ok (checked_from (instruction_of s ls) (suc rung) (before + length (instructions r)) rs) _ made a.2 in
-    subst (λ (z : List (Tree Ins)). Each (OperandsLie (bytes s.tags)) z) (ok_inj _ _ b.2) (tree_lies s ls sound (record { rung = rung; ins = 0; before = before; leads = true }) r a.0 a.1, rungs_lie s ls sound (suc rung) (before + length (instructions r)) rs b.0 b.1)
+    subst (λ (z : List (Tree Ins)). Each (OperandsInBounds (bytes s.tags)) z) (ok_inj _ _ b.2) (tree_lies s ls sound (record { rung = rung; ins = 0; before = before; leads = true }) r a.0 a.1, rungs_lie s ls sound (suc rung) (before + length (instructions r)) rs b.0 b.1)
 
 pub checked_lies : CheckedInBounds
 checked_lies scope rungs made s p = rungs_lie scope (labels rungs) s 0 0 rungs made p

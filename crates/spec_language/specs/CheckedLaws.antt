@@ -32,8 +32,8 @@ abbrev pub KeepsOutline : Type 0
 KeepsOutline = (scope : CheckScope) (rungs : List Source) (made : List (Tree Ins)) → checked scope rungs ≡ Ok made → map (tree_map outline) made ≡ map (tree_map source_outline) rungs
 
 -- every operand of checked rungs lies in the image, for all subscripts in range
-abbrev pub OperandsLie : ℕ → Tree Ins → Type 0
-OperandsLie len t = Each (λ i. Each (λ o. OperandInBounds o len) i.args) (instructions t)
+abbrev pub OperandsInBounds : ℕ → Tree Ins → Type 0
+OperandsInBounds len t = Each (λ i. Each (λ o. OperandInBounds o len) i.args) (instructions t)
 
 abbrev pub CheckedInBounds : Type 0
-CheckedInBounds = (scope : CheckScope) (rungs : List Source) (made : List (Tree Ins)) → Sound scope.tags → checked scope rungs ≡ Ok made → Each (OperandsLie (bytes scope.tags)) made
+CheckedInBounds = (scope : CheckScope) (rungs : List Source) (made : List (Tree Ins)) → Sound scope.tags → checked scope rungs ≡ Ok made → Each (OperandsInBounds (bytes scope.tags)) made

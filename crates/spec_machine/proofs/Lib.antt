@@ -1,3 +1,4 @@
 pub mod OrderlyTables
 pub mod OrderlyRuns
 pub mod OrderlyLaws
+pub mod CheckedExecutable

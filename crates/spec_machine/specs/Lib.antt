@@ -11,3 +11,4 @@ pub mod Events
 pub mod Machine
 pub mod Report
 pub mod TaskLaws
+pub mod ExecutableLaws

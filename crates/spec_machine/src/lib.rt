@@ -5,10 +5,12 @@ mod answer;
 mod event;
 mod line;
 mod reply;
+mod scan_laws;
 mod task_laws;
 
 pub use answer::{Mark, Moment, Outcome, TickReport, What};
 pub use event::{Accept, Action, Event, RungEdit, Text};
 pub use line::Line;
 pub use reply::{EditFault, Mode, ModeFault, Reply};
+pub use scan_laws::checked_rungs_are_executable;
 pub use task_laws::tasks_stay_orderly;

@@ -8,5 +8,6 @@ pub mod Arithmetic
 pub mod Copies
 pub mod Position
 pub mod Instructions
+pub mod Executable
 pub mod Scan
 pub mod Prescan

@@ -10,7 +10,7 @@ use Rattle.lgx_prog.specs.declared.code.Code.TheVariants.{RungStart, Execute, Br
 use Rattle.lgx_prog.specs.Executes.{executes}
 use Rattle.lgx_prog.specs.Flat.{Flat, IsFlat}
 use Rattle.lgx_prog.specs.FlatProgram.{Program, routine_at, IsFlatProgram}
-use Rattle.lgx_prog.specs.Executable.{IsExecutable, AreExecutable, IsExecutableProgram}
+use Rattle.spec_scan.specs.Executable.{IsExecutable, AreExecutable, IsExecutableProgram}
 use Rattle.lgx_prog.proofs.Executes.{executes_flat}
 
 -- ---- code, piece by piece

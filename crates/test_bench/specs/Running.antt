@@ -4,7 +4,7 @@ use Rattle.lgx_num.specs.declared.place.Flags.{Flags}
 use Rattle.lgx_image.specs.Grains.{ImageView}
 use Rattle.spec_scan.specs.Position.{ProgramRungs, Position}
 use Rattle.lgx_prog.specs.FlatProgram.{Program}
-use Rattle.lgx_engine.specs.FrameView.{PositionView}
+use Rattle.lgx_engine.specs.Views.{PositionView}
 use Rattle.lgx_engine.specs.Represents.{IsRunOf}
 
 -- the program, where its scan stands, and the tags and flags

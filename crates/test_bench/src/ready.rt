@@ -5,7 +5,7 @@ ghost use Rattle.lgx_num.specs.Image.{InBoundsAt, IsByteAligned, bits_of};
 ghost use Rattle.lgx_num.specs.Paths.{PathInBounds, BytesInBounds, OperandInBounds};
 ghost use Rattle.lgx_prog.specs.Executes.{executes};
 ghost use Rattle.lgx_prog.specs.FlatProgram.{routine_at};
-ghost use Rattle.lgx_prog.specs.Executable.{IsExecutable, EndsIn, KindsFit, IsCell, IsTimer, IsCounter, IsIntegers, IsRoutine, IsTask, operand_at};
+ghost use Rattle.spec_scan.specs.Executable.{IsExecutable, EndsIn, KindsFit, IsCell, IsTimer, IsCounter, IsIntegers, IsRoutine, IsTask, operand_at};
 
 use lgx_num::{Kind, Operand, Path};
 use lgx_prog::{Code, FlatProgram, Ins};

@@ -1,5 +1,5 @@
 use Rattle.std.proofs.Common.{◌≡◌, ◌<◌, length}
-use Rattle.lgx_copy.specs.CopyInBounds.{CopyInBounds}
+use Rattle.lgx_copy.specs.CopyBounds.{CopyInBounds}
 use Rattle.lgx_copy.proofs.tests.steps_of.Given as goal
 
 abbrev pub invariant-loop-step : goal.invariant-loop-step

@@ -5,7 +5,7 @@ use Rattle.spec_scan.specs.Prescan.{prescan_ins}
 use Rattle.lgx_image.specs.Grains.{ChangesOnlyMarked}
 use Rattle.lgx_prog.specs.Executes.{executes}
 use Rattle.lgx_prog.specs.FlatProgram.{routine_at}
-use Rattle.lgx_prog.specs.Executable.{IsExecutable}
+use Rattle.spec_scan.specs.Executable.{IsExecutable}
 use Rattle.lgx_prescan.proofs.program.prescan.Given as goal
 
 abbrev pub invariant-loop-routine : goal.invariant-loop-routine

@@ -4,7 +4,7 @@ use Rattle.std.specs.List.{AllByRecursion as Each}
 use Rattle.spec_scan.specs.Prescan.{prescan_ins}
 use Rattle.lgx_image.specs.Grains.{ChangesOnlyMarked}
 use Rattle.lgx_prog.specs.Executes.{executes}
-use Rattle.lgx_prog.specs.Executable.{IsExecutable}
+use Rattle.spec_scan.specs.Executable.{IsExecutable}
 use Rattle.lgx_prescan.proofs.program.prescan_code.Given as goal
 
 abbrev pub invariant-loop-piece : goal.invariant-loop-piece

@@ -4,7 +4,7 @@ use Rattle.std.proofs.lemmas.List.{take_all}
 use Rattle.std.proofs.lemmas.List.Elements.{All-more}
 use Rattle.lgx_num.specs.declared.place.Operand.{Operand}
 use Rattle.lgx_num.specs.Paths.{OperandInBounds}
-use Rattle.lgx_prog.specs.Executable.{EndsIn}
+use Rattle.spec_scan.specs.Executable.{EndsIn}
 use Rattle.test_bench.proofs.ready.all_lie.Goals as goal
 
 pub loop-operand-preserved : goal.loop-operand-preserved

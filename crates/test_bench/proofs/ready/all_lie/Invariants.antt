@@ -1,7 +1,7 @@
 use Rattle.std.proofs.Common.{take}
 use Rattle.std.specs.List.{All}
 use Rattle.lgx_num.specs.Paths.{OperandInBounds}
-use Rattle.lgx_prog.specs.Executable.{EndsIn}
+use Rattle.spec_scan.specs.Executable.{EndsIn}
 use Rattle.test_bench.proofs.ready.all_lie.Given as goal
 
 abbrev pub invariant-loop-operand : goal.invariant-loop-operand

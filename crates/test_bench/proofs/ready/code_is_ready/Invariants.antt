@@ -1,7 +1,7 @@
 use Rattle.std.proofs.Common.{drop}
 use Rattle.std.specs.List.{AllByRecursion as Each}
 use Rattle.lgx_prog.specs.Executes.{executes}
-use Rattle.lgx_prog.specs.Executable.{IsExecutable}
+use Rattle.spec_scan.specs.Executable.{IsExecutable}
 use Rattle.test_bench.proofs.ready.code_is_ready.Given as goal
 
 abbrev pub invariant-loop-piece : goal.invariant-loop-piece

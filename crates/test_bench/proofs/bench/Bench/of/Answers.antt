@@ -2,7 +2,7 @@ use Rattle.std.proofs.Common.{ℕ, refl, ap, ◌∙◌, subst, length}
 use Rattle.std.proofs.lemmas.List.{length-replicate}
 use Rattle.spec_scan.specs.Position.{ProgramRungs, first_position}
 use Rattle.lgx_prog.specs.FlatProgram.{IsFlatProgram}
-use Rattle.lgx_prog.specs.Executable.{IsExecutableProgram}
+use Rattle.spec_scan.specs.Executable.{IsExecutableProgram}
 use Rattle.test_bench.proofs.Readiness.{program_ready}
 use Rattle.test_bench.proofs.bench.Bench.of.Goals as goal
 

@@ -33,10 +33,10 @@ use Rattle.spec_language.specs.Operands.{Want, bool_place, bool_or_flag, integer
 use Rattle.spec_language.specs.Checked.{CheckScope, Spot, Label, labels, label_of, label_faults, length_faults, behind, operand_of, operands_of, code_number, lesser, least, answered, settled, instruction_of, checked_tree, checked_legs, checked_from}
 use Rattle.spec_base.proofs.Binds.{bind_ok, ok_inj, err_not_ok}
 use Rattle.spec_language.proofs.Subscripts.{each_append}
-use Rattle.spec_language.specs.CheckedLaws.{OperandsLie, CheckedInBounds}
+use Rattle.spec_language.specs.CheckedLaws.{OperandsInBounds, CheckedInBounds}
 use Rattle.spec_language.proofs.FoundBounds.{found_lies}
-use Rattle.lgx_prog.specs.Executable.{IsCell, IsTimer, IsCounter, IsIntegers, IsRoutine, IsTask, EndsIn, operand_at, KindsFit, IsExecutable, AreExecutable}
-use Rattle.lgx_prog.specs.ExecutableLaws.{CheckedAreExecutable}
+use Rattle.spec_scan.specs.Executable.{IsCell, IsTimer, IsCounter, IsIntegers, IsRoutine, IsTask, EndsIn, operand_at, KindsFit, IsExecutable, AreExecutable}
+use Rattle.spec_machine.specs.ExecutableLaws.{CheckedAreExecutable}
 
 -- ---- what an answer says
 
@@ -393,7 +393,7 @@ ready_one : (len : ℕ) (is : List Ins) → Each (IsShaped len) is → Each (λ 
 ready_one len [] shaped lie = tt
 ready_one len (i ∷ is) shaped lie = (record { few = shaped.0.few; lie = all_of (λ o. OperandInBounds o len) i.args lie.0; ends = shaped.0.ends; kinds = shaped.0.kinds }, ready_one len is shaped.1 lie.1)
 
-ready_all : (len : ℕ) (rungs : List (Tree Ins)) → AreShaped len rungs → Each (OperandsLie len) rungs → AreExecutable len rungs
+ready_all : (len : ℕ) (rungs : List (Tree Ins)) → AreShaped len rungs → Each (OperandsInBounds len) rungs → AreExecutable len rungs
 ready_all len [] shaped lie = tt
 ready_all len (r ∷ rs) shaped lie = (ready_one len (instructions r) shaped.0 lie.0, ready_all len rs shaped.1 lie.1)
 
