@@ -1,15 +1,16 @@
 // The image: the bytes of all tags, with the marks of what was written.
 ghost use Rattle.std.specs.Prelude.{◌≡◌, ◌+◌, ◌/◌, ◌≤◌, length, replicate, false, IfOk, IfSome, option_map};
+ghost use Rattle.spec_base.specs.declared.limits.TheConstants.{MAX_IMAGE_BYTES, MAX_OPERANDS};
 ghost use Rattle.lgx_num.specs.Image.{number, write, piece, splice, InBounds, bit_of};
-ghost use Rattle.spec_scan.specs.Arguments.{bind};
+ghost use Rattle.spec_scan.specs.Arguments.{bind, value_of, is_one, bit_number};
 ghost use Rattle.lgx_image.specs.Grains.{grains_in, bytes_in, mark_range, NextMarked, ChangesOnlyMarked};
-ghost use Rattle.lgx_image.specs.Args.{place_at, CellInBounds, OperandsInBounds, ArgsInBounds};
+ghost use Rattle.lgx_image.specs.Args.{place_at, CellInBounds, OperandsInBounds, ArgInBounds, ArgsInBounds};
 
 use crate::bytes::{copy_piece, first_bit, number_at, write_at};
 use crate::grain::{WORDS, grains_in, mark_range, next_bit, no_marks};
 use crate::operands::bind_all;
 use lgx_num::{Kind, Memory, Operand, Path, Place};
-use spec_scan::Bound;
+use spec_scan::{Arg, Bound};
 use std::alloc::Global;
 use std::marker::Model;
 
@@ -24,6 +25,7 @@ pub struct Image {
 
 impl Model for Image {
     ghost use Rattle.std.specs.Prelude.{◌≤◌, length};
+    ghost use Rattle.spec_base.specs.declared.limits.TheConstants.{MAX_IMAGE_BYTES};
     ghost use Rattle.lgx_image.specs.Grains.{ImageView, grains_in};
     ghost use Rattle.lgx_image.specs.Words.{marks_of};
 
@@ -31,13 +33,13 @@ impl Model for Image {
 
     ghost view = { λ i. record { bytes = i.bytes.items; marks = marks_of i.marks (grains_in (length i.bytes.items)) } };
 
-    ghost invariant = { λ i. length i.bytes.items ≤ 262144 };
+    ghost invariant = { λ i. length i.bytes.items ≤ MAX_IMAGE_BYTES };
 }
 
 impl Image {
     /// An image of `len` bytes, all 0, with no mark.
     pub fn new(alloc: Global, len: u32) -> Result<Image, Memory>
-        requires { len ≤ 262144 }
+        requires { len ≤ MAX_IMAGE_BYTES }
         ensures bytes { IfOk result (λ image. image.bytes ≡ replicate len 0) }
         ensures marks { IfOk result (λ image. image.marks ≡ replicate (grains_in len) false) }
     {
@@ -50,7 +52,7 @@ impl Image {
     /// The number of bytes.
     pub fn len(&self) -> u32
         ensures value { result ≡ length self.now.bytes }
-        ensures room { result ≤ 262144 }
+        ensures room { result ≤ MAX_IMAGE_BYTES }
         ensures grains { length self.now.marks ≡ grains_in result }
     {
         self.bytes.len() as u32
@@ -73,6 +75,36 @@ impl Image {
     {
         write_at(&mut self.bytes, place, value);
         mark_range(&mut self.marks, place.at / 8, bytes_in(place.kind));
+    }
+
+    /// Whether the bit at a place, which lies in the image, is 1.
+    pub fn bit(&self, place: Place) -> bool
+        requires { InBounds place (length self.now.bytes) }
+        ensures { result ≡ is_one (number self.now.bytes place) }
+    {
+        self.get(place) > 0
+    }
+
+    /// Puts a bit at a place, which lies in the image, and marks the grains of its bytes.
+    pub fn put_bit(&mut self, place: Place, bit: bool)
+        requires { InBounds place (length self.old.bytes) }
+        ensures bytes { self.new.bytes ≡ write self.old.bytes place (bit_number bit) }
+        ensures marks { self.new.marks ≡ mark_range self.old.marks (place.at / 8) (bytes_in place.kind) }
+        ensures only_marked { ChangesOnlyMarked self.old self.new }
+    {
+        self.put(place, i32::from(bit));
+    }
+
+    /// The number that an operand is, or that stands at its place; 0 for any other operand. Its place lies in the image.
+    pub fn value(&self, arg: Arg) -> i32
+        requires { ArgInBounds arg (length self.now.bytes) }
+        ensures { result ≡ value_of self.now.bytes arg }
+    {
+        match arg {
+            Arg::Number(number) => number,
+            Arg::Cell(place) => self.get(place),
+            _ => 0,
+        }
     }
 
     /// Copies `size` bytes from byte `source` to byte `target`, read whole before they are written, and marks the grains
@@ -104,7 +136,7 @@ impl Image {
     /// The operands of an instruction, at most three, with their places worked out; None where a subscript is negative or
     /// not below its length.
     pub fn bind(&self, args: &[Operand]) -> Option<Bound>
-        requires room { length args.now ≤ 3 }
+        requires room { length args.now ≤ MAX_OPERANDS }
         requires lie { OperandsInBounds args.now (length self.now.bytes) }
         ensures value { result ≡ bind self.now.bytes args.now }
         ensures lie { IfSome result (λ bound. ArgsInBounds bound (length self.now.bytes)) }

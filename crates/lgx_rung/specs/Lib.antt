@@ -1,4 +1,5 @@
 pub mod Mnemonics
+pub mod OperandTable
 pub mod Tree
 pub mod Tokens
 pub mod Text

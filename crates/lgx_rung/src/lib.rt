@@ -7,6 +7,7 @@
 mod fault;
 mod ins;
 mod op;
+mod operands;
 mod rung;
 #[cfg(test)]
 mod tests;
@@ -16,6 +17,7 @@ mod texts;
 pub use fault::{CheckCode, CheckFault, TextCode, TextFault};
 pub use ins::Ins;
 pub use op::{Op, mnemonics_are_read_back};
+pub use operands::{Family, OperandKind};
 pub use rung::{Element, Legs, OpenFork, SourceRung};
 pub use text::{
     canonical_text_spells_its_rung, text_spells_one_rung, texts_are_read, worked_texts,

@@ -15,7 +15,7 @@ use Rattle.spec_base.specs.FirstCause.{where_true, first}
 use Rattle.spec_language.specs.Declarations.{tag, alias, Entry, Declarations, is_named, is_name_in, bytes, declared_as, entry_faults, declare_fault, alias_fault}
 use Rattle.spec_language.specs.Resolution.{target_of, aliases}
 use Rattle.spec_language.proofs.FoundBounds.{and_left}
-use Rattle.spec_language.proofs.Subscripts.{each_append, each_map}
+use Rattle.spec_base.proofs.Lists.{each_append, each_map}
 use Rattle.lgx_tags.specs.Keys.{key_of}
 use Rattle.lgx_tags.specs.Scopes.{IsScopeOf}
 use Rattle.lgx_tags.specs.Tables.{IsLetIn, IsKept, keys_of}

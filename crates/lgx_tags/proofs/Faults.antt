@@ -13,7 +13,7 @@ use Rattle.spec_language.specs.LayoutLaws.{IsSoundType}
 use Rattle.spec_language.specs.ResolutionLaws.{IsSoundMeaning, Sound}
 use Rattle.spec_language.specs.Declarations.{Meaning, tag, alias, Entry, Declarations, same_scope, bytes}
 use Rattle.spec_language.specs.Resolution.{target_of, found_fixed, first_bad, seal_fault}
-use Rattle.spec_language.proofs.Subscripts.{each_append, each_flat}
+use Rattle.spec_base.proofs.Lists.{each_append, each_flat}
 use Rattle.lgx_tags.specs.Layouts.{scopes, numbered, tags_in, order_of, lay, lay_end, laid_of}
 use Rattle.lgx_tags.specs.Chains.{Known, answer, is_target, bad_from, count_aliases, Walked}
 use Rattle.lgx_tags.specs.declared.layout.Numbered.{Numbered}

@@ -14,7 +14,7 @@ use Rattle.spec_language.specs.declared.tag.TagCode.TheVariants.{G7}
 use Rattle.spec_language.specs.Layout.{round_up, size_of}
 use Rattle.spec_language.specs.Declarations.{Meaning, tag, alias, Entry, Declarations, same_scope}
 use Rattle.spec_language.specs.Resolution.{target_of, aliases}
-use Rattle.spec_language.proofs.Subscripts.{each_get}
+use Rattle.spec_base.proofs.Lists.{each_get}
 use Rattle.lgx_tags.specs.Scopes.{IsScopeOf}
 use Rattle.lgx_tags.specs.Layouts.{numbered, tags_in, order_of, lay, laid_of, spot_of, with_tag, known_from}
 use Rattle.lgx_tags.specs.Starts.{start_of}

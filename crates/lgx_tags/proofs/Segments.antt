@@ -12,7 +12,7 @@ use Rattle.spec_language.specs.declared.tag.Scope.{Scope}
 use Rattle.spec_language.specs.declared.tag.Scope.TheVariants.{Controller, Program}
 use Rattle.spec_language.specs.Layout.{round_up, size_of}
 use Rattle.spec_language.specs.Declarations.{Meaning, tag, alias, Entry, Declarations, same_scope, in_scope, entry_size, in_order, laid_from, end_of, bytes}
-use Rattle.spec_language.proofs.Subscripts.{each_append, each_flat}
+use Rattle.spec_base.proofs.Lists.{each_append, each_flat}
 use Rattle.lgx_tags.specs.Sealing.{is_laid_tag}
 use Rattle.lgx_tags.specs.Layouts.{scopes, numbered, tags_in, rows_of, order_of, lay, lay_end, laid_of}
 use Rattle.lgx_tags.specs.Starts.{span, total, run, programs_from, before, start_of}

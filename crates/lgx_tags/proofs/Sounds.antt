@@ -13,7 +13,7 @@ use Rattle.spec_language.specs.LayoutLaws.{IsSoundType, SoundTypes}
 use Rattle.spec_language.specs.Resolution.{stride}
 use Rattle.spec_language.specs.ResolutionLaws.{elements, IsSoundMeaning, Sound}
 use Rattle.spec_language.specs.Declarations.{Meaning, tag, alias, Declarations}
-use Rattle.spec_language.proofs.Subscripts.{each_map, each_get, get_mapped}
+use Rattle.spec_base.proofs.Lists.{each_map, each_get, get_mapped}
 use Rattle.spec_language.proofs.TypesFit.{width_of, end_grows}
 use Rattle.lgx_types.specs.Tables.{IsNumbered, HasMembers}
 use Rattle.lgx_tags.specs.Tables.{IsSized, IsLetIn}

@@ -10,7 +10,7 @@ use Rattle.spec_language.specs.declared.tag.Scope.{Scope}
 use Rattle.spec_language.specs.declared.tag.Scope.TheVariants.{Controller, Program}
 use Rattle.spec_language.specs.Layout.{round_up}
 use Rattle.spec_language.specs.Declarations.{Entry, Declarations, same_scope, is_named, in_scope, entry_size, laid_from, end_of, entry_of}
-use Rattle.spec_language.proofs.Subscripts.{each_append, each_map}
+use Rattle.spec_base.proofs.Lists.{each_append, each_map}
 use Rattle.lgx_tags.specs.Scopes.{IsScopeOf}
 pub use Rattle.lgx_tags.specs.Starts.{run, programs_from, before, start_of}
 use Rattle.lgx_tags.proofs.Spans.{span, total, next_at, ordered, end_is}

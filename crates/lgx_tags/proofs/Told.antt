@@ -12,7 +12,7 @@ use Rattle.spec_language.specs.Layout.{size_of}
 use Rattle.spec_language.specs.OperandForm.{Form, tag, member, element, indexed, bit, form}
 use Rattle.spec_language.specs.Declarations.{Entry, Declarations, entry_size, size_for, bytes}
 use Rattle.spec_language.specs.Resolution.{is_array, find_member, find_element, find_bit, find_indexed, Subscripts, subscript_by, resolved, in_form}
-use Rattle.spec_language.proofs.Subscripts.{each_get}
+use Rattle.spec_base.proofs.Lists.{each_get}
 use Rattle.lgx_tags.specs.Layouts.{order_of, laid_of}
 use Rattle.lgx_tags.specs.Chains.{Answer}
 use Rattle.lgx_tags.specs.Sealing.{tags_of, span_of, spans_of, tag_names}

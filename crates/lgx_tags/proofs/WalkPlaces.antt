@@ -22,7 +22,7 @@ use Rattle.spec_language.specs.ResolutionLaws.{LiesIn, width}
 use Rattle.spec_base.proofs.Binds.{bind_ok, ok_inj, err_not_ok, unless_ok}
 use Rattle.spec_language.proofs.FoundBounds.{member_lies, element_lies, bit_lies, indexed_lies}
 use Rattle.spec_language.proofs.SizesSettle.{even_none, sizes_length}
-use Rattle.spec_language.proofs.Subscripts.{each_append}
+use Rattle.spec_base.proofs.Lists.{each_append}
 use Rattle.lgx_types.specs.Tables.{IsNumbered, HasSize}
 use Rattle.lgx_tags.specs.Parts as part
 use Rattle.lgx_tags.specs.Parts.{Part}

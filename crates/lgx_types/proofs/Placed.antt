@@ -15,7 +15,7 @@ use Rattle.spec_language.specs.LayoutLaws.{SoundTypes}
 use Rattle.spec_language.specs.TypeFaults.{type_fault}
 use Rattle.spec_language.proofs.SizesSettle.{faultless, get_there}
 use Rattle.spec_language.proofs.TypesFit.{members_within, looked_up_has, rounded}
-use Rattle.spec_language.proofs.Subscripts.{each_map, get_mapped}
+use Rattle.spec_base.proofs.Lists.{each_map, get_mapped}
 use Rattle.lgx_types.specs.Outlines.{outline, member_names}
 use Rattle.lgx_types.specs.Walk.{end_of, types_at}
 use Rattle.lgx_types.specs.Tables.{IsSmall, IsTable, HasMembers, HasSize, places_from, places_of}

@@ -10,7 +10,7 @@ use Rattle.spec_language.specs.declared.types.TypeDecl.{TypeDecl}
 use Rattle.spec_language.specs.declared.types.MemberDecl.{MemberDecl}
 use Rattle.spec_language.specs.Layout.{find, type_of, round_up, alignment_of, begin_after, element_in, sized_in, size_in, end_from, structure_in, sizes_to, members_of}
 use Rattle.spec_language.specs.TypeFaults.{user_number, parts, among, reaches_itself}
-use Rattle.spec_language.proofs.Subscripts.{get_mapped, each_get}
+use Rattle.spec_base.proofs.Lists.{get_mapped, each_get}
 use Rattle.std.specs.List.{AllByRecursion as Each}
 use Rattle.std.proofs.lemmas.List.{length-map}
 use Rattle.lgx_types.specs.Tables.{HasMembers}

@@ -11,7 +11,7 @@ use Rattle.spec_base.specs.FirstCause.{where_true, first}
 use Rattle.spec_language.specs.Layout.{type_of, structure_in, sizes_to, sizes}
 use Rattle.spec_language.specs.LayoutLaws.{IsEven}
 use Rattle.spec_language.specs.TypeFaults.{structure_faults, of_structure, reaches_itself, type_fault}
-use Rattle.spec_language.proofs.Subscripts.{each_map}
+use Rattle.spec_base.proofs.Lists.{each_map}
 use Rattle.spec_language.proofs.SizesSettle.{settles, starts, members_even, enumerated_none, sizes_length}
 use Rattle.lgx_types.specs.declared.error.TypeError.TheVariants.{Fault}
 use Rattle.lgx_types.specs.Outlines.{name_faults}

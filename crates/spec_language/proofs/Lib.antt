@@ -1,4 +1,4 @@
-mod Outlines
+pub mod Outlines
 pub mod Subscripts
 pub mod TypesFit
 mod TagsFit

@@ -24,7 +24,10 @@ use Rattle.spec_language.specs.declared.tag.Found.{Found}
 use Rattle.spec_language.specs.OperandForm.{Number, fitting, outside, number, flag}
 use Rattle.spec_language.specs.Declarations.{Declarations, bytes}
 use Rattle.spec_language.specs.Resolution.{is_array, is_integer, integer_bits, kind_of, found}
-use Rattle.spec_language.specs.Operands.{Want, bool_place, bool_or_flag, integer_place, value, timer, counter, timer_or_counter, copied, copy_target, fill_target, question, routine, no_parameters, jump_label, own_label, event_task, kinds, paired, path_of, is_bool, is_timer, is_counter, one_place, block_where, place_as, number_as, flag_as, found_as, read_as, data_operand, name_operand}
+use Rattle.lgx_rung.specs.OperandTable.{operand_kinds}
+use Rattle.lgx_rung.specs.declared.operands.OperandKind.{OperandKind}
+use Rattle.lgx_rung.specs.declared.operands.OperandKind.TheVariants.{BoolPlace, BoolOrFlag, IntegerPlace, IntegerOrNumber, WholeTimer, WholeCounter, TimerOrCounter, CopySource, CopyTarget, FillTarget, QuestionMark, RoutineName, NoParameters, JumpLabel, OwnLabel, EventTask}
+use Rattle.spec_language.specs.Operands.{paired, path_of, is_bool, is_timer, is_counter, one_place, block_where, place_as, number_as, flag_as, found_as, read_as, data_operand, name_operand}
 use Rattle.spec_language.specs.Checked.{CheckScope, Spot, Label, labels, label_of, behind, operand_of, operands_of, settled, instruction_of, checked_tree, checked_legs, checked_from}
 use Rattle.lgx_num.specs.Paths.{BytesInBounds, OperandInBounds}
 use Rattle.std.specs.List.{AllByRecursion as Each}
@@ -32,7 +35,7 @@ use Rattle.spec_language.specs.Layout.{size_of, single}
 use Rattle.spec_language.specs.ResolutionLaws.{Sound, EndsBy, LiesIn, elements}
 use Rattle.spec_language.specs.CheckedLaws.{OperandsInBounds, CheckedInBounds}
 use Rattle.spec_base.proofs.Binds.{bind_ok, ok_inj, err_not_ok}
-use Rattle.spec_language.proofs.Subscripts.{each_append}
+use Rattle.spec_base.proofs.Lists.{each_append}
 use Rattle.spec_language.proofs.Outlines.{answered_outline}
 use Rattle.spec_language.proofs.FoundBounds.{and_left, and_right, is_single, found_lies}
 
@@ -83,24 +86,24 @@ one_place_ok test make f o p = go (test && not (is_array f.of)) refl p
     go false q r = err_not_ok _ _ r
 
 pub cell_lies : (types : List TypeDecl) (len : ℕ) (test : Bool) (f : Found) (o : Operand) → (test ≡ true → (is_bool f.of.base ≡ true) ⊎ (0 < integer_bits f.of.base)) → LiesIn types len f → one_place test operand.Cell f ≡ Ok o → OperandInBounds o len
-cell_lies types len test f o kinds l p =
+cell_lies types len test f o operand_kinds l p =
     let a = one_place_ok test operand.Cell f o p in
-    subst (λ (z : Operand). OperandInBounds z len) a.2 (l.subscripts, λ to h. cell_room types f.of.base f.stop len to (kinds a.0) l.stop (subst (λ (t : DataType). EndsBy types t f.stop to) a.1 (l.inside to h)))
+    subst (λ (z : Operand). OperandInBounds z len) a.2 (l.subscripts, λ to h. cell_room types f.of.base f.stop len to (operand_kinds a.0) l.stop (subst (λ (t : DataType). EndsBy types t f.stop to) a.1 (l.inside to h)))
 
 pub timer_lies : (types : List TypeDecl) (len : ℕ) (test : Bool) (f : Found) (o : Operand) → (test ≡ true → is_timer f.of.base ≡ true) → LiesIn types len f → one_place test operand.Timer f ≡ Ok o → OperandInBounds o len
-timer_lies types len test f o kinds l p =
+timer_lies types len test f o operand_kinds l p =
     let a = one_place_ok test operand.Timer f o p in
-    subst (λ (z : Operand). OperandInBounds z len) a.2 (l.subscripts, λ to h. timer_room types f.of.base f.stop len to (kinds a.0) l.stop (subst (λ (t : DataType). EndsBy types t f.stop to) a.1 (l.inside to h)))
+    subst (λ (z : Operand). OperandInBounds z len) a.2 (l.subscripts, λ to h. timer_room types f.of.base f.stop len to (operand_kinds a.0) l.stop (subst (λ (t : DataType). EndsBy types t f.stop to) a.1 (l.inside to h)))
 
 pub counter_lies : (types : List TypeDecl) (len : ℕ) (test : Bool) (f : Found) (o : Operand) → (test ≡ true → is_counter f.of.base ≡ true) → LiesIn types len f → one_place test operand.Counter f ≡ Ok o → OperandInBounds o len
-counter_lies types len test f o kinds l p =
+counter_lies types len test f o operand_kinds l p =
     let a = one_place_ok test operand.Counter f o p in
-    subst (λ (z : Operand). OperandInBounds z len) a.2 (l.subscripts, λ to h. counter_room types f.of.base f.stop len to (kinds a.0) l.stop (subst (λ (t : DataType). EndsBy types t f.stop to) a.1 (l.inside to h)))
+    subst (λ (z : Operand). OperandInBounds z len) a.2 (l.subscripts, λ to h. counter_room types f.of.base f.stop len to (operand_kinds a.0) l.stop (subst (λ (t : DataType). EndsBy types t f.stop to) a.1 (l.inside to h)))
 
 pub block_lies : (types : List TypeDecl) (len : ℕ) (test : Bool) (f : Found) (o : Operand) → (test ≡ true → is_bool f.of.base ≡ false) → LiesIn types len f → block_where test types f ≡ Ok o → OperandInBounds o len
-block_lies types len true f o kinds l p =
-    subst (λ (z : Operand). OperandInBounds z len) (ok_inj _ _ p) (l.filled, (l.subscripts, λ to h. let room = block_room types f.of.base f.of.dim f.stop to (kinds refl) (l.inside to h) in ((room.0, omega (arith, room.1, l.stop)), room)))
-block_lies types len false f o kinds l p = err_not_ok _ _ p
+block_lies types len true f o operand_kinds l p =
+    subst (λ (z : Operand). OperandInBounds z len) (ok_inj _ _ p) (l.filled, (l.subscripts, λ to h. let room = block_room types f.of.base f.of.dim f.stop to (operand_kinds refl) (l.inside to h) in ((room.0, omega (arith, room.1, l.stop)), room)))
+block_lies types len false f o operand_kinds l p = err_not_ok _ _ p
 
 pub not_true : (b : Bool) → not b ≡ true → b ≡ false
 not_true true p = absurd (cc p)
@@ -110,7 +113,7 @@ pub no_bool : (base : Base) → nat_lt 0 (integer_bits base) ≡ true → is_boo
 no_bool OneBit p = absurd (omega (arith, ltb-true 0 0 p))
 no_bool _ p = refl
 
-pub timer_or_counter_lies : (types : List TypeDecl) (len : ℕ) (f : Found) (o : Operand) → LiesIn types len f → place_as types timer_or_counter f ≡ Ok o → OperandInBounds o len
+pub timer_or_counter_lies : (types : List TypeDecl) (len : ℕ) (f : Found) (o : Operand) → LiesIn types len f → place_as types TimerOrCounter f ≡ Ok o → OperandInBounds o len
 timer_or_counter_lies types len f o l p = go (is_timer f.of.base) refl p
   where
     go : (b : Bool) → is_timer f.of.base ≡ b → (if b then one_place true operand.Timer f else one_place (is_counter f.of.base) operand.Counter f) ≡ Ok o → OperandInBounds o len
@@ -120,36 +123,36 @@ timer_or_counter_lies types len f o l p = go (is_timer f.of.base) refl p
 pub integer_kind : (f : Found) → is_integer f.of ≡ true → (is_bool f.of.base ≡ true) ⊎ (0 < integer_bits f.of.base)
 integer_kind f h = inr (ltb-true 0 _ (and_right (not (is_array f.of)) _ h))
 
-pub place_lies : (types : List TypeDecl) (len : ℕ) (w : Want) (f : Found) (o : Operand) → LiesIn types len f → place_as types w f ≡ Ok o → OperandInBounds o len
-place_lies types len bool_place f o l p = cell_lies types len (is_bool f.of.base) f o (λ h. inl h) l p
-place_lies types len bool_or_flag f o l p = cell_lies types len (is_bool f.of.base) f o (λ h. inl h) l p
-place_lies types len integer_place f o l p = cell_lies types len (is_integer f.of) f o (integer_kind f) l p
-place_lies types len value f o l p = cell_lies types len (is_integer f.of) f o (integer_kind f) l p
-place_lies types len timer f o l p = timer_lies types len (is_timer f.of.base) f o (λ h. h) l p
-place_lies types len counter f o l p = counter_lies types len (is_counter f.of.base) f o (λ h. h) l p
-place_lies types len timer_or_counter f o l p = timer_or_counter_lies types len f o l p
-place_lies types len copied f o l p = block_lies types len (not (is_bool f.of.base)) f o (not_true (is_bool f.of.base)) l p
-place_lies types len copy_target f o l p = block_lies types len (not (is_bool f.of.base)) f o (not_true (is_bool f.of.base)) l p
-place_lies types len fill_target f o l p = block_lies types len (nat_lt 0 (integer_bits f.of.base)) f o (no_bool f.of.base) l p
-place_lies types len question f o l p = err_not_ok _ _ p
-place_lies types len routine f o l p = err_not_ok _ _ p
-place_lies types len no_parameters f o l p = err_not_ok _ _ p
-place_lies types len jump_label f o l p = err_not_ok _ _ p
-place_lies types len own_label f o l p = err_not_ok _ _ p
-place_lies types len event_task f o l p = err_not_ok _ _ p
+pub place_lies : (types : List TypeDecl) (len : ℕ) (w : OperandKind) (f : Found) (o : Operand) → LiesIn types len f → place_as types w f ≡ Ok o → OperandInBounds o len
+place_lies types len BoolPlace f o l p = cell_lies types len (is_bool f.of.base) f o (λ h. inl h) l p
+place_lies types len BoolOrFlag f o l p = cell_lies types len (is_bool f.of.base) f o (λ h. inl h) l p
+place_lies types len IntegerPlace f o l p = cell_lies types len (is_integer f.of) f o (integer_kind f) l p
+place_lies types len IntegerOrNumber f o l p = cell_lies types len (is_integer f.of) f o (integer_kind f) l p
+place_lies types len WholeTimer f o l p = timer_lies types len (is_timer f.of.base) f o (λ h. h) l p
+place_lies types len WholeCounter f o l p = counter_lies types len (is_counter f.of.base) f o (λ h. h) l p
+place_lies types len TimerOrCounter f o l p = timer_or_counter_lies types len f o l p
+place_lies types len CopySource f o l p = block_lies types len (not (is_bool f.of.base)) f o (not_true (is_bool f.of.base)) l p
+place_lies types len CopyTarget f o l p = block_lies types len (not (is_bool f.of.base)) f o (not_true (is_bool f.of.base)) l p
+place_lies types len FillTarget f o l p = block_lies types len (nat_lt 0 (integer_bits f.of.base)) f o (no_bool f.of.base) l p
+place_lies types len QuestionMark f o l p = err_not_ok _ _ p
+place_lies types len RoutineName f o l p = err_not_ok _ _ p
+place_lies types len NoParameters f o l p = err_not_ok _ _ p
+place_lies types len JumpLabel f o l p = err_not_ok _ _ p
+place_lies types len OwnLabel f o l p = err_not_ok _ _ p
+place_lies types len EventTask f o l p = err_not_ok _ _ p
 
 -- ---- numbers, flags and names
 
-pub flag_lies : (len : ℕ) (w : Want) (f : Flag) (o : Operand) → flag_as w f ≡ Ok o → OperandInBounds o len
-flag_lies len bool_or_flag f o p = subst (λ (z : Operand). OperandInBounds z len) (ok_inj _ _ p) tt
+pub flag_lies : (len : ℕ) (w : OperandKind) (f : Flag) (o : Operand) → flag_as w f ≡ Ok o → OperandInBounds o len
+flag_lies len BoolOrFlag f o p = subst (λ (z : Operand). OperandInBounds z len) (ok_inj _ _ p) tt
 flag_lies len _ f o p = err_not_ok _ _ p
 
-pub number_lies : (len : ℕ) (w : Want) (n : Number) (o : Operand) → number_as w n ≡ Ok o → OperandInBounds o len
-number_lies len value (fitting n) o p = subst (λ (z : Operand). OperandInBounds z len) (ok_inj _ _ p) tt
-number_lies len value outside o p = err_not_ok _ _ p
+pub number_lies : (len : ℕ) (w : OperandKind) (n : Number) (o : Operand) → number_as w n ≡ Ok o → OperandInBounds o len
+number_lies len IntegerOrNumber (fitting n) o p = subst (λ (z : Operand). OperandInBounds z len) (ok_inj _ _ p) tt
+number_lies len IntegerOrNumber outside o p = err_not_ok _ _ p
 number_lies len _ n o p = err_not_ok _ _ p
 
-pub data_lies : (d : Declarations) (scope : Scope) (w : Want) (text : List ℕ) (o : Operand) → Sound d → data_operand d scope w text ≡ Ok o → OperandInBounds o (bytes d)
+pub data_lies : (d : Declarations) (scope : Scope) (w : OperandKind) (text : List ℕ) (o : Operand) → Sound d → data_operand d scope w text ≡ Ok o → OperandInBounds o (bytes d)
 data_lies d scope w text o s p = go (flag text) (number text) p
   where
     place : (r : Result Found TagCode) → found d scope text ≡ r → found_as d.types w r ≡ Ok o → OperandInBounds o (bytes d)
@@ -174,35 +177,35 @@ pub mapped_lies : {A : Type 0} (len : ℕ) (make : A → Operand) → ((a : A) �
 mapped_lies len make known None x p = absurd (cc p)
 mapped_lies len make known (Some a) x p = subst (λ (z : Operand). OperandInBounds z len) (cc p) (known a)
 
-pub operand_lies : (s : CheckScope) (ls : List Label) (spot : Spot) (w : Want) (text : List ℕ) (o : Operand) → Sound s.tags → operand_of s ls spot (w, text) ≡ Ok o → OperandInBounds o (bytes s.tags)
-operand_lies s ls spot routine text o sound p = name_lies (bytes s.tags) text _ C11 o (mapped_lies (bytes s.tags) operand.Routine (λ _. tt) (position (λ name. same name text) s.routines)) p
-operand_lies s ls spot no_parameters text o sound p = go (bytes_eq text (codes "0")) p
+pub operand_lies : (s : CheckScope) (ls : List Label) (spot : Spot) (w : OperandKind) (text : List ℕ) (o : Operand) → Sound s.tags → operand_of s ls spot (w, text) ≡ Ok o → OperandInBounds o (bytes s.tags)
+operand_lies s ls spot RoutineName text o sound p = name_lies (bytes s.tags) text _ C11 o (mapped_lies (bytes s.tags) operand.Routine (λ _. tt) (position (λ name. same name text) s.routines)) p
+operand_lies s ls spot NoParameters text o sound p = go (bytes_eq text (codes "0")) p
   where
     go : (b : Bool) → (if b then Ok (operand.Number (pos 0)) else Err C2) ≡ Ok o → OperandInBounds o (bytes s.tags)
     go true r = subst (λ (z : Operand). OperandInBounds z (bytes s.tags)) (ok_inj _ _ r) tt
     go false r = err_not_ok _ _ r
-operand_lies s ls spot jump_label text o sound p = name_lies (bytes s.tags) text _ C12 o (mapped_lies (bytes s.tags) (λ l. operand.Label l.rung) (λ _. tt) (label_of ls text)) p
-operand_lies s ls spot own_label text o sound p = name_lies (bytes s.tags) text _ C2 o (mapped_lies (bytes s.tags) operand.Label (λ _. tt) (Some spot.rung)) p
-operand_lies s ls spot event_task text o sound p = name_lies (bytes s.tags) text _ C15 o (mapped_lies (bytes s.tags) operand.Task (λ _. tt) (position (λ t. t.event && same t.name text) s.tasks)) p
-operand_lies s ls spot question text o sound p = go (bytes_eq text (codes "?")) p
+operand_lies s ls spot JumpLabel text o sound p = name_lies (bytes s.tags) text _ C12 o (mapped_lies (bytes s.tags) (λ l. operand.Label l.rung) (λ _. tt) (label_of ls text)) p
+operand_lies s ls spot OwnLabel text o sound p = name_lies (bytes s.tags) text _ C2 o (mapped_lies (bytes s.tags) operand.Label (λ _. tt) (Some spot.rung)) p
+operand_lies s ls spot EventTask text o sound p = name_lies (bytes s.tags) text _ C15 o (mapped_lies (bytes s.tags) operand.Task (λ _. tt) (position (λ t. t.event && same t.name text) s.tasks)) p
+operand_lies s ls spot QuestionMark text o sound p = go (bytes_eq text (codes "?")) p
   where
-    go : (b : Bool) → (if b then Ok operand.Blank else data_operand s.tags (Program s.program) question text) ≡ Ok o → OperandInBounds o (bytes s.tags)
+    go : (b : Bool) → (if b then Ok operand.Blank else data_operand s.tags (Program s.program) QuestionMark text) ≡ Ok o → OperandInBounds o (bytes s.tags)
     go true r = subst (λ (z : Operand). OperandInBounds z (bytes s.tags)) (ok_inj _ _ r) tt
-    go false r = data_lies s.tags (Program s.program) question text o sound r
-operand_lies s ls spot bool_place text o sound p = data_lies s.tags (Program s.program) bool_place text o sound p
-operand_lies s ls spot bool_or_flag text o sound p = data_lies s.tags (Program s.program) bool_or_flag text o sound p
-operand_lies s ls spot integer_place text o sound p = data_lies s.tags (Program s.program) integer_place text o sound p
-operand_lies s ls spot value text o sound p = data_lies s.tags (Program s.program) value text o sound p
-operand_lies s ls spot timer text o sound p = data_lies s.tags (Program s.program) timer text o sound p
-operand_lies s ls spot counter text o sound p = data_lies s.tags (Program s.program) counter text o sound p
-operand_lies s ls spot timer_or_counter text o sound p = data_lies s.tags (Program s.program) timer_or_counter text o sound p
-operand_lies s ls spot copied text o sound p = data_lies s.tags (Program s.program) copied text o sound p
-operand_lies s ls spot copy_target text o sound p = data_lies s.tags (Program s.program) copy_target text o sound p
-operand_lies s ls spot fill_target text o sound p = data_lies s.tags (Program s.program) fill_target text o sound p
+    go false r = data_lies s.tags (Program s.program) QuestionMark text o sound r
+operand_lies s ls spot BoolPlace text o sound p = data_lies s.tags (Program s.program) BoolPlace text o sound p
+operand_lies s ls spot BoolOrFlag text o sound p = data_lies s.tags (Program s.program) BoolOrFlag text o sound p
+operand_lies s ls spot IntegerPlace text o sound p = data_lies s.tags (Program s.program) IntegerPlace text o sound p
+operand_lies s ls spot IntegerOrNumber text o sound p = data_lies s.tags (Program s.program) IntegerOrNumber text o sound p
+operand_lies s ls spot WholeTimer text o sound p = data_lies s.tags (Program s.program) WholeTimer text o sound p
+operand_lies s ls spot WholeCounter text o sound p = data_lies s.tags (Program s.program) WholeCounter text o sound p
+operand_lies s ls spot TimerOrCounter text o sound p = data_lies s.tags (Program s.program) TimerOrCounter text o sound p
+operand_lies s ls spot CopySource text o sound p = data_lies s.tags (Program s.program) CopySource text o sound p
+operand_lies s ls spot CopyTarget text o sound p = data_lies s.tags (Program s.program) CopyTarget text o sound p
+operand_lies s ls spot FillTarget text o sound p = data_lies s.tags (Program s.program) FillTarget text o sound p
 
 -- ---- instructions and rungs
 
-pub operands_lie : (s : CheckScope) (ls : List Label) (spot : Spot) (ps : List (Want × List ℕ)) → Sound s.tags → Each (λ o. OperandInBounds o (bytes s.tags)) (filter_map result_ok (map (operand_of s ls spot) ps))
+pub operands_lie : (s : CheckScope) (ls : List Label) (spot : Spot) (ps : List (OperandKind × List ℕ)) → Sound s.tags → Each (λ o. OperandInBounds o (bytes s.tags)) (filter_map result_ok (map (operand_of s ls spot) ps))
 operands_lie s ls spot [] sound = tt
 operands_lie s ls spot (p ∷ ps) sound = go (operand_of s ls spot p) refl (operands_lie s ls spot ps sound)
   where
@@ -214,9 +217,9 @@ abbrev InsLies : ℕ → Ins → Type 0
 InsLies len i = Each (λ o. OperandInBounds o len) i.args
 
 pub instruction_lies : (s : CheckScope) (ls : List Label) (spot : Spot) (i : SourceIns) (made : Ins) → Sound s.tags → instruction_of s ls spot i ≡ Ok made → InsLies (bytes s.tags) made
-instruction_lies s ls spot i made sound p = go (paired (kinds i.op) i.texts) p
+instruction_lies s ls spot i made sound p = go (paired (operand_kinds i.op) i.texts) p
   where
-    go : (o : Option (List (Want × List ℕ))) → settled ls spot i (operands_of s ls spot o) ≡ Ok made → InsLies (bytes s.tags) made
+    go : (o : Option (List (OperandKind × List ℕ))) → settled ls spot i (operands_of s ls spot o) ≡ Ok made → InsLies (bytes s.tags) made
     go None r = subst (λ (z : Ins). InsLies (bytes s.tags) z) (sym (answered_outline spot i.op _ _ made r).1) tt
     go (Some ps) r = subst (λ (z : Ins). InsLies (bytes s.tags) z) (sym (answered_outline spot i.op _ _ made r).1) (operands_lie s ls spot ps sound)
 

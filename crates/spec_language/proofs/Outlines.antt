@@ -7,7 +7,9 @@ use Rattle.lgx_rung.specs.Tree.{Tree, end, one, fork, Legs, last, leg, Source, S
 use Rattle.lgx_rung.specs.declared.op.Op.{Op}
 use Rattle.lgx_rung.specs.declared.fault.CheckCode.{CheckCode}
 use Rattle.lgx_rung.specs.declared.fault.CheckCode.TheVariants.{C1}
-use Rattle.spec_language.specs.Operands.{Want, is_optional, kinds, paired}
+use Rattle.lgx_rung.specs.OperandTable.{operand_kinds}
+use Rattle.lgx_rung.specs.declared.operands.OperandKind.{OperandKind}
+use Rattle.spec_language.specs.Operands.{is_optional, paired}
 use Rattle.lgx_rung.specs.declared.ins.Ins.{Ins}
 use Rattle.std.specs.Prelude.{nat_le}
 use Rattle.spec_language.specs.Checked.{code_number, label_faults, length_faults, CheckScope, Spot, Label, labels, behind, operand_of, operands_of, lesser, least, answered, settled, instruction_of, checked_tree, checked_legs, checked_from}
@@ -17,12 +19,12 @@ use Rattle.spec_base.proofs.Binds.{bind_ok, ok_inj, err_not_ok}
 -- ---- one instruction
 
 -- a list with one more in front, where there is a list
-pub longer : (w : Want) (t : List ℕ) (o : Option (List (Want × List ℕ))) (ps : List (Want × List ℕ)) → option_map (λ rest. (w, t) ∷ rest) o ≡ Some ps → (rest : List (Want × List ℕ)) × (o ≡ Some rest) × (ps ≡ (w, t) ∷ rest)
+pub longer : (w : OperandKind) (t : List ℕ) (o : Option (List (OperandKind × List ℕ))) (ps : List (OperandKind × List ℕ)) → option_map (λ rest. (w, t) ∷ rest) o ≡ Some ps → (rest : List (OperandKind × List ℕ)) × (o ≡ Some rest) × (ps ≡ (w, t) ∷ rest)
 longer w t (Some rest) ps p = (rest, refl, cc p)
 longer w t None ps p = absurd (cc p)
 
 -- texts that are paired keep their number
-pub paired_length : (ws : List Want) (ts : List (List ℕ)) (ps : List (Want × List ℕ)) → paired ws ts ≡ Some ps → length ps ≡ length ts
+pub paired_length : (ws : List OperandKind) (ts : List (List ℕ)) (ps : List (OperandKind × List ℕ)) → paired ws ts ≡ Some ps → length ps ≡ length ts
 paired_length [] [] ps p = cc p
 paired_length [] (t ∷ ts) ps p = absurd (cc p)
 paired_length (w ∷ ws) [] ps p = go (is_optional w) (paired_length ws [] ps) p
@@ -56,14 +58,14 @@ pub answered_outline : (spot : Spot) (op : Op) (args : List Operand) (o : Option
 answered_outline spot op args None made p = (refl, sym (ok_inj _ _ p))
 answered_outline spot op args (Some code) made p = err_not_ok _ _ p
 
-pub operands_length : (s : CheckScope) (ls : List Label) (spot : Spot) (ps : List (Want × List ℕ)) → length (map (operand_of s ls spot) ps) ≡ length ps
+pub operands_length : (s : CheckScope) (ls : List Label) (spot : Spot) (ps : List (OperandKind × List ℕ)) → length (map (operand_of s ls spot) ps) ≡ length ps
 operands_length s ls spot [] = refl
 operands_length s ls spot (p ∷ ps) = ap suc (operands_length s ls spot ps)
 
 pub instruction_outline : (s : CheckScope) (ls : List Label) (spot : Spot) (i : SourceIns) (made : Ins) → instruction_of s ls spot i ≡ Ok made → outline made ≡ source_outline i
-instruction_outline s ls spot i made p = go (paired (kinds i.op) i.texts) refl p
+instruction_outline s ls spot i made p = go (paired (operand_kinds i.op) i.texts) refl p
   where
-    go : (o : Option (List (Want × List ℕ))) → paired (kinds i.op) i.texts ≡ o → settled ls spot i (operands_of s ls spot o) ≡ Ok made → outline made ≡ source_outline i
+    go : (o : Option (List (OperandKind × List ℕ))) → paired (operand_kinds i.op) i.texts ≡ o → settled ls spot i (operands_of s ls spot o) ≡ Ok made → outline made ≡ source_outline i
     go None q r =
         let codes : List CheckCode = C1 ∷ (label_faults ls spot i ++ length_faults spot) in
         let a : (least codes ≡ None) × (made ≡ record { op = i.op; args = [] }) = answered_outline spot i.op [] (least codes) made r in
@@ -71,7 +73,7 @@ instruction_outline s ls spot i made p = go (paired (kinds i.op) i.texts) refl p
     go (Some ps) q r =
         let a = answered_outline spot i.op _ _ made r in
         let there : length (filter_map result_ok (map (operand_of s ls spot) ps)) ≡ length (map (operand_of s ls spot) ps) = all_there (map (operand_of s ls spot) ps) _ (none_least _ a.0) in
-        rw (a.1, there, operands_length s ls spot ps, paired_length (kinds i.op) i.texts ps q) refl
+        rw (a.1, there, operands_length s ls spot ps, paired_length (operand_kinds i.op) i.texts ps q) refl
 
 -- ---- rungs
 

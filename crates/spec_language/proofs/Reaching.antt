@@ -12,7 +12,7 @@ use Rattle.spec_language.specs.declared.types.TypeDecl.{TypeDecl}
 use Rattle.spec_language.specs.Layout.{built_ins, looked_up, find, members_of}
 use Rattle.spec_language.specs.TypeFaults.{user_number, parts, among, reached_to}
 use Rattle.std.specs.List.{AllByRecursion as Each}
-use Rattle.spec_language.proofs.Subscripts.{each_flat}
+use Rattle.spec_base.proofs.Lists.{each_flat}
 use Rattle.spec_language.specs.LayoutLaws.{OrderedHasNoRings}
 use Rattle.spec_language.specs.TypeFaults.{reaches_itself}
 use Rattle.spec_language.proofs.TypesFit.{looked_up_has}

@@ -15,7 +15,7 @@ use Rattle.std.proofs.Math.ListN.{length-replicate}
 use Rattle.spec_language.specs.declared.types.TypeCode.TheVariants.{Y2, Y3, Y6}
 use Rattle.spec_language.specs.TypeFaults.{type_fault, member_faults, structure_faults, name_taken, repeated, of_member, of_structure, is_bool, user_number, parts, among, reached_to, reaches_itself, type_faults}
 use Rattle.spec_language.specs.LayoutLaws.{IsEvenOf, IsEven, HasBytes, IsSoundType, FaultlessIsSound, SizesAreTheOnly}
-use Rattle.spec_language.proofs.Subscripts.{each_map, each_get, get_mapped}
+use Rattle.spec_base.proofs.Lists.{each_map, each_get, get_mapped}
 use Rattle.spec_language.proofs.TypesFit.{end_grows}
 use Rattle.spec_language.proofs.Reaching.{or_right, among_numbers, find_there, parts_there, reach_more, reach_later}
 

@@ -12,7 +12,7 @@ use Rattle.spec_language.specs.Resolution.{seen_from, tag_found}
 use Rattle.std.specs.List.{AllByRecursion as Each, range_with_len}
 use Rattle.spec_language.specs.LayoutLaws.{IsSoundType}
 use Rattle.spec_language.specs.ResolutionLaws.{EndsBy, IsSoundMeaning, Sound, LiesIn}
-use Rattle.spec_language.proofs.Subscripts.{each_append, each_filter, each_flat, each_find}
+use Rattle.spec_base.proofs.Lists.{each_append, each_filter, each_flat, each_find}
 use Rattle.spec_language.proofs.TypesFit.{width_of, begins_at}
 
 abbrev pub LaidWell : List TypeDecl → ℕ → ℕ × Entry → Type 0

@@ -14,7 +14,7 @@ use Rattle.spec_language.specs.Resolution.{integer_bits, kind_of, stride}
 use Rattle.std.specs.List.{AllByRecursion as Each}
 use Rattle.spec_language.specs.LayoutLaws.{IsEvenOf, HasBytes, IsSoundType, SoundTypes}
 use Rattle.spec_language.specs.ResolutionLaws.{width, EndsBy}
-use Rattle.spec_language.proofs.Subscripts.{each_map, each_find, each_get, get_mapped}
+use Rattle.spec_base.proofs.Lists.{each_map, each_find, each_get, get_mapped}
 
 -- ---- sizes
 

@@ -14,7 +14,10 @@ use Rattle.lgx_rung.specs.declared.fault.CheckCode.TheVariants.{C1, C2, C3, C4, 
 use Rattle.lgx_rung.specs.declared.fault.CheckFault.{CheckFault}
 use Rattle.spec_base.specs.FirstCause.{◌>>=◌, where_true}
 use Rattle.spec_language.specs.Declarations.{Declarations}
-use Rattle.spec_language.specs.Operands.{Want, routine, no_parameters, jump_label, own_label, event_task, question, kinds, paired, data_operand, name_operand}
+use Rattle.lgx_rung.specs.OperandTable.{operand_kinds}
+use Rattle.lgx_rung.specs.declared.operands.OperandKind.{OperandKind}
+use Rattle.lgx_rung.specs.declared.operands.OperandKind.TheVariants.{RoutineName, NoParameters, JumpLabel, OwnLabel, EventTask, QuestionMark}
+use Rattle.spec_language.specs.Operands.{paired, data_operand, name_operand}
 use Rattle.lgx_rung.specs.declared.ins.Ins.{Ins}
 use Rattle.spec_language.specs.declared.tag.Scope.TheVariants.{Program}
 use Rattle.spec_language.specs.declared.names.TaskName.{TaskName}
@@ -68,13 +71,13 @@ stands_elsewhere spot (Some l) = not (l.rung == spot.rung && l.ins == spot.ins)
 -- ---- operands
 
 -- an operand's text where something is wanted: what it stands for, or why it stands for nothing
-abbrev pub operand_of : CheckScope → List Label → Spot → Want × List ℕ → Result Operand CheckCode
-operand_of s ls spot (routine, text) = name_operand text (option_map operand.Routine (position (λ name. same name text) s.routines)) C11
-operand_of s ls spot (no_parameters, text) = if bytes_eq text (codes "0") then Ok (operand.Number (pos 0)) else Err C2
-operand_of s ls spot (jump_label, text) = name_operand text (option_map (λ l. operand.Label l.rung) (label_of ls text)) C12
-operand_of s ls spot (own_label, text) = name_operand text (Some (operand.Label spot.rung)) C2
-operand_of s ls spot (event_task, text) = name_operand text (option_map operand.Task (position (λ t. t.event && same t.name text) s.tasks)) C15
-operand_of s ls spot (question, text) = if bytes_eq text (codes "?") then Ok operand.Blank else data_operand s.tags (Program s.program) question text
+abbrev pub operand_of : CheckScope → List Label → Spot → OperandKind × List ℕ → Result Operand CheckCode
+operand_of s ls spot (RoutineName, text) = name_operand text (option_map operand.Routine (position (λ name. same name text) s.routines)) C11
+operand_of s ls spot (NoParameters, text) = if bytes_eq text (codes "0") then Ok (operand.Number (pos 0)) else Err C2
+operand_of s ls spot (JumpLabel, text) = name_operand text (option_map (λ l. operand.Label l.rung) (label_of ls text)) C12
+operand_of s ls spot (OwnLabel, text) = name_operand text (Some (operand.Label spot.rung)) C2
+operand_of s ls spot (EventTask, text) = name_operand text (option_map operand.Task (position (λ t. t.event && same t.name text) s.tasks)) C15
+operand_of s ls spot (QuestionMark, text) = if bytes_eq text (codes "?") then Ok operand.Blank else data_operand s.tags (Program s.program) QuestionMark text
 operand_of s ls spot (w, text) = data_operand s.tags (Program s.program) w text
 
 -- ---- one instruction
@@ -88,7 +91,7 @@ abbrev pub length_faults : Spot → List CheckCode
 length_faults spot = where_true (spot.before == 65536) C16
 
 -- C1: the number of operands isn't the mnemonic's
-abbrev pub operands_of : CheckScope → List Label → Spot → Option (List (Want × List ℕ)) → List (Result Operand CheckCode)
+abbrev pub operands_of : CheckScope → List Label → Spot → Option (List (OperandKind × List ℕ)) → List (Result Operand CheckCode)
 operands_of s ls spot None = Err C1 ∷ []
 operands_of s ls spot (Some pairs) = map (operand_of s ls spot) pairs
 
@@ -127,7 +130,7 @@ abbrev pub settled : List Label → Spot → SourceIns → List (Result Operand 
 settled ls spot i operands = answered spot i.op (filter_map result_ok operands) (least (filter_map result_err operands ++ (label_faults ls spot i ++ length_faults spot)))
 
 abbrev pub instruction_of : CheckScope → List Label → Spot → SourceIns → Result Ins CheckFault
-instruction_of s ls spot i = settled ls spot i (operands_of s ls spot (paired (kinds i.op) i.texts))
+instruction_of s ls spot i = settled ls spot i (operands_of s ls spot (paired (operand_kinds i.op) i.texts))
 
 -- ---- rungs
 

@@ -1,8 +1,8 @@
--- Checked rungs are ready for the image of their tags.
+-- Checked rungs are executable over the image of their tags.
 use Rattle.std.specs.Prelude.{◌≡◌, ℕ, zero, suc, ◌+◌, ◌<◌, ◌≤◌, ◌⊎◌, Bool, true, false, not, ◌&&◌, nat_le, nat_lt, if◌then◌else◌, pos, codes, bytes_eq, position, List, [], ◌∷◌, ◌++◌, map, length, filter_map, slice_index_or, Option, Some, None, option_map, Result, Ok, Err, refl, ⊤}
 use Rattle.std.specs.List.{All, AllByRecursion as Each}
 use Rattle.std.specs.Result.{result_ok, result_err}
-use Rattle.std.proofs.Common.{sym, subst, arith, ltb-true, inl, inr}
+use Rattle.std.proofs.Common.{sym, ap, ◌∙◌, subst, arith, ltb-true, inl, inr}
 use Rattle.std.proofs.lemmas.List.Elements.{All-cons}
 use Rattle.lgx_num.specs.Name.{is_name, same}
 use Rattle.lgx_num.specs.declared.place.Path.{Path}
@@ -29,58 +29,24 @@ use Rattle.spec_language.specs.OperandForm.{Number, fitting, outside, number, fl
 use Rattle.spec_language.specs.Declarations.{Declarations, bytes}
 use Rattle.spec_language.specs.Resolution.{is_array, is_integer, integer_bits, found}
 use Rattle.spec_language.specs.ResolutionLaws.{Sound, LiesIn}
-use Rattle.spec_language.specs.Operands.{Want, bool_place, bool_or_flag, integer_place, value, timer, counter, timer_or_counter, copied, copy_target, fill_target, question, routine, no_parameters, jump_label, own_label, event_task, kinds, is_optional, paired, path_of, is_bool, is_timer, is_counter, one_place, block_where, place_as, number_as, flag_as, found_as, read_as, data_operand, name_operand}
+use Rattle.lgx_rung.specs.OperandTable.{operand_kinds}
+use Rattle.lgx_rung.specs.declared.operands.OperandKind.{OperandKind}
+use Rattle.lgx_rung.specs.declared.operands.OperandKind.TheVariants.{BoolPlace, BoolOrFlag, IntegerPlace, IntegerOrNumber, WholeTimer, WholeCounter, TimerOrCounter, CopySource, CopyTarget, FillTarget, QuestionMark, RoutineName, NoParameters, JumpLabel, OwnLabel, EventTask}
+use Rattle.spec_language.specs.Operands.{is_optional, paired, path_of, is_bool, is_timer, is_counter, one_place, block_where, place_as, number_as, flag_as, found_as, read_as, data_operand, name_operand}
 use Rattle.spec_language.specs.Checked.{CheckScope, Spot, Label, labels, label_of, label_faults, length_faults, behind, operand_of, operands_of, code_number, lesser, least, answered, settled, instruction_of, checked_tree, checked_legs, checked_from}
 use Rattle.spec_base.proofs.Binds.{bind_ok, ok_inj, err_not_ok}
-use Rattle.spec_language.proofs.Subscripts.{each_append}
+use Rattle.spec_base.proofs.Lists.{each_append}
 use Rattle.spec_language.specs.CheckedLaws.{OperandsInBounds, CheckedInBounds}
 use Rattle.spec_language.proofs.FoundBounds.{found_lies}
-use Rattle.spec_scan.specs.Executable.{IsCell, IsTimer, IsCounter, IsIntegers, IsRoutine, IsTask, EndsIn, operand_at, KindsFit, IsExecutable, AreExecutable}
+use Rattle.spec_base.specs.declared.limits.TheConstants.{MAX_OPERANDS}
+use Rattle.spec_scan.specs.Fits.{IsCell, IsTimer, IsCounter, IsIntegers, IsRoutine, IsTask, operand_at, Fits, FitFrom, OperandsFit}
+use Rattle.spec_scan.specs.Executable.{EndsIn, IsExecutable, AreExecutable}
+use Rattle.spec_language.proofs.Outlines.{longer, none_least, answered_outline}
 use Rattle.spec_machine.specs.ExecutableLaws.{CheckedAreExecutable}
-
--- ---- what an answer says
-
-longer : (w : Want) (t : List ℕ) (o : Option (List (Want × List ℕ))) (ps : List (Want × List ℕ)) → option_map (λ rest. (w, t) ∷ rest) o ≡ Some ps → (rest : List (Want × List ℕ)) × (o ≡ Some rest) × (ps ≡ (w, t) ∷ rest)
-longer w t (Some rest) ps p = (rest, refl, cc p)
-longer w t None ps p = absurd (cc p)
-
-some_lesser : (c : CheckCode) (o : Option CheckCode) → lesser c o ≡ None → ⊥
-some_lesser c None p = cc p
-some_lesser c (Some d) p = go (nat_le (code_number c) (code_number d)) p
-  where
-    go : (b : Bool) → (if b then Some c else Some d) ≡ None → ⊥
-    go true q = cc q
-    go false q = cc q
-
-none_least : (cs : List CheckCode) → least cs ≡ None → cs ≡ []
-none_least [] p = refl
-none_least (c ∷ cs) p = absurd (some_lesser c (least cs) p)
-
-answered_ok : (spot : Spot) (op : Op) (args : List Operand) (o : Option CheckCode) (made : Ins) → answered spot op args o ≡ Ok made → (o ≡ None) × (made ≡ record { op = op; args = args })
-answered_ok spot op args None made p = (refl, sym (ok_inj _ _ p))
-answered_ok spot op args (Some code) made p = err_not_ok _ _ p
 
 -- ---- what an operand is, by what was wanted
 
-abbrev Fits : Want → Operand → Type 0
-Fits bool_place o = IsCell o
-Fits bool_or_flag o = ⊤
-Fits integer_place o = IsCell o
-Fits value o = ⊤
-Fits timer o = IsTimer o
-Fits counter o = IsCounter o
-Fits timer_or_counter o = IsTimer o ⊎ IsCounter o
-Fits copied o = ⊤
-Fits copy_target o = ⊤
-Fits fill_target o = IsIntegers o
-Fits question o = ⊤
-Fits routine o = IsRoutine o
-Fits no_parameters o = ⊤
-Fits jump_label o = ⊤
-Fits own_label o = ⊤
-Fits event_task o = IsTask o
-
-abbrev IsGood : ℕ → Want → Operand → Type 0
+abbrev IsGood : ℕ → OperandKind → Operand → Type 0
 IsGood len w o = EndsIn len o × Fits w o
 
 one_place_ok : (test : Bool) (make : Path → Operand) (f : Found) (o : Operand) → one_place test make f ≡ Ok o → make (path_of f) ≡ o
@@ -90,10 +56,10 @@ one_place_ok test make f o p = go (test && not (is_array f.of)) p
     go true r = ok_inj _ _ r
     go false r = err_not_ok _ _ r
 
-one_good : (len : ℕ) (w : Want) (test : Bool) (make : Path → Operand) (f : Found) (o : Operand) → ((p : Path) → IsGood len w (make p)) → one_place test make f ≡ Ok o → IsGood len w o
+one_good : (len : ℕ) (w : OperandKind) (test : Bool) (make : Path → Operand) (f : Found) (o : Operand) → ((p : Path) → IsGood len w (make p)) → one_place test make f ≡ Ok o → IsGood len w o
 one_good len w test make f o good p = subst (λ (z : Operand). IsGood len w z) (one_place_ok test make f o p) (good (path_of f))
 
-block_good : (types : List TypeDecl) (len : ℕ) (w : Want) (test : Bool) (f : Found) (o : Operand) → LiesIn types len f → (test ≡ true → Fits w (operand.Block (record { path = path_of f; size = size_of types (single f.of.base); stop = f.stop }))) → block_where test types f ≡ Ok o → IsGood len w o
+block_good : (types : List TypeDecl) (len : ℕ) (w : OperandKind) (test : Bool) (f : Found) (o : Operand) → LiesIn types len f → (test ≡ true → Fits w (operand.Block (record { path = path_of f; size = size_of types (single f.of.base); stop = f.stop }))) → block_where test types f ≡ Ok o → IsGood len w o
 block_good types len w true f o l fits p = subst (λ (z : Operand). IsGood len w z) (ok_inj _ _ p) (l.stop, fits refl)
 block_good types len w false f o l fits p = err_not_ok _ _ p
 
@@ -106,41 +72,41 @@ integers types Timer p = absurd (omega (arith, ltb-true 0 0 p))
 integers types Counter p = absurd (omega (arith, ltb-true 0 0 p))
 integers types (User i) p = absurd (omega (arith, ltb-true 0 0 p))
 
-timer_or_counter_good : (types : List TypeDecl) (len : ℕ) (f : Found) (o : Operand) → place_as types timer_or_counter f ≡ Ok o → IsGood len timer_or_counter o
+timer_or_counter_good : (types : List TypeDecl) (len : ℕ) (f : Found) (o : Operand) → place_as types TimerOrCounter f ≡ Ok o → IsGood len TimerOrCounter o
 timer_or_counter_good types len f o p = go (is_timer f.of.base) p
   where
-    go : (b : Bool) → (if b then one_place true operand.Timer f else one_place (is_counter f.of.base) operand.Counter f) ≡ Ok o → IsGood len timer_or_counter o
-    go true r = one_good len timer_or_counter true operand.Timer f o (λ _. (tt, inl tt)) r
-    go false r = one_good len timer_or_counter (is_counter f.of.base) operand.Counter f o (λ _. (tt, inr tt)) r
+    go : (b : Bool) → (if b then one_place true operand.Timer f else one_place (is_counter f.of.base) operand.Counter f) ≡ Ok o → IsGood len TimerOrCounter o
+    go true r = one_good len TimerOrCounter true operand.Timer f o (λ _. (tt, inl tt)) r
+    go false r = one_good len TimerOrCounter (is_counter f.of.base) operand.Counter f o (λ _. (tt, inr tt)) r
 
-place_good : (types : List TypeDecl) (len : ℕ) (w : Want) (f : Found) (o : Operand) → LiesIn types len f → place_as types w f ≡ Ok o → IsGood len w o
-place_good types len bool_place f o l p = one_good len bool_place (is_bool f.of.base) operand.Cell f o (λ _. (tt, tt)) p
-place_good types len bool_or_flag f o l p = one_good len bool_or_flag (is_bool f.of.base) operand.Cell f o (λ _. (tt, tt)) p
-place_good types len integer_place f o l p = one_good len integer_place (is_integer f.of) operand.Cell f o (λ _. (tt, tt)) p
-place_good types len value f o l p = one_good len value (is_integer f.of) operand.Cell f o (λ _. (tt, tt)) p
-place_good types len timer f o l p = one_good len timer (is_timer f.of.base) operand.Timer f o (λ _. (tt, tt)) p
-place_good types len counter f o l p = one_good len counter (is_counter f.of.base) operand.Counter f o (λ _. (tt, tt)) p
-place_good types len timer_or_counter f o l p = timer_or_counter_good types len f o p
-place_good types len copied f o l p = block_good types len copied (not (is_bool f.of.base)) f o l (λ _. tt) p
-place_good types len copy_target f o l p = block_good types len copy_target (not (is_bool f.of.base)) f o l (λ _. tt) p
-place_good types len fill_target f o l p = block_good types len fill_target (nat_lt 0 (integer_bits f.of.base)) f o l (integers types f.of.base) p
-place_good types len question f o l p = err_not_ok _ _ p
-place_good types len routine f o l p = err_not_ok _ _ p
-place_good types len no_parameters f o l p = err_not_ok _ _ p
-place_good types len jump_label f o l p = err_not_ok _ _ p
-place_good types len own_label f o l p = err_not_ok _ _ p
-place_good types len event_task f o l p = err_not_ok _ _ p
+place_good : (types : List TypeDecl) (len : ℕ) (w : OperandKind) (f : Found) (o : Operand) → LiesIn types len f → place_as types w f ≡ Ok o → IsGood len w o
+place_good types len BoolPlace f o l p = one_good len BoolPlace (is_bool f.of.base) operand.Cell f o (λ _. (tt, tt)) p
+place_good types len BoolOrFlag f o l p = one_good len BoolOrFlag (is_bool f.of.base) operand.Cell f o (λ _. (tt, tt)) p
+place_good types len IntegerPlace f o l p = one_good len IntegerPlace (is_integer f.of) operand.Cell f o (λ _. (tt, tt)) p
+place_good types len IntegerOrNumber f o l p = one_good len IntegerOrNumber (is_integer f.of) operand.Cell f o (λ _. (tt, tt)) p
+place_good types len WholeTimer f o l p = one_good len WholeTimer (is_timer f.of.base) operand.Timer f o (λ _. (tt, tt)) p
+place_good types len WholeCounter f o l p = one_good len WholeCounter (is_counter f.of.base) operand.Counter f o (λ _. (tt, tt)) p
+place_good types len TimerOrCounter f o l p = timer_or_counter_good types len f o p
+place_good types len CopySource f o l p = block_good types len CopySource (not (is_bool f.of.base)) f o l (λ _. tt) p
+place_good types len CopyTarget f o l p = block_good types len CopyTarget (not (is_bool f.of.base)) f o l (λ _. tt) p
+place_good types len FillTarget f o l p = block_good types len FillTarget (nat_lt 0 (integer_bits f.of.base)) f o l (integers types f.of.base) p
+place_good types len QuestionMark f o l p = err_not_ok _ _ p
+place_good types len RoutineName f o l p = err_not_ok _ _ p
+place_good types len NoParameters f o l p = err_not_ok _ _ p
+place_good types len JumpLabel f o l p = err_not_ok _ _ p
+place_good types len OwnLabel f o l p = err_not_ok _ _ p
+place_good types len EventTask f o l p = err_not_ok _ _ p
 
-flag_good : (len : ℕ) (w : Want) (f : Flag) (o : Operand) → flag_as w f ≡ Ok o → IsGood len w o
-flag_good len bool_or_flag f o p = subst (λ (z : Operand). IsGood len bool_or_flag z) (ok_inj _ _ p) (tt, tt)
+flag_good : (len : ℕ) (w : OperandKind) (f : Flag) (o : Operand) → flag_as w f ≡ Ok o → IsGood len w o
+flag_good len BoolOrFlag f o p = subst (λ (z : Operand). IsGood len BoolOrFlag z) (ok_inj _ _ p) (tt, tt)
 flag_good len _ f o p = err_not_ok _ _ p
 
-number_good : (len : ℕ) (w : Want) (n : Number) (o : Operand) → number_as w n ≡ Ok o → IsGood len w o
-number_good len value (fitting n) o p = subst (λ (z : Operand). IsGood len value z) (ok_inj _ _ p) (tt, tt)
-number_good len value outside o p = err_not_ok _ _ p
+number_good : (len : ℕ) (w : OperandKind) (n : Number) (o : Operand) → number_as w n ≡ Ok o → IsGood len w o
+number_good len IntegerOrNumber (fitting n) o p = subst (λ (z : Operand). IsGood len IntegerOrNumber z) (ok_inj _ _ p) (tt, tt)
+number_good len IntegerOrNumber outside o p = err_not_ok _ _ p
 number_good len _ n o p = err_not_ok _ _ p
 
-data_good : (d : Declarations) (scope : Scope) (w : Want) (text : List ℕ) (o : Operand) → Sound d → data_operand d scope w text ≡ Ok o → IsGood (bytes d) w o
+data_good : (d : Declarations) (scope : Scope) (w : OperandKind) (text : List ℕ) (o : Operand) → Sound d → data_operand d scope w text ≡ Ok o → IsGood (bytes d) w o
 data_good d scope w text o s p = go (flag text) (number text) p
   where
     place : (r : Result Found TagCode) → found d scope text ≡ r → found_as d.types w r ≡ Ok o → IsGood (bytes d) w o
@@ -152,7 +118,7 @@ data_good d scope w text o s p = go (flag text) (number text) p
     go None (Some n) r = number_good (bytes d) w n o r
     go None None r = place (found d scope text) refl r
 
-name_good : {A : Type 0} (len : ℕ) (w : Want) (text : List ℕ) (make : A → Operand) (named : Option A) (cause : CheckCode) (o : Operand) → ((a : A) → IsGood len w (make a)) → name_operand text (option_map make named) cause ≡ Ok o → IsGood len w o
+name_good : {A : Type 0} (len : ℕ) (w : OperandKind) (text : List ℕ) (make : A → Operand) (named : Option A) (cause : CheckCode) (o : Operand) → ((a : A) → IsGood len w (make a)) → name_operand text (option_map make named) cause ≡ Ok o → IsGood len w o
 name_good {A} len w text make named cause o good p = go (is_name text) named p
   where
     go : (b : Bool) (n : Option A) → (if b then some_or (option_map make n) cause else Err C2) ≡ Ok o → IsGood len w o
@@ -160,42 +126,42 @@ name_good {A} len w text make named cause o good p = go (is_name text) named p
     go true None r = err_not_ok _ _ r
     go true (Some a) r = subst (λ (z : Operand). IsGood len w z) (ok_inj _ _ r) (good a)
 
-operand_good : (s : CheckScope) (ls : List Label) (spot : Spot) (w : Want) (text : List ℕ) (o : Operand) → Sound s.tags → operand_of s ls spot (w, text) ≡ Ok o → IsGood (bytes s.tags) w o
-operand_good s ls spot routine text o sound p = name_good (bytes s.tags) routine text operand.Routine (position (λ name. same name text) s.routines) C11 o (λ _. (tt, tt)) p
-operand_good s ls spot no_parameters text o sound p = go (bytes_eq text (codes "0")) p
+operand_good : (s : CheckScope) (ls : List Label) (spot : Spot) (w : OperandKind) (text : List ℕ) (o : Operand) → Sound s.tags → operand_of s ls spot (w, text) ≡ Ok o → IsGood (bytes s.tags) w o
+operand_good s ls spot RoutineName text o sound p = name_good (bytes s.tags) RoutineName text operand.Routine (position (λ name. same name text) s.routines) C11 o (λ _. (tt, tt)) p
+operand_good s ls spot NoParameters text o sound p = go (bytes_eq text (codes "0")) p
   where
-    go : (b : Bool) → (if b then Ok (operand.Number (pos 0)) else Err C2) ≡ Ok o → IsGood (bytes s.tags) no_parameters o
-    go true r = subst (λ (z : Operand). IsGood (bytes s.tags) no_parameters z) (ok_inj _ _ r) (tt, tt)
+    go : (b : Bool) → (if b then Ok (operand.Number (pos 0)) else Err C2) ≡ Ok o → IsGood (bytes s.tags) NoParameters o
+    go true r = subst (λ (z : Operand). IsGood (bytes s.tags) NoParameters z) (ok_inj _ _ r) (tt, tt)
     go false r = err_not_ok _ _ r
-operand_good s ls spot jump_label text o sound p = name_good (bytes s.tags) jump_label text (λ l. operand.Label l.rung) (label_of ls text) C12 o (λ _. (tt, tt)) p
-operand_good s ls spot own_label text o sound p = name_good (bytes s.tags) own_label text operand.Label (Some spot.rung) C2 o (λ _. (tt, tt)) p
-operand_good s ls spot event_task text o sound p = name_good (bytes s.tags) event_task text operand.Task (position (λ t. t.event && same t.name text) s.tasks) C15 o (λ _. (tt, tt)) p
-operand_good s ls spot question text o sound p = go (bytes_eq text (codes "?")) p
+operand_good s ls spot JumpLabel text o sound p = name_good (bytes s.tags) JumpLabel text (λ l. operand.Label l.rung) (label_of ls text) C12 o (λ _. (tt, tt)) p
+operand_good s ls spot OwnLabel text o sound p = name_good (bytes s.tags) OwnLabel text operand.Label (Some spot.rung) C2 o (λ _. (tt, tt)) p
+operand_good s ls spot EventTask text o sound p = name_good (bytes s.tags) EventTask text operand.Task (position (λ t. t.event && same t.name text) s.tasks) C15 o (λ _. (tt, tt)) p
+operand_good s ls spot QuestionMark text o sound p = go (bytes_eq text (codes "?")) p
   where
-    go : (b : Bool) → (if b then Ok operand.Blank else data_operand s.tags (Program s.program) question text) ≡ Ok o → IsGood (bytes s.tags) question o
-    go true r = subst (λ (z : Operand). IsGood (bytes s.tags) question z) (ok_inj _ _ r) (tt, tt)
-    go false r = data_good s.tags (Program s.program) question text o sound r
-operand_good s ls spot bool_place text o sound p = data_good s.tags (Program s.program) bool_place text o sound p
-operand_good s ls spot bool_or_flag text o sound p = data_good s.tags (Program s.program) bool_or_flag text o sound p
-operand_good s ls spot integer_place text o sound p = data_good s.tags (Program s.program) integer_place text o sound p
-operand_good s ls spot value text o sound p = data_good s.tags (Program s.program) value text o sound p
-operand_good s ls spot timer text o sound p = data_good s.tags (Program s.program) timer text o sound p
-operand_good s ls spot counter text o sound p = data_good s.tags (Program s.program) counter text o sound p
-operand_good s ls spot timer_or_counter text o sound p = data_good s.tags (Program s.program) timer_or_counter text o sound p
-operand_good s ls spot copied text o sound p = data_good s.tags (Program s.program) copied text o sound p
-operand_good s ls spot copy_target text o sound p = data_good s.tags (Program s.program) copy_target text o sound p
-operand_good s ls spot fill_target text o sound p = data_good s.tags (Program s.program) fill_target text o sound p
+    go : (b : Bool) → (if b then Ok operand.Blank else data_operand s.tags (Program s.program) QuestionMark text) ≡ Ok o → IsGood (bytes s.tags) QuestionMark o
+    go true r = subst (λ (z : Operand). IsGood (bytes s.tags) QuestionMark z) (ok_inj _ _ r) (tt, tt)
+    go false r = data_good s.tags (Program s.program) QuestionMark text o sound r
+operand_good s ls spot BoolPlace text o sound p = data_good s.tags (Program s.program) BoolPlace text o sound p
+operand_good s ls spot BoolOrFlag text o sound p = data_good s.tags (Program s.program) BoolOrFlag text o sound p
+operand_good s ls spot IntegerPlace text o sound p = data_good s.tags (Program s.program) IntegerPlace text o sound p
+operand_good s ls spot IntegerOrNumber text o sound p = data_good s.tags (Program s.program) IntegerOrNumber text o sound p
+operand_good s ls spot WholeTimer text o sound p = data_good s.tags (Program s.program) WholeTimer text o sound p
+operand_good s ls spot WholeCounter text o sound p = data_good s.tags (Program s.program) WholeCounter text o sound p
+operand_good s ls spot TimerOrCounter text o sound p = data_good s.tags (Program s.program) TimerOrCounter text o sound p
+operand_good s ls spot CopySource text o sound p = data_good s.tags (Program s.program) CopySource text o sound p
+operand_good s ls spot CopyTarget text o sound p = data_good s.tags (Program s.program) CopyTarget text o sound p
+operand_good s ls spot FillTarget text o sound p = data_good s.tags (Program s.program) FillTarget text o sound p
 
 -- ---- the operands of an instruction
 
 -- each operand is good for what is wanted there; optional ones may be missing
-abbrev AllGood : ℕ → List Want → List Operand → Type 0
+abbrev AllGood : ℕ → List OperandKind → List Operand → Type 0
 AllGood len [] [] = ⊤
 AllGood len [] (o ∷ os) = ⊥
 AllGood len (w ∷ ws) [] = (is_optional w ≡ true) × AllGood len ws []
 AllGood len (w ∷ ws) (o ∷ os) = IsGood len w o × AllGood len ws os
 
-none_good : (len : ℕ) (ws : List Want) (ps : List (Want × List ℕ)) → paired ws [] ≡ Some ps → (ps ≡ []) × AllGood len ws []
+none_good : (len : ℕ) (ws : List OperandKind) (ps : List (OperandKind × List ℕ)) → paired ws [] ≡ Some ps → (ps ≡ []) × AllGood len ws []
 none_good len [] ps p = (sym (cc p), tt)
 none_good len (w ∷ ws) ps p = go (is_optional w) refl p (none_good len ws ps)
   where
@@ -203,7 +169,7 @@ none_good len (w ∷ ws) ps p = go (is_optional w) refl p (none_good len ws ps)
     go true q r known = let m = known r in (m.0, (q, m.1))
     go false q r known = absurd (cc r)
 
-all_good : (s : CheckScope) (ls : List Label) (spot : Spot) (ws : List Want) (ts : List (List ℕ)) (ps : List (Want × List ℕ)) (more : List CheckCode) → Sound s.tags → paired ws ts ≡ Some ps → (filter_map result_err (map (operand_of s ls spot) ps) ++ more) ≡ [] → AllGood (bytes s.tags) ws (filter_map result_ok (map (operand_of s ls spot) ps))
+all_good : (s : CheckScope) (ls : List Label) (spot : Spot) (ws : List OperandKind) (ts : List (List ℕ)) (ps : List (OperandKind × List ℕ)) (more : List CheckCode) → Sound s.tags → paired ws ts ≡ Some ps → (filter_map result_err (map (operand_of s ls spot) ps) ++ more) ≡ [] → AllGood (bytes s.tags) ws (filter_map result_ok (map (operand_of s ls spot) ps))
 all_good s ls spot [] [] ps more sound p q =
     let none : [] ≡ ps = cc p in
     subst (λ zs. AllGood (bytes s.tags) [] (filter_map result_ok (map (operand_of s ls spot) zs))) none tt
@@ -217,28 +183,18 @@ all_good s ls spot (w ∷ ws) (t ∷ ts) ps more sound p q =
     let l = longer w t (paired ws ts) ps p in
     subst (λ zs. AllGood (bytes s.tags) (w ∷ ws) (filter_map result_ok (map (operand_of s ls spot) zs))) (sym l.2) (go (operand_of s ls spot (w, t)) refl l.0 l.1 (subst (λ zs. (filter_map result_err (map (operand_of s ls spot) zs) ++ more) ≡ []) l.2 q) (all_good s ls spot ws ts l.0 more sound l.1))
   where
-    go : (r : Result Operand CheckCode) → operand_of s ls spot (w, t) ≡ r → (rest : List (Want × List ℕ)) → paired ws ts ≡ Some rest → (filter_map result_err (r ∷ map (operand_of s ls spot) rest) ++ more) ≡ [] → ((filter_map result_err (map (operand_of s ls spot) rest) ++ more) ≡ [] → AllGood (bytes s.tags) ws (filter_map result_ok (map (operand_of s ls spot) rest))) → AllGood (bytes s.tags) (w ∷ ws) (filter_map result_ok (r ∷ map (operand_of s ls spot) rest))
+    go : (r : Result Operand CheckCode) → operand_of s ls spot (w, t) ≡ r → (rest : List (OperandKind × List ℕ)) → paired ws ts ≡ Some rest → (filter_map result_err (r ∷ map (operand_of s ls spot) rest) ++ more) ≡ [] → ((filter_map result_err (map (operand_of s ls spot) rest) ++ more) ≡ [] → AllGood (bytes s.tags) ws (filter_map result_ok (map (operand_of s ls spot) rest))) → AllGood (bytes s.tags) (w ∷ ws) (filter_map result_ok (r ∷ map (operand_of s ls spot) rest))
     go (Ok o) e rest f none known = (operand_good s ls spot w t o sound e, known none)
     go (Err c) e rest f none known = absurd (cc none)
 
 -- ---- one of them, and all of them
 
-abbrev want_at : List Want → ℕ → Want
-want_at ws i = slice_index_or ws i question
-
-good_at : (len : ℕ) (ws : List Want) (os : List Operand) (i : ℕ) → i < length ws → is_optional (want_at ws i) ≡ false → AllGood len ws os → Fits (want_at ws i) (operand_at os i)
-good_at len [] os i h n g = absurd (omega arith)
-good_at len (w ∷ ws) [] zero h n g = absurd (cc (n, g.0))
-good_at len (w ∷ ws) (o ∷ os) zero h n g = g.0.1
-good_at len (w ∷ ws) [] (suc i) h n g = good_at len ws [] i (omega (arith, h)) n g.1
-good_at len (w ∷ ws) (o ∷ os) (suc i) h n g = good_at len ws os i (omega (arith, h)) n g.1
-
-all_end : (len : ℕ) (ws : List Want) (os : List Operand) → AllGood len ws os → Each (EndsIn len) os
+all_end : (len : ℕ) (ws : List OperandKind) (os : List Operand) → AllGood len ws os → Each (EndsIn len) os
 all_end len ws [] g = tt
 all_end len [] (o ∷ os) g = absurd g
 all_end len (w ∷ ws) (o ∷ os) g = (g.0.0, all_end len ws os g.1)
 
-no_more : (len : ℕ) (ws : List Want) (os : List Operand) → AllGood len ws os → length os ≤ length ws
+no_more : (len : ℕ) (ws : List OperandKind) (os : List Operand) → AllGood len ws os → length os ≤ length ws
 no_more len ws [] g = omega arith
 no_more len [] (o ∷ os) g = absurd g
 no_more len (w ∷ ws) (o ∷ os) g = omega (arith, no_more len ws os g.1)
@@ -247,7 +203,7 @@ all_of : {A : Type 0} (P : A → Type 0) (xs : List A) → Each P xs → All P x
 all_of P [] h = λ k d b. absurd (omega arith)
 all_of P (x ∷ xs) h = All-cons P x xs h.0 (all_of P xs h.1)
 
-few_kinds : (op : Op) → length (kinds op) ≤ 3
+few_kinds : (op : Op) → length (operand_kinds op) ≤ MAX_OPERANDS
 few_kinds Xic = omega arith
 few_kinds Xio = omega arith
 few_kinds Ote = omega arith
@@ -299,65 +255,55 @@ few_kinds Uid = omega arith
 few_kinds Uie = omega arith
 few_kinds Event = omega arith
 
-kinds_fit : (len : ℕ) (op : Op) (args : List Operand) → AllGood len (kinds op) args → KindsFit op args
-kinds_fit len Ote args g = good_at len (kinds Ote) args 0 (omega arith) refl g
-kinds_fit len Otl args g = good_at len (kinds Otl) args 0 (omega arith) refl g
-kinds_fit len Otu args g = good_at len (kinds Otu) args 0 (omega arith) refl g
-kinds_fit len Ons args g = good_at len (kinds Ons) args 0 (omega arith) refl g
-kinds_fit len Osr args g = (good_at len (kinds Osr) args 0 (omega arith) refl g, good_at len (kinds Osr) args 1 (omega arith) refl g)
-kinds_fit len Osf args g = (good_at len (kinds Osf) args 0 (omega arith) refl g, good_at len (kinds Osf) args 1 (omega arith) refl g)
-kinds_fit len Ton args g = good_at len (kinds Ton) args 0 (omega arith) refl g
-kinds_fit len Rto args g = good_at len (kinds Rto) args 0 (omega arith) refl g
-kinds_fit len Tof args g = good_at len (kinds Tof) args 0 (omega arith) refl g
-kinds_fit len Ctu args g = good_at len (kinds Ctu) args 0 (omega arith) refl g
-kinds_fit len Ctd args g = good_at len (kinds Ctd) args 0 (omega arith) refl g
-kinds_fit len Res args g = good_at len (kinds Res) args 0 (omega arith) refl g
-kinds_fit len Add args g = good_at len (kinds Add) args 2 (omega arith) refl g
-kinds_fit len Sub args g = good_at len (kinds Sub) args 2 (omega arith) refl g
-kinds_fit len Mul args g = good_at len (kinds Mul) args 2 (omega arith) refl g
-kinds_fit len Div args g = good_at len (kinds Div) args 2 (omega arith) refl g
-kinds_fit len Mod args g = good_at len (kinds Mod) args 2 (omega arith) refl g
-kinds_fit len Neg args g = good_at len (kinds Neg) args 1 (omega arith) refl g
-kinds_fit len Abs args g = good_at len (kinds Abs) args 1 (omega arith) refl g
-kinds_fit len Mov args g = good_at len (kinds Mov) args 1 (omega arith) refl g
-kinds_fit len And args g = good_at len (kinds And) args 2 (omega arith) refl g
-kinds_fit len Or args g = good_at len (kinds Or) args 2 (omega arith) refl g
-kinds_fit len Xor args g = good_at len (kinds Xor) args 2 (omega arith) refl g
-kinds_fit len Not args g = good_at len (kinds Not) args 1 (omega arith) refl g
-kinds_fit len Mvm args g = good_at len (kinds Mvm) args 2 (omega arith) refl g
-kinds_fit len Clr args g = good_at len (kinds Clr) args 0 (omega arith) refl g
-kinds_fit len Fll args g = good_at len (kinds Fll) args 1 (omega arith) refl g
-kinds_fit len Jsr args g = good_at len (kinds Jsr) args 0 (omega arith) refl g
-kinds_fit len Event args g = good_at len (kinds Event) args 0 (omega arith) refl g
-kinds_fit len _ args g = tt
+-- ---- all operands, by the table
+
+one_on : (i j : ℕ) → i + 1 + j ≡ i + suc j
+one_on i j = omega arith
+
+no_more_on : (i : ℕ) → i ≡ i + 0
+no_more_on i = omega arith
+
+optional_fits : (w : OperandKind) (o : Operand) → is_optional w ≡ true → Fits w o
+optional_fits NoParameters o h = tt
+optional_fits _ o h = absurd (cc h)
+
+-- the operands from number i on are those that were good for these kinds
+fit_all : (len : ℕ) (ws : List OperandKind) (os : List Operand) → AllGood len ws os → (i : ℕ) (all : List Operand) → ((j : ℕ) → operand_at all (i + j) ≡ operand_at os j) → FitFrom i ws all
+fit_all len [] os g i all same = tt
+fit_all len (w ∷ ws) [] g i all same = (optional_fits w (operand_at all i) g.0, fit_all len ws [] g.1 (i + 1) all (λ j. ap (operand_at all) (one_on i j) ∙ same (suc j)))
+fit_all len (w ∷ ws) (o ∷ os) g i all same =
+    (subst (Fits w) (sym (ap (operand_at all) (no_more_on i) ∙ same 0)) g.0.1, fit_all len ws os g.1 (i + 1) all (λ j. ap (operand_at all) (one_on i j) ∙ same (suc j)))
+
+kinds_fit : (len : ℕ) (op : Op) (args : List Operand) → AllGood len (operand_kinds op) args → OperandsFit op args
+kinds_fit len op args g = fit_all len (operand_kinds op) args g 0 args (λ j. refl)
 
 -- ---- instructions and rungs
 
 -- what checking gives beside that the operands lie in the image
 record IsShaped (len : ℕ) (i : Ins) : Type 0 where
-  few : length i.args ≤ 3
+  few : length i.args ≤ MAX_OPERANDS
   ends : All (EndsIn len) i.args
-  kinds : KindsFit i.op i.args
+  fit : OperandsFit i.op i.args
 
 abbrev AreShaped : ℕ → List (Tree Ins) → Type 0
 AreShaped len rungs = Each (λ r. Each (IsShaped len) (instructions r)) rungs
 
 module _ (s : CheckScope) (ls : List Label) (sound : Sound s.tags) where
   instruction_shaped : (spot : Spot) (i : SourceIns) (made : Ins) → instruction_of s ls spot i ≡ Ok made → IsShaped (bytes s.tags) made
-  instruction_shaped spot i made p = go (paired (kinds i.op) i.texts) refl p
+  instruction_shaped spot i made p = go (paired (operand_kinds i.op) i.texts) refl p
     where
-      go : (o : Option (List (Want × List ℕ))) → paired (kinds i.op) i.texts ≡ o → settled ls spot i (operands_of s ls spot o) ≡ Ok made → IsShaped (bytes s.tags) made
+      go : (o : Option (List (OperandKind × List ℕ))) → paired (operand_kinds i.op) i.texts ≡ o → settled ls spot i (operands_of s ls spot o) ≡ Ok made → IsShaped (bytes s.tags) made
       go None q r =
-          let a = answered_ok spot i.op [] (least (C1 ∷ (label_faults ls spot i ++ length_faults spot))) made r in
+          let a = answered_outline spot i.op [] (least (C1 ∷ (label_faults ls spot i ++ length_faults spot))) made r in
           absurd (cc (none_least (C1 ∷ (label_faults ls spot i ++ length_faults spot)) a.0))
       go (Some ps) q r =
-          let a = answered_ok spot i.op _ _ made r in
-          let good = all_good s ls spot (kinds i.op) i.texts ps (label_faults ls spot i ++ length_faults spot) sound q (none_least _ a.0) in
+          let a = answered_outline spot i.op _ _ made r in
+          let good = all_good s ls spot (operand_kinds i.op) i.texts ps (label_faults ls spot i ++ length_faults spot) sound q (none_least _ a.0) in
           let args : List Operand = filter_map result_ok (map (operand_of s ls spot) ps) in
           subst (λ (z : Ins). IsShaped (bytes s.tags) z) (sym a.1) (record {
-            few = omega (arith, no_more (bytes s.tags) (kinds i.op) args good, few_kinds i.op);
-            ends = all_of (EndsIn (bytes s.tags)) args (all_end (bytes s.tags) (kinds i.op) args good);
-            kinds = kinds_fit (bytes s.tags) i.op args good;
+            few = omega (arith, no_more (bytes s.tags) (operand_kinds i.op) args good, few_kinds i.op);
+            ends = all_of (EndsIn (bytes s.tags)) args (all_end (bytes s.tags) (operand_kinds i.op) args good);
+            fit = kinds_fit (bytes s.tags) i.op args good;
           })
 
   mutual
@@ -391,7 +337,7 @@ module _ (s : CheckScope) (ls : List Label) (sound : Sound s.tags) where
 
 ready_one : (len : ℕ) (is : List Ins) → Each (IsShaped len) is → Each (λ i. Each (λ o. OperandInBounds o len) i.args) is → Each (IsExecutable len) is
 ready_one len [] shaped lie = tt
-ready_one len (i ∷ is) shaped lie = (record { few = shaped.0.few; lie = all_of (λ o. OperandInBounds o len) i.args lie.0; ends = shaped.0.ends; kinds = shaped.0.kinds }, ready_one len is shaped.1 lie.1)
+ready_one len (i ∷ is) shaped lie = (record { few = shaped.0.few; lie = all_of (λ o. OperandInBounds o len) i.args lie.0; ends = shaped.0.ends; fit = shaped.0.fit }, ready_one len is shaped.1 lie.1)
 
 ready_all : (len : ℕ) (rungs : List (Tree Ins)) → AreShaped len rungs → Each (OperandsInBounds len) rungs → AreExecutable len rungs
 ready_all len [] shaped lie = tt

@@ -8,6 +8,7 @@ pub mod Arithmetic
 pub mod Copies
 pub mod Position
 pub mod Instructions
+pub mod Fits
 pub mod Executable
 pub mod Scan
 pub mod Prescan

@@ -1,12 +1,13 @@
 // Operands whose places are worked out, a copy in progress, and what a step of the engine did.
 ghost use Rattle.std.specs.Prelude.{◌≡◌, ◌<◌, ◌≤◌, ◌++◌, [], ◌∷◌, ◌==◌, length};
-ghost use Rattle.spec_scan.specs.Arguments.{arg};
+ghost use Rattle.spec_base.specs.declared.limits.TheConstants.{MAX_OPERANDS};
+ghost use Rattle.spec_scan.specs.Arguments.{arg, place_of, byte_of, size_of, room_of};
+ghost use Rattle.spec_scan.specs.Fits.{IsPlace};
 
 use arrayvec::ArrayVec;
 use lgx_num::{Flag, Place};
+use spec_base::limits::MAX_OPERANDS;
 use std::marker::Model;
-
-const ROOM: usize = 3;
 
 /// An operand with its place worked out.
 ///
@@ -31,21 +32,65 @@ pub enum Arg {
     Other,
 }
 
+impl Arg {
+    /// The place that the operand is.
+    pub fn place(self) -> Place
+        requires { IsPlace self }
+        ensures { result ≡ place_of self }
+    {
+        match self {
+            Arg::Cell(place) => place,
+            _ => unreachable!(),
+        }
+    }
+
+    /// The first byte of a timer, a counter or a block; 0 for any other operand.
+    pub fn byte(self) -> u32
+        ensures { result ≡ byte_of self }
+    {
+        match self {
+            Arg::Timer(at) | Arg::Counter(at) | Arg::Block { at, .. } => at,
+            _ => 0,
+        }
+    }
+
+    /// The bytes of a block's element; 1 for any other operand.
+    pub fn size(self) -> u32
+        ensures { result ≡ size_of self }
+    {
+        match self {
+            Arg::Block { size, .. } => size,
+            _ => 1,
+        }
+    }
+
+    /// The bytes from a block's first one up to the end of its tag; 0 for any other operand.
+    pub fn room(self) -> u32
+        ensures { result ≡ room_of self }
+    {
+        match self {
+            Arg::Block { at, stop, .. } => stop.saturating_sub(at),
+            _ => 0,
+        }
+    }
+}
+
 /// The operands of an instruction with their places worked out, at most three, in order. It takes no memory.
 #[derive(Drop)]
 pub struct Bound {
-    list: ArrayVec<Arg, ROOM>,
+    list: ArrayVec<Arg, MAX_OPERANDS>,
 }
 
 impl Model for Bound {
     ghost use Rattle.std.specs.Prelude.{List, ◌≤◌, length};
+    ghost use Rattle.spec_base.specs.declared.limits.TheConstants.{MAX_OPERANDS};
     ghost use Rattle.spec_scan.specs.declared.bound.Arg.{Arg};
 
     ghost Value = { List Arg };
 
     ghost view = { λ b. b.list.items };
 
-    ghost invariant = { λ b. length b.list.items ≤ 3 };
+    ghost invariant = { λ b. length b.list.items ≤ MAX_OPERANDS };
 }
 
 impl Bound {
@@ -60,7 +105,7 @@ impl Bound {
 
     /// Adds an operand behind the others. There must be room.
     pub fn push(&mut self, arg: Arg)
-        requires { length self.old < 3 }
+        requires { length self.old < MAX_OPERANDS }
         ensures { self.new ≡ self.old ++ arg ∷ [] }
     {
         self.list.push(arg);
@@ -79,7 +124,7 @@ impl Bound {
     /// The operands, in order.
     pub fn as_slice(&self) -> &[Arg]
         ensures value { result.now ≡ self.now }
-        ensures room { length result.now ≤ 3 }
+        ensures room { length result.now ≤ MAX_OPERANDS }
     {
         self.list.as_slice()
     }
@@ -87,7 +132,7 @@ impl Bound {
     /// The number of operands.
     pub fn len(&self) -> usize
         ensures value { result ≡ length self.now }
-        ensures room { result ≤ 3 }
+        ensures room { result ≤ MAX_OPERANDS }
     {
         self.list.len()
     }

@@ -3,7 +3,7 @@ use Rattle.std.specs.Prelude.{List, Some, slice_get}
 use Rattle.std.proofs.lemmas.List.{take_more, length-take}
 use Rattle.std.proofs.lemmas.Option.{slice_get-get_or}
 use Rattle.spec_language.specs.Declarations.{Entry}
-use Rattle.spec_language.proofs.Subscripts.{each_get}
+use Rattle.spec_base.proofs.Lists.{each_get}
 use Rattle.lgx_tags.specs.Scopes.{IsScopeOf}
 use Rattle.lgx_tags.specs.Layouts.{with_entry, rows_of}
 use Rattle.lgx_tags.specs.declared.layout.Numbered.{Numbered}
