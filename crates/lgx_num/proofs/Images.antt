@@ -23,10 +23,10 @@ splice_before image at [] k before = refl
 splice_before image at (b ∷ bs) k before =
     splice_before (set image at b) (at + 1) bs k (omega arith) ∙ get_or-set_other image at k b 0 (omega arith)
 
-pub splice_after : (image : List ℕ) (at : ℕ) (bs : List ℕ) (k : ℕ) → at + length bs ≤ k → get_or (splice image at bs) k 0 ≡ get_or image k 0
-splice_after image at [] k after = refl
-splice_after image at (b ∷ bs) k after =
-    splice_after (set image at b) (at + 1) bs k (omega arith) ∙ get_or-set_other image at k b 0 (omega arith)
+pub splice_behind : (image : List ℕ) (at : ℕ) (bs : List ℕ) (k : ℕ) → at + length bs ≤ k → get_or (splice image at bs) k 0 ≡ get_or image k 0
+splice_behind image at [] k after = refl
+splice_behind image at (b ∷ bs) k after =
+    splice_behind (set image at b) (at + 1) bs k (omega arith) ∙ get_or-set_other image at k b 0 (omega arith)
 
 -- the piece that was written is read
 pub piece-splice : (image : List ℕ) (at : ℕ) (bs : List ℕ) → at + length bs ≤ length image → piece (splice image at bs) at (length bs) ≡ bs
@@ -101,11 +101,11 @@ byte_stays : (k : Kind) (image : List ℕ) (at : ℕ) (v : ℤ) (b : ℕ) → Is
 byte_stays KBool image at v b well (inl before) = get_or-set_other image (at / 8) b _ 0 (omega arith)
 byte_stays KBool image at v b well (inr after) = get_or-set_other image (at / 8) b _ 0 (omega arith)
 byte_stays Sint image at v b well (inl before) = splice_before image (at / 8) (signed_bytes w8 v) b (omega arith)
-byte_stays Sint image at v b well (inr after) = splice_after image (at / 8) (signed_bytes w8 v) b (omega arith)
+byte_stays Sint image at v b well (inr after) = splice_behind image (at / 8) (signed_bytes w8 v) b (omega arith)
 byte_stays Int image at v b well (inl before) = splice_before image (at / 8) (signed_bytes w16 v) b (omega arith)
-byte_stays Int image at v b well (inr after) = splice_after image (at / 8) (signed_bytes w16 v) b (omega arith)
+byte_stays Int image at v b well (inr after) = splice_behind image (at / 8) (signed_bytes w16 v) b (omega arith)
 byte_stays Dint image at v b well (inl before) = splice_before image (at / 8) (signed_bytes w32 v) b (omega arith)
-byte_stays Dint image at v b well (inr after) = splice_after image (at / 8) (signed_bytes w32 v) b (omega arith)
+byte_stays Dint image at v b well (inr after) = splice_behind image (at / 8) (signed_bytes w32 v) b (omega arith)
 
 -- so does a piece of such bytes
 piece_stays : (k : Kind) (image : List ℕ) (at : ℕ) (v : ℤ) (from n : ℕ) → IsByteAligned k at → (at + bits_of k ≤ 8 * from) ⊎ (8 * (from + n) ≤ at) → piece (write_of k image at v) from n ≡ piece image from n
