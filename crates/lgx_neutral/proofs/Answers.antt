@@ -4,7 +4,8 @@ use Rattle.lgx_rung.specs.declared.fault.TextFault.{TextFault}
 use Rattle.lgx_rung.specs.Text.{Spells, IsTextCause}
 use Rattle.lgx_rung.specs.Tokens.{Placed, Reader, read_token, read_tokens, read_on, read_rung}
 use Rattle.lgx_rung.specs.Tree.{Source}
-use Rattle.lgx_rung.proofs.Laws.{spells_read, read_spelled, cause_of, cause_read}
+use Rattle.lgx_rung.proofs.Causes.{cause_of_read, read_of_cause}
+use Rattle.lgx_rung.proofs.Laws.{spells_read, read_spelled}
 use Rattle.lgx_neutral.specs.declared.fault.RungError.{RungError}
 use Rattle.lgx_neutral.specs.declared.fault.RungError.TheVariants.{Text, Memory}
 use Rattle.lgx_neutral.specs.declared.fault.Refusal.{Refusal}
@@ -21,7 +22,7 @@ spelled text (Err Memory) h = tt
 
 pub caused : (text : List ℕ) (answer : Result Source RungError) → Answers (read_rung text) answer → IfFault answer (λ f. IsTextCause text f)
 caused text (Ok r) h = tt
-caused text (Err (Text f)) h = cause_of text f h
+caused text (Err (Text f)) h = cause_of_read text f h
 caused text (Err Memory) h = tt
 
 answers_same : (said also : Result Source TextFault) (answer : Result Source RungError) → said ≡ also → Answers said answer → Answers also answer
@@ -33,7 +34,7 @@ pub every_rung : (text : List ℕ) (answer : Result Source RungError) → Answer
 every_rung text answer h r s = answers_same (read_rung text) (Ok r) answer (read_spelled text r s) h
 
 pub every_fault : (text : List ℕ) (answer : Result Source RungError) → Answers (read_rung text) answer → (f : TextFault) → IsTextCause text f → Answers (Err f) answer
-every_fault text answer h f s = answers_same (read_rung text) (Err f) answer (cause_read text f s) h
+every_fault text answer h f s = answers_same (read_rung text) (Err f) answer (read_of_cause text f s) h
 
 -- ---- a token more
 

@@ -1,28 +1,14 @@
--- The tokens of a text behind blanks, a run or a single byte.
+-- The tokens of a text after blanks, a run or a single byte.
 use Rattle.std.proofs.Common.{◌≡◌, ℕ, zero, suc, ◌+◌, ◌-◌, ◌<◌, ◌≤◌, Bool, true, false, ◌||◌, nat_lt, List, [], ◌∷◌, ◌++◌, length, reverse, get_or, drop, take, slice_range, refl, ap, sym, ◌∙◌, subst, arith, IsTrue, length-drop}
 use Rattle.std.specs.Prelude.{◌==◌}
 use Rattle.std.specs.List.{list_all}
 use Rattle.std.proofs.lemmas.List.{drop_more, drop_all, take_more, reverse-append, reverse-reverse, length-reverse, get_or-drop, length-take}
 use Rattle.std.proofs.lemmas.List.Folds.{list_all-append}
 use Rattle.std.proofs.lemmas.Bool.{and_from, eqb-true, ltb-true, ltb-false}
+use Rattle.lgx_rung.proofs.Bytes.{blank_in_run, EndsRun, run_first}
 use Rattle.lgx_rung.specs.Tokens.{is_blank, is_operand_byte, is_operand, in_run, run_token, mark, inside_after, put_byte, tokens_from}
 
 -- ---- blanks
-
--- no blank stands in a run
-blank_cases : (b : ℕ) (P : ℕ → Type 0) → is_blank b ≡ true → P 32 → P 9 → P 13 → P 10 → P b
-blank_cases b P h p q r s = go (b == 32) (b == 9) (b == 13) (b == 10) refl refl refl refl h
-  where
-    go : (w x y z : Bool) → (b == 32) ≡ w → (b == 9) ≡ x → (b == 13) ≡ y → (b == 10) ≡ z → (w || x || y || z) ≡ true → P b
-    go true x y z e f g i k = subst P (sym (eqb-true b 32 e)) p
-    go false true y z e f g i k = subst P (sym (eqb-true b 9 f)) q
-    go false false true z e f g i k = subst P (sym (eqb-true b 13 g)) r
-    go false false false true e f g i k = subst P (sym (eqb-true b 10 i)) s
-    go false false false false e f g i k = cc
-
-blank_in_run : (inside : Bool) (b : ℕ) → is_blank b ≡ true → in_run inside b ≡ false
-blank_in_run true b h = blank_cases b (λ b. in_run true b ≡ false) h refl refl refl refl
-blank_in_run false b h = blank_cases b (λ b. in_run false b ≡ false) h refl refl refl refl
 
 one_blank : (b : ℕ) (bs : List ℕ) (inside : Bool) (at : ℕ) → is_blank b ≡ true → tokens_from (b ∷ bs) inside at [] ≡ tokens_from bs inside (at + 1) []
 one_blank b bs inside at h =
@@ -74,27 +60,14 @@ pub operand_of_run : (run : List ℕ) → 0 < length run → IsTrue (list_all is
 operand_of_run [] h all = absurd (omega arith)
 operand_of_run (b ∷ bs) h all = all
 
--- a run ends before what begins by no byte of a run
-EndsRun : (inside : Bool) → List ℕ → Type 0
-EndsRun inside [] = Unit {0}
-EndsRun inside (b ∷ bs) = in_run inside b ≡ false
-
 ends_here : (text : List ℕ) (inside : Bool) (at : ℕ) → at ≤ length text → (at < length text → in_run inside (get_or text at 0) ≡ false) → EndsRun inside (drop at text)
-unfolding EndsRun
 ends_here [] inside zero h e = tt
 ends_here [] inside (suc at) h e = absurd (omega arith)
 ends_here (b ∷ bs) inside zero h e = e (omega arith)
 ends_here (b ∷ bs) inside (suc at) h e = ends_here bs inside at (omega arith) (λ k. e (omega arith))
 
-run_first : (y : Bool) (b : ℕ) (bs : List ℕ) (inside : Bool) (at c : ℕ) (cs : List ℕ)
-    → put_byte false y b (tokens_from bs) inside at (c ∷ cs)
-    ≡ record { at = at - length (c ∷ cs); token = run_token inside (reverse (c ∷ cs)) } ∷ put_byte false y b (tokens_from bs) inside at []
-run_first true b bs inside at c cs = refl
-run_first false b bs inside at c cs = refl
-
 run_read : (text : List ℕ) (inside : Bool) (at : ℕ) (run : List ℕ) → 0 < length run → EndsRun inside text
     → tokens_from text inside at run ≡ record { at = at - length run; token = run_token inside (reverse run) } ∷ tokens_from text inside at []
-unfolding EndsRun
 run_read text inside at [] h e = absurd (omega arith)
 run_read [] inside at (c ∷ cs) h e = refl
 run_read (b ∷ bs) inside at (c ∷ cs) h e =

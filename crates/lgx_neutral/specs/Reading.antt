@@ -2,17 +2,17 @@
 use Rattle.std.specs.Prelude.{ℕ, List, [], ◌∷◌}
 use Rattle.lgx_rung.specs.declared.op.Op.{Op}
 use Rattle.lgx_neutral.specs.declared.reader.Place.{Place}
-use Rattle.lgx_neutral.specs.declared.reader.Place.TheVariants.{Element, Named, First, Behind, Next, End}
+use Rattle.lgx_neutral.specs.declared.reader.Place.TheVariants.{Element, Named, First, After, Next, End}
 use Rattle.lgx_neutral.specs.declared.reader.Reader.{Reader}
 use Rattle.lgx_rung.specs.Tokens as text
 use Rattle.lgx_rung.specs.Tree.{Source}
 
--- behind operands, of which there is at least one
-abbrev pub behind : Op → List (List ℕ) → text.Place
-behind op [] = text.First op
-behind op (first ∷ others) = text.Behind op first others
+-- after operands, of which there is at least one
+abbrev pub after : Op → List (List ℕ) → text.Place
+after op [] = text.First op
+after op (first ∷ others) = text.Behind op first others
 
--- behind a comma
+-- after a comma
 abbrev pub next : Op → List (List ℕ) → text.Place
 next op [] = text.First op
 next op (first ∷ others) = text.Next op first others
@@ -21,7 +21,7 @@ abbrev pub reading_at : Place → List text.Fork → Source → text.Reader
 reading_at Element forks leg = text.At text.Element forks leg
 reading_at (Named op) forks leg = text.At (text.Named op) forks leg
 reading_at (First op) forks leg = text.At (text.First op) forks leg
-reading_at (Behind call) forks leg = text.At (behind call.op call.texts) forks leg
+reading_at (After call) forks leg = text.At (after call.op call.texts) forks leg
 reading_at (Next call) forks leg = text.At (next call.op call.texts) forks leg
 reading_at End forks leg = text.Done leg
 

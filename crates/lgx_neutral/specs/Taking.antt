@@ -11,7 +11,7 @@ abbrev pub refusal_at : Refusal → ℕ → RungError
 refusal_at (Text code) at = error.Text (record { code = code; at = at })
 refusal_at Memory at = error.Memory
 
--- the reader takes a token to what is said, or refuses it so, or there was no memory
+-- the reader takes a token to what is said, or refuses it so, or memory ran out
 abbrev pub Takes : {A : Type 0} → (said : Result text.Reader TextCode) → (after : text.Reader) → Result A Refusal → Type 0
 Takes said after (Ok _) = said ≡ Ok after
 Takes said after (Err (Text code)) = said ≡ Err code

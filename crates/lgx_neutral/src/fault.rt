@@ -1,4 +1,4 @@
-// What a reading answers where it gives no rung.
+// What a reading answers if it gives no rung.
 use lgx_num::Memory;
 use lgx_rung::{TextCode, TextFault};
 

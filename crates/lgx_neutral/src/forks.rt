@@ -1,13 +1,12 @@
 // The forks that are open while a rung is read.
 use arrayvec::ArrayVec;
 use lgx_rung::{OpenFork, SourceRung};
+use spec_base::limits::MAX_FORKS;
 use std::alloc::Global;
 use std::default::MadeWith;
 use std::marker::Model;
 
-const ROOM: usize = 16;
-
-// An open fork, as it lies in the stack.
+/// An open fork, as it lies in the stack.
 #[derive(Drop)]
 struct Open {
     fork: OpenFork,
@@ -21,15 +20,16 @@ impl MadeWith<Global> for Open {
     }
 }
 
-/// The open forks, at most 16, of which the innermost is closed first. They lie in the value itself.
+/// The open forks, at most [`MAX_FORKS`], of which the innermost is closed first. They lie in the value itself.
 #[derive(Drop)]
 pub(crate) struct Forks {
-    open: ArrayVec<Open, ROOM, Global>,
+    open: ArrayVec<Open, MAX_FORKS, Global>,
 }
 
 impl Model for Forks {
     ghost use Rattle.std.specs.Prelude.{List, ◌≤◌, length, map, reverse};
     ghost use Rattle.std.specs.Coded.{codes, coded_list};
+    ghost use Rattle.spec_base.specs.declared.limits.TheConstants.{MAX_FORKS};
     ghost use Rattle.lgx_rung.specs.ForkCode.{fork_code};
     ghost use Rattle.lgx_rung.specs.Tokens.{Fork};
 
@@ -39,10 +39,11 @@ impl Model for Forks {
 
     ghost view = { λ f. reverse (map (λ o. o.fork) f.open.items) };
 
-    ghost invariant = { λ f. length f.open.items ≤ 16 };
+    ghost invariant = { λ f. length f.open.items ≤ MAX_FORKS };
 }
 
 impl Forks {
+    ghost use Rattle.spec_base.specs.declared.limits.TheConstants.{MAX_FORKS};
     ghost use Rattle.std.specs.Prelude.{◌≡◌, ◌<◌, ◌≤◌, ◌==◌, [], ◌∷◌, nat_lt, length, MatchOption, OnSome};
 
     /// No fork is open.
@@ -63,23 +64,23 @@ impl Forks {
 
     /// Whether one fork more may be open.
     pub(crate) fn has_room(&self) -> bool
-        ensures { result ≡ nat_lt (length self.now) 16 }
+        ensures { result ≡ nat_lt (length self.now) MAX_FORKS }
     {
-        self.open.len() < ROOM
+        self.open.len() < MAX_FORKS
     }
 
     /// Opens a fork inside the others.
     pub(crate) fn push(&mut self, fork: OpenFork)
-        requires { length self.old < 16 }
+        requires { length self.old < MAX_FORKS }
         ensures { self.new ≡ fork ∷ self.old }
     {
         self.open.push(Open { fork });
     }
 
-    /// Takes the innermost fork out, or gives none where no fork is open.
+    /// Takes the innermost fork out, or gives none if no fork is open.
     pub(crate) fn pop(&mut self) -> Option<OpenFork>
         ensures forks { MatchOption result (self.old ≡ [] × self.new ≡ []) (λ fork. self.old ≡ fork ∷ self.new) }
-        ensures room { OnSome result (length self.new < 16) }
+        ensures room { OnSome result (length self.new < MAX_FORKS) }
     {
         let Open { fork } = self.open.pop()?;
         Some(fork)

@@ -1,6 +1,7 @@
 // The tokens of a text, from the first to the last.
 ghost use Rattle.std.specs.Prelude.{◌≡◌, ◌+◌, ◌≤◌, ◌<◌, ◌∷◌, [], Bool, true, false, IsTrue, IfSome, MatchOption, length, drop, reverse, slice_range, slice_index};
 ghost use Rattle.std.specs.List.{list_all};
+ghost use Rattle.spec_base.specs.declared.limits.TheConstants.{MAX_FILE_BYTES};
 ghost use Rattle.lgx_rung.specs.Tokens.{is_blank, in_run as is_in_run, tokens_from, tokens, run_token, mark, inside_after};
 
 use crate::bytes::{in_run, is_blank};
@@ -37,7 +38,7 @@ pub(crate) struct Lexer<'a> {
     at: usize,
     inside: bool,
     ghost within: { at ≤ length text.now },
-    ghost room: { length text.now ≤ 16777216 },
+    ghost room: { length text.now ≤ MAX_FILE_BYTES },
 }
 
 impl<'a> Lexer<'a> {
@@ -45,7 +46,7 @@ impl<'a> Lexer<'a> {
 
     /// The text from its start.
     pub(crate) fn new(text: &'a [u8]) -> Self
-        requires { length text.now ≤ 16777216 }
+        requires { length text.now ≤ MAX_FILE_BYTES }
         ensures { left result ≡ tokens text.now }
     {
         Lexer {
@@ -55,21 +56,21 @@ impl<'a> Lexer<'a> {
         }
     }
 
-    /// The next token, or none where only blanks are left.
+    /// The next token, or none if only blanks are left.
     pub(crate) fn next(&mut self) -> Option<Placed<'a>>
         ensures tokens { MatchOption result (left self.old ≡ []) (λ t. left self.old ≡ placed t ∷ left self.new) }
         ensures operand { IfSome result (λ t. IsFitToken t.token) }
-        ensures place { IfSome result (λ t. t.at < 16777216) }
+        ensures place { IfSome result (λ t. t.at < MAX_FILE_BYTES) }
         ensures text { self.new.text.now ≡ self.old.text.now }
-        ensures goes_on { IfSome result (λ _. self.old.at < self.new.at) }
+        ensures moves_on { IfSome result (λ _. self.old.at < self.new.at) }
     {
-        let at = behind_blanks(self.text, self.at);
+        let at = after_blanks(self.text, self.at);
         if at == self.text.len() {
             return None;
         }
         let byte = self.text[at];
         if in_run(self.inside, byte) {
-            let end = behind_run(self.text, self.inside, at);
+            let end = after_run(self.text, self.inside, at);
             let token = Token::of_run(self.inside, &self.text[at..end]);
             self.at = end;
             Some(Placed { at, token })
@@ -82,8 +83,8 @@ impl<'a> Lexer<'a> {
     }
 }
 
-// The first place, from this one on, where no blank stands.
-fn behind_blanks(text: &[u8], from: usize) -> usize
+/// The first place, from this one on, at which no blank stands.
+fn after_blanks(text: &[u8], from: usize) -> usize
     requires { from ≤ length text.now }
     ensures ahead { from ≤ result }
     ensures within { result ≤ length text.now }
@@ -97,8 +98,8 @@ fn behind_blanks(text: &[u8], from: usize) -> usize
     at
 }
 
-// The first place, from this one on, where the run ends.
-fn behind_run(text: &[u8], inside: bool, from: usize) -> usize
+/// The first place, from this one on, at which the run ends.
+fn after_run(text: &[u8], inside: bool, from: usize) -> usize
     requires { from ≤ length text.now }
     ensures ahead { from ≤ result }
     ensures within { result ≤ length text.now }
@@ -116,7 +117,7 @@ fn behind_run(text: &[u8], inside: bool, from: usize) -> usize
 impl<'a> Token<'a> {
     ghost use Rattle.lgx_neutral.specs.Lexing.{token_of, IsFitToken};
 
-    // The token of a run.
+    /// The token of a run.
     fn of_run(inside: bool, run: &'a [u8]) -> Self
         requires some { 0 < length run.now }
         requires run { IsTrue (list_all (is_in_run inside) run.now) }
@@ -132,7 +133,7 @@ impl<'a> Token<'a> {
         }
     }
 
-    // The token of a byte that stands in no run.
+    /// The token of a byte that stands in no run.
     fn of_byte(byte: u8) -> Self
         ensures { token_of result ≡ mark byte }
     {
@@ -147,7 +148,7 @@ impl<'a> Token<'a> {
         }
     }
 
-    // Whether what stands behind it is inside parentheses.
+    /// Whether what follows it is inside parentheses.
     fn inside_after(self, inside: bool) -> bool
         ensures { result ≡ inside_after inside (token_of self.entry) }
     {

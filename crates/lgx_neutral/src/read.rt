@@ -1,5 +1,6 @@
 // The reading of a rung's text.
 ghost use Rattle.std.specs.Prelude.{◌≡◌, ◌≤◌, Ok, Err, IfOk, length};
+ghost use Rattle.spec_base.specs.declared.limits.TheConstants.{MAX_FILE_BYTES};
 ghost use Rattle.lgx_rung.specs.declared.fault.TextFault.{TextFault as Fault};
 ghost use Rattle.lgx_rung.specs.Tree.{Source};
 ghost use Rattle.lgx_rung.specs.Tokens.{read_rung as reading};
@@ -12,11 +13,11 @@ use crate::reader::Reader;
 use lgx_rung::SourceRung;
 use std::alloc::Global;
 
-/// The rung that a text of at most 16,777,216 bytes spells, or its first fault.
+/// The rung that a text spells, or its first fault.
 ///
 /// Which fault is the first, and its place in bytes, is our own profile. Time grows with the number of bytes.
 pub fn read_rung(alloc: Global, text: &[u8]) -> Result<SourceRung, RungError>
-    requires { length text.now ≤ 16777216 }
+    requires { length text.now ≤ MAX_FILE_BYTES }
     ensures answer { Answers (reading text.now) result }
     ensures rung { IfOk result (λ r. Spells text.now r) }
     ensures fault { IfFault result (λ f. IsTextCause text.now f) }

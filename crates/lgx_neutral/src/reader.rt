@@ -22,13 +22,13 @@ pub(crate) struct Call {
 pub(crate) enum Place {
     /// An element, or the end of the leg or of the rung.
     Element,
-    /// The parenthesis behind a mnemonic.
+    /// The parenthesis after a mnemonic.
     Named(Op),
     /// The first operand, or the closing parenthesis.
     First(Op),
-    /// A comma or the closing parenthesis, behind operands.
-    Behind(Call),
-    /// The operand behind a comma.
+    /// A comma or the closing parenthesis, after operands.
+    After(Call),
+    /// The operand after a comma.
     Next(Call),
     /// Nothing: the semicolon is read.
     End,
@@ -43,11 +43,12 @@ pub(crate) struct Reader {
 }
 
 impl Reader {
+    ghost use Rattle.spec_base.specs.declared.limits.TheConstants.{MAX_FORKS};
     ghost use Rattle.lgx_rung.specs.Tree.{end, depth};
     ghost use Rattle.lgx_rung.proofs.Reading.{IsFit, AreFit};
     ghost use Rattle.lgx_neutral.specs.Lexing.{token_of, IsFitToken};
     ghost use Rattle.lgx_neutral.specs.Taking.{Takes};
-    ghost use Rattle.lgx_neutral.specs.Reading.{reading, behind, next};
+    ghost use Rattle.lgx_neutral.specs.Reading.{reading, after, next};
 
     /// Nothing is read.
     pub(crate) fn new(alloc: Global) -> Self
@@ -70,16 +71,16 @@ impl Reader {
             Place::Element => self.take_element(alloc, token),
             Place::Named(op) => self.take_open(op, token),
             Place::First(op) => self.take_first(alloc, op, token),
-            Place::Behind(call) => self.take_behind(call, token),
+            Place::After(call) => self.take_after(call, token),
             Place::Next(call) => self.take_next(alloc, call, token),
             Place::End => Err(Refusal::Text(TextCode::T1)),
         }
     }
 
-    // A token in an element's place.
+    /// A token in an element's place.
     fn take_element(&mut self, alloc: Global, token: Token) -> Result<(), Refusal>
         requires place { self.old.place ≡ Place.Element }
-        requires fit { length self.old.forks + depth self.old.leg ≤ 16 }
+        requires fit { length self.old.forks + depth self.old.leg ≤ MAX_FORKS }
         requires forks_fit { AreFit self.old.forks }
         ensures { Takes (text.read_element (token_of token.entry) self.old.forks self.old.leg) (reading self.new) result }
     {
@@ -97,7 +98,7 @@ impl Reader {
         }
     }
 
-    // A bracket that opens a fork behind the leg's elements.
+    /// A bracket that opens a fork after the leg's elements.
     fn open_fork(&mut self, alloc: Global) -> Result<(), Refusal>
         requires { self.old.place ≡ Place.Element }
         ensures { Takes (text.read_element text.OpenFork self.old.forks self.old.leg) (reading self.new) result }
@@ -110,7 +111,7 @@ impl Reader {
         Ok(())
     }
 
-    // A comma behind a leg of the innermost fork.
+    /// A comma after a leg of the innermost fork.
     fn next_leg(&mut self, alloc: Global) -> Result<(), Refusal>
         requires { self.old.place ≡ Place.Element }
         ensures { Takes (text.next_leg self.old.forks self.old.leg) (reading self.new) result }
@@ -123,10 +124,10 @@ impl Reader {
         Ok(())
     }
 
-    // A bracket that closes the innermost fork.
+    /// A bracket that closes the innermost fork.
     fn close_fork(&mut self, alloc: Global) -> Result<(), Refusal>
         requires place { self.old.place ≡ Place.Element }
-        requires fit { length self.old.forks + depth self.old.leg ≤ 16 }
+        requires fit { length self.old.forks + depth self.old.leg ≤ MAX_FORKS }
         requires forks_fit { AreFit self.old.forks }
         ensures { Takes (text.close_fork self.old.forks self.old.leg) (reading self.new) result }
     {
@@ -138,7 +139,7 @@ impl Reader {
         Ok(())
     }
 
-    // The semicolon.
+    /// The semicolon.
     fn end_rung(&mut self) -> Result<(), Refusal>
         ensures { Takes (text.end_rung self.old.forks self.old.leg) (reading self.new) result }
     {
@@ -149,7 +150,7 @@ impl Reader {
         Ok(())
     }
 
-    // The parenthesis behind a mnemonic.
+    /// The parenthesis after a mnemonic.
     fn take_open(&mut self, op: Op, token: Token) -> Result<(), Refusal>
         ensures { Takes (text.read_at (text.Named op) (token_of token.entry) self.old.forks self.old.leg) (reading self.new) result }
     {
@@ -162,7 +163,7 @@ impl Reader {
         }
     }
 
-    // The first operand, or the end of an instruction without operands.
+    /// The first operand, or the end of an instruction without operands.
     fn take_first(&mut self, alloc: Global, op: Op, token: Token) -> Result<(), Refusal>
         requires place { self.old.place ≡ Place.Element }
         requires operand { IsFitToken token }
@@ -172,7 +173,7 @@ impl Reader {
         match token {
             Token::Operand(operand) => {
                 texts.push(alloc, operand)?;
-                self.place = Place::Behind(Call { op, texts });
+                self.place = Place::After(Call { op, texts });
                 Ok(())
             }
             Token::CloseParen => {
@@ -183,10 +184,10 @@ impl Reader {
         }
     }
 
-    // A comma, or the end of the instruction.
-    fn take_behind(&mut self, call: Call, token: Token) -> Result<(), Refusal>
+    /// A comma, or the end of the instruction.
+    fn take_after(&mut self, call: Call, token: Token) -> Result<(), Refusal>
         requires { self.old.place ≡ Place.Element }
-        ensures { Takes (text.read_at (behind call.op call.texts) (token_of token.entry) self.old.forks self.old.leg) (reading self.new) result }
+        ensures { Takes (text.read_at (after call.op call.texts) (token_of token.entry) self.old.forks self.old.leg) (reading self.new) result }
     {
         match token {
             Token::Comma => {
@@ -202,7 +203,7 @@ impl Reader {
         }
     }
 
-    // The operand behind a comma.
+    /// The operand after a comma.
     fn take_next(&mut self, alloc: Global, call: Call, token: Token) -> Result<(), Refusal>
         requires { IsFitToken token }
         ensures { Takes (text.read_at (next call.op call.texts) (token_of token.entry) self.old.forks self.old.leg) (reading self.new) result }
@@ -212,11 +213,11 @@ impl Reader {
         };
         let Call { op, mut texts } = call;
         texts.push(alloc, operand)?;
-        self.place = Place::Behind(Call { op, texts });
+        self.place = Place::After(Call { op, texts });
         Ok(())
     }
 
-    /// The rung, where the text ends here, or the fault at its length.
+    /// The rung, if the text may end here, or the fault at its length.
     pub(crate) fn finish(self, len: u32) -> Result<SourceRung, TextFault>
         ensures { result ≡ text.read_end len (reading self) }
     {

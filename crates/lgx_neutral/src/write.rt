@@ -18,7 +18,7 @@ pub fn write_rung(alloc: Global, rung: &SourceRung) -> Result<Vec<u8>, Memory>
     Ok(text)
 }
 
-// The elements of a rung or of a leg.
+/// The elements of a rung or of a leg.
 #[cycle(list)]
 fn write_list(text: &mut Vec<u8>, rung: &SourceRung) -> Result<(), Memory>
     ensures { OnOk result (text.new.items ≡ text.old.items ++ canon_tokens (list_tokens rung.now)) }
@@ -29,6 +29,7 @@ fn write_list(text: &mut Vec<u8>, rung: &SourceRung) -> Result<(), Memory>
     Ok(())
 }
 
+/// An instruction or a fork.
 #[cycle(list)]
 fn write_element(text: &mut Vec<u8>, element: &Element) -> Result<(), Memory>
     ensures { OnOk result (text.new.items ≡ text.old.items ++ canon_tokens (element_tokens element.now)) }
@@ -39,6 +40,7 @@ fn write_element(text: &mut Vec<u8>, element: &Element) -> Result<(), Memory>
     }
 }
 
+/// Legs between brackets.
 #[cycle(list)]
 fn write_fork(text: &mut Vec<u8>, legs: &Legs) -> Result<(), Memory>
     ensures { OnOk result (text.new.items ≡ text.old.items ++ canon_tokens (list_tokens (fork_of legs.now end))) }
@@ -49,7 +51,7 @@ fn write_fork(text: &mut Vec<u8>, legs: &Legs) -> Result<(), Memory>
     Ok(())
 }
 
-// Legs with commas between them.
+/// Legs with commas between them.
 #[cycle(list)]
 fn write_legs(text: &mut Vec<u8>, legs: &[SourceRung]) -> Result<(), Memory>
     ensures { OnOk result (text.new.items ≡ text.old.items ++ canon_tokens (legs_tokens legs.now)) }
@@ -65,6 +67,7 @@ fn write_legs(text: &mut Vec<u8>, legs: &[SourceRung]) -> Result<(), Memory>
     Ok(())
 }
 
+/// A mnemonic, and operands between parentheses.
 fn write_instruction(text: &mut Vec<u8>, op: Op, texts: &Texts) -> Result<(), Memory>
     ensures { OnOk result (text.new.items ≡ text.old.items ++ canon_tokens (list_tokens (one (record { op = op; texts = texts.now }) end))) }
 {
@@ -75,7 +78,7 @@ fn write_instruction(text: &mut Vec<u8>, op: Op, texts: &Texts) -> Result<(), Me
     Ok(())
 }
 
-// Operands with commas between them.
+/// Operands with commas between them.
 fn write_operands(text: &mut Vec<u8>, operands: &[Items<u8>]) -> Result<(), Memory>
     ensures { OnOk result (text.new.items ≡ text.old.items ++ canon_tokens (operand_tokens operands.now)) }
 {

@@ -17,15 +17,15 @@ pub length-splice : (image : List ℕ) (at : ℕ) (bs : List ℕ) → length (sp
 length-splice image at [] = refl
 length-splice image at (b ∷ bs) = length-splice (set image at b) (at + 1) bs ∙ length-set image at b
 
--- bytes before and behind the piece that is written stay
+-- bytes before and after the piece that is written stay
 pub splice_before : (image : List ℕ) (at : ℕ) (bs : List ℕ) (k : ℕ) → k < at → get_or (splice image at bs) k 0 ≡ get_or image k 0
 splice_before image at [] k before = refl
 splice_before image at (b ∷ bs) k before =
     splice_before (set image at b) (at + 1) bs k (omega arith) ∙ get_or-set_other image at k b 0 (omega arith)
 
 pub splice_behind : (image : List ℕ) (at : ℕ) (bs : List ℕ) (k : ℕ) → at + length bs ≤ k → get_or (splice image at bs) k 0 ≡ get_or image k 0
-splice_behind image at [] k behind = refl
-splice_behind image at (b ∷ bs) k behind =
+splice_behind image at [] k after = refl
+splice_behind image at (b ∷ bs) k after =
     splice_behind (set image at b) (at + 1) bs k (omega arith) ∙ get_or-set_other image at k b 0 (omega arith)
 
 -- the piece that was written is read
@@ -99,17 +99,17 @@ Misses at bits b = (8 * b + 8 ≤ at) ⊎ (at + bits ≤ 8 * b)
 -- a byte of which no bit is written stays
 byte_stays : (k : Kind) (image : List ℕ) (at : ℕ) (v : ℤ) (b : ℕ) → IsByteAligned k at → Misses at (bits_of k) b → get_or (write_of k image at v) b 0 ≡ get_or image b 0
 byte_stays KBool image at v b well (inl before) = get_or-set_other image (at / 8) b _ 0 (omega arith)
-byte_stays KBool image at v b well (inr behind) = get_or-set_other image (at / 8) b _ 0 (omega arith)
+byte_stays KBool image at v b well (inr after) = get_or-set_other image (at / 8) b _ 0 (omega arith)
 byte_stays Sint image at v b well (inl before) = splice_before image (at / 8) (signed_bytes w8 v) b (omega arith)
-byte_stays Sint image at v b well (inr behind) = splice_behind image (at / 8) (signed_bytes w8 v) b (omega arith)
+byte_stays Sint image at v b well (inr after) = splice_behind image (at / 8) (signed_bytes w8 v) b (omega arith)
 byte_stays Int image at v b well (inl before) = splice_before image (at / 8) (signed_bytes w16 v) b (omega arith)
-byte_stays Int image at v b well (inr behind) = splice_behind image (at / 8) (signed_bytes w16 v) b (omega arith)
+byte_stays Int image at v b well (inr after) = splice_behind image (at / 8) (signed_bytes w16 v) b (omega arith)
 byte_stays Dint image at v b well (inl before) = splice_before image (at / 8) (signed_bytes w32 v) b (omega arith)
-byte_stays Dint image at v b well (inr behind) = splice_behind image (at / 8) (signed_bytes w32 v) b (omega arith)
+byte_stays Dint image at v b well (inr after) = splice_behind image (at / 8) (signed_bytes w32 v) b (omega arith)
 
 -- so does a piece of such bytes
 piece_stays : (k : Kind) (image : List ℕ) (at : ℕ) (v : ℤ) (from n : ℕ) → IsByteAligned k at → (at + bits_of k ≤ 8 * from) ⊎ (8 * (from + n) ≤ at) → piece (write_of k image at v) from n ≡ piece image from n
-piece_stays k image at v from n well (inl behind) =
+piece_stays k image at v from n well (inl after) =
     piece-same image (write_of k image at v) from n (λ b above below. byte_stays k image at v b well (inr (omega arith)))
 piece_stays k image at v from n well (inr before) =
     piece-same image (write_of k image at v) from n (λ b above below. byte_stays k image at v b well (inl (omega arith)))

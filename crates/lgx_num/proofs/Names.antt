@@ -6,7 +6,7 @@ use Rattle.std.proofs.lemmas.Slice.Eq.{bytes_eq-Decides}
 use Rattle.lgx_num.specs.Laws.{SameInLowerCase}
 use Rattle.lgx_num.specs.Name.{is_name_byte, is_underscore, has_double, ends_open, goes_on}
 
--- the tests at the next byte and behind it are those on all that is left
+-- the tests at the next byte and after it are those on all that is left
 next_tests : (n u v a d e : Bool) → ((n && a) && not ((u && v) || d) && not e) ≡ (n && not (u && v) && (a && not d && not e))
 next_tests false u v a d e = refl
 next_tests true false v a d e = refl

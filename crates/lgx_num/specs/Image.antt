@@ -21,7 +21,7 @@ abbrev pub splice : List ℕ → ℕ → List ℕ → List ℕ
 splice image at [] = image
 splice image at (b ∷ bs) = splice (slice_set image at b) (at + 1) bs
 
--- the byte with its bit i set where b is 1, and else cleared
+-- the byte with its bit i set if b is 1, and else cleared
 abbrev pub with_bit : ℕ → ℕ → ℕ → ℕ
 with_bit byte i b = if b == 1 then bit_or byte (2 ^ i) else bit_and byte (bit_not w8 (2 ^ i))
 
@@ -83,7 +83,7 @@ AreDisjoint p q = (p.at + bits_of p.kind ≤ q.at) ⊎ (q.at + bits_of q.kind �
 
 -- ---- where subscripts lead
 
--- how many bits a subscript leads on, or none where it is negative or not below the number of elements
+-- how many bits a subscript leads on, or none if it is negative or not below the number of elements
 abbrev pub step_by : Index → ℤ → Option ℕ
 step_by i (pos n) = if nat_lt n i.length then Some (n * i.stride) else None
 step_by i (negsuc n) = None
@@ -94,7 +94,7 @@ moved None (Some b) = None
 moved (Some a) None = None
 moved None None = None
 
--- the bit to which subscripts lead from bit at, each read in the image, or none where one is out of range
+-- the bit to which subscripts lead from bit at, each read in the image, or none if one is out of range
 abbrev pub path_offset : List ℕ → List Index → ℕ → Option ℕ
 path_offset image [] at = Some at
 path_offset image (i ∷ is) at = moved (step_by i (number image i.of)) (path_offset image is at)

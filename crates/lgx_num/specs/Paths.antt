@@ -1,5 +1,6 @@
 -- When what an operand names lies in an image, whatever numbers in range its subscripts have.
 use Rattle.std.specs.Prelude.{◌≡◌, ℕ, ◌+◌, ◌*◌, ◌%◌, ◌<◌, ◌≤◌, List, [], ◌∷◌}
+use Rattle.spec_base.specs.declared.limits.TheConstants.{TIMER_BYTES, COUNTER_BYTES}
 use Rattle.lgx_num.specs.declared.place.Index.{Index}
 use Rattle.lgx_num.specs.declared.place.Path.{Path}
 use Rattle.lgx_num.specs.declared.place.Operand.{Operand}
@@ -28,8 +29,8 @@ BytesInBounds size end to = (to % 8 ≡ 0) × (to + 8 * size ≤ 8 * end)
 abbrev pub OperandInBounds : Operand → ℕ → Type 0
 OperandInBounds (operand.Number n) len = Unit {0}
 OperandInBounds (operand.Cell p) len = PathInBounds p len (λ to. InBoundsAt p.kind to len)
-OperandInBounds (operand.Timer p) len = PathInBounds p len (BytesInBounds 16 len)
-OperandInBounds (operand.Counter p) len = PathInBounds p len (BytesInBounds 12 len)
+OperandInBounds (operand.Timer p) len = PathInBounds p len (BytesInBounds TIMER_BYTES len)
+OperandInBounds (operand.Counter p) len = PathInBounds p len (BytesInBounds COUNTER_BYTES len)
 OperandInBounds (operand.Block b) len = (1 ≤ b.size) × PathInBounds b.path len (λ to. BytesInBounds b.size len to × BytesInBounds b.size b.stop to)
 OperandInBounds (operand.FlagOf f) len = Unit {0}
 OperandInBounds (operand.Routine r) len = Unit {0}

@@ -26,7 +26,7 @@ pub fn law_of_subscripts()
     ensures { SubscriptsStayInRange }
 {}
 
-/// Two names are one where they are spelled alike in lower case.
+/// Two names are one if they are spelled alike in lower case.
 pub fn law_of_names()
     ensures { SameInLowerCase }
 {}

@@ -18,6 +18,3 @@ pub use memory::Memory;
 pub use name::{Name, same};
 pub use number::{Kind, bytes_of, dint_of, fits, store_low};
 pub use place::{Block, Flag, Flags, Index, Operand, Path, Place, Steps};
-
-#[cfg(test)]
-mod tests;

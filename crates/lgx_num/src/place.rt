@@ -1,11 +1,11 @@
 // Places of the image, the paths that lead to them, and the operands of checked instructions.
 ghost use Rattle.std.specs.Prelude.{◌≡◌, ◌<◌, ◌≤◌, ◌==◌, [], ◌∷◌, ◌++◌, length};
+ghost use Rattle.spec_base.specs.declared.limits.TheConstants.{MAX_SUBSCRIPTS};
 
 use crate::number::Kind;
 use arrayvec::ArrayVec;
+use spec_base::limits::MAX_SUBSCRIPTS;
 use std::marker::Model;
-
-const ROOM: usize = 4;
 
 /// A place in the image.
 ///
@@ -27,21 +27,22 @@ pub struct Index {
     pub length: u32,
 }
 
-/// The variable subscripts of a path, at most four. It takes no memory.
+/// The variable subscripts of a path, at most [`MAX_SUBSCRIPTS`]. It takes no memory.
 #[derive(Debug, Drop)]
 pub struct Steps {
-    list: ArrayVec<Index, ROOM>,
+    list: ArrayVec<Index, MAX_SUBSCRIPTS>,
 }
 
 impl Model for Steps {
     ghost use Rattle.std.specs.Prelude.{List, ◌≤◌, length};
+    ghost use Rattle.spec_base.specs.declared.limits.TheConstants.{MAX_SUBSCRIPTS};
     ghost use Rattle.lgx_num.specs.declared.place.Index.{Index};
 
     ghost Value = { List Index };
 
     ghost view = { λ s. s.list.items };
 
-    ghost invariant = { λ s. length s.list.items ≤ 4 };
+    ghost invariant = { λ s. length s.list.items ≤ MAX_SUBSCRIPTS };
 }
 
 impl Steps {
@@ -54,9 +55,9 @@ impl Steps {
         }
     }
 
-    /// Adds a subscript behind the others. There must be room.
+    /// Adds a subscript after the others.
     pub fn push(&mut self, index: Index)
-        requires { length self.old < 4 }
+        requires { length self.old < MAX_SUBSCRIPTS }
         ensures { self.new ≡ self.old ++ index ∷ [] }
     {
         self.list.push(index);
@@ -65,7 +66,7 @@ impl Steps {
     /// The subscripts, in the order in which they were added.
     pub fn as_slice(&self) -> &[Index]
         ensures value { result.now ≡ self.now }
-        ensures room { length result.now ≤ 4 }
+        ensures room { length result.now ≤ MAX_SUBSCRIPTS }
     {
         self.list.as_slice()
     }
@@ -73,7 +74,7 @@ impl Steps {
     /// The number of subscripts.
     pub fn len(&self) -> usize
         ensures value { result ≡ length self.now }
-        ensures room { result ≤ 4 }
+        ensures room { result ≤ MAX_SUBSCRIPTS }
     {
         self.list.len()
     }
@@ -87,7 +88,7 @@ impl Steps {
 
     /// Whether there is no room for another subscript.
     pub fn is_full(&self) -> bool
-        ensures { result ≡ (length self.now == 4) }
+        ensures { result ≡ (length self.now == MAX_SUBSCRIPTS) }
     {
         self.list.is_full()
     }
@@ -106,7 +107,7 @@ impl Steps {
 
 /// A place whose first bit is moved by subscripts.
 ///
-/// `at` is the bit where it is with all of them 0. The place is worked out when its instruction is executed.
+/// `at` is its first bit if all of them are 0. The place is worked out when its instruction is executed.
 #[derive(Debug, Drop)]
 pub struct Path {
     pub kind: Kind,
@@ -178,9 +179,9 @@ pub enum Operand {
     Number(i32),
     /// A bit or an integer of the image.
     Cell(Path),
-    /// A TIMER, 16 bytes.
+    /// A TIMER, of [`spec_base::limits::TIMER_BYTES`] bytes.
     Timer(Path),
-    /// A COUNTER, 12 bytes.
+    /// A COUNTER, of [`spec_base::limits::COUNTER_BYTES`] bytes.
     Counter(Path),
     /// What a copy or a fill reads or writes.
     Block(Block),

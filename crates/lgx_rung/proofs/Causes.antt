@@ -1,6 +1,7 @@
 -- The reading of tokens answers the rung that they spell, or else the first fault.
 use Rattle.std.proofs.Common.{◌≡◌, ℕ, ◌≤◌, ◌+◌, Bool, true, false, nat_lt, arith, List, [], ◌∷◌, ◌++◌, length, refl, ap, sym, ◌∙◌, subst, Result, Ok, Err, IfErr}
 use Rattle.std.proofs.lemmas.Bool.{ltb-false}
+use Rattle.spec_base.specs.declared.limits.TheConstants.{MAX_FORKS}
 use Rattle.lgx_rung.specs.declared.op.Op.TheVariants.{Nop}
 use Rattle.lgx_rung.specs.declared.fault.TextFault.{TextFault}
 use Rattle.lgx_rung.specs.declared.fault.TextCode.{TextCode}
@@ -38,11 +39,11 @@ of_element_place ts s e p =
 
 -- ---- what is wrong with a token
 
-wrong_fork : (b : Bool) (ts : List Token) (forks : List Fork) (t : Source) → nat_lt (length forks) 16 ≡ b → Runs ts (At Element forks t) → InElementPlace ts → IfErr (open_fork b forks t) (λ code. IsWrong code ts OpenFork)
+wrong_fork : (b : Bool) (ts : List Token) (forks : List Fork) (t : Source) → nat_lt (length forks) MAX_FORKS ≡ b → Runs ts (At Element forks t) → InElementPlace ts → IfErr (open_fork b forks t) (λ code. IsWrong code ts OpenFork)
 wrong_fork true ts forks t h r e = tt
 wrong_fork false ts forks t h r e =
-    let full : 16 ≤ length forks = ltb-false (length forks) 16 h in
-    let fit : length forks + depth t ≤ 16 = (fit_by_run ts (At Element forks t) r).0 in
+    let full : MAX_FORKS ≤ length forks = ltb-false (length forks) MAX_FORKS h in
+    let fit : length forks + depth t ≤ MAX_FORKS = (fit_by_run ts (At Element forks t) r).0 in
     (e, refl, forks_of_run ts Element forks t r ∙ omega arith)
 
 elsewhere : (ts : List Token) (s : Reader) (t : Token) → Runs ts s → (IsAtElement s → ⊥) → IsWrong T1 ts t
@@ -52,7 +53,7 @@ wrong_element : (ts : List Token) (t : Token) (forks : List Fork) (leg : Source)
 wrong_element ts (Mnemonic op) forks leg r e = tt
 wrong_element ts Letters forks leg r e = (e, refl)
 wrong_element ts (Operand x) forks leg r e = λ _. ((λ h. cc), (λ h. cc))
-wrong_element ts OpenFork forks leg r e = wrong_fork (nat_lt (length forks) 16) ts forks leg refl r e
+wrong_element ts OpenFork forks leg r e = wrong_fork (nat_lt (length forks) MAX_FORKS) ts forks leg refl r e
 wrong_element ts CloseFork [] leg r e = λ _. ((λ h. cc), (λ h. cc))
 wrong_element ts CloseFork (f ∷ fs) leg r e = tt
 wrong_element ts OpenParen forks leg r e = λ _. ((λ h. cc), (λ h. cc))
@@ -107,22 +108,22 @@ read_run len (t ∷ ts) r s e =
 abbrev fault : TextCode → ℕ → TextFault
 fault code at = record { code = code; at = at }
 
-read_stop : (len : ℕ) (before : List Placed) (next : Placed) (behind : List Placed) (r s : Reader) (code : TextCode)
-    → run (kinds before) r ≡ Ok s → read_token s next.token ≡ Err code → read_tokens len (before ++ next ∷ behind) r ≡ Err (fault code next.at)
-read_stop len [] next behind r s code e h = let same : r ≡ s = cc in ap (λ x. read_on x next.at (read_tokens len behind)) (ap (λ x. read_token x next.token) same ∙ h)
-read_stop len (t ∷ ts) next behind r s code e h =
+read_stop : (len : ℕ) (before : List Placed) (next : Placed) (after : List Placed) (r s : Reader) (code : TextCode)
+    → run (kinds before) r ≡ Ok s → read_token s next.token ≡ Err code → read_tokens len (before ++ next ∷ after) r ≡ Err (fault code next.at)
+read_stop len [] next after r s code e h = let same : r ≡ s = cc in ap (λ x. read_on x next.at (read_tokens len after)) (ap (λ x. read_token x next.token) same ∙ h)
+read_stop len (t ∷ ts) next after r s code e h =
     let q = shorter (read_token r t.token) (run (kinds ts)) s e in
-    ap (λ x. read_on x t.at (read_tokens len (ts ++ next ∷ behind))) q.1 ∙ read_stop len ts next behind q.0 s code q.2 h
+    ap (λ x. read_on x t.at (read_tokens len (ts ++ next ∷ after))) q.1 ∙ read_stop len ts next after q.0 s code q.2 h
 
 data Outcome (ts : List Placed) (r : Reader) : Type 0 where
   ends : (s : Reader) → run (kinds ts) r ≡ Ok s → Outcome ts r
-  stops : (before : List Placed) (next : Placed) (behind : List Placed) (s : Reader) (code : TextCode)
-      → ts ≡ before ++ next ∷ behind → run (kinds before) r ≡ Ok s → read_token s next.token ≡ Err code → Outcome ts r
+  stops : (before : List Placed) (next : Placed) (after : List Placed) (s : Reader) (code : TextCode)
+      → ts ≡ before ++ next ∷ after → run (kinds before) r ≡ Ok s → read_token s next.token ≡ Err code → Outcome ts r
 
 later : (t : Placed) (ts : List Placed) (r s : Reader) → read_token r t.token ≡ Ok s → Outcome ts s → Outcome (t ∷ ts) r
 later t ts r s e (ends u h) = ends u (ap (λ q. and_then q (run (kinds ts))) e ∙ h)
-later t ts r s e (stops before next behind u code split h k) =
-    stops (t ∷ before) next behind u code (ap (λ x. t ∷ x) split) (ap (λ q. and_then q (run (kinds before))) e ∙ h) k
+later t ts r s e (stops before next after u code split h k) =
+    stops (t ∷ before) next after u code (ap (λ x. t ∷ x) split) (ap (λ q. and_then q (run (kinds before))) e ∙ h) k
 
 first : (t : Placed) (ts : List Placed) (r : Reader) (q : Result Reader TextCode) → read_token r t.token ≡ q → ((s : Reader) → Outcome ts s) → Outcome (t ∷ ts) r
 first t ts r (Ok s) e go = later t ts r s e (go s)
@@ -168,15 +169,15 @@ refuses ts t s code e h m =
 
 found : (text : List ℕ) (f : TextFault) → Outcome (tokens text) start → read_rung text ≡ Err f → IsTextCause text f
 found text f (ends s e) h = ends_early text s f e (sym (read_run (length text) (tokens text) start s e) ∙ h)
-found text f (stops before next behind s code split e k) h =
-    let stop : read_rung text ≡ Err (fault code next.at) = ap (λ ts. read_tokens (length text) ts start) split ∙ read_stop (length text) before next behind start s code e k in
+found text f (stops before next after s code split e k) h =
+    let stop : read_rung text ≡ Err (fault code next.at) = ap (λ ts. read_tokens (length text) ts start) split ∙ read_stop (length text) before next after start s code e k in
     let same : fault code next.at ≡ f = cc in
     let w : IsWrong code (kinds before) next.token = subst (λ q. IfErr q (λ c. IsWrong c (kinds before) next.token)) k (wrong (kinds before) s next.token e) in
     subst (IsTextCause text) same (stops_at text code next.at (kinds before) next.token w
     (record {
       before = before;
       next = next;
-      behind = behind;
+      after = after;
       is_text = split;
       begins = begins (kinds before) s e;
       ends = refuses (kinds before) next.token s code e k;
@@ -198,7 +199,7 @@ read_of_stop : (text : List ℕ) (code : TextCode) (at : ℕ) → StopsAt text c
 read_of_stop text code at c =
     let r = runs_of_begins (kinds c.before) c.begins in
     ap (λ ts. read_tokens (length text) ts start) c.is_text
-    ∙ read_stop (length text) c.before c.next c.behind start r.0 code r.1 (answered (read_token r.0 c.next.token) (kinds c.before) c.next.token r.0 code refl r.1 c.ends c.is_wrong)
+    ∙ read_stop (length text) c.before c.next c.after start r.0 code r.1 (answered (read_token r.0 c.next.token) (kinds c.before) c.next.token r.0 code refl r.1 c.ends c.is_wrong)
     ∙ ap (λ x. Err (fault code x)) (sym c.is_there)
 
 closed_at_end : (ts : List Token) (s : Reader) (t : Token) (more : List Token) (u : Reader) → Runs ts s → and_then (read_token s t) (run more) ≡ Ok u → (IsOpen ts → ⊥) → (len : ℕ) → read_end len s ≡ Err (fault T4 len)
@@ -257,8 +258,8 @@ ends_whole len (At (Next op x xs) fs leg) r e = cc
 whole : (text : List ℕ) (r : Source) → Outcome (tokens text) start → read_rung text ≡ Ok r → IsNested r × (rung_tokens r ≡ kinds (tokens text))
 whole text r (ends s e) h =
     ends_rung (kinds (tokens text)) r (e ∙ ap Ok (ends_whole (length text) s r (sym (read_run (length text) (tokens text) start s e) ∙ h)))
-whole text r (stops before next behind s code split e k) h =
-    let stop : read_rung text ≡ Err (fault code next.at) = ap (λ ts. read_tokens (length text) ts start) split ∙ read_stop (length text) before next behind start s code e k in
+whole text r (stops before next after s code split e k) h =
+    let stop : read_rung text ≡ Err (fault code next.at) = ap (λ ts. read_tokens (length text) ts start) split ∙ read_stop (length text) before next after start s code e k in
     cc
 
 pub tokens_of_read : (text : List ℕ) (r : Source) → read_rung text ≡ Ok r → IsNested r × (rung_tokens r ≡ kinds (tokens text))

@@ -1,10 +1,9 @@
 -- Neutral text as a whole.
-use Rattle.std.proofs.Common.{◌≡◌, ℕ, List, sym, subst, Ok, Err}
-use Rattle.lgx_rung.specs.declared.fault.TextFault.{TextFault}
-use Rattle.lgx_rung.specs.Text.{Spells, IsSourceRung, IsWritten, IsTextCause, canon}
+use Rattle.std.proofs.Common.{◌≡◌, ℕ, List, sym, subst, Ok}
+use Rattle.lgx_rung.specs.Text.{Spells, IsSourceRung, IsWritten, canon}
 use Rattle.lgx_rung.specs.Tokens.{read_rung}
 use Rattle.lgx_rung.specs.Tree.{Source}
-use Rattle.lgx_rung.proofs.Causes.{tokens_of_read, read_of_tokens, cause_of_read, read_of_cause}
+use Rattle.lgx_rung.proofs.Causes.{tokens_of_read, read_of_tokens}
 use Rattle.lgx_rung.proofs.Lexing.{written_of_tokens, tokens_of_written, canon_written}
 
 pub spells_read : (text : List ℕ) (r : Source) → read_rung text ≡ Ok r → Spells text r
@@ -20,9 +19,3 @@ one_rung text r s a b = let both : read_rung text ≡ Ok s = read_spelled text s
 
 pub canon_spells : (r : Source) → IsSourceRung r → Spells (canon r) r
 canon_spells r h = (h.nested, canon_written r h.operands)
-
-pub cause_read : (text : List ℕ) (f : TextFault) → IsTextCause text f → read_rung text ≡ Err f
-cause_read = read_of_cause
-
-pub cause_of : (text : List ℕ) (f : TextFault) → read_rung text ≡ Err f → IsTextCause text f
-cause_of = cause_of_read

@@ -11,6 +11,7 @@ use Rattle.lgx_rung.specs.declared.op.Op.TheVariants.{Xic}
 use Rattle.lgx_rung.specs.Mnemonics.{op_of, text_of}
 use Rattle.lgx_rung.specs.Text.{IsSpelling, IsWritten, kinds, list_tokens, leg_tokens, rung_tokens, operands, more_operands, canon_token, canon_tokens, canon, has_operands}
 use Rattle.lgx_rung.specs.Tokens.{is_blank, is_operand_byte, is_operand, in_run, word, run_token, mark, inside_after, end_run, put_byte, put_mark, tokens_from, tokens, Token, Mnemonic, Letters, Operand, OpenFork, CloseFork, OpenParen, CloseParen, Comma, Semicolon, Stray, Placed}
+use Rattle.lgx_rung.proofs.Bytes.{blank_in_run, EndsRun, run_first}
 use Rattle.lgx_rung.specs.Tree.{end, one, fork, Legs, last, leg, instructions, leg_instructions, SourceIns, Source}
 
 -- ---- a text is written of its tokens
@@ -84,7 +85,7 @@ written_of_tokens text = written_from text false 0 [] refl
 
 -- ---- the tokens of a text that is written of a rung's tokens
 
--- tokens that a reading of bytes tells apart: a run stands where such runs are read, and a mark behind it
+-- tokens that a reading of bytes tells apart: a run stands where such runs are read, and a mark follows it
 abbrev IsMark : Token → Type 0
 IsMark OpenParen = Unit {0}
 IsMark CloseParen = Unit {0}
@@ -133,21 +134,6 @@ mutual
 apart_rung : (r : Source) → IsApart false (rung_tokens r)
 apart_rung r = apart_list r (Semicolon ∷ []) tt
 
--- no blank stands in a run
-blank_cases : (b : ℕ) (P : ℕ → Type 0) → is_blank b ≡ true → P 32 → P 9 → P 13 → P 10 → P b
-blank_cases b P h p q r s = go (b == 32) (b == 9) (b == 13) (b == 10) refl refl refl refl h
-  where
-    go : (w x y z : Bool) → (b == 32) ≡ w → (b == 9) ≡ x → (b == 13) ≡ y → (b == 10) ≡ z → (w || x || y || z) ≡ true → P b
-    go true x y z e f g i k = subst P (sym (eqb-true b 32 e)) p
-    go false true y z e f g i k = subst P (sym (eqb-true b 9 f)) q
-    go false false true z e f g i k = subst P (sym (eqb-true b 13 g)) r
-    go false false false true e f g i k = subst P (sym (eqb-true b 10 i)) s
-    go false false false false e f g i k = cc
-
-blank_in_run : (inside : Bool) (b : ℕ) → is_blank b ≡ true → in_run inside b ≡ false
-blank_in_run true b h = blank_cases b (λ b. in_run true b ≡ false) h refl refl refl refl
-blank_in_run false b h = blank_cases b (λ b. in_run false b ≡ false) h refl refl refl refl
-
 -- at every place these tokens
 abbrev Gives : List ℕ → (inside : Bool) → (run : List ℕ) → List Token → Type 0
 Gives text inside run ts = (at : ℕ) → kinds (tokens_from text inside at run) ≡ ts
@@ -160,7 +146,7 @@ over_blanks (b ∷ bs) text inside ts h g at =
     ∙ ap (λ x. kinds (put_byte false x b (tokens_from (bs ++ text)) inside at [])) parts.0
     ∙ over_blanks bs text inside ts parts.1 g (at + 1)
 
--- bytes of a run, put behind those before them
+-- bytes of a run, put after those before them
 abbrev onto : List ℕ → List ℕ → List ℕ
 onto [] run = run
 onto (b ∷ bs) run = onto bs (b ∷ run)
@@ -176,15 +162,9 @@ over_run (b ∷ bs) text inside run ts h g at =
     ap (λ x. kinds (put_byte x (is_blank b) b (tokens_from (bs ++ text)) inside at run)) parts.0
     ∙ over_run bs text inside (b ∷ run) ts parts.1 g (at + 1)
 
--- a run ends before what begins by no byte of a run
-abbrev EndsRun : (inside : Bool) → List ℕ → Type 0
-EndsRun inside [] = Unit {0}
-EndsRun inside (b ∷ bs) = in_run inside b ≡ false
-
 run_ended : (y : Bool) (b : ℕ) (bs : List ℕ) (inside : Bool) (at c : ℕ) (cs : List ℕ)
     → kinds (put_byte false y b (tokens_from bs) inside at (c ∷ cs)) ≡ run_token inside (reverse (c ∷ cs)) ∷ kinds (put_byte false y b (tokens_from bs) inside at [])
-run_ended true b bs inside at c cs = refl
-run_ended false b bs inside at c cs = refl
+run_ended y b bs inside at c cs = ap kinds (run_first y b bs inside at c cs)
 
 end_of_run : (text : List ℕ) (inside : Bool) (c : ℕ) (cs : List ℕ) (ts : List Token) → EndsRun inside text → Gives text inside [] ts → Gives text inside (c ∷ cs) (run_token inside (reverse (c ∷ cs)) ∷ ts)
 end_of_run [] inside c cs ts h g at = ap (λ x. run_token inside (reverse (c ∷ cs)) ∷ x) (g at)
@@ -238,7 +218,7 @@ operand_gives : (x text : List ℕ) (ts : List Token) → IsTrue (is_operand x) 
 operand_gives [] text ts h r g = cc
 operand_gives (b ∷ bs) text ts h r g = run_gives (b ∷ bs) text true b bs ts refl h r g
 
--- what the tokens behind give, read inside and outside
+-- what the tokens that follow give, read inside and outside
 abbrev Behind : List ℕ → List Token → Type 0
 Behind rest ts = (inside : Bool) → IsApart inside ts → Gives rest inside [] ts
 

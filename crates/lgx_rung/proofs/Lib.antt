@@ -3,6 +3,7 @@ pub mod Reading
 pub mod Runs
 pub mod Open
 pub mod Causes
+pub mod Bytes
 pub mod Lexing
 pub mod Laws
 pub mod Walks

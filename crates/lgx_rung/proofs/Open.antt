@@ -1,4 +1,4 @@
--- What is open behind the tokens of a run.
+-- What is open after the tokens of a run.
 use Rattle.std.proofs.Common.{◌≡◌, ℕ, suc, ◌+◌, ◌-◌, Bool, true, false, arith, inl, inr, List, [], ◌∷◌, ◌++◌, length, refl, ap, sym, ◌∙◌, subst, append_assoc, Ok}
 use Rattle.std.proofs.lemmas.List.{append-nil}
 use Rattle.lgx_rung.specs.declared.op.Op.{Op}
@@ -117,7 +117,7 @@ parens_of_run ts p forks current e =
     ∙ parens_open forks (list_tokens current ++ place_tokens p)
     ∙ parens_list current (place_tokens p)
 
--- a place where the text may not end, nor by a semicolon
+-- a place at which the text may not end, nor by a semicolon
 abbrev pub IsOpenAt : Place → List Fork → Type 0
 IsOpenAt Element [] = ⊥
 IsOpenAt _ _ = Unit {0}

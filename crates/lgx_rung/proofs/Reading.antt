@@ -3,6 +3,7 @@ use Rattle.std.proofs.Common.{◌≡◌, ℕ, ◌≤◌, ◌<◌, ◌+◌, max, 
 use Rattle.std.proofs.lemmas.List.{append-nil}
 use Rattle.std.proofs.lemmas.Result.{IfOk-weaker, IfOk-at_ok}
 use Rattle.std.proofs.lemmas.Bool.{ltb-true, lt-ltb}
+use Rattle.spec_base.specs.declared.limits.TheConstants.{MAX_FORKS}
 use Rattle.lgx_rung.specs.declared.op.Op.{Op}
 use Rattle.lgx_rung.specs.declared.fault.TextCode.{TextCode}
 use Rattle.lgx_rung.specs.Text.{list_tokens, leg_tokens, rung_tokens, operands, more_operands, IsNested}
@@ -91,17 +92,17 @@ more_operands-push : (xs : List (List ℕ)) (x : List ℕ) → more_operands (xs
 more_operands-push [] x = refl
 more_operands-push (y ∷ ys) x = ap (λ ts. Comma ∷ Operand y ∷ ts) (more_operands-push ys x)
 
--- behind what is before, a token more
-behind : (forks before place : List Token) (t : Token) → forks ++ (before ++ (place ++ t ∷ [])) ≡ (forks ++ (before ++ place)) ++ t ∷ []
-behind forks before place t = simp append_assoc
+-- after what is before, a token more
+one_after : (forks before place : List Token) (t : Token) → forks ++ (before ++ (place ++ t ∷ [])) ≡ (forks ++ (before ++ place)) ++ t ∷ []
+one_after forks before place t = simp append_assoc
 
 open_fork_taken : (b : Bool) (forks : List Fork) (t : Source) → IfOk (open_fork b forks t) (λ r. taken r ≡ (fork_tokens forks ++ (list_tokens t ++ [])) ++ OpenFork ∷ [])
 open_fork_taken true forks t = simp (append_assoc, append-nil)
 open_fork_taken false forks t = tt
 
 read_at_taken : (p : Place) (x : Token) (forks : List Fork) (t : Source) → IfOk (read_at p x forks t) (λ r. taken r ≡ taken (At p forks t) ++ x ∷ [])
-read_at_taken Element (Mnemonic op) forks t = behind (fork_tokens forks) (list_tokens t) [] (Mnemonic op)
-read_at_taken Element OpenFork forks t = open_fork_taken (nat_lt (length forks) 16) forks t
+read_at_taken Element (Mnemonic op) forks t = one_after (fork_tokens forks) (list_tokens t) [] (Mnemonic op)
+read_at_taken Element OpenFork forks t = open_fork_taken (nat_lt (length forks) MAX_FORKS) forks t
 read_at_taken Element CloseFork [] t = tt
 read_at_taken Element CloseFork (f ∷ fs) t =
     ap (λ x. fork_tokens fs ++ (x ++ [])) (list_tokens-append f.before (fork_of (f.legs ++ t ∷ []) end) ∙ ap (λ x. list_tokens f.before ++ x) (list_tokens-fork_of f.legs t))
@@ -112,18 +113,18 @@ read_at_taken Element Comma (f ∷ fs) t =
     ∙ simp (append_assoc, append-nil)
 read_at_taken Element Semicolon [] t = ap (λ x. x ++ Semicolon ∷ []) (sym (append-nil (list_tokens t)))
 read_at_taken Element Semicolon (f ∷ fs) t = tt
-read_at_taken (Named op) OpenParen forks t = behind (fork_tokens forks) (list_tokens t) (Mnemonic op ∷ []) OpenParen
-read_at_taken (First op) (Operand x) forks t = behind (fork_tokens forks) (list_tokens t) (Mnemonic op ∷ OpenParen ∷ []) (Operand x)
+read_at_taken (Named op) OpenParen forks t = one_after (fork_tokens forks) (list_tokens t) (Mnemonic op ∷ []) OpenParen
+read_at_taken (First op) (Operand x) forks t = one_after (fork_tokens forks) (list_tokens t) (Mnemonic op ∷ OpenParen ∷ []) (Operand x)
 read_at_taken (First op) CloseParen forks t =
     ap (λ x. fork_tokens forks ++ (x ++ [])) (list_tokens-append t (instruction op []))
     ∙ simp (append_assoc, append-nil)
-read_at_taken (Behind op x xs) Comma forks t = behind (fork_tokens forks) (list_tokens t) (Mnemonic op ∷ OpenParen ∷ Operand x ∷ more_operands xs) Comma
+read_at_taken (Behind op x xs) Comma forks t = one_after (fork_tokens forks) (list_tokens t) (Mnemonic op ∷ OpenParen ∷ Operand x ∷ more_operands xs) Comma
 read_at_taken (Behind op x xs) CloseParen forks t =
     ap (λ y. fork_tokens forks ++ (y ++ [])) (list_tokens-append t (instruction op (x ∷ xs)))
     ∙ simp (append_assoc, append-nil)
 read_at_taken (Next op x xs) (Operand y) forks t =
     ap (λ z. fork_tokens forks ++ (list_tokens t ++ (Mnemonic op ∷ OpenParen ∷ Operand x ∷ z))) (more_operands-push xs y ∙ sym (append_assoc (more_operands xs) (Comma ∷ []) (Operand y ∷ [])))
-    ∙ behind (fork_tokens forks) (list_tokens t) (Mnemonic op ∷ OpenParen ∷ Operand x ∷ (more_operands xs ++ Comma ∷ [])) (Operand y)
+    ∙ one_after (fork_tokens forks) (list_tokens t) (Mnemonic op ∷ OpenParen ∷ Operand x ∷ (more_operands xs ++ Comma ∷ [])) (Operand y)
 read_at_taken _ _ forks t = tt
 
 read_token_taken : (r : Reader) (x : Token) → IfOk (read_token r x) (λ s. taken s ≡ taken r ++ x ∷ [])
@@ -148,11 +149,11 @@ depths ts = leg_depth (legs_of ts)
 
 abbrev pub AreFit : List Fork → Type 0
 AreFit [] = Unit {0}
-AreFit (f ∷ fs) = (length fs + depth f.before ≤ 16) × (length fs + 1 + depths f.legs ≤ 16) × AreFit fs
+AreFit (f ∷ fs) = (length fs + depth f.before ≤ MAX_FORKS) × (length fs + 1 + depths f.legs ≤ MAX_FORKS) × AreFit fs
 
 abbrev pub IsFit : Reader → Type 0
-IsFit (At place forks t) = (length forks + depth t ≤ 16) × AreFit forks
-IsFit (Done rung) = depth rung ≤ 16
+IsFit (At place forks t) = (length forks + depth t ≤ MAX_FORKS) × AreFit forks
+IsFit (Done rung) = depth rung ≤ MAX_FORKS
 
 depths-push : (ts : List Source) (t : Source) → depths (ts ++ t ∷ []) ≡ max (depths ts) (depth t)
 depths-push [] t = omega arith
@@ -162,24 +163,24 @@ depth-fork_of : (ts : List Source) (t : Source) → depth (fork_of (ts ++ t ∷ 
 depth-fork_of [] t = omega arith
 depth-fork_of (u ∷ us) t = omega (arith, depths-push us t)
 
-open_fork_fit : (b : Bool) (forks : List Fork) (t : Source) → nat_lt (length forks) 16 ≡ b → length forks + depth t ≤ 16 → AreFit forks → IfOk (open_fork b forks t) IsFit
-open_fork_fit true forks t e h hs = let room : length forks < 16 = ltb-true (length forks) 16 e in (omega arith, (h, omega arith, hs))
+open_fork_fit : (b : Bool) (forks : List Fork) (t : Source) → nat_lt (length forks) MAX_FORKS ≡ b → length forks + depth t ≤ MAX_FORKS → AreFit forks → IfOk (open_fork b forks t) IsFit
+open_fork_fit true forks t e h hs = let room : length forks < MAX_FORKS = ltb-true (length forks) MAX_FORKS e in (omega arith, (h, omega arith, hs))
 open_fork_fit false forks t e h hs = tt
 
-element_fit : (forks : List Fork) (t : Source) (op : Op) (texts : List (List ℕ)) → length forks + depth t ≤ 16 → length forks + depth (append t (instruction op texts)) ≤ 16
+element_fit : (forks : List Fork) (t : Source) (op : Op) (texts : List (List ℕ)) → length forks + depth t ≤ MAX_FORKS → length forks + depth (append t (instruction op texts)) ≤ MAX_FORKS
 element_fit forks t op texts h = omega (arith, depth-append t (instruction op texts))
 
-read_at_fit : (p : Place) (x : Token) (forks : List Fork) (t : Source) → length forks + depth t ≤ 16 → AreFit forks → IfOk (read_at p x forks t) IsFit
+read_at_fit : (p : Place) (x : Token) (forks : List Fork) (t : Source) → length forks + depth t ≤ MAX_FORKS → AreFit forks → IfOk (read_at p x forks t) IsFit
 read_at_fit Element (Mnemonic op) forks t h hs = (h, hs)
-read_at_fit Element OpenFork forks t h hs = open_fork_fit (nat_lt (length forks) 16) forks t refl h hs
+read_at_fit Element OpenFork forks t h hs = open_fork_fit (nat_lt (length forks) MAX_FORKS) forks t refl h hs
 read_at_fit Element CloseFork [] t h hs = tt
 read_at_fit Element CloseFork (f ∷ fs) t h hs =
-    let a : length fs + depth f.before ≤ 16 = hs.0 in
-    let b : length fs + 1 + depths f.legs ≤ 16 = hs.1 in
+    let a : length fs + depth f.before ≤ MAX_FORKS = hs.0 in
+    let b : length fs + 1 + depths f.legs ≤ MAX_FORKS = hs.1 in
     (omega (arith, depth-append f.before (fork_of (f.legs ++ t ∷ []) end), depth-fork_of f.legs t), hs.2)
 read_at_fit Element Comma [] t h hs = tt
 read_at_fit Element Comma (f ∷ fs) t h hs =
-    let b : length fs + 1 + depths f.legs ≤ 16 = hs.1 in
+    let b : length fs + 1 + depths f.legs ≤ MAX_FORKS = hs.1 in
     (omega arith, (hs.0, omega (arith, depths-push f.legs t), hs.2))
 read_at_fit Element Semicolon [] t h hs = omega arith
 read_at_fit Element Semicolon (f ∷ fs) t h hs = tt
@@ -227,12 +228,12 @@ runs_ins : (op : Op) (texts : List (List ℕ)) (rest : List Token) (forks : List
 runs_ins op [] rest forks t = refl
 runs_ins op (x ∷ xs) rest forks t = runs_operands xs op x [] rest forks t
 
-runs_open : (forks : List Fork) (t : Source) (rest : List Token) → length forks < 16
+runs_open : (forks : List Fork) (t : Source) (rest : List Token) → length forks < MAX_FORKS
     → run (OpenFork ∷ rest) (At Element forks t) ≡ run rest (At Element (record { before = t; legs = [] } ∷ forks) end)
-runs_open forks t rest h = ap (λ b. and_then (open_fork b forks t) (run rest)) (lt-ltb (length forks) 16 h)
+runs_open forks t rest h = ap (λ b. and_then (open_fork b forks t) (run rest)) (lt-ltb (length forks) MAX_FORKS h)
 
 mutual
-  runs_list : (u : Source) (forks : List Fork) (t : Source) (rest : List Token) → length forks + depth u ≤ 16
+  runs_list : (u : Source) (forks : List Fork) (t : Source) (rest : List Token) → length forks + depth u ≤ MAX_FORKS
       → run (list_tokens u ++ rest) (At Element forks t) ≡ run rest (At Element forks (append t u))
   runs_list end forks t rest h = ap (λ x. run rest (At Element forks x)) (sym (append-end t))
   runs_list (one i u) forks t rest h =
@@ -249,7 +250,7 @@ mutual
       ∙ ap (λ x. run rest (At Element forks (append (append t (fork v x end)) u))) (legs_of-list_of legs)
       ∙ ap (λ x. run rest (At Element forks x)) (append-append t (fork v legs end) u)
 
-  runs_legs : (legs : Legs SourceIns) (f : Fork) (forks : List Fork) (t : Source) (rest : List Token) → length forks + 1 + leg_depth legs ≤ 16
+  runs_legs : (legs : Legs SourceIns) (f : Fork) (forks : List Fork) (t : Source) (rest : List Token) → length forks + 1 + leg_depth legs ≤ MAX_FORKS
       → run (leg_tokens legs ++ CloseFork ∷ rest) (At Element (f ∷ forks) t) ≡ run rest (At Element forks (append f.before (fork_of (f.legs ++ t ∷ list_of legs) end)))
   runs_legs last f forks t rest h = refl
   runs_legs (leg u legs) f forks t rest h =

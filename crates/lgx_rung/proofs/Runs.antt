@@ -15,7 +15,7 @@ Runs ts s = run ts start ≡ Ok s
 pub run_on : (ts more : List Token) (s : Reader) → Runs ts s → run (ts ++ more) start ≡ run more s
 run_on ts more s e = run-append ts more start ∙ ap (λ q. and_then q (run more)) e
 
--- a run's result, where a longer run succeeds
+-- a run's result, if a longer run succeeds
 pub shorter : (q : Result Reader TextCode) (f : Reader → Result Reader TextCode) (u : Reader) → and_then q f ≡ Ok u → (s : Reader) × (q ≡ Ok s) × (f s ≡ Ok u)
 shorter (Ok s) f u e = (s, refl, e)
 shorter (Err code) f u e = cc

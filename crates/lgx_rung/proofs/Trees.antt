@@ -3,6 +3,7 @@ use Rattle.std.proofs.Common.{◌≡◌, ℕ, ◌≤◌, max, true, List, [], �
 use Rattle.std.specs.List.{list_all}
 use Rattle.std.proofs.lemmas.List.Folds.{list_all-append}
 use Rattle.std.proofs.lemmas.Bool.{and_from, and_parts}
+use Rattle.spec_base.specs.declared.limits.TheConstants.{MAX_FORKS}
 use Rattle.lgx_rung.specs.declared.op.Op.{Op}
 use Rattle.lgx_rung.specs.declared.rung.Element.{Element}
 use Rattle.lgx_rung.specs.declared.rung.Element.TheVariants.{Ins, Fork}
@@ -63,7 +64,7 @@ IsSourceRung-one t op texts s a = record {
 
 -- a rung with one more fork
 pub IsSourceRung-fork : (t : Source) (ts : List Source) → IsSourceRung t → IsTrue (list_all has_operands ts)
-    → depth (append t (fork_of ts end)) ≤ 16 → IsSourceRung (append t (fork_of ts end))
+    → depth (append t (fork_of ts end)) ≤ MAX_FORKS → IsSourceRung (append t (fork_of ts end))
 IsSourceRung-fork t ts s a d = record {
   nested = d;
   operands = has_operands-append t (fork_of ts end) s.operands (fork_operands ts a);

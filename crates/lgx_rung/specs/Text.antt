@@ -1,5 +1,6 @@
 -- Neutral text: the texts that spell a rung, its canonical spelling, and the first fault of a text that spells none.
 use Rattle.std.specs.Prelude.{◌≡◌, ◌≢◌, ℕ, ◌+◌, ◌-◌, ◌≤◌, ◌<◌, ◌⊎◌, Bool, IsTrue, false, List, [], ◌∷◌, ◌++◌, length, map, codes, Some, None}
+use Rattle.spec_base.specs.declared.limits.TheConstants.{MAX_FORKS}
 use Rattle.lgx_num.specs.Name.{is_letter}
 use Rattle.std.specs.List.{list_all}
 use Rattle.lgx_rung.specs.declared.op.Op.{Op}
@@ -53,16 +54,16 @@ IsSpelling Semicolon bytes = bytes ≡ codes ";"
 IsSpelling Letters bytes = IsTrue (list_all is_letter bytes) × (op_of bytes ≡ None)
 IsSpelling Stray bytes = length bytes ≡ 1
 
--- the text is these tokens in order, with blanks before, between and behind them
+-- the text is these tokens in order, with blanks before, between and after them
 abbrev pub IsWritten : List ℕ → List Token → Type 0
 IsWritten text [] = IsTrue (list_all is_blank text)
 IsWritten text (t ∷ ts) =
     (blanks : List ℕ) × (bytes : List ℕ) × (rest : List ℕ) × (
     (text ≡ blanks ++ (bytes ++ rest)) × IsTrue (list_all is_blank blanks) × IsSpelling t bytes × IsWritten rest ts)
 
--- at most sixteen forks stand in one another
+-- no more forks stand in one another than may
 abbrev pub IsNested : Source → Type 0
-IsNested r = depth r ≤ 16
+IsNested r = depth r ≤ MAX_FORKS
 
 -- each operand is one operand byte or more
 abbrev pub has_operands : Source → Bool
@@ -104,25 +105,25 @@ canon r = canon_tokens (rung_tokens r)
 abbrev pub Begins : List Token → Type 0
 Begins ts = (r : Source) × (more : List Token) × (IsNested r × (rung_tokens r ≡ ts ++ more))
 
--- they begin some rung that goes on behind them
+-- they begin some rung that goes on after them
 abbrev pub IsCutShort : List Token → Type 0
 IsCutShort ts = (r : Source) × (t : Token) × (more : List Token) × (IsNested r × (rung_tokens r ≡ ts ++ t ∷ more))
 
 abbrev pub MayFollow : List Token → Token → Type 0
 MayFollow before t = Begins (before ++ t ∷ [])
 
--- an instruction may stand behind these tokens
+-- an instruction may follow these tokens
 abbrev pub InElementPlace : List Token → Type 0
 InElementPlace before = MayFollow before (Mnemonic Nop)
 
--- the forks that are open behind these tokens, where so many are open before them
+-- the forks that are open after these tokens, if so many are open before them
 abbrev pub open_forks : ℕ → List Token → ℕ
 open_forks n [] = n
 open_forks n (OpenFork ∷ ts) = open_forks (n + 1) ts
 open_forks n (CloseFork ∷ ts) = open_forks (n - 1) ts
 open_forks n (_ ∷ ts) = open_forks n ts
 
--- whether what stands behind these tokens is in parentheses
+-- whether what follows these tokens is in parentheses
 abbrev pub in_parentheses : (inside : Bool) → List Token → Bool
 in_parentheses inside [] = inside
 in_parentheses inside (t ∷ ts) = in_parentheses (inside_after inside t) ts
@@ -141,8 +142,8 @@ kinds ts = map (λ t. t.token) ts
 abbrev pub IsWrong : TextCode → List Token → Token → Type 0
 -- in an element's place: letters that are no mnemonic
 IsWrong T2 before t = InElementPlace before × (t ≡ Letters)
--- in an element's place: a fork that would be the seventeenth open one
-IsWrong T5 before t = InElementPlace before × (t ≡ OpenFork) × (open_forks 0 before ≡ 16)
+-- in an element's place: one fork more than may be open
+IsWrong T5 before t = InElementPlace before × (t ≡ OpenFork) × (open_forks 0 before ≡ MAX_FORKS)
 -- any other
 IsWrong T1 before t = InElementPlace before → (t ≢ Letters) × (t ≢ OpenFork)
 IsWrong T3 before t = ⊥
@@ -152,8 +153,8 @@ IsWrong T4 before t = ⊥
 pub record StopsAt (text : List ℕ) (code : TextCode) (at : ℕ) : Type 0 where
   pub before : List Placed
   pub next : Placed
-  pub behind : List Placed
-  pub is_text : tokens text ≡ before ++ next ∷ behind
+  pub after : List Placed
+  pub is_text : tokens text ≡ before ++ next ∷ after
   pub begins : Begins (kinds before)
   pub ends : MayFollow (kinds before) next.token → ⊥
   pub is_wrong : IsWrong code (kinds before) next.token

@@ -1,6 +1,7 @@
 -- The tokens of a rung's text, and a reading of the list of tokens: the rung, or the first fault.
 use Rattle.std.specs.Prelude.{ℕ, ◌+◌, ◌-◌, Bool, true, false, ◌||◌, ◌==◌, nat_le, nat_lt, ◌&&◌, if◌then◌else◌, List, [], ◌∷◌, ◌++◌, length, reverse, Option, Some, None, Result, Ok, Err}
 use Rattle.std.specs.List.{list_all}
+use Rattle.spec_base.specs.declared.limits.TheConstants.{MAX_FORKS}
 use Rattle.lgx_num.specs.Name.{is_letter}
 use Rattle.lgx_rung.specs.declared.op.Op.{Op}
 use Rattle.lgx_rung.specs.declared.fault.TextFault.{TextFault}
@@ -65,11 +66,11 @@ inside_after inside OpenParen = true
 inside_after inside CloseParen = false
 inside_after inside _ = inside
 
--- what the bytes still to come give, from a place on, behind the bytes of an unfinished run (the last first)
+-- what the bytes still to come give, from a place on, after the bytes of an unfinished run (the last first)
 abbrev pub Rest : Type 0
 Rest = (inside : Bool) → (at : ℕ) → (run : List ℕ) → List Placed
 
--- the run that ends before a place, and the tokens behind it
+-- the run that ends before a place, and the tokens after it
 abbrev pub end_run : (inside : Bool) → (at : ℕ) → (run : List ℕ) → List Placed → List Placed
 end_run inside at [] more = more
 end_run inside at (b ∷ bs) more = record { at = at - length (b ∷ bs); token = run_token inside (reverse (b ∷ bs)) } ∷ more
@@ -95,13 +96,13 @@ tokens text = tokens_from text false 0 []
 pub data Place : Type 0 where
   -- an element, or the end of the leg or of the rung
   Element : Place
-  -- the parenthesis behind a mnemonic
+  -- the parenthesis after a mnemonic
   Named : Op → Place
   -- the first operand, or the closing parenthesis
   First : Op → Place
-  -- a comma or the closing parenthesis, behind the first operand and others
+  -- a comma or the closing parenthesis, after the first operand and others
   Behind : Op → (first : List ℕ) → (others : List (List ℕ)) → Place
-  -- the operand behind a comma
+  -- the operand after a comma
   Next : Op → (first : List ℕ) → (others : List (List ℕ)) → Place
 
 -- a fork that is open: the leg before it, and its finished legs
@@ -112,7 +113,7 @@ pub record Fork : Type 0 where
 pub data Reader : Type 0 where
   -- in a rung: the open forks, the innermost first, and the leg as far as it is read
   At : Place → List Fork → (leg : Source) → Reader
-  -- behind the semicolon
+  -- after the semicolon
   Done : Source → Reader
 
 abbrev pub add_element : List Fork → (leg : Source) → Source → Reader
@@ -141,7 +142,7 @@ end_rung (f ∷ forks) leg = Err T1
 abbrev pub read_element : Token → List Fork → (leg : Source) → Result Reader TextCode
 read_element (Mnemonic op) forks leg = Ok (At (Named op) forks leg)
 read_element Letters forks leg = Err T2
-read_element OpenFork forks leg = open_fork (nat_lt (length forks) 16) forks leg
+read_element OpenFork forks leg = open_fork (nat_lt (length forks) MAX_FORKS) forks leg
 read_element CloseFork forks leg = close_fork forks leg
 read_element Comma forks leg = next_leg forks leg
 read_element Semicolon forks leg = end_rung forks leg
@@ -161,7 +162,7 @@ abbrev pub read_token : Reader → Token → Result Reader TextCode
 read_token (At place forks leg) t = read_at place t forks leg
 read_token (Done rung) t = Err T1
 
--- the answer where the text ends, by its length
+-- the answer when the text ends, by its length
 abbrev pub read_end : (len : ℕ) → Reader → Result Source TextFault
 read_end len (Done rung) = Ok rung
 read_end len (At Element [] leg) = Err (record { code = T4; at = len })

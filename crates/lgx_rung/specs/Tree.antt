@@ -34,7 +34,7 @@ abbrev mutual
   leg_depth last = 0
   leg_depth (leg t legs) = max (depth t) (leg_depth legs)
 
--- a leg, and elements behind it
+-- a leg, and elements after it
 abbrev pub append : {A : Type 0} → Tree A → Tree A → Tree A
 append end u = u
 append (one i rest) u = one i (append rest u)

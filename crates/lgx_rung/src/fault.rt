@@ -6,16 +6,16 @@ pub enum TextCode {
     T1,
     /// Letters in an element's place are no mnemonic.
     T2,
-    /// The text ends while a fork or a parenthesis is open, or right behind a mnemonic.
+    /// The text ends while a fork or a parenthesis is open, or right after a mnemonic.
     T3,
     /// The text ends elsewhere without a semicolon.
     T4,
-    /// A fork would be the seventeenth open one.
+    /// One fork more than may be open.
     T5,
 }
 
 /// The first fault of a rung's text, and its place in bytes from the text's start: the letters' first byte, the byte, or
-/// where the text ends its length.
+/// at the text's end its length.
 #[derive(Clone, Copy, PartialEq, Eq, Debug)]
 pub struct TextFault {
     pub code: TextCode,

@@ -49,7 +49,7 @@ pub enum OperandKind {
     QuestionMark,
     /// The name of a routine of the program.
     RoutineName,
-    /// The `0` that may stand behind it.
+    /// The `0` that may follow a routine's name: no parameters.
     NoParameters,
     /// The name of a label of the routine.
     JumpLabel,

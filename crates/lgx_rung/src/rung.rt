@@ -20,7 +20,7 @@ pub struct Legs {
     legs: Vec<SourceRung>,
 }
 
-/// A rung, or a leg of one, with at most 16 forks nested.
+/// A rung, or a leg of one.
 #[cycle(rung)]
 #[derive(Drop)]
 pub struct SourceRung {
@@ -109,13 +109,19 @@ impl SourceRung {
         &self.elements
     }
 
-    /// Adds an instruction behind the other elements.
+    /// Tells what the type keeps, as [`Texts::tell`] does.
+    fn tell(&self)
+        ensures { IsSourceRung self.now }
+    {
+        let _ = &self.elements;
+    }
+
+    /// Adds an instruction after the other elements.
     pub fn push(&mut self, op: Op, texts: Texts) -> Result<(), Memory>
         ensures added { OnOk result (self.new ≡ append self.old (one (record { op = op; texts = texts }) end)) }
         ensures unchanged { OnErr result (self.new ≡ self.old) }
     {
-        // Read, the texts tell what their type keeps.
-        let _ = texts.as_slice();
+        texts.tell();
         self.elements.push(Element::Ins(op, texts))?;
         Ok(())
     }
@@ -146,10 +152,11 @@ impl Model for OpenFork {
 }
 
 impl OpenFork {
+    ghost use Rattle.spec_base.specs.declared.limits.TheConstants.{MAX_FORKS};
     ghost use Rattle.std.specs.Prelude.{◌≡◌, ◌≤◌, [], ◌∷◌, ◌++◌, IfOk, OnOk, OnErr};
     ghost use Rattle.lgx_rung.specs.Tree.{end, append, depth, fork_of};
 
-    /// A fork that opens behind a leg's elements.
+    /// A fork that opens after a leg's elements.
     pub fn new(alloc: Global, before: SourceRung) -> Self
         ensures { result ≡ record { before = before; legs = [] } }
     {
@@ -164,19 +171,17 @@ impl OpenFork {
         ensures added { OnOk result (self.new ≡ record self.old { legs = self.old.legs ++ leg ∷ [] }) }
         ensures unchanged { OnErr result (self.new ≡ self.old) }
     {
-        // Opened, the leg tells what its type keeps.
-        let _ = &leg.elements;
+        leg.tell();
         self.legs.push(leg)?;
         Ok(())
     }
 
-    /// Finishes the last leg: the leg before the fork, with the fork behind its elements.
+    /// Finishes the last leg: the leg before the fork, with the fork after its elements.
     pub fn close(self, last: SourceRung) -> Result<SourceRung, Memory>
-        requires nested { depth (append self.before (fork_of (self.legs ++ last ∷ []) end)) ≤ 16 }
+        requires nested { depth (append self.before (fork_of (self.legs ++ last ∷ []) end)) ≤ MAX_FORKS }
         ensures { IfOk result (λ r. r ≡ append self.before (fork_of (self.legs ++ last ∷ []) end)) }
     {
-        // Opened, the leg tells what its type keeps.
-        let _ = &last.elements;
+        last.tell();
         let OpenFork { before, mut legs } = self;
         legs.push(last)?;
         let SourceRung { mut elements } = before;

@@ -31,7 +31,7 @@ pub fn worked_texts()
     ensures open_parenthesis { read_rung (codes "XIC(a") ≡ faulty T3 5 }
     ensures unknown_mnemonic { read_rung (codes "XIQ(a);") ≡ faulty T2 0 }
     ensures second_parenthesis { read_rung (codes "XIC(a));") ≡ faulty T1 6 }
-    ensures behind_semicolon { read_rung (codes ";x") ≡ faulty T1 1 }
+    ensures after_semicolon { read_rung (codes ";x") ≡ faulty T1 1 }
     ensures seventeenth_fork { read_rung (codes "[[[[[[[[[[[[[[[[[") ≡ faulty T5 16 }
     ensures no_element { read_rung (codes ";") ≡ Ok end }
 

@@ -35,7 +35,7 @@ impl Texts {
         }
     }
 
-    /// Adds an operand behind the others.
+    /// Adds an operand after the others.
     pub fn push(&mut self, alloc: Global, text: &[u8]) -> Result<(), Memory>
         requires { IsTrue (is_operand text.now) }
         ensures added { OnOk result (self.new ≡ self.old ++ text.now ∷ []) }
@@ -46,6 +46,14 @@ impl Texts {
         Ok(())
     }
 
+    /// Tells what the type keeps. It does nothing: a type's invariant is known of a value only once that is opened.
+    pub(crate) fn tell(&self)
+        ensures { IsTrue (list_all is_operand self.now) }
+    {
+        let _ = &self.texts;
+    }
+
+    /// The operands, in order.
     pub fn as_slice(&self) -> &[Items<u8>]
         ensures texts { result.now ≡ self.now }
         ensures operands { IsTrue (list_all is_operand self.now) }

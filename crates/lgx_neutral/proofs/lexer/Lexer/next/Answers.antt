@@ -7,12 +7,12 @@ pub returns-then-in_run-clause-tokens : goal.returns-then-in_run-clause-tokens
 returns-then-in_run-clause-tokens c =
     let text = c.args.self.now.text.now in
     let inside = c.args.self.now.inside in
-    let at = c.behind_blanks-at.result in
-    let end = c.behind_run-end.result in
+    let at = c.after_blanks-at.result in
+    let end = c.after_run-end.result in
     let begins : in_run inside (get_or text at 0) ≡ true = sym c.in_run.ensures ∙ c.if-in_run.true in
     let here : at < length text = omega arith in
-    let some : at < end = run_moves text inside at end c.behind_run-end.ensures.ahead here begins c.behind_run-end.ensures.stops in
-    c.behind_blanks-at.ensures.tokens inside
-    ∙ c.behind_run-end.ensures.tokens
-    ∙ run_ended text inside at end some c.behind_run-end.ensures.within c.behind_run-end.ensures.stops
+    let some : at < end = run_moves text inside at end c.after_run-end.ensures.ahead here begins c.after_run-end.ensures.stops in
+    c.after_blanks-at.ensures.tokens inside
+    ∙ c.after_run-end.ensures.tokens
+    ∙ run_ended text inside at end some c.after_run-end.ensures.within c.after_run-end.ensures.stops
     ∙ ap (λ t. record { at = at; token = t } ∷ tokens_from (drop end text) inside end []) (sym c.of_run-token.ensures.token)

@@ -8,7 +8,7 @@ use Rattle.lgx_rung.proofs.rung.OpenFork.close.Goals as goal
 
 pub invariant_of-result : goal.invariant_of-result
 invariant_of-result c =
-    let leg_operands : IsTrue (has_operands c.args.last) = subst (λ t. IsTrue (has_operands t)) c.last.view_is c.last.invariant.operands in
+    let leg_operands : IsTrue (has_operands c.args.last) = c.tell.ensures.operands in
     let legs_operands : IsTrue (list_all has_operands c.push.new.self.items) = subst (λ ts. IsTrue (list_all has_operands ts)) (sym c.in_ok-push.ensures.items) (legs_operands-push c.self.inside.legs.items c.args.last c.self.invariant leg_operands) in
     let before : tree_of c.before-2.inside.elements.items ≡ c.args.self.before = c.before-2.view_is ∙ ap (λ f. f.before) c.self.view_is in
     let legs : c.push.new.self.items ≡ c.args.self.legs ++ c.args.last ∷ [] = c.in_ok-push.ensures.items ∙ ap (λ f. f.legs ++ c.args.last ∷ []) c.self.view_is in

@@ -8,7 +8,7 @@ use Rattle.lgx_rung.proofs.rung.SourceRung.push.Goals as goal
 pub invariant_of-self-2 : goal.invariant_of-self-2
 invariant_of-self-2 c =
     subst IsSourceRung (sym (ap tree_of c.in_ok-push.ensures.items ∙ tree_of-ins c.self.inside.elements.items c.args.op c.args.texts))
-    (IsSourceRung-one (tree_of c.self.inside.elements.items) c.args.op c.args.texts c.self.invariant c.as_slice.ensures.operands)
+    (IsSourceRung-one (tree_of c.self.inside.elements.items) c.args.op c.args.texts c.self.invariant c.tell.ensures)
 
 pub returns-clause-added : goal.returns-clause-added
 returns-clause-added c =

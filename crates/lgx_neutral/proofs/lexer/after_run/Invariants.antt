@@ -1,7 +1,7 @@
 use Rattle.std.proofs.Common.{length, ◌-◌, ◌≡◌, ◌≤◌, [], drop, reverse, slice_range, IsTrue}
 use Rattle.std.specs.List.{list_all}
 use Rattle.lgx_rung.specs.Tokens.{in_run, tokens_from}
-use Rattle.lgx_neutral.proofs.lexer.behind_run.Given as goal
+use Rattle.lgx_neutral.proofs.lexer.after_run.Given as goal
 
 abbrev pub invariant-loop-at : goal.invariant-loop-at
 invariant-loop-at l = record {

@@ -1,6 +1,6 @@
 use Rattle.std.proofs.Common.{length, ◌-◌, ◌≡◌, ◌≤◌, Bool, [], drop}
 use Rattle.lgx_rung.specs.Tokens.{tokens_from}
-use Rattle.lgx_neutral.proofs.lexer.behind_blanks.Given as goal
+use Rattle.lgx_neutral.proofs.lexer.after_blanks.Given as goal
 
 abbrev pub invariant-loop-at : goal.invariant-loop-at
 invariant-loop-at l = record {

@@ -1,7 +1,7 @@
 use Rattle.std.proofs.Common.{◌≡◌, true, get_or, sym, ◌∙◌, arith}
 use Rattle.lgx_rung.specs.Tokens.{in_run}
 use Rattle.lgx_neutral.proofs.Runs.{run_bytes, run_grown}
-use Rattle.lgx_neutral.proofs.lexer.behind_run.Goals as goal
+use Rattle.lgx_neutral.proofs.lexer.after_run.Goals as goal
 
 pub loop-at-preserved : goal.loop-at-preserved
 loop-at-preserved c =
