@@ -1,5 +1,6 @@
 -- The lines of the report.
 use Rattle.std.specs.Prelude.{ℕ, ◌+◌, ◌-◌, List, [], ◌∷◌, ◌++◌, map, length, drop, take, if◌then◌else◌}
+use Rattle.spec_base.specs.declared.limits.TheConstants.{MAX_REPORT_LINES}
 use Rattle.lgx_num.specs.Number.{int_eq}
 use Rattle.lgx_num.specs.Image.{number}
 use Rattle.spec_machine.specs.declared.reply.Mode.{Mode}
@@ -59,10 +60,6 @@ lines_from watches s n (e ∷ es) =
 abbrev pub lines : Project → List Event → List Stamped
 lines project journal = lines_from project.watches (start project) 0 journal
 
--- so many lines are kept
-abbrev pub line_room : ℕ
-line_room = 100000
-
 -- the kept lines, and what the end line tells
 pub record Report : Type 0 where
   pub lines : List Stamped
@@ -73,4 +70,4 @@ pub record Report : Type 0 where
 
 abbrev pub report_of : List Stamped → State → ℕ → Report
 report_of lines final step =
-    record { lines = take line_room lines; tick = final.tick; step = step; mode = final.mode; lost = length lines - line_room }
+    record { lines = take MAX_REPORT_LINES lines; tick = final.tick; step = step; mode = final.mode; lost = length lines - MAX_REPORT_LINES }

@@ -2,6 +2,7 @@
 use Rattle.std.specs.Prelude.{◌≡◌, ℕ, zero, suc, ◌+◌, ◌-◌, ◌%◌, ◌≤◌, List, [], ◌∷◌, ◌++◌, map, length, take, drop, Bool, true, false, not, ◌&&◌, nat_lt, nat_eq, if◌then◌else◌, Option, Some, None, IsTrue, IsFalse, ⊤}
 use Rattle.std.specs.Bool.{beq as agree}
 use Rattle.std.specs.List.{AllZip, list_all, last_or, range_with_len}
+use Rattle.spec_base.specs.declared.limits.TheConstants.{OWN_LANE}
 use Rattle.spec_machine.specs.declared.event.Action.{Action}
 use Rattle.spec_machine.specs.declared.event.Action.TheVariants.{ModeRun}
 use Rattle.spec_machine.specs.declared.event.Event.{Event}
@@ -20,9 +21,9 @@ is_held_after project journal = held (run project journal).table
 
 -- ---- the actions of the lanes
 
--- lane 31 has no other action than the first, and every other action is of a lane of the script
+-- the journal's own lane has no other action than the first, and every other action is of a lane of the script
 abbrev pub is_of_lane : ℕ → Event → Bool
-is_of_lane lanes (Act lane a) = not (nat_eq lane 31) && nat_lt lane lanes
+is_of_lane lanes (Act lane a) = not (nat_eq lane OWN_LANE) && nat_lt lane lanes
 is_of_lane lanes _ = true
 
 -- an action in a journal, and the number of ticks before it
@@ -98,11 +99,11 @@ is_held_over project steps journal = list_all (λ k. is_held_after project (thro
 
 -- ---- partial and complete
 
--- A journal is partial for the counts, one a lane, where it begins with lane 31's `mode run`; the rest is of the
+-- A journal is partial for the counts, one a lane, where it begins with its own lane's `mode run`; the rest is of the
 -- script's lanes; each lane did the first of its actions, in order and in time; none was answered Held; the ticks stand
 -- at the pace; and processor steps beyond the script's stand only while a CPS is open.
 pub record IsPartial (project : Project) (script : Script) (counts : List ℕ) (journal : List Event) : Type 0 where
-  pub opening : take 1 journal ≡ Act 31 ModeRun ∷ []
+  pub opening : take 1 journal ≡ Act OWN_LANE ModeRun ∷ []
   pub rest : IsTrue (list_all (is_of_lane (length script.lanes)) (drop 1 journal))
   pub lanes : LanesDid journal 0 counts script.lanes
   pub answers : IsTrue (list_all (λ x. not (is_held x.answer)) (trace project journal))
