@@ -234,11 +234,11 @@ assemble b = Ok (record b { base = b.merged; number = b.newest; accepted = []; o
 abbrev pub cancel : Book → Result Book EditFault
 cancel b = Ok (record b { merged = b.base; accepted = []; owner = None; testing = false })
 
--- A command of a client: the books after it, or the first cause. No other action is an edit.
-abbrev pub edit : Declarations → List TaskName → List Book → ℕ → Action → Result Edited EditFault
-edit tags tasks books client (Accept command) = accept tags tasks books client command
-edit tags tasks books client (Test name) = on_accepted test books client name
-edit tags tasks books client (Untest name) = on_accepted untest books client name
-edit tags tasks books client (Assemble name) = on_accepted assemble books client name
-edit tags tasks books client (Cancel name) = on_accepted cancel books client name
-edit tags tasks books client _ = Ok (record { books = books; reply = Done })
+-- An edit command of a client: the books after it, or the first cause. No other action is one.
+abbrev pub edit : Declarations → List TaskName → List Book → ℕ → Action → Option (Result Edited EditFault)
+edit tags tasks books client (Accept command) = Some (accept tags tasks books client command)
+edit tags tasks books client (Test name) = Some (on_accepted test books client name)
+edit tags tasks books client (Untest name) = Some (on_accepted untest books client name)
+edit tags tasks books client (Assemble name) = Some (on_accepted assemble books client name)
+edit tags tasks books client (Cancel name) = Some (on_accepted cancel books client name)
+edit tags tasks books client _ = None
