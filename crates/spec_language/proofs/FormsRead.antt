@@ -6,6 +6,7 @@ use Rattle.std.proofs.Common.{sym, subst, arith, eqb-true, eq-eqb, ltb-true, ltb
 use Rattle.std.proofs.lemmas.Bool.{or_left}
 use Rattle.spec_language.proofs.Reaching.{or_right}
 use Rattle.std.proofs.lemmas.List.{append_assoc, append-nil}
+use Rattle.spec_base.specs.declared.limits.TheConstants.{MAX_NAME_BYTES, MAX_TAG_NAME_BYTES, MAX_TAG_NAME_PARTS}
 use Rattle.lgx_num.specs.Name.{is_name, is_name_byte, is_start, is_spelled, is_digit as is_digit_byte}
 use Rattle.spec_base.specs.Pieces.{cut, pieces, is_empty}
 use Rattle.spec_language.specs.OperandForm.{is_part, may_lead, is_joined, is_tag_name, are_digits, Form, tag, member, element, indexed, bit, is_bit, Token, word, dot, opening, closing, put_byte, put_token, tokens, dotted, bracketed, begun, form_from, form_of, form}
@@ -89,7 +90,7 @@ digits_some [] p = absurd (cc p)
 digits_some (c ∷ cs) p = (omega arith, all_plain (λ c. is_digit c 10) (c ∷ cs) refl refl refl p)
 
 pub name_some : (w : List ℕ) → is_name w ≡ true → (0 < length w) × Each IsPlain w × (are_digits 10 w ≡ false)
-name_some w p = go w (and_right (nat_le (length w) 40) _ p)
+name_some w p = go w (and_right (nat_le (length w) MAX_NAME_BYTES) _ p)
   where
     go : (v : List ℕ) → is_spelled v ≡ true → (0 < length v) × Each IsPlain v × (are_digits 10 v ≡ false)
     go [] q = absurd (cc q)
@@ -100,7 +101,7 @@ name_some w p = go w (and_right (nat_le (length w) 40) _ p)
         no_digit false e = rw e refl
 
 pub name_bytes : (w : List ℕ) → is_name w ≡ true → list_all is_name_byte w ≡ true
-name_bytes w p = go w (and_right (nat_le (length w) 40) _ p)
+name_bytes w p = go w (and_right (nat_le (length w) MAX_NAME_BYTES) _ p)
   where
     go : (v : List ℕ) → is_spelled v ≡ true → list_all is_name_byte v ≡ true
     go [] q = refl
@@ -120,7 +121,7 @@ joined_bytes [] q = absurd (cc q)
 joined_bytes (p ∷ []) q = (name_bytes p q, tt)
 joined_bytes (p ∷ r ∷ ps) q =
     let a = and_left _ (list_all is_part ps) q in
-    let b = and_left _ (nat_le (length ps) 2) a in
+    let b = and_left _ (nat_le (length ps) (MAX_TAG_NAME_PARTS - 2)) a in
     (name_bytes p (and_left (is_name p) _ (and_left _ _ (and_left (may_lead p) (is_part r) b))), (and_right _ (list_all is_name_byte r) (and_right (may_lead p) (is_part r) b), parts_bytes ps (and_right _ (list_all is_part ps) q)))
 
 abbrev is_tag_byte : ℕ → Bool
@@ -150,7 +151,7 @@ one_piece (c ∷ cs) p = go (c == 58) refl (one_piece cs (and_right (is_digit c 
     go false e r = rw (e, r) refl
 
 pub tag_some : (w : List ℕ) → is_tag_name w ≡ true → (0 < length w) × Each IsPlain w × (are_digits 10 w ≡ false)
-tag_some w p = (some w (and_right (nat_le (length w) 80) _ p), all_plain is_tag_byte w refl refl refl (pieces_bytes w (joined_bytes (pieces 58 w) (and_right (nat_le (length w) 80) _ p))), go (are_digits 10 w) refl)
+tag_some w p = (some w (and_right (nat_le (length w) MAX_TAG_NAME_BYTES) _ p), all_plain is_tag_byte w refl refl refl (pieces_bytes w (joined_bytes (pieces 58 w) (and_right (nat_le (length w) MAX_TAG_NAME_BYTES) _ p))), go (are_digits 10 w) refl)
   where
     some : (v : List ℕ) → is_joined (pieces 58 v) ≡ true → 0 < length v
     some [] q = absurd (cc q)
@@ -158,7 +159,7 @@ tag_some w p = (some w (and_right (nat_le (length w) 80) _ p), all_plain is_tag_
 
     go : (b : Bool) → are_digits 10 w ≡ b → are_digits 10 w ≡ false
     go false e = e
-    go true e = (name_some w (subst (λ (ps : List (List ℕ)). is_joined ps ≡ true) (one_piece w (and_right (not (is_empty w)) _ e)) (and_right (nat_le (length w) 80) _ p))).2
+    go true e = (name_some w (subst (λ (ps : List (List ℕ)). is_joined ps ≡ true) (one_piece w (and_right (not (is_empty w)) _ e)) (and_right (nat_le (length w) MAX_TAG_NAME_BYTES) _ p))).2
 
 -- ---- forms
 

@@ -1,6 +1,7 @@
 -- What is found lies in the image.
 use Rattle.std.specs.Prelude.{◌≡◌, ℕ, zero, suc, ◌+◌, ◌*◌, ◌%◌, ◌<◌, ◌≤◌, Bool, true, false, not, ◌&&◌, ◌==◌, nat_lt, List, [], ◌∷◌, ◌++◌, length, Result, Ok, Err, ⊤, refl}
 use Rattle.std.proofs.Common.{sym, subst, arith, eqb-true, ltb-true, length-append}
+use Rattle.spec_base.specs.declared.limits.TheConstants.{MAX_SUBSCRIPTS}
 use Rattle.lgx_num.specs.Image.{InBounds}
 use Rattle.lgx_num.specs.declared.place.Index.{Index}
 use Rattle.spec_language.specs.declared.types.Base.{Base}
@@ -99,10 +100,10 @@ indexed_lies types len g f subscript l known p =
     let a = bind_ok subscript _ f p in
     let i : Found = a.0 in
     let b = bind_ok (unless (may_index i) G6) _ f a.2 in
-    let c = bind_ok (unless (nat_lt (length g.steps) 4) G9) _ f b.2 in
+    let c = bind_ok (unless (nat_lt (length g.steps) MAX_SUBSCRIPTS) G9) _ f b.2 in
     let j : Index = index_by types g.of i in
     let made : Found = record g { steps = g.steps ++ j ∷ []; of = single g.of.base } in
-    let lies : LiesIn types len made = record { subscripts = subscripts_more g.steps j len l.subscripts (index_lies types len g.of i (known i a.1) (unless_ok _ _ _ b.1)); few = omega (arith, length-append g.steps (j ∷ []), ltb-true (length g.steps) 4 (unless_ok _ _ _ c.1)); inside = λ to h. let b' = leads_more g.steps j g.at to h in subst (λ (at : ℕ). EndsBy types (single g.of.base) g.stop at) (sym b'.4) (element_fits types g.of.base g.of.dim b'.1 g.stop b'.0 b'.3 (l.inside b'.0 b'.2)); stop = l.stop; filled = l.filled } in
+    let lies : LiesIn types len made = record { subscripts = subscripts_more g.steps j len l.subscripts (index_lies types len g.of i (known i a.1) (unless_ok _ _ _ b.1)); few = omega (arith, length-append g.steps (j ∷ []), ltb-true (length g.steps) MAX_SUBSCRIPTS (unless_ok _ _ _ c.1)); inside = λ to h. let b' = leads_more g.steps j g.at to h in subst (λ (at : ℕ). EndsBy types (single g.of.base) g.stop at) (sym b'.4) (element_fits types g.of.base g.of.dim b'.1 g.stop b'.0 b'.3 (l.inside b'.0 b'.2)); stop = l.stop; filled = l.filled } in
     subst (λ (z : Found). LiesIn types len z) (ok_inj made f c.2) lies
 
 -- ---- forms

@@ -31,6 +31,7 @@ use Rattle.spec_language.specs.Operands.{paired, path_of, is_bool, is_timer, is_
 use Rattle.spec_language.specs.Checked.{CheckScope, Spot, Label, labels, label_of, behind, operand_of, operands_of, settled, instruction_of, checked_tree, checked_legs, checked_from}
 use Rattle.lgx_num.specs.Paths.{BytesInBounds, OperandInBounds}
 use Rattle.std.specs.List.{AllByRecursion as Each}
+use Rattle.spec_base.specs.declared.limits.TheConstants.{TIMER_BYTES, COUNTER_BYTES}
 use Rattle.spec_language.specs.Layout.{size_of, single}
 use Rattle.spec_language.specs.ResolutionLaws.{Sound, EndsBy, LiesIn, elements}
 use Rattle.spec_language.specs.CheckedLaws.{OperandsInBounds, CheckedInBounds}
@@ -55,11 +56,11 @@ cell_room types (User i) stop len at (inl q) t e = absurd (cc q)
 cell_room types (User i) stop len at (inr q) t e = absurd (omega arith)
 
 -- the bytes of a whole TIMER, of a whole COUNTER, and of an element of a block
-pub timer_room : (types : List TypeDecl) (base : Base) (stop len at : ℕ) → is_timer base ≡ true → stop ≤ len → EndsBy types (single base) stop at → BytesInBounds 16 len at
+pub timer_room : (types : List TypeDecl) (base : Base) (stop len at : ℕ) → is_timer base ≡ true → stop ≤ len → EndsBy types (single base) stop at → BytesInBounds TIMER_BYTES len at
 timer_room types Timer stop len at q t e = (e.0, omega (arith, e.1))
 timer_room types _ stop len at q t e = absurd (cc q)
 
-pub counter_room : (types : List TypeDecl) (base : Base) (stop len at : ℕ) → is_counter base ≡ true → stop ≤ len → EndsBy types (single base) stop at → BytesInBounds 12 len at
+pub counter_room : (types : List TypeDecl) (base : Base) (stop len at : ℕ) → is_counter base ≡ true → stop ≤ len → EndsBy types (single base) stop at → BytesInBounds COUNTER_BYTES len at
 counter_room types Counter stop len at q t e = (e.0, omega (arith, e.1))
 counter_room types _ stop len at q t e = absurd (cc q)
 
@@ -72,8 +73,8 @@ block_room types OneBit dim stop at q e = absurd (cc q)
 block_room types Sint dim stop at q e = (e.0, one_element 1 dim stop at e.1)
 block_room types Int dim stop at q e = (e.0, one_element 2 dim stop at e.1)
 block_room types Dint dim stop at q e = (e.0, one_element 4 dim stop at e.1)
-block_room types Timer dim stop at q e = (e.0, one_element 16 dim stop at e.1)
-block_room types Counter dim stop at q e = (e.0, one_element 12 dim stop at e.1)
+block_room types Timer dim stop at q e = (e.0, one_element TIMER_BYTES dim stop at e.1)
+block_room types Counter dim stop at q e = (e.0, one_element COUNTER_BYTES dim stop at e.1)
 block_room types (User i) dim stop at q e = (e.0, one_element (size_of types (single (User i))) dim stop at e.1)
 
 -- ---- operands that are places
@@ -86,24 +87,24 @@ one_place_ok test make f o p = go (test && not (is_array f.of)) refl p
     go false q r = err_not_ok _ _ r
 
 pub cell_lies : (types : List TypeDecl) (len : ℕ) (test : Bool) (f : Found) (o : Operand) → (test ≡ true → (is_bool f.of.base ≡ true) ⊎ (0 < integer_bits f.of.base)) → LiesIn types len f → one_place test operand.Cell f ≡ Ok o → OperandInBounds o len
-cell_lies types len test f o operand_kinds l p =
+cell_lies types len test f o kinds l p =
     let a = one_place_ok test operand.Cell f o p in
-    subst (λ (z : Operand). OperandInBounds z len) a.2 (l.subscripts, λ to h. cell_room types f.of.base f.stop len to (operand_kinds a.0) l.stop (subst (λ (t : DataType). EndsBy types t f.stop to) a.1 (l.inside to h)))
+    subst (λ (z : Operand). OperandInBounds z len) a.2 (l.subscripts, λ to h. cell_room types f.of.base f.stop len to (kinds a.0) l.stop (subst (λ (t : DataType). EndsBy types t f.stop to) a.1 (l.inside to h)))
 
 pub timer_lies : (types : List TypeDecl) (len : ℕ) (test : Bool) (f : Found) (o : Operand) → (test ≡ true → is_timer f.of.base ≡ true) → LiesIn types len f → one_place test operand.Timer f ≡ Ok o → OperandInBounds o len
-timer_lies types len test f o operand_kinds l p =
+timer_lies types len test f o kinds l p =
     let a = one_place_ok test operand.Timer f o p in
-    subst (λ (z : Operand). OperandInBounds z len) a.2 (l.subscripts, λ to h. timer_room types f.of.base f.stop len to (operand_kinds a.0) l.stop (subst (λ (t : DataType). EndsBy types t f.stop to) a.1 (l.inside to h)))
+    subst (λ (z : Operand). OperandInBounds z len) a.2 (l.subscripts, λ to h. timer_room types f.of.base f.stop len to (kinds a.0) l.stop (subst (λ (t : DataType). EndsBy types t f.stop to) a.1 (l.inside to h)))
 
 pub counter_lies : (types : List TypeDecl) (len : ℕ) (test : Bool) (f : Found) (o : Operand) → (test ≡ true → is_counter f.of.base ≡ true) → LiesIn types len f → one_place test operand.Counter f ≡ Ok o → OperandInBounds o len
-counter_lies types len test f o operand_kinds l p =
+counter_lies types len test f o kinds l p =
     let a = one_place_ok test operand.Counter f o p in
-    subst (λ (z : Operand). OperandInBounds z len) a.2 (l.subscripts, λ to h. counter_room types f.of.base f.stop len to (operand_kinds a.0) l.stop (subst (λ (t : DataType). EndsBy types t f.stop to) a.1 (l.inside to h)))
+    subst (λ (z : Operand). OperandInBounds z len) a.2 (l.subscripts, λ to h. counter_room types f.of.base f.stop len to (kinds a.0) l.stop (subst (λ (t : DataType). EndsBy types t f.stop to) a.1 (l.inside to h)))
 
 pub block_lies : (types : List TypeDecl) (len : ℕ) (test : Bool) (f : Found) (o : Operand) → (test ≡ true → is_bool f.of.base ≡ false) → LiesIn types len f → block_where test types f ≡ Ok o → OperandInBounds o len
-block_lies types len true f o operand_kinds l p =
-    subst (λ (z : Operand). OperandInBounds z len) (ok_inj _ _ p) (l.filled, (l.subscripts, λ to h. let room = block_room types f.of.base f.of.dim f.stop to (operand_kinds refl) (l.inside to h) in ((room.0, omega (arith, room.1, l.stop)), room)))
-block_lies types len false f o operand_kinds l p = err_not_ok _ _ p
+block_lies types len true f o kinds l p =
+    subst (λ (z : Operand). OperandInBounds z len) (ok_inj _ _ p) (l.filled, (l.subscripts, λ to h. let room = block_room types f.of.base f.of.dim f.stop to (kinds refl) (l.inside to h) in ((room.0, omega (arith, room.1, l.stop)), room)))
+block_lies types len false f o kinds l p = err_not_ok _ _ p
 
 pub not_true : (b : Bool) → not b ≡ true → b ≡ false
 not_true true p = absurd (cc p)

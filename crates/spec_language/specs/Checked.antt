@@ -3,6 +3,7 @@
 use Rattle.std.specs.Prelude.{ℕ, suc, ◌+◌, Bool, true, false, not, ◌&&◌, ◌==◌, nat_le, if◌then◌else◌, List, [], ◌∷◌, ◌++◌, length, map, filter_map, flat_map, find, position, pos, codes, bytes_eq, Option, Some, None, Result, Ok, Err, option_map, option_and_then}
 use Rattle.std.specs.List.{enumerate_from}
 use Rattle.std.specs.Result.{result_ok, result_err}
+use Rattle.spec_base.specs.declared.limits.TheConstants.{MAX_ROUTINE_INSTRUCTIONS}
 use Rattle.lgx_num.specs.Name.{is_name, same}
 use Rattle.lgx_num.specs.declared.place.Operand.{Operand}
 use Rattle.lgx_num.specs.declared.place.Operand.TheVariants as operand
@@ -86,9 +87,9 @@ operand_of s ls spot (w, text) = data_operand s.tags (Program s.program) w text
 abbrev pub label_faults : List Label → Spot → SourceIns → List CheckCode
 label_faults ls spot i = where_true (stands_elsewhere spot (option_and_then (label_of ls) (label_name i.op i.texts))) C13 ++ where_true (is_label i.op && not spot.leads) C14
 
--- C16: it is the routine's 65,537th instruction
+-- C16: it is the routine's first instruction beyond the limit
 abbrev pub length_faults : Spot → List CheckCode
-length_faults spot = where_true (spot.before == 65536) C16
+length_faults spot = where_true (spot.before == MAX_ROUTINE_INSTRUCTIONS) C16
 
 -- C1: the number of operands isn't the mnemonic's
 abbrev pub operands_of : CheckScope → List Label → Spot → Option (List (OperandKind × List ℕ)) → List (Result Operand CheckCode)

@@ -1,6 +1,7 @@
 -- Tags and aliases as they are declared, where each tag begins in the image, and what may not be declared.
 use Rattle.std.specs.Prelude.{ℕ, ◌+◌, Bool, true, false, not, ◌&&◌, ◌==◌, nat_lt, List, [], ◌∷◌, ◌++◌, filter, flat_map, find, Option}
 use Rattle.std.specs.List.{list_any, range_with_len}
+use Rattle.spec_base.specs.declared.limits.TheConstants.{MAX_IMAGE_BYTES}
 use Rattle.lgx_num.specs.Name.{same, is_name}
 use Rattle.spec_base.specs.FirstCause.{where_true, first}
 use Rattle.spec_language.specs.Layout.{round_up, size_of}
@@ -88,12 +89,12 @@ abbrev pub declared_as : Declarations → Scope → List ℕ → Meaning → Dec
 declared_as d scope name meaning = record d { entries = d.entries ++ record { scope = scope; name = name; meaning = meaning } ∷ [] }
 
 -- the first fault of an entry: G1 it is no name of its scope, G2 its scope has it already, G8 the image is longer than
--- 262,144 bytes with it
+-- the limit with it
 abbrev pub entry_faults : Declarations → Scope → List ℕ → List TagCode
 entry_faults d scope name = where_true (not (is_name_in scope name)) G1 ++ where_true (list_any (is_named scope name) d.entries) G2
 
 abbrev pub declare_fault : Declarations → Scope → List ℕ → DataType → Option TagCode
-declare_fault d scope name of = first (entry_faults d scope name ++ where_true (nat_lt 262144 (bytes (declared_as d scope name (tag of)))) G8)
+declare_fault d scope name of = first (entry_faults d scope name ++ where_true (nat_lt MAX_IMAGE_BYTES (bytes (declared_as d scope name (tag of)))) G8)
 
 abbrev pub alias_fault : Declarations → Scope → List ℕ → Option TagCode
 alias_fault d scope name = first (entry_faults d scope name)

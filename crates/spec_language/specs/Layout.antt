@@ -1,6 +1,7 @@
 -- Layout of types (profile): sizes and alignments in bytes, and the members of a type by their first bit.
 use Rattle.std.specs.Prelude.{ℕ, zero, suc, ◌+◌, ◌-◌, ◌*◌, ◌/◌, List, [], ◌∷◌, map, length, replicate, slice_get, slice_index, position, find as first_with, Option, option_map, unwrap_or, codes}
 use Rattle.std.specs.Option.{option_or}
+use Rattle.spec_base.specs.declared.limits.TheConstants.{TIMER_BYTES, COUNTER_BYTES}
 use Rattle.lgx_num.specs.Name.{same}
 use Rattle.spec_language.specs.declared.types.Base.{Base}
 use Rattle.spec_language.specs.declared.types.Base.TheVariants.{Bool as OneBit, Sint, Int, Dint, Timer, Counter, User}
@@ -57,8 +58,8 @@ element_in sizes OneBit = 1
 element_in sizes Sint = 1
 element_in sizes Int = 2
 element_in sizes Dint = 4
-element_in sizes Timer = 16
-element_in sizes Counter = 12
+element_in sizes Timer = TIMER_BYTES
+element_in sizes Counter = COUNTER_BYTES
 element_in sizes (User i) = slice_index sizes i
 
 -- an element alone; of an array of BOOLs a bit for each, and of every other array its elements in order

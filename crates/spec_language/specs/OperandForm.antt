@@ -1,8 +1,9 @@
 -- How operands are written: tag names, numbers, flags, and operand forms.
-use Rattle.std.specs.Prelude.{ℕ, ◌+◌, ◌*◌, ◌^◌, Bool, true, false, not, ◌&&◌, ◌||◌, ◌==◌, nat_le, nat_lt, if◌then◌else◌, List, [], ◌∷◌, length, filter, fold, ℤ, pos, neg_ℤ, Option, Some, None, option_map, find, drop, codes, bytes_eq, option_and_then}
+use Rattle.std.specs.Prelude.{ℕ, ◌+◌, ◌-◌, ◌*◌, ◌^◌, Bool, true, false, not, ◌&&◌, ◌||◌, ◌==◌, nat_le, nat_lt, if◌then◌else◌, List, [], ◌∷◌, length, filter, fold, ℤ, pos, neg_ℤ, Option, Some, None, option_map, find, drop, codes, bytes_eq, option_and_then}
 use Rattle.std.specs.List.{list_all}
 use Rattle.std.specs.Char.{is_digit, digit_value}
 use Rattle.std.specs.Int.{w32, cast_signed}
+use Rattle.spec_base.specs.declared.limits.TheConstants.{MAX_NAME_BYTES, MAX_TAG_NAME_BYTES, MAX_TAG_NAME_PARTS}
 use Rattle.lgx_num.specs.Name.{is_name, is_name_byte, same}
 use Rattle.lgx_num.specs.declared.place.Flag.{Flag}
 use Rattle.lgx_num.specs.declared.place.Flag.TheVariants.{First, Overflow, Zero, Negative}
@@ -10,22 +11,22 @@ use Rattle.spec_base.specs.Pieces.{pieces, is_empty}
 
 -- ---- tag names
 
--- a part behind a colon: 1 to 40 letters, digits or underscores
+-- a part after a colon: as many letters, digits or underscores as a name may have bytes, and one at least
 abbrev pub is_part : List ℕ → Bool
-is_part p = not (is_empty p) && nat_le (length p) 40 && list_all is_name_byte p
+is_part p = not (is_empty p) && nat_le (length p) MAX_NAME_BYTES && list_all is_name_byte p
 
 -- a first part, S and Program alone excepted
 abbrev pub may_lead : List ℕ → Bool
 may_lead p = is_name p && not (same p (codes "S")) && not (same p (codes "Program"))
 
--- a name, or (profile) 2 to 4 parts joined by colons, at most 80 bytes in all
+-- a name, or (profile) two parts or more joined by colons: not too many, and not too many bytes in all
 abbrev pub is_joined : List (List ℕ) → Bool
 is_joined [] = false
 is_joined (p ∷ []) = is_name p
-is_joined (p ∷ q ∷ ps) = may_lead p && is_part q && nat_le (length ps) 2 && list_all is_part ps
+is_joined (p ∷ q ∷ ps) = may_lead p && is_part q && nat_le (length ps) (MAX_TAG_NAME_PARTS - 2) && list_all is_part ps
 
 abbrev pub is_tag_name : List ℕ → Bool
-is_tag_name text = nat_le (length text) 80 && is_joined (pieces 58 text)
+is_tag_name text = nat_le (length text) MAX_TAG_NAME_BYTES && is_joined (pieces 58 text)
 
 -- ---- digits and numbers
 

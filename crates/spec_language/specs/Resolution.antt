@@ -3,6 +3,7 @@
 use Rattle.std.specs.Prelude.{ℕ, zero, suc, ◌+◌, ◌*◌, Bool, not, ◌&&◌, ◌==◌, nat_lt, List, [], ◌∷◌, ◌++◌, length, filter_map, Option, Some, None, Result, Ok, Err, option_map}
 use Rattle.std.specs.Option.{option_or}
 use Rattle.std.specs.Result.{result_err}
+use Rattle.spec_base.specs.declared.limits.TheConstants.{MAX_SUBSCRIPTS}
 use Rattle.lgx_num.specs.declared.number.Kind.{Kind}
 use Rattle.lgx_num.specs.declared.number.Kind.TheVariants.{Bool as KBool, Sint as KSint, Int as KInt, Dint as KDint}
 use Rattle.lgx_num.specs.declared.place.Index.{Index}
@@ -85,12 +86,12 @@ abbrev pub index_by : List TypeDecl → DataType → Found → Index
 index_by types array i = record { of = record { kind = kind_of i.of.base; at = i.at }; stride = stride types array.base; length = array.dim }
 
 -- what a variable subscript makes of an array, where the subscript's own text was found or has a cause: its cause comes
--- first, then G6 it may be no subscript, then G9 it is the fifth
+-- first, then G6 it may be no subscript, then G9 it is one too many
 abbrev pub find_indexed : List TypeDecl → Found → Result Found TagCode → Result Found TagCode
 find_indexed types f subscript = do
   i ← subscript
   _ ← unless (may_index i) G6
-  _ ← unless (nat_lt (length f.steps) 4) G9
+  _ ← unless (nat_lt (length f.steps) MAX_SUBSCRIPTS) G9
   Ok (record f { steps = f.steps ++ index_by types f.of i ∷ []; of = single f.of.base })
 
 -- ---- what a form names

@@ -8,6 +8,7 @@ use Rattle.spec_language.specs.declared.tag.Found.{Found}
 use Rattle.spec_language.specs.LayoutLaws.{HasBytes, IsSoundType, SoundTypes}
 use Rattle.spec_language.specs.Declarations.{Meaning, tag, alias, Declarations, bytes}
 use Rattle.std.specs.List.{AllByRecursion as Each}
+use Rattle.spec_base.specs.declared.limits.TheConstants.{MAX_SUBSCRIPTS}
 use Rattle.lgx_num.specs.Paths.{CanReach, SubscriptsInBounds}
 use Rattle.spec_language.specs.Resolution.{kind_of, stride, found, found_fixed}
 
@@ -37,9 +38,9 @@ abbrev pub EndsBy : List TypeDecl → DataType → ℕ → ℕ → Type 0
 EndsBy types of stop at = IsByteAligned (kind_of of.base) at × (at + width types of ≤ 8 * stop)
 
 pub record LiesIn (types : List TypeDecl) (len : ℕ) (f : Found) : Type 0 where
-  -- each subscript stands in the image, on a byte, and there are at most four
+  -- each subscript stands in the image, on a byte, and there are not too many
   pub subscripts : SubscriptsInBounds f.steps len
-  pub few : length f.steps ≤ 4
+  pub few : length f.steps ≤ MAX_SUBSCRIPTS
   -- wherever they lead, the place ends within its tag, and the tag within the image
   pub inside : (to : ℕ) → CanReach f.steps f.at to → EndsBy types f.of f.stop to
   pub stop : f.stop ≤ len

@@ -1,6 +1,7 @@
 -- What is wrong with a list of declared structures.
 use Rattle.std.specs.Prelude.{ℕ, zero, suc, ◌%◌, Bool, true, false, not, ◌&&◌, ◌||◌, ◌==◌, nat_lt, List, [], ◌∷◌, ◌++◌, length, take, filter, flat_map, slice_index, Option, Some, None, is_some, is_none}
 use Rattle.std.specs.List.{list_any, enumerate_from, range_with_len}
+use Rattle.spec_base.specs.declared.limits.TheConstants.{MAX_STRUCTURE_BYTES}
 use Rattle.lgx_num.specs.Name.{same}
 use Rattle.spec_base.specs.FirstCause.{where_true, first}
 use Rattle.spec_language.specs.Layout.{built_ins, looked_up, find, members_of, sizes}
@@ -73,11 +74,11 @@ reaches_itself decls i = among (reached_to (length decls) decls i) i
 
 -- ---- the first fault
 
--- those of names and members, by structures; then Y3 structures that reach themselves; then Y5 those over 4,096 bytes
+-- those of names and members, by structures; then Y3 structures that reach themselves; then Y5 those that are too long
 abbrev pub type_faults : List TypeDecl → List TypeFault
 type_faults decls = flat_map (structure_faults decls) (enumerate_from 0 decls)
     ++ (flat_map (λ i. where_true (reaches_itself decls i) (of_structure Y3 i)) (range_with_len 0 (length decls))
-    ++ flat_map (λ i. where_true (nat_lt 4096 (slice_index (sizes decls) i)) (of_structure Y5 i)) (range_with_len 0 (length decls)))
+    ++ flat_map (λ i. where_true (nat_lt MAX_STRUCTURE_BYTES (slice_index (sizes decls) i)) (of_structure Y5 i)) (range_with_len 0 (length decls)))
 
 abbrev pub type_fault : List TypeDecl → Option TypeFault
 type_fault decls = first (type_faults decls)

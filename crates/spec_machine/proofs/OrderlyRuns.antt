@@ -21,7 +21,7 @@ use Rattle.spec_tables.specs.Tasks.{Table, state_of, region_count, chosen, is_up
 use Rattle.spec_scan.specs.Scan.{Advanced, advance}
 use Rattle.spec_tables.specs.Forces.{Forces, forced, enable, remove_all}
 use Rattle.spec_tables.specs.Connections.{slot, io_word}
-use Rattle.spec_machine.specs.Edits.{Edited, edit}
+use Rattle.spec_machine.specs.Edits.{Edited, accept, on_accepted, test, untest, assemble, cancel}
 use Rattle.spec_machine.specs.Project.{Project}
 use Rattle.spec_machine.specs.State.{State, Scan, Progress, progress_of, programs_of, start}
 use Rattle.spec_machine.specs.Releases.{Released, release_or_overlap}
@@ -185,11 +185,11 @@ by_clear Faulted s h = faulted_down s.table h
 by_act : (s : State) (lane : ℕ) (a : Action) → IsOrderly s → IsOrderly (act s lane a).state
 by_act s lane (WordIn conn word v) h = by_held (held s.table) s _ h (by_put s v (slot s.plan.conns conn word false) h)
 by_act s lane (WordOut conn word) h = by_held (held s.table) s _ h (by_take s (slot s.plan.conns conn word true) h)
-by_act s lane (Accept a) h = by_edit s (edit s.plan.tags s.plan.names s.books lane (Accept a)) h
-by_act s lane (Test n) h = by_edit s (edit s.plan.tags s.plan.names s.books lane (Test n)) h
-by_act s lane (Untest n) h = by_edit s (edit s.plan.tags s.plan.names s.books lane (Untest n)) h
-by_act s lane (Assemble n) h = by_edit s (edit s.plan.tags s.plan.names s.books lane (Assemble n)) h
-by_act s lane (Cancel n) h = by_edit s (edit s.plan.tags s.plan.names s.books lane (Cancel n)) h
+by_act s lane (Accept a) h = by_edit s (accept s.plan.tags s.plan.names s.books lane a) h
+by_act s lane (Test n) h = by_edit s (on_accepted test s.books lane n) h
+by_act s lane (Untest n) h = by_edit s (on_accepted untest s.books lane n) h
+by_act s lane (Assemble n) h = by_edit s (on_accepted assemble s.books lane n) h
+by_act s lane (Cancel n) h = by_edit s (on_accepted cancel s.books lane n) h
 by_act s lane (ForceInstall conn word mask v) h = by_force s (install_on s.forces (io_word s.plan.conns conn word) mask v) h
 by_act s lane ForceEnable h = by_force s (enable s.forces) h
 by_act s lane ForceDisable h = h

@@ -14,12 +14,12 @@ use Rattle.spec_machine.specs.declared.reply.EditFault.{EditFault}
 use Rattle.spec_machine.specs.declared.reply.Reply.{Reply}
 use Rattle.spec_machine.specs.declared.reply.Reply.TheVariants as reply
 use Rattle.spec_machine.specs.declared.event.Action.{Action}
-use Rattle.spec_machine.specs.declared.event.Action.TheVariants.{WordIn, WordOut, ForceInstall, ForceEnable, ForceDisable, ForceRemove, ModeRun, ModeProgram, Clear}
+use Rattle.spec_machine.specs.declared.event.Action.TheVariants.{WordIn, WordOut, Accept, Test, Untest, Assemble, Cancel, ForceInstall, ForceEnable, ForceDisable, ForceRemove, ModeRun, ModeProgram, Clear}
 use Rattle.spec_machine.specs.declared.answer.Outcome.{Outcome}
 use Rattle.spec_tables.specs.Tasks.{held, start, stop, continuous_task}
 use Rattle.spec_tables.specs.Connections.{slot, io_word}
 use Rattle.spec_tables.specs.Forces.{Forces, forced, install, enable, disable, remove_all}
-use Rattle.spec_machine.specs.Edits.{Book, Edited, edit, selected}
+use Rattle.spec_machine.specs.Edits.{Book, Edited, accept, on_accepted, test, untest, assemble, cancel, selected}
 use Rattle.spec_scan.specs.Prescan.{prescan}
 use Rattle.spec_machine.specs.State.{State, no_progress, dropped}
 use Rattle.spec_machine.specs.Releases.{release_or_overlap}
@@ -143,6 +143,11 @@ clear s = unless_held s (clear_from s.mode s)
 abbrev pub act : State → ℕ → Action → Acted
 act s lane (WordIn conn word value) = word_in s conn word value
 act s lane (WordOut conn word) = word_out s conn word
+act s lane (Accept command) = edit_replied s (accept s.plan.tags s.plan.names s.books lane command)
+act s lane (Test name) = edit_replied s (on_accepted test s.books lane name)
+act s lane (Untest name) = edit_replied s (on_accepted untest s.books lane name)
+act s lane (Assemble name) = edit_replied s (on_accepted assemble s.books lane name)
+act s lane (Cancel name) = edit_replied s (on_accepted cancel s.books lane name)
 act s lane (ForceInstall conn word mask value) =
     force_replied s (install_on s.forces (io_word s.plan.conns conn word) mask value)
 act s lane ForceEnable = force_replied s (enable s.forces)
@@ -151,4 +156,3 @@ act s lane ForceRemove = force_replied s (remove_all s.forces)
 act s lane ModeRun = mode_run s
 act s lane ModeProgram = mode_program s
 act s lane Clear = clear s
-act s lane command = edit_replied s (edit s.plan.tags s.plan.names s.books lane command)

@@ -1,6 +1,7 @@
 -- Online edits of rungs (1756-PM008).
 use Rattle.std.specs.Prelude.{ℕ, ◌+◌, Bool, true, false, not, List, [], ◌∷◌, ◌++◌, map, length, nat_lt, nat_le, nat_eq, if◌then◌else◌, Option, Some, None, is_some, Result, Ok, Err, sum_by, flat_map, filter_map, slice_set, slice_index_or}
 use Rattle.std.specs.List.{list_any, position_from, enumerate_from}
+use Rattle.spec_base.specs.declared.limits.TheConstants.{MAX_PROGRAM_INSTRUCTIONS}
 use Rattle.lgx_num.specs.Name.{same}
 use Rattle.lgx_rung.specs.Tree.{instructions, Source}
 use Rattle.spec_machine.specs.declared.event.RungEdit.{RungEdit}
@@ -166,10 +167,6 @@ changes_in b r = filter_map (change_in r) b.accepted
 abbrev pub instruction_count : List RoutineText → ℕ
 instruction_count routines = sum_by (λ r. sum_by (λ rung. length (instructions rung)) r.source) routines
 
--- a program has at most so many instructions by edits
-abbrev pub instruction_room : ℕ
-instruction_room = 131072
-
 abbrev pub scope_of : Declarations → List TaskName → ℕ → Book → CheckScope
 scope_of tags tasks n b = record { tags = tags; program = n; routines = map (λ r. r.name) b.base; tasks = tasks }
 
@@ -193,7 +190,7 @@ accept_in scope client r edits b = do
   let source = merged (routine_at b.base r).source (changes_in b r ++ changes) in do
     rungs ← ok_or_cause (checked scope source) E8
     let b' = with_changes client r changes source rungs b in do
-      _ ← unless (nat_le (instruction_count b'.merged) instruction_room) E9
+      _ ← unless (nat_le (instruction_count b'.merged) MAX_PROGRAM_INSTRUCTIONS) E9
       Ok b'
 
 -- the books after a command, and its reply
@@ -237,11 +234,11 @@ assemble b = Ok (record b { base = b.merged; number = b.newest; accepted = []; o
 abbrev pub cancel : Book → Result Book EditFault
 cancel b = Ok (record b { merged = b.base; accepted = []; owner = None; testing = false })
 
--- A command of a client: the books after it, or the first cause. No other action is an edit.
-abbrev pub edit : Declarations → List TaskName → List Book → ℕ → Action → Result Edited EditFault
-edit tags tasks books client (Accept command) = accept tags tasks books client command
-edit tags tasks books client (Test name) = on_accepted test books client name
-edit tags tasks books client (Untest name) = on_accepted untest books client name
-edit tags tasks books client (Assemble name) = on_accepted assemble books client name
-edit tags tasks books client (Cancel name) = on_accepted cancel books client name
-edit tags tasks books client _ = Ok (record { books = books; reply = Done })
+-- An edit command of a client: the books after it, or the first cause. No other action is one.
+abbrev pub edit : Declarations → List TaskName → List Book → ℕ → Action → Option (Result Edited EditFault)
+edit tags tasks books client (Accept command) = Some (accept tags tasks books client command)
+edit tags tasks books client (Test name) = Some (on_accepted test books client name)
+edit tags tasks books client (Untest name) = Some (on_accepted untest books client name)
+edit tags tasks books client (Assemble name) = Some (on_accepted assemble books client name)
+edit tags tasks books client (Cancel name) = Some (on_accepted cancel books client name)
+edit tags tasks books client _ = None

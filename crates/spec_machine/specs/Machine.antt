@@ -1,5 +1,6 @@
 -- The ladder machine: what each event does to the state, and what is answered.
-use Rattle.std.specs.Prelude.{List, [], ◌∷◌}
+use Rattle.std.specs.Prelude.{◌≡◌, ℕ, List, [], ◌∷◌, map}
+use Rattle.spec_machine.specs.declared.event.Action.{Action}
 use Rattle.spec_machine.specs.declared.event.Event.{Event}
 use Rattle.spec_machine.specs.declared.event.Event.TheVariants.{Cpu, Tick, Act}
 use Rattle.spec_machine.specs.declared.answer.Moment.{Moment}
@@ -11,48 +12,54 @@ use Rattle.spec_machine.specs.Actions.{Acted, act}
 use Rattle.spec_machine.specs.State.{State, start}
 use Rattle.spec_machine.specs.Project.{Project}
 
-pub data Answer : Type 0 where
-  OfStep : Moment → Answer
-  OfTick : TickReport → Answer
-  OfAction : Outcome → Answer
+-- An event with its answer: a processor step with what it did, a tick with its report, an action of a lane with its
+-- outcome.
+pub data TraceEntry : Type 0 where
+  OfStep : Moment → TraceEntry
+  OfTick : TickReport → TraceEntry
+  OfAction : ℕ → Action → Outcome → TraceEntry
 
--- the state after an event, and the answer to it
+abbrev pub event_of : TraceEntry → Event
+event_of (OfStep m) = Cpu
+event_of (OfTick r) = Tick
+event_of (OfAction lane action o) = Act lane action
+
+-- the state after an event, and the event with its answer
 pub record Answered : Type 0 where
   pub state : State
-  pub answer : Answer
+  pub entry : TraceEntry
 
 abbrev pub after_step : Stepped → Answered
-after_step x = record { state = x.state; answer = OfStep x.moment }
+after_step x = record { state = x.state; entry = OfStep x.moment }
 
 abbrev pub after_tick : Ticked → Answered
-after_tick x = record { state = x.state; answer = OfTick x.report }
+after_tick x = record { state = x.state; entry = OfTick x.report }
 
-abbrev pub after_action : Acted → Answered
-after_action x = record { state = x.state; answer = OfAction x.outcome }
+abbrev pub after_action : ℕ → Action → Acted → Answered
+after_action lane action x = record { state = x.state; entry = OfAction lane action x.outcome }
 
 -- An event is a processor step, a tick, or an action of a lane.
 abbrev pub step : State → Event → Answered
 step s Cpu = after_step (processor_step s)
 step s Tick = after_tick (tick s)
-step s (Act lane action) = after_action (act s lane action)
-
--- an event, and the answer to it
-pub record Entry : Type 0 where
-  pub event : Event
-  pub answer : Answer
+step s (Act lane action) = after_action lane action (act s lane action)
 
 abbrev pub run_from : State → List Event → State
 run_from s [] = s
 run_from s (e ∷ es) = run_from (step s e).state es
 
-abbrev pub trace_from : State → List Event → List Entry
+abbrev pub trace_from : State → List Event → List TraceEntry
 trace_from s [] = []
-trace_from s (e ∷ es) = let x = step s e in record { event = e; answer = x.answer } ∷ trace_from x.state es
+trace_from s (e ∷ es) = let x = step s e in x.entry ∷ trace_from x.state es
 
 -- the state after a journal
 abbrev pub run : Project → List Event → State
 run project journal = run_from (start project) journal
 
 -- a journal's events, each with its answer
-abbrev pub trace : Project → List Event → List Entry
+abbrev pub trace : Project → List Event → List TraceEntry
 trace project journal = trace_from (start project) journal
+
+-- the events of a journal's trace are the journal
+abbrev pub TracesKeepEvents : Type 0
+TracesKeepEvents = (project : Project) (journal : List Event) → map event_of (trace project journal) ≡ journal

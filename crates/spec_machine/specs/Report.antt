@@ -1,5 +1,6 @@
 -- The lines of the report.
 use Rattle.std.specs.Prelude.{ℕ, ◌+◌, ◌-◌, List, [], ◌∷◌, ◌++◌, map, length, drop, take, if◌then◌else◌}
+use Rattle.spec_base.specs.declared.limits.TheConstants.{MAX_REPORT_LINES}
 use Rattle.lgx_num.specs.Number.{int_eq}
 use Rattle.lgx_num.specs.Image.{number}
 use Rattle.spec_machine.specs.declared.reply.Mode.{Mode}
@@ -8,12 +9,11 @@ use Rattle.spec_machine.specs.declared.answer.What.TheVariants.{Began}
 use Rattle.spec_machine.specs.declared.line.Line.{Line}
 use Rattle.spec_machine.specs.declared.line.Line.TheVariants.{Begin, Fault, Reply, Set}
 use Rattle.spec_machine.specs.declared.event.Event.{Event}
-use Rattle.spec_machine.specs.declared.event.Event.TheVariants.{Act}
 -- the number of processor steps
 pub use Rattle.spec_machine.specs.Events.{is_step, steps_of}
 use Rattle.spec_machine.specs.Project.{Project, Watch}
 use Rattle.spec_machine.specs.State.{State, start}
-use Rattle.spec_machine.specs.Machine.{Answer, OfStep, OfTick, OfAction, step}
+use Rattle.spec_machine.specs.Machine.{TraceEntry, OfStep, OfTick, OfAction, step}
 
 -- a line with the tick and the number of processor steps so far, both after its event
 pub record Stamped : Type 0 where
@@ -27,11 +27,10 @@ begin_lines (Began t n version) = Begin t n version ∷ []
 begin_lines _ = []
 
 -- so has each action; a tick has none of its own
-abbrev pub answer_lines : Event → Answer → List Line
-answer_lines e (OfStep m) = begin_lines m.what
-answer_lines e (OfTick r) = []
-answer_lines (Act lane action) (OfAction o) = Reply lane o.reply ∷ []
-answer_lines e (OfAction o) = []
+abbrev pub answer_lines : TraceEntry → List Line
+answer_lines (OfStep m) = begin_lines m.what
+answer_lines (OfTick r) = []
+answer_lines (OfAction lane action o) = Reply lane o.reply ∷ []
 
 -- each watched place whose value changed, in watch order, where the first is number n
 abbrev pub set_lines : ℕ → List Watch → List ℕ → List ℕ → List Line
@@ -40,9 +39,9 @@ set_lines n (w ∷ ws) old new =
     (if int_eq (number old w.place) (number new w.place) then [] else Set n (number new w.place) ∷ []) ++ set_lines (n + 1) ws old new
 
 -- the lines of one event between two states: its answer, the faults that it recorded, and the watched places
-abbrev pub event_lines : List Watch → State → Event → State → Answer → List Line
-event_lines watches old e new answer =
-    answer_lines e answer ++ (map Fault (drop (length old.faults) new.faults) ++ set_lines 0 watches old.image new.image)
+abbrev pub event_lines : List Watch → State → State → TraceEntry → List Line
+event_lines watches old new entry =
+    answer_lines entry ++ (map Fault (drop (length old.faults) new.faults) ++ set_lines 0 watches old.image new.image)
 
 abbrev pub stamp : ℕ → ℕ → List Line → List Stamped
 stamp tick step lines = map (λ l. record { tick = tick; step = step; line = l }) lines
@@ -53,15 +52,11 @@ lines_from watches s n [] = []
 lines_from watches s n (e ∷ es) =
     let x = step s e in
     let n' = (if is_step e then n + 1 else n) in
-    stamp x.state.tick n' (event_lines watches s e x.state x.answer) ++ lines_from watches x.state n' es
+    stamp x.state.tick n' (event_lines watches s x.state x.entry) ++ lines_from watches x.state n' es
 
 -- all lines of a journal
 abbrev pub lines : Project → List Event → List Stamped
 lines project journal = lines_from project.watches (start project) 0 journal
-
--- so many lines are kept
-abbrev pub line_room : ℕ
-line_room = 100000
 
 -- the kept lines, and what the end line tells
 pub record Report : Type 0 where
@@ -73,4 +68,4 @@ pub record Report : Type 0 where
 
 abbrev pub report_of : List Stamped → State → ℕ → Report
 report_of lines final step =
-    record { lines = take line_room lines; tick = final.tick; step = step; mode = final.mode; lost = length lines - line_room }
+    record { lines = take MAX_REPORT_LINES lines; tick = final.tick; step = step; mode = final.mode; lost = length lines - MAX_REPORT_LINES }

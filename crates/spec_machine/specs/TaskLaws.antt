@@ -12,7 +12,8 @@ use Rattle.spec_machine.specs.Machine.{run}
 abbrev pub OneOpen : Type 0
 OneOpen = (project : Project) (journal : List Event) (t q : ℕ) → IsTrue (is_open (state_of (run project journal).table t)) → IsTrue (is_open (state_of (run project journal).table q)) → t ≡ q
 
--- A task that has something open is up.
+-- A task that has something open is up. This holds of every state, by what it is to have something open: a task that is
+-- down keeps no counts.
 abbrev pub OpenIsUp : Type 0
 OpenIsUp = (s : State) (t : ℕ) → IsTrue (is_open (state_of s.table t)) → IsTrue (is_up s.table t)
 
@@ -27,6 +28,7 @@ RanksDiffer = (project : Project) (journal : List Event) (t q : ℕ) (u v : Task
 abbrev pub RanksBelowNext : Type 0
 RanksBelowNext = (project : Project) (journal : List Event) (t : ℕ) (u : TaskState) → state_of (run project journal).table t ≡ Some u → u.rank < (run project journal).table.next
 
--- A step is of a task that was up before it.
+-- A step is of a task that was up before it. This too holds of every state: the step is the chosen task's, and that is one
+-- that is up.
 abbrev pub StepOfUpTask : Type 0
 StepOfUpTask = (s : State) (t : ℕ) → task_of (processor_step s).moment.what ≡ Some t → IsTrue (is_up s.table t)

@@ -7,6 +7,7 @@ mod line;
 mod reply;
 mod scan_laws;
 mod task_laws;
+mod trace_laws;
 
 pub use answer::{Mark, Moment, Outcome, TickReport, What};
 pub use event::{Accept, Action, Event, RungEdit, Text};
@@ -14,3 +15,4 @@ pub use line::Line;
 pub use reply::{EditFault, Mode, ModeFault, Reply};
 pub use scan_laws::checked_rungs_are_executable;
 pub use task_laws::tasks_stay_orderly;
+pub use trace_laws::traces_keep_events;

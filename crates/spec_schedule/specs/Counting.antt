@@ -2,6 +2,7 @@
 -- accepted edits select. Ranks, queues and positions don't occur.
 use Rattle.std.specs.Prelude.{ℕ, ◌+◌, ◌-◌, List, [], ◌∷◌, map, replicate, Bool, true, false, ◌||◌, nat_lt, nat_eq, if◌then◌else◌, Option, Some, None}
 use Rattle.std.specs.Int.{bit_at}
+use Rattle.std.specs.List.{enumerate_from, zip}
 use Rattle.spec_schedule.specs.declared.trace.TraceMark.{TraceMark}
 use Rattle.spec_schedule.specs.declared.trace.TraceMark.TheVariants.{Up, Down, Trigger, Sync, SyncEnd}
 use Rattle.spec_schedule.specs.declared.trace.StepFault.TheVariants.{Plain as NoFault, Major}
@@ -93,10 +94,18 @@ abbrev pub counted : AuditTask → ℕ → TraceEvent → Counted → Counted
 counted d t e c =
     if stops e then gone_down c else (let c' = if steps_here e t then stepped d e c else c in if releases e t then released c' else c')
 
-abbrev pub counted_from : ℕ → List AuditTask → TraceEvent → List Counted → List Counted
-counted_from t [] e cs = []
-counted_from t (d ∷ ds) e [] = []
-counted_from t (d ∷ ds) e (c ∷ cs) = counted d t e c ∷ counted_from (t + 1) ds e cs
+-- a task by its number, with what the laws ask of it and its counts
+pub record CountedTask : Type 0 where
+  pub number : ℕ
+  pub task : AuditTask
+  pub counts : Counted
+
+-- the tasks of a table, each with its counts
+abbrev pub counted_tasks : List AuditTask → List Counted → List CountedTask
+counted_tasks tasks counts = map (λ x. record { number = x.0; task = x.1.0; counts = x.1.1 }) (enumerate_from 0 (zip tasks counts))
+
+abbrev pub counted_all : List AuditTask → TraceEvent → List Counted → List Counted
+counted_all tasks e counts = map (λ x. counted x.task x.number e x.counts) (counted_tasks tasks counts)
 
 -- ---- versions
 
@@ -111,8 +120,8 @@ abbrev pub unedited : Numbers
 unedited = record { base = 0; newest = 0; testing = false }
 
 -- the number of the text that is selected
-abbrev pub selected : Numbers → ℕ
-selected n = if n.testing then n.newest else n.base
+abbrev pub selected_number : Numbers → ℕ
+selected_number n = if n.testing then n.newest else n.base
 
 abbrev pub edited : Verb → TraceAnswer → Numbers → Numbers
 edited Accept (Number k) n = record n { newest = k }
@@ -126,9 +135,8 @@ abbrev pub edited_at : ℕ → TraceEvent → Numbers → Numbers
 edited_at g (Act _ verb (Some h) answer _) n = if nat_eq g h then edited verb answer n else n
 edited_at g _ n = n
 
-abbrev pub edited_from : ℕ → TraceEvent → List Numbers → List Numbers
-edited_from g e [] = []
-edited_from g e (n ∷ ns) = edited_at g e n ∷ edited_from (g + 1) e ns
+abbrev pub edited_all : TraceEvent → List Numbers → List Numbers
+edited_all e ns = map (λ x. edited_at x.0 e x.1) (enumerate_from 0 ns)
 
 -- ---- along the trace
 
@@ -140,7 +148,7 @@ pub record CountedEvent : Type 0 where
 
 abbrev pub counted_events_from : List AuditTask → List Counted → List Numbers → List TraceEvent → List CountedEvent
 counted_events_from ds cs ns [] = []
-counted_events_from ds cs ns (e ∷ es) = record { tasks = cs; programs = ns; event = e } ∷ counted_events_from ds (counted_from 0 ds e cs) (edited_from 0 e ns) es
+counted_events_from ds cs ns (e ∷ es) = record { tasks = cs; programs = ns; event = e } ∷ counted_events_from ds (counted_all ds e cs) (edited_all e ns) es
 
 abbrev pub counted_events : Table → List TraceEvent → List CountedEvent
 counted_events table trace = counted_events_from table.tasks (map (λ d. uncounted) table.tasks) (replicate table.programs unedited) trace

@@ -1,12 +1,12 @@
 -- The legal schedule, by counting along a trace: the priority law, the turn law, and the version law as far as it
 -- speaks of numbers.
 use Rattle.std.specs.Prelude.{ℕ, ◌+◌, List, [], ◌∷◌, drop, slice_index_or, take_while, filter_map, Bool, true, false, not, ◌&&◌, ◌||◌, nat_lt, nat_eq, if◌then◌else◌, Option, Some, None, IsTrue}
-use Rattle.std.specs.List.{list_any, list_all, prefix_len}
+use Rattle.std.specs.List.{list_any, list_all, prefix_len, enumerate_from}
 use Rattle.spec_schedule.specs.declared.trace.TraceEvent.{TraceEvent}
 use Rattle.spec_schedule.specs.declared.trace.TraceEvent.TheVariants.{Idle, Began, Step, Left, Tick, Act}
 use Rattle.spec_schedule.specs.declared.trace.AuditTask.{AuditTask}
 use Rattle.spec_schedule.specs.declared.trace.Table.{Table}
-use Rattle.spec_schedule.specs.Counting.{Counted, uncounted, is_open, unedited, selected, stepping, steps_here, CountedEvent, counted_events}
+use Rattle.spec_schedule.specs.Counting.{Counted, uncounted, is_open, unedited, selected_number, stepping, steps_here, CountedTask, counted_tasks, CountedEvent, counted_events}
 
 abbrev pub no_task : AuditTask
 no_task = record { continuous = false; priority = 0; programs = 0 }
@@ -19,14 +19,12 @@ at x t = slice_index_or x.tasks t uncounted
 
 -- ---- the priority law
 
--- some task that is counted up passes the test of its number and priority
-abbrev pub some_up : (ℕ → ℕ → Bool) → ℕ → List AuditTask → List Counted → Bool
-some_up test t [] cs = false
-some_up test t (d ∷ ds) [] = false
-some_up test t (d ∷ ds) (c ∷ cs) = (c.up && test t d.priority) || some_up test (t + 1) ds cs
+-- some task that is counted up passes the test
+abbrev pub some_up : (CountedTask → Bool) → Table → CountedEvent → Bool
+some_up test table x = list_any (λ u. u.counts.up && test u) (counted_tasks table.tasks x.tasks)
 
 abbrev pub higher_up : Table → CountedEvent → ℕ → Bool
-higher_up table x t = some_up (λ u p. nat_lt p (priority_of table t)) 0 table.tasks x.tasks
+higher_up table x t = some_up (λ u. nat_lt u.task.priority (priority_of table t)) table x
 
 -- a step of t: t is counted up, and where a task of higher priority is, t has a region or a CPS open
 abbrev pub may_step : Table → CountedEvent → ℕ → Bool
@@ -37,7 +35,7 @@ abbrev pub keeps_priority : Table → CountedEvent → Bool
 keeps_priority table x = check x.event
   where
     check : TraceEvent → Bool
-    check Idle = not (some_up (λ u p. true) 0 table.tasks x.tasks)
+    check Idle = not (some_up (λ u. true) table x)
     check (Began t _ _) = may_step table x t
     check (Step t _ _ _) = may_step table x t
     check (Left t _ _) = may_step table x t
@@ -45,14 +43,13 @@ keeps_priority table x = check x.event
 
 -- An open region isn't interrupted, and neither is an open CPS: while a task has one, no other task steps. The priority
 -- law alone leaves this open for a task of higher priority.
-abbrev pub another_open : ℕ → ℕ → List Counted → Bool
-another_open t u [] = false
-another_open t u (c ∷ cs) = (is_open c && not (nat_eq u t)) || another_open t (u + 1) cs
+abbrev pub another_open : ℕ → List Counted → Bool
+another_open t counts = list_any (λ u. is_open u.1 && not (nat_eq u.0 t)) (enumerate_from 0 counts)
 
 abbrev pub keeps_region : CountedEvent → Bool
-keeps_region x = elim (stepping x.event) [ None ↦ true | Some t ↦ not (another_open t 0 x.tasks) ]
+keeps_region x = elim (stepping x.event) [ None ↦ true | Some t ↦ not (another_open t x.tasks) ]
 
--- each of a list with those behind it
+-- each of a list with those after it
 abbrev pub each_from : {A : Type 0} → (A → List A → Bool) → List A → Bool
 each_from test [] = true
 each_from test (x ∷ xs) = test x xs && each_from test xs
@@ -79,7 +76,7 @@ of_priority table p (Some t) = if nat_eq (priority_of table t) p then Some t els
 abbrev pub who_steps : Table → ℕ → List CountedEvent → List ℕ
 who_steps table p xs = filter_map (λ x. of_priority table p (stepping x.event)) xs
 
--- t isn't among them behind another one
+-- t isn't among them after another one
 abbrev pub keeps_on : ℕ → List ℕ → Bool
 keeps_on t us = not (list_any (λ u. nat_eq u t) (drop (prefix_len (λ u. nat_eq u t) us) us))
 
@@ -92,7 +89,7 @@ keeps_turn table x xs = elim (stepping x.event) [
 
 -- at place y every other task of t's priority that was counted up at place k has gone down
 abbrev pub others_went : Table → ℕ → CountedEvent → CountedEvent → Bool
-others_went table t k y = not (some_up (λ u p. nat_eq p (priority_of table t) && not (nat_eq u t) && stays u k y) 0 table.tasks k.tasks)
+others_went table t k y = not (some_up (λ u. nat_eq u.task.priority (priority_of table t) && not (nat_eq u.number t) && stays u.number k y) table k)
 
 abbrev pub gives_turn : Table → ℕ → CountedEvent → List CountedEvent → Bool
 gives_turn table t k ys = list_all (λ y. not (steps_here y.event t) || others_went table t k y) (before_tick ys)
@@ -102,13 +99,13 @@ gives_turn table t k ys = list_all (λ y. not (steps_here y.event t) || others_w
 abbrev pub is_turn : Table → ℕ → CountedEvent → CountedEvent → Bool
 is_turn table t x k = stays t x k && not (is_open (at k t)) && not (higher_up table k t)
 
--- what stands behind actions alone, if it is a tick
+-- what stands after actions alone
 abbrev pub is_action : TraceEvent → Bool
 is_action (Act _ _ _ _ _) = true
 is_action _ = false
 
-abbrev pub behind_actions : List CountedEvent → List CountedEvent
-behind_actions xs = drop (prefix_len (λ x. is_action x.event) xs) xs
+abbrev pub after_actions : List CountedEvent → List CountedEvent
+after_actions xs = drop (prefix_len (λ x. is_action x.event) xs) xs
 
 abbrev pub after_tick : Table → ℕ → CountedEvent → List CountedEvent → Bool
 after_tick table t x [] = true
@@ -118,7 +115,7 @@ after_tick table t x (k ∷ ys) = not (is_tick k.event && is_turn table t x k) |
 -- steps again before the next tick only after every other task of its priority that was up just before the tick has gone
 -- down.
 abbrev pub gives_way : Table → CountedEvent → List CountedEvent → Bool
-gives_way table x xs = elim (stepping x.event) [ None ↦ true | Some t ↦ after_tick table t x (behind_actions xs) ]
+gives_way table x xs = elim (stepping x.event) [ None ↦ true | Some t ↦ after_tick table t x (after_actions xs) ]
 
 -- ---- the version law
 
@@ -127,7 +124,7 @@ abbrev pub keeps_version : CountedEvent → Bool
 keeps_version x = check x.event
   where
     check : TraceEvent → Bool
-    check (Began _ g v) = nat_eq v (selected (slice_index_or x.programs g unedited))
+    check (Began _ g v) = nat_eq v (selected_number (slice_index_or x.programs g unedited))
     check _ = true
 
 -- ---- the laws that a trace shows by itself

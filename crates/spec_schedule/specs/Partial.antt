@@ -1,7 +1,8 @@
 -- Partial and complete journals of a script.
-use Rattle.std.specs.Prelude.{◌≡◌, ℕ, zero, suc, ◌+◌, ◌-◌, ◌%◌, ◌≤◌, List, [], ◌∷◌, ◌++◌, map, length, take, drop, Bool, true, false, not, ◌&&◌, nat_lt, nat_eq, if◌then◌else◌, Option, Some, None, IsTrue, IsFalse, ⊤}
+use Rattle.std.specs.Prelude.{◌≡◌, ℕ, zero, suc, ◌+◌, ◌-◌, ◌%◌, ◌≤◌, List, [], ◌∷◌, ◌++◌, map, length, take, drop, Bool, true, false, not, ◌&&◌, nat_lt, nat_eq, if◌then◌else◌, Option, Some, None, IsTrue, IsFalse}
 use Rattle.std.specs.Bool.{beq as agree}
-use Rattle.std.specs.List.{AllZip, list_all, last_or, range_with_len}
+use Rattle.std.specs.List.{AllZip, enumerate_from, list_all, last_or, range_with_len}
+use Rattle.spec_base.specs.declared.limits.TheConstants.{OWN_LANE}
 use Rattle.spec_machine.specs.declared.event.Action.{Action}
 use Rattle.spec_machine.specs.declared.event.Action.TheVariants.{ModeRun}
 use Rattle.spec_machine.specs.declared.event.Event.{Event}
@@ -12,7 +13,7 @@ use Rattle.spec_machine.specs.Events.{is_step, is_tick, steps_of}
 use Rattle.spec_text.specs.Scripts.{Script}
 use Rattle.spec_tables.specs.Tasks.{held}
 use Rattle.spec_machine.specs.Project.{Project}
-use Rattle.spec_machine.specs.Machine.{Answer, OfAction, run, trace}
+use Rattle.spec_machine.specs.Machine.{TraceEntry, OfAction, run, trace}
 
 -- a CPS is open after these events
 abbrev pub is_held_after : Project → List Event → Bool
@@ -20,9 +21,9 @@ is_held_after project journal = held (run project journal).table
 
 -- ---- the actions of the lanes
 
--- lane 31 has no other action than the first, and every other action is of a lane of the script
+-- the journal's own lane has no other action than the first, and every other action is of a lane of the script
 abbrev pub is_of_lane : ℕ → Event → Bool
-is_of_lane lanes (Act lane a) = not (nat_eq lane 31) && nat_lt lane lanes
+is_of_lane lanes (Act lane a) = not (nat_eq lane OWN_LANE) && nat_lt lane lanes
 is_of_lane lanes _ = true
 
 -- an action in a journal, and the number of ticks before it
@@ -34,7 +35,7 @@ abbrev pub made_if : Bool → Action → ℕ → List Made → List Made
 made_if true a ticks made = record { action = a; ticks = ticks } ∷ made
 made_if false a ticks made = made
 
--- what a lane does in a journal, behind so many ticks
+-- what a lane does in a journal, after so many ticks
 abbrev pub made_by : ℕ → ℕ → List Event → List Made
 made_by lane ticks [] = []
 made_by lane ticks (Cpu ∷ es) = made_by lane ticks es
@@ -47,19 +48,17 @@ pub record LaneDid (journal : List Event) (lane count : ℕ) (list : List Timed)
   pub order : map (λ m. m.action) (made_by lane 0 journal) ≡ map (λ t. t.action) (take count list)
   pub due : AllZip (λ m t. t.at ≤ m.ticks) (made_by lane 0 journal) (take count list)
 
--- one count for each lane, where the first lane of the list is number n
-abbrev pub LanesDid : List Event → ℕ → List ℕ → List (List Timed) → Type 0
-LanesDid journal n [] [] = ⊤
-LanesDid journal n (c ∷ cs) (list ∷ lists) = LaneDid journal n c list × LanesDid journal (n + 1) cs lists
-LanesDid journal n _ _ = ⊥
+-- there is one count for each lane, and each lane did so many
+abbrev pub LanesDid : List Event → List ℕ → List (List Timed) → Type 0
+LanesDid journal counts lists = AllZip (λ count lane. LaneDid journal lane.0 count lane.1) counts (enumerate_from 0 lists)
 
-abbrev pub is_held : Answer → Bool
-is_held (OfAction o) = elim o.reply [ Held ↦ true | _ ↦ false ]
+abbrev pub is_held : TraceEntry → Bool
+is_held (OfAction lane action o) = elim o.reply [ Held ↦ true | _ ↦ false ]
 is_held _ = false
 
 -- ---- ticks and steps
 
--- the test of what stands before and behind each place of a journal, its two ends too
+-- the test of what stands before and after each place of a journal, its two ends too
 abbrev pub each_place : (List Event → List Event → Bool) → List Event → List Event → Bool
 each_place test before [] = test before []
 each_place test before (e ∷ es) = test before (e ∷ es) && each_place test (before ++ e ∷ []) es
@@ -78,7 +77,7 @@ ends_pace pace events = is_some_step (last_or None events) && nat_eq (steps_of e
 
 -- a tick stands directly after each processor step whose number the pace divides, and nowhere else
 abbrev pub is_paced : ℕ → List Event → Bool
-is_paced pace journal = each_place (λ before behind. agree (begins_with_tick behind) (ends_pace pace before)) [] journal
+is_paced pace journal = each_place (λ before after. agree (begins_with_tick after) (ends_pace pace before)) [] journal
 
 -- the events up to and with the k-th processor step and its tick, if it has one
 abbrev pub tick_at : List Event → List Event
@@ -98,14 +97,14 @@ is_held_over project steps journal = list_all (λ k. is_held_after project (thro
 
 -- ---- partial and complete
 
--- A journal is partial for the counts, one a lane, where it begins with lane 31's `mode run`; the rest is of the
+-- A journal is partial for the counts, one a lane, where it begins with its own lane's `mode run`; the rest is of the
 -- script's lanes; each lane did the first of its actions, in order and in time; none was answered Held; the ticks stand
 -- at the pace; and processor steps beyond the script's stand only while a CPS is open.
 pub record IsPartial (project : Project) (script : Script) (counts : List ℕ) (journal : List Event) : Type 0 where
-  pub opening : take 1 journal ≡ Act 31 ModeRun ∷ []
+  pub opening : take 1 journal ≡ Act OWN_LANE ModeRun ∷ []
   pub rest : IsTrue (list_all (is_of_lane (length script.lanes)) (drop 1 journal))
-  pub lanes : LanesDid journal 0 counts script.lanes
-  pub answers : IsTrue (list_all (λ x. not (is_held x.answer)) (trace project journal))
+  pub lanes : LanesDid journal counts script.lanes
+  pub answers : IsTrue (list_all (λ x. not (is_held x)) (trace project journal))
   pub ticks : IsTrue (is_paced script.pace journal)
   pub steps : IsTrue (is_held_over project script.steps journal)
 

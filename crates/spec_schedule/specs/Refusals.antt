@@ -5,6 +5,7 @@ use Rattle.std.specs.Bool.{beq as agree}
 use Rattle.std.specs.List.{position_from}
 -- a cause, where its test holds
 pub use Rattle.std.specs.Bool.{then_some as when}
+use Rattle.spec_base.specs.declared.limits.TheConstants.{MAX_PROGRAM_INSTRUCTIONS}
 use Rattle.lgx_num.specs.Name.{same}
 use Rattle.lgx_rung.specs.Tree.{Source}
 use Rattle.spec_tables.specs.declared.conn.ConnDef.{ConnDef}
@@ -23,7 +24,7 @@ use Rattle.spec_machine.specs.declared.reply.Reply.TheVariants.{Held, Mode, Conn
 use Rattle.spec_tables.specs.Tasks.{held}
 use Rattle.spec_tables.specs.Connections.{no_conn, conn_named, io_word}
 use Rattle.spec_tables.specs.Forces.{force_room, installed}
-use Rattle.spec_machine.specs.Edits.{Change, Book, book_at, routine_at, other_owner, is_misplaced, first_again, taken_by, changes_in, changes_of, merged, scope_of, with_changes, instruction_count, instruction_room}
+use Rattle.spec_machine.specs.Edits.{Change, Book, book_at, routine_at, other_owner, is_misplaced, first_again, taken_by, changes_in, changes_of, merged, scope_of, with_changes, instruction_count}
 use Rattle.spec_language.specs.Checked.{CheckScope, checked}
 use Rattle.spec_scan.specs.Position.{Rungs}
 use Rattle.lgx_rung.specs.declared.fault.CheckFault.{CheckFault}
@@ -112,7 +113,7 @@ merged_causes scope lane r b changes = go (checked scope source)
 
     go : Result Rungs CheckFault → List (Option Reply)
     go (Err f) = Some (Edit (E8 f)) ∷ []
-    go (Ok rungs) = when (nat_lt instruction_room (instruction_count (with_changes lane r changes source rungs b).merged)) (Edit E9) ∷ []
+    go (Ok rungs) = when (nat_lt MAX_PROGRAM_INSTRUCTIONS (instruction_count (with_changes lane r changes source rungs b).merged)) (Edit E9) ∷ []
 
 abbrev pub if_read : Result (List Change) EditFault → (List Change → List (Option Reply)) → List (Option Reply)
 if_read (Err f) causes = []

@@ -5,7 +5,6 @@ use Rattle.std.specs.List.{AllByRecursion}
 use Rattle.std.specs.Str.{bytes_eq}
 use Rattle.spec_machine.specs.declared.event.Action.{Action}
 use Rattle.spec_machine.specs.declared.event.Event.{Event}
-use Rattle.spec_machine.specs.declared.event.Event.TheVariants.{Act}
 use Rattle.spec_machine.specs.declared.answer.What.{What}
 use Rattle.spec_machine.specs.declared.answer.What.TheVariants.{Began}
 use Rattle.spec_machine.specs.declared.answer.Mark.TheVariants.{CopyStart, CopyEnd}
@@ -19,20 +18,19 @@ use Rattle.spec_machine.specs.ProcessorStep.{task_of}
 use Rattle.spec_machine.specs.Project.{Project}
 use Rattle.spec_machine.specs.State.{State, Scan, progress_of, start}
 use Rattle.spec_schedule.specs.Legal.{each_from}
-use Rattle.spec_machine.specs.Machine.{Answer, OfStep, OfAction, step, run}
+use Rattle.spec_machine.specs.Machine.{TraceEntry, OfStep, OfAction, step, run}
 use Rattle.spec_schedule.specs.Refusals.{first_cause}
 
 -- an event with its answer, and the states before and after it
 pub record Stage : Type 0 where
   pub before : State
-  pub event : Event
-  pub answer : Answer
+  pub entry : TraceEntry
   pub after : State
 
 abbrev pub stages_from : State → List Event → List Stage
 stages_from s [] = []
 stages_from s (e ∷ es) =
-    let x = step s e in record { before = s; event = e; answer = x.answer; after = x.state } ∷ stages_from x.state es
+    let x = step s e in record { before = s; entry = x.entry; after = x.state } ∷ stages_from x.state es
 
 abbrev pub stages : Project → List Event → List Stage
 stages p journal = stages_from (start p) journal
@@ -51,17 +49,18 @@ pub record SelectedRungs : Type 0 where
   pub books : List Book
   pub begun : Option ProgramRungs
 
--- a command that isn't refused is applied to the books
-abbrev pub books_or : List Book → Result Edited EditFault → List Book
-books_or books (Err f) = books
-books_or books (Ok e) = e.books
+-- a command that isn't refused is applied to the books, and nothing else changes them
+abbrev pub books_or : List Book → Option (Result Edited EditFault) → List Book
+books_or books None = books
+books_or books (Some (Err f)) = books
+books_or books (Some (Ok e)) = e.books
 
-abbrev pub commanded : State → Event → Answer → List Book → List Book
-commanded s (Act lane action) (OfAction o) books =
+abbrev pub commanded : State → TraceEntry → List Book → List Book
+commanded s (OfAction lane action o) books =
     if is_refusal o.reply then books else books_or books (edit s.plan.tags s.plan.names books lane action)
-commanded s _ _ books = books
+commanded s _ books = books
 
-abbrev pub begins : ℕ → Answer → List Book → Option ProgramRungs → Option ProgramRungs
+abbrev pub begins : ℕ → TraceEntry → List Book → Option ProgramRungs → Option ProgramRungs
 begins t (OfStep m) books begun = go m.what
   where
     go : What → Option ProgramRungs
@@ -70,7 +69,7 @@ begins t (OfStep m) books begun = go m.what
 begins t _ books begun = begun
 
 abbrev pub selected_after : ℕ → SelectedRungs → Stage → SelectedRungs
-selected_after t c x = record { books = commanded x.before x.event x.answer c.books; begun = begins t x.answer c.books c.begun }
+selected_after t c x = record { books = commanded x.before x.entry c.books; begun = begins t x.entry c.books c.begun }
 
 abbrev pub begun_by : ℕ → List Book → List Stage → Option ProgramRungs
 begun_by t books xs = (fold (selected_after t) (record { books = books; begun = None }) xs).begun
@@ -86,11 +85,11 @@ ScansKeepRungs p =
 -- ---- the copy law
 
 -- the task that starts a CPS in this step, and the one that copies the last element of one
-abbrev pub sync_start : Answer → Option ℕ
+abbrev pub sync_start : TraceEntry → Option ℕ
 sync_start (OfStep m) = elim m.mark [ CopyStart sync ↦ (if sync then task_of m.what else None) | _ ↦ None ]
 sync_start _ = None
 
-abbrev pub sync_end : Answer → Option ℕ
+abbrev pub sync_end : TraceEntry → Option ℕ
 sync_end (OfStep m) = elim m.mark [ CopyEnd sync ↦ (if sync then task_of m.what else None) | _ ↦ None ]
 sync_end _ = None
 
@@ -99,7 +98,7 @@ is_task t None = false
 is_task t (Some u) = nat_eq u t
 
 abbrev pub starts_or_ends : ℕ → Stage → Bool
-starts_or_ends t x = is_task t (sync_start x.answer) || is_task t (sync_end x.answer)
+starts_or_ends t x = is_task t (sync_start x.entry) || is_task t (sync_end x.entry)
 
 abbrev pub length_of : Copying → ℕ
 length_of c = c.size * c.left
@@ -115,13 +114,13 @@ is_copied c started ended =
 abbrev pub copy_in : State → ℕ → Option Copying
 copy_in s t = elim (scan_of s t) [ None ↦ None | Some scan ↦ scan.position.copy ]
 
--- at the end of the CPS that t started with stage x, the first of its stages behind that start or end one
+-- at the end of the CPS that t started with stage x, the first of its later stages that start or end one
 abbrev pub ends_whole : ℕ → Stage → Option Copying → Option Stage → Bool
-ends_whole t x (Some c) (Some y) = not (is_task t (sync_end y.answer) && is_apart c) || is_copied c x.after y.after
+ends_whole t x (Some c) (Some y) = not (is_task t (sync_end y.entry) && is_apart c) || is_copied c x.after y.after
 ends_whole t x _ _ = true
 
 abbrev pub keeps_copy : Stage → List Stage → Bool
-keeps_copy x xs = elim (sync_start x.answer) [
+keeps_copy x xs = elim (sync_start x.entry) [
   | None ↦ true
   | Some t ↦ ends_whole t x (copy_in x.after t) (find (starts_or_ends t) xs)
 ]
@@ -138,11 +137,11 @@ abbrev pub IsRefusedRightly : State → ℕ → Action → State → Reply → T
 IsRefusedRightly before lane action after r = (first_cause before lane action ≡ Some r) × (after ≡ before)
 
 abbrev pub KeepsState : Stage → Type 0
-KeepsState x = go x.event x.answer
+KeepsState x = go x.entry
   where
-    go : Event → Answer → Type 0
-    go (Act lane action) (OfAction o) = elim (is_refusal o.reply) [ true ↦ IsRefusedRightly x.before lane action x.after o.reply | false ↦ ⊤ ]
-    go _ _ = ⊤
+    go : TraceEntry → Type 0
+    go (OfAction lane action o) = elim (is_refusal o.reply) [ true ↦ IsRefusedRightly x.before lane action x.after o.reply | false ↦ ⊤ ]
+    go _ = ⊤
 
 abbrev pub RefusalsChangeNothing : Project → Type 0
 RefusalsChangeNothing p = (journal : List Event) → AllByRecursion KeepsState (stages p journal)

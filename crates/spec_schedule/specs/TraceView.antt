@@ -1,6 +1,6 @@
 -- A trace of the machine as numbers alone.
 use Rattle.std.specs.Prelude.{ℕ, List, [], ◌∷◌, map, length, true, false, Option, Some, None}
-use Rattle.std.specs.List.{position_from}
+use Rattle.std.specs.List.{position_from, zip}
 use Rattle.lgx_num.specs.Name.{same}
 use Rattle.spec_tables.specs.declared.fault.Fault.{Fault}
 use Rattle.spec_tables.specs.declared.fault.Severity.{Severity}
@@ -16,7 +16,6 @@ use Rattle.spec_machine.specs.declared.reply.Reply.TheVariants as reply
 use Rattle.spec_machine.specs.declared.event.Action.{Action}
 use Rattle.spec_machine.specs.declared.event.Action.TheVariants as action
 use Rattle.spec_machine.specs.declared.event.Event.{Event}
-use Rattle.spec_machine.specs.declared.event.Event.TheVariants as event
 use Rattle.spec_schedule.specs.declared.trace.TraceMark.{TraceMark}
 use Rattle.spec_schedule.specs.declared.trace.TraceMark.TheVariants.{Plain, Up, Down, Trigger, Copy, Sync, CopyEnd, SyncEnd}
 use Rattle.spec_schedule.specs.declared.trace.StepFault.{StepFault}
@@ -31,7 +30,7 @@ use Rattle.spec_schedule.specs.declared.trace.AuditTask.{AuditTask}
 use Rattle.spec_schedule.specs.declared.trace.Table.{Table}
 use Rattle.spec_tables.specs.Tasks.{is_continuous}
 use Rattle.spec_machine.specs.Project.{Project, ProgramText}
-use Rattle.spec_machine.specs.Machine.{Answer, OfStep, OfTick, OfAction, Entry, trace}
+use Rattle.spec_machine.specs.Machine.{TraceEntry, OfStep, OfTick, OfAction, trace}
 
 -- ---- the table of tasks
 
@@ -39,8 +38,7 @@ abbrev pub audit_task : TaskDef → List ℕ → AuditTask
 audit_task d programs = record { continuous = is_continuous d.kind; priority = d.priority; programs = length programs }
 
 abbrev pub audit_tasks : List TaskDef → List (List ℕ) → List AuditTask
-audit_tasks (d ∷ ds) (programs ∷ rest) = audit_task d programs ∷ audit_tasks ds rest
-audit_tasks _ _ = []
+audit_tasks tasks schedule = map (λ x. audit_task x.0 x.1) (zip tasks schedule)
 
 abbrev pub table_of : Project → Table
 table_of p = record { tasks = audit_tasks p.tasks p.schedule; programs = length p.programs }
@@ -95,9 +93,9 @@ named (action.Cancel p) = Some p
 named _ = None
 
 -- its number, unless no program has that name
-abbrev pub number_of : List ProgramText → Option (List ℕ) → Option ℕ
-number_of programs None = None
-number_of programs (Some name) = position_from (λ p. same p.name name) 0 programs
+abbrev pub program_number : List ProgramText → Option (List ℕ) → Option ℕ
+program_number programs None = None
+program_number programs (Some name) = position_from (λ p. same p.name name) 0 programs
 
 abbrev pub answer_of : Reply → TraceAnswer
 answer_of reply.Done = Done
@@ -107,17 +105,10 @@ answer_of _ = No
 
 -- ---- events
 
-abbrev pub seen_at : Project → Event → Answer → TraceEvent
-seen_at p e (OfStep m) = step_seen m m.what
-seen_at p e (OfTick r) = Tick r.released r.overlapped r.watchdog
-seen_at p e (OfAction o) = action_seen e
-  where
-    action_seen : Event → TraceEvent
-    action_seen (event.Act lane a) = Act lane (verb_of a) (number_of p.programs (named a)) (answer_of o.reply) o.released
-    action_seen _ = Act 0 Other None (answer_of o.reply) o.released
-
-abbrev pub seen : Project → Entry → TraceEvent
-seen p x = seen_at p x.event x.answer
+abbrev pub seen : Project → TraceEntry → TraceEvent
+seen p (OfStep m) = step_seen m m.what
+seen p (OfTick r) = Tick r.released r.overlapped r.watchdog
+seen p (OfAction lane a o) = Act lane (verb_of a) (program_number p.programs (named a)) (answer_of o.reply) o.released
 
 -- what is seen of a journal's trace
 abbrev pub view : Project → List Event → List TraceEvent

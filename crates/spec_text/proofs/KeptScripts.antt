@@ -7,6 +7,7 @@ use Rattle.std.proofs.lemmas.Bool.{ltb-true, leb-true, le-leb}
 use Rattle.std.proofs.lemmas.List.{length-set, length-append}
 use Rattle.std.proofs.lemmas.List.Folds.{list_all-append, sum_by-replicate}
 use Rattle.std.proofs.lemmas.List.Sums.{sum_by-set}
+use Rattle.spec_base.specs.declared.limits.TheConstants.{MAX_SCRIPT_STEPS, MAX_ACTIONS, OWN_LANE}
 use Rattle.spec_text.specs.declared.script.Timed.{Timed}
 use Rattle.spec_text.specs.declared.script.JournalCode.{JournalCode}
 use Rattle.spec_text.specs.declared.script.JournalCode.TheVariants.{J1, J2, J3, J4, J5}
@@ -24,8 +25,8 @@ in_time last lane = list_all (λ t. nat_le t.at last) lane
 record Kept (s : Script) : Type 0 where
   pub steps : not (is_out s.steps) ≡ true
   pub pace : not (is_out s.pace) ≡ true
-  pub lanes : length s.lanes ≤ 31
-  pub actions : actions_in s ≤ 100000
+  pub lanes : length s.lanes ≤ OWN_LANE
+  pub actions : actions_in s ≤ MAX_ACTIONS
   pub ats : list_all (in_time (last_tick s)) s.lanes ≡ true
 
 -- ---- tests
@@ -73,13 +74,13 @@ all_empty last (suc n) = all_empty last n
 none_in : (s : Script) (n : ℕ) → s.lanes ≡ replicate n [] → actions_in s ≡ n * 0
 none_in s n e = ap (λ ls. sum_by (λ (lane : List Timed). length lane) ls) e ∙ sum_by-replicate (λ (lane : List Timed). length lane) n []
 
-kept_header : (s : Script) → IsBare s → (not (is_out s.steps) && not (is_out s.pace) && nat_le (length s.lanes) 31) ≡ true → Kept s
+kept_header : (s : Script) → IsBare s → (not (is_out s.steps) && not (is_out s.pace) && nat_le (length s.lanes) OWN_LANE) ≡ true → Kept s
 kept_header s (n, e) h =
-    record { steps = (both_true (both_true h).0).0; pace = (both_true (both_true h).0).1; lanes = leb-true (length s.lanes) 31 (both_true h).1; actions = search (arith, none_in s n e); ats = ap (λ ls. list_all (in_time (last_tick s)) ls) e ∙ all_empty (last_tick s) n }
+    record { steps = (both_true (both_true h).0).0; pace = (both_true (both_true h).0).1; lanes = leb-true (length s.lanes) OWN_LANE (both_true h).1; actions = search (arith, none_in s n e); ats = ap (λ ls. list_all (in_time (last_tick s)) ls) e ∙ all_empty (last_tick s) n }
 
 header_keeps : (line : List ℕ) → IfOk (read_header line) Kept
 header_keeps line =
-    unless_keeps (is_line line) J1 _ Kept (λ l. some_keeps (header_of (words line)) J1 _ IsBare Kept (header_bare (words line)) (λ s b. unless_keeps (not (is_out s.steps) && not (is_out s.pace) && nat_le (length s.lanes) 31) J4 (λ u. Ok s) Kept (kept_header s b)))
+    unless_keeps (is_line line) J1 _ Kept (λ l. some_keeps (header_of (words line)) J1 _ IsBare Kept (header_bare (words line)) (λ s b. unless_keeps (not (is_out s.steps) && not (is_out s.pace) && nat_le (length s.lanes) OWN_LANE) J4 (λ u. Ok s) Kept (kept_header s b)))
 
 -- ---- the other lines
 
@@ -114,13 +115,13 @@ one_more s t h =
     let len = λ (lane : List Timed). length lane in
     search (arith, sum_by-set len s.lanes t.lane (lane_at s t.lane ++ t.timed ∷ []) [] h, length-append (lane_at s t.lane) (t.timed ∷ []))
 
-kept_turn : (s : Script) (t : Turn) → Kept s → t.lane < length s.lanes → actions_in s < 100000 → nat_le t.timed.at (last_tick s) ≡ true → Kept (with_turn s t)
+kept_turn : (s : Script) (t : Turn) → Kept s → t.lane < length s.lanes → actions_in s < MAX_ACTIONS → nat_le t.timed.at (last_tick s) ≡ true → Kept (with_turn s t)
 kept_turn s t k l a h =
-    record { steps = k.steps; pace = k.pace; lanes = subst (λ n. n ≤ 31) (sym (length-set s.lanes t.lane (lane_at s t.lane ++ t.timed ∷ []))) k.lanes; actions = search (arith, one_more s t l, a); ats = list_all_set (in_time (last_tick s)) s.lanes t.lane (lane_at s t.lane ++ t.timed ∷ []) (lane_in_time s t k h) k.ats }
+    record { steps = k.steps; pace = k.pace; lanes = subst (λ n. n ≤ OWN_LANE) (sym (length-set s.lanes t.lane (lane_at s t.lane ++ t.timed ∷ []))) k.lanes; actions = search (arith, one_more s t l, a); ats = list_all_set (in_time (last_tick s)) s.lanes t.lane (lane_at s t.lane ++ t.timed ∷ []) (lane_in_time s t k h) k.ats }
 
 turn_keeps : (s : Script) (line : List ℕ) → Kept s → IfOk (read_turn s line) Kept
 turn_keeps s line k =
-    unless_keeps (is_line line) J1 _ Kept (λ l. some_keeps (turn_of line) J1 _ (λ t. Unit {0}) Kept (any_some (turn_of line)) (λ t u. unless_keeps (nat_lt t.lane (length s.lanes)) J2 _ Kept (λ lane. unless_keeps (nat_lt (actions_in s) 100000) J4 _ Kept (λ few. unless_keeps (nat_le t.timed.at (last_tick s)) J3 _ Kept (λ due. unless_keeps (nat_le (last_at s t.lane) t.timed.at) J5 (λ u. Ok (with_turn s t)) Kept (λ next. kept_turn s t k (ltb-true t.lane (length s.lanes) lane) (ltb-true (actions_in s) 100000 few) due))))))
+    unless_keeps (is_line line) J1 _ Kept (λ l. some_keeps (turn_of line) J1 _ (λ t. Unit {0}) Kept (any_some (turn_of line)) (λ t u. unless_keeps (nat_lt t.lane (length s.lanes)) J2 _ Kept (λ lane. unless_keeps (nat_lt (actions_in s) MAX_ACTIONS) J4 _ Kept (λ few. unless_keeps (nat_le t.timed.at (last_tick s)) J3 _ Kept (λ due. unless_keeps (nat_le (last_at s t.lane) t.timed.at) J5 (λ u. Ok (with_turn s t)) Kept (λ next. kept_turn s t k (ltb-true t.lane (length s.lanes) lane) (ltb-true (actions_in s) MAX_ACTIONS few) due))))))
 
 -- ---- the text
 
@@ -159,7 +160,7 @@ script_keeps n (l ∷ ls) = skip_first n l ls (script_keeps (n + 1) ls) (is_skip
 
 is_kept : (s : Script) → Kept s → IsTrue (is_script s)
 is_kept s k =
-    and_true (and_true (and_true (and_true k.steps k.pace) (le-leb (length s.lanes) 31 k.lanes)) (le-leb (actions_in s) 100000 k.actions)) k.ats
+    and_true (and_true (and_true (and_true k.steps k.pace) (le-leb (length s.lanes) OWN_LANE k.lanes)) (le-leb (actions_in s) MAX_ACTIONS k.actions)) k.ats
 
 if_ok : {A E : Type 0} {P Q : A → Type 0} (r : Result A E) → ((x : A) → P x → Q x) → IfOk r P → IfOk r Q
 if_ok (Ok x) f h = f x h

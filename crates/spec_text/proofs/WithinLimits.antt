@@ -3,6 +3,7 @@ use Rattle.std.proofs.Common.{◌≡◌, ℕ, ◌+◌, ◌*◌, ◌≤◌, List,
 use Rattle.std.proofs.lemmas.Bool.{leb-true}
 use Rattle.std.proofs.lemmas.List.Folds.{sum_by-replicate}
 use Rattle.std.proofs.lemmas.List.Sums.{sum_by-append}
+use Rattle.spec_base.specs.declared.limits.TheConstants.{MAX_JOURNAL_STEPS, MAX_ACTIONS}
 use Rattle.spec_machine.specs.declared.event.Event.{Event}
 use Rattle.spec_machine.specs.declared.event.Event.TheVariants.{Cpu, Tick, Act}
 use Rattle.spec_text.specs.declared.script.JournalCode.{JournalCode}
@@ -75,7 +76,7 @@ bounded {m = m} e n h = search (arith, e, leb-true m n h)
 
 within : (rs : List EventRun) → Keeps no_events rs → IsWithin (events_of rs)
 within rs h =
-    record { steps = bounded (total (λ t. t.steps) is_step of_steps rs no_events) 4000000 (both_true (both_true h).0).0; ticks = bounded (total (λ t. t.ticks) is_tick of_ticks rs no_events) 4000000 (both_true (both_true h).0).1; actions = bounded (total (λ t. t.actions) is_action of_actions rs no_events) 100000 (both_true h).1 }
+    record { steps = bounded (total (λ t. t.steps) is_step of_steps rs no_events) MAX_JOURNAL_STEPS (both_true (both_true h).0).0; ticks = bounded (total (λ t. t.ticks) is_tick of_ticks rs no_events) MAX_JOURNAL_STEPS (both_true (both_true h).0).1; actions = bounded (total (λ t. t.actions) is_action of_actions rs no_events) MAX_ACTIONS (both_true h).1 }
 
 expanded : (o : Result (List EventRun) JournalFault) → IfOk o (Keeps no_events) → IfOk (all_events o) IsWithin
 expanded (Err e) h = tt

@@ -3,6 +3,7 @@
 use Rattle.std.specs.Prelude.{ℕ, ◌+◌, ◌≤◌, count_by, List, [], ◌∷◌, ◌++◌, length, replicate, flat_map, Bool, true, false, ◌&&◌, nat_le, nat_lt, nat_eq, if◌then◌else◌, Option, Some, None, option_map, Result, Ok, Err, codes, decimal}
 use Rattle.std.specs.Option.{option_or}
 use Rattle.std.specs.Str.{bytes_eq}
+use Rattle.spec_base.specs.declared.limits.TheConstants.{MAX_JOURNAL_STEPS, MAX_ACTIONS, MAX_LINE_BYTES, OWN_LANE}
 use Rattle.spec_machine.specs.declared.event.Action.{Action}
 use Rattle.spec_machine.specs.declared.event.Event.{Event}
 use Rattle.spec_machine.specs.declared.event.Event.TheVariants.{Cpu, Tick, Act}
@@ -49,9 +50,9 @@ abbrev pub lane_run : List ℕ → Option ℕ → Option EventRun
 lane_run line None = None
 lane_run line (Some lane) = action_run lane (action_of (behind_word line))
 
--- what a line of a journal says; an action without a lane is of lane 31
+-- what a line of a journal says; an action without a lane is of the journal's own lane
 abbrev pub run_of : List ℕ → Option EventRun
-run_of line = option_or (counted_run (words line)) (option_or (lane_run line (lane_of line)) (action_run 31 (action_of line)))
+run_of line = option_or (counted_run (words line)) (option_or (lane_run line (lane_of line)) (action_run OWN_LANE (action_of line)))
 
 -- the line `end` ends a text; what follows isn't read
 abbrev pub is_end : List ℕ → Bool
@@ -73,24 +74,24 @@ with_run t r = add r.event
     add Tick = record t { ticks = t.ticks + r.count }
     add (Act lane a) = record t { actions = t.actions + r.count }
 
--- at most 4,000,000 processor steps, 4,000,000 ticks and 100,000 actions
+-- processor steps, ticks and actions are within their limits
 abbrev pub is_allowed : Tally → Bool
-is_allowed t = nat_le t.steps 4000000 && nat_le t.ticks 4000000 && nat_le t.actions 100000
+is_allowed t = nat_le t.steps MAX_JOURNAL_STEPS && nat_le t.ticks MAX_JOURNAL_STEPS && nat_le t.actions MAX_ACTIONS
 
 -- the same of a list of events
 pub record IsWithin (journal : List Event) : Type 0 where
-  pub steps : count_by is_step journal ≤ 4000000
-  pub ticks : count_by is_tick journal ≤ 4000000
-  pub actions : count_by is_action journal ≤ 100000
+  pub steps : count_by is_step journal ≤ MAX_JOURNAL_STEPS
+  pub ticks : count_by is_tick journal ≤ MAX_JOURNAL_STEPS
+  pub actions : count_by is_action journal ≤ MAX_ACTIONS
 
--- at most 65,536 bytes in a line
+-- a line has not too many bytes
 abbrev pub is_line : List ℕ → Bool
-is_line line = nat_le (length line) 65536
+is_line line = nat_le (length line) MAX_LINE_BYTES
 
--- a lane that a line names is one of modules and engineers, at most 30
+-- a lane that a line names is one of modules and engineers, below the journal's own
 abbrev pub is_lane : Option ℕ → Bool
 is_lane None = true
-is_lane (Some lane) = nat_le lane 30
+is_lane (Some lane) = nat_lt lane OWN_LANE
 
 -- ---- the first cause of a line, and the first line that has one
 
@@ -152,9 +153,9 @@ abbrev pub joined : List Event → List EventRun
 joined [] = []
 joined (e ∷ es) = before_runs e (joined es)
 
--- lane 31's lines have no `@`
+-- lines of the journal's own lane have no `@`
 abbrev pub lane_words : ℕ → List (List ℕ)
-lane_words lane = if nat_eq lane 31 then [] else (64 ∷ decimal lane) ∷ []
+lane_words lane = if nat_eq lane OWN_LANE then [] else (64 ∷ decimal lane) ∷ []
 
 abbrev pub event_words : Event → ℕ → List (List ℕ)
 event_words Cpu count = codes "cpu" ∷ decimal count ∷ []

@@ -2,6 +2,7 @@
 use Rattle.std.specs.Prelude.{ℕ, ◌+◌, List, [], ◌∷◌, ◌++◌, length, replicate, slice_set, slice_index_or, true, false, not, ◌&&◌, nat_lt, nat_le, if◌then◌else◌, Option, Some, None, Result, Ok, Err, codes}
 use Rattle.std.specs.List.{last_or}
 use Rattle.std.specs.Str.{bytes_eq}
+use Rattle.spec_base.specs.declared.limits.TheConstants.{OWN_LANE, MAX_ACTIONS}
 use Rattle.spec_machine.specs.declared.event.Action.{Action}
 use Rattle.spec_text.specs.declared.script.Timed.{Timed}
 use Rattle.spec_text.specs.Scripts.{Script, script, is_out, actions_in, last_tick}
@@ -27,12 +28,12 @@ abbrev pub header_of : List (List ℕ) → Option Script
 header_of (verb ∷ steps ∷ pace ∷ lanes ∷ []) = if bytes_eq verb (codes "run") then bare_of (number_of steps) (number_of pace) (number_of lanes) else None
 header_of _ = None
 
--- steps and pace are 1 to 1,000,000, and there are at most 31 lanes
+-- steps and pace are within their limit, and lanes have lower numbers than a journal's own
 abbrev pub read_header : List ℕ → Result Script JournalCode
 read_header line = do
   _ ← unless (is_line line) J1
   script ← some_or (header_of (words line)) J1
-  _ ← unless (not (is_out script.steps) && not (is_out script.pace) && nat_le (length script.lanes) 31) J4
+  _ ← unless (not (is_out script.steps) && not (is_out script.pace) && nat_le (length script.lanes) OWN_LANE) J4
   Ok script
 
 -- ---- the other lines: `@LANE AT ACTION`
@@ -63,14 +64,14 @@ at_or_zero (Some t) = t.at
 abbrev pub last_at : Script → ℕ → ℕ
 last_at s lane = at_or_zero (last_or None (lane_at s lane))
 
--- The script with the line's action last in its lane, or the line's first cause. A script has at most 100,000 actions;
+-- The script with the line's action last in its lane, or the line's first cause. A script has not too many actions;
 -- no action waits for a tick that doesn't come, and none stands behind one of its lane that waits longer.
 abbrev pub read_turn : Script → List ℕ → Result Script JournalCode
 read_turn s line = do
   _ ← unless (is_line line) J1
   turn ← some_or (turn_of line) J1
   _ ← unless (nat_lt turn.lane (length s.lanes)) J2
-  _ ← unless (nat_lt (actions_in s) 100000) J4
+  _ ← unless (nat_lt (actions_in s) MAX_ACTIONS) J4
   _ ← unless (nat_le turn.timed.at (last_tick s)) J3
   _ ← unless (nat_le (last_at s turn.lane) turn.timed.at) J5
   Ok (with_turn s turn)

@@ -2,7 +2,7 @@
 use Rattle.std.specs.Prelude.{ℕ, ◌-◌, ◌+◌, ◌*◌, ◌^◌, List, [], ◌∷◌, ◌++◌, length, take, drop, fold, filter, Bool, true, false, not, ◌&&◌, ◌||◌, nat_lt, nat_le, nat_eq, if◌then◌else◌, ℤ, pos, neg_ℤ, int_le, Option, Some, None}
 use Rattle.std.specs.List.{list_any, prefix_len, suffix_len, join_with_byte}
 use Rattle.std.specs.Str.{bytes_eq, all_ascii_digits}
-use Rattle.lgx_rung.specs.Tokens.{is_blank}
+use Rattle.spec_base.specs.Pieces.{pieces, is_empty}
 
 -- ---- lines
 

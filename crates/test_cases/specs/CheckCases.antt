@@ -1,6 +1,7 @@
 -- Cases of checked text: operands resolved, each code, and codes whose order matters.
-use Rattle.std.specs.Prelude.{◌≡◌, ℕ, List, [], ◌∷◌, map, codes, replicate, ℤ, pos, neg_ℤ, Option, Some, None, Result, Ok, option_map}
+use Rattle.std.specs.Prelude.{◌≡◌, ℕ, ◌-◌, List, [], ◌∷◌, map, codes, replicate, ℤ, pos, neg_ℤ, Option, Some, None, Result, Ok, option_map}
 use Rattle.std.specs.Result.{result_err}
+use Rattle.spec_base.specs.declared.limits.TheConstants.{MAX_ROUTINE_INSTRUCTIONS}
 use Rattle.lgx_num.specs.declared.number.Kind.{Kind}
 use Rattle.lgx_num.specs.declared.number.Kind.TheVariants.{Sint as KSint, Int as KInt, Dint as KDint}
 use Rattle.lgx_num.specs.declared.place.Path.{Path}
@@ -169,10 +170,10 @@ LabelFaults = map fault_of (
     ∷ [])
     ≡ fault_at C13 2 0 ∷ fault_at C13 0 1 ∷ fault_at C14 0 1 ∷ fault_at C14 0 0 ∷ fault_at C14 0 1 ∷ fault_at C14 1 1 ∷ fault_at C12 0 0 ∷ []
 
--- rungs from this one on, behind so many instructions
-abbrev pub fault_behind : ℕ → ℕ → List Source → Option CheckFault
-fault_behind rung before rungs = result_err (checked_from (instruction_of shop_scope []) rung before rungs)
+-- rungs from this one on, after so many instructions
+abbrev pub fault_after : ℕ → ℕ → List Source → Option CheckFault
+fault_after rung before rungs = result_err (checked_from (instruction_of shop_scope []) rung before rungs)
 
 abbrev pub LongRoutines : Type 0
-LongRoutines = fault_behind 128 65535 (line (ins Nop [] ∷ ins Nop [] ∷ []) ∷ []) ∷ fault_behind 7 65536 (end ∷ line (ins Nop [] ∷ []) ∷ []) ∷ fault_behind 7 65536 (line (ins Xic (codes "zz" ∷ []) ∷ []) ∷ []) ∷ fault_behind 7 65535 (line (ins Nop [] ∷ []) ∷ []) ∷ []
+LongRoutines = fault_after 128 (MAX_ROUTINE_INSTRUCTIONS - 1) (line (ins Nop [] ∷ ins Nop [] ∷ []) ∷ []) ∷ fault_after 7 MAX_ROUTINE_INSTRUCTIONS (end ∷ line (ins Nop [] ∷ []) ∷ []) ∷ fault_after 7 MAX_ROUTINE_INSTRUCTIONS (line (ins Xic (codes "zz" ∷ []) ∷ []) ∷ []) ∷ fault_after 7 (MAX_ROUTINE_INSTRUCTIONS - 1) (line (ins Nop [] ∷ []) ∷ []) ∷ []
     ≡ fault_at C16 128 1 ∷ fault_at C16 8 0 ∷ fault_at C4 7 0 ∷ None ∷ []

@@ -1,6 +1,7 @@
 -- The conveyor: a horn before the motor starts, parts counted at an eye by an event task, and their rate by a periodic
 -- one. An engineer adds a fault bit to the motor's rung while it runs.
 use Rattle.std.specs.Prelude.{◌≡◌, [], ◌∷◌, codes, pos}
+use Rattle.spec_base.specs.declared.limits.TheConstants.{LEAST_PRIORITY}
 use Rattle.spec_tables.specs.declared.task.TaskKind.TheVariants.{Continuous, Periodic, Event as EventTask}
 use Rattle.test_cases.specs.ConveyorTags.{conveyor as tags}
 use Rattle.spec_machine.specs.Project.{Project}
@@ -8,7 +9,7 @@ use Rattle.test_cases.specs.Samples.{routine, routines, task, project_of, input,
 
 abbrev pub conveyor : Project
 conveyor = project_of tags
-    (task (codes "MainTask") Continuous 16 (
+    (task (codes "MainTask") Continuous LEAST_PRIORITY (
     routines (codes "Conveyor") (
     routine (codes "Main") (
     codes "[XIC(StartPB),XIC(Run)]XIC(StopPB)OTE(Run);"

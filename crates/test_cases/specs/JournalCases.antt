@@ -1,6 +1,7 @@
 -- Texts of journals and scripts with what they are.
 use Rattle.std.specs.Prelude.{ℕ, List, [], ◌∷◌, ◌++◌, map, replicate, take, codes, pos, negsuc, Result}
 use Rattle.std.specs.List.{range_with_len}
+use Rattle.spec_base.specs.declared.limits.TheConstants.{OWN_LANE}
 use Rattle.spec_machine.specs.declared.event.RungEdit.{RungEdit}
 use Rattle.spec_machine.specs.declared.event.RungEdit.TheVariants.{Replace, Insert, Delete}
 use Rattle.spec_machine.specs.declared.event.Action.{Action}
@@ -27,14 +28,14 @@ abbrev pub paced_text : List ℕ
 paced_text = codes "mode run\ncpu 2\ntick 1\ncpu 1\nend\n"
 
 abbrev pub paced : List Event
-paced = Act 31 ModeRun ∷ cpu 2 ++ tick 1 ++ cpu 1
+paced = Act OWN_LANE ModeRun ∷ cpu 2 ++ tick 1 ++ cpu 1
 
 -- a rung is replaced, tested and untested
 abbrev pub tested_text : List ℕ
 tested_text = codes "mode run\ncpu 2\n@0 accept P M r 1 MOV(3,n);\n@0 test P\ncpu 5\n@0 untest P\ncpu 2\nend\n"
 
 abbrev pub tested : List Event
-tested = Act 31 ModeRun ∷ cpu 2 ++ Act 0 (accept (codes "P") (codes "M") (Replace 1 (codes "MOV(3,n);") ∷ [])) ∷ Act 0 (Test (codes "P")) ∷ cpu 5 ++ Act 0 (Untest (codes "P")) ∷ cpu 2
+tested = Act OWN_LANE ModeRun ∷ cpu 2 ++ Act 0 (accept (codes "P") (codes "M") (Replace 1 (codes "MOV(3,n);") ∷ [])) ∷ Act 0 (Test (codes "P")) ∷ cpu 5 ++ Act 0 (Untest (codes "P")) ∷ cpu 2
 
 -- two clients edit one program
 abbrev pub clients_text : List ℕ
@@ -42,7 +43,7 @@ clients_text = codes "mode run\n@0 cancel P\n@0 accept P M r 0 XIC(zz)OTE(x);\n@
 
 abbrev pub clients : List Event
 clients =
-    Act 31 ModeRun ∷ Act 0 (Cancel (codes "P")) ∷ Act 0 (accept (codes "P") (codes "M") (Replace 0 (codes "XIC(zz)OTE(x);") ∷ [])) ∷ Act 1 (accept (codes "P") (codes "M") (Replace 1 (codes "MOV(6,n);") ∷ [])) ∷ Act 1 (Cancel (codes "P")) ∷ cpu 3
+    Act OWN_LANE ModeRun ∷ Act 0 (Cancel (codes "P")) ∷ Act 0 (accept (codes "P") (codes "M") (Replace 0 (codes "XIC(zz)OTE(x);") ∷ [])) ∷ Act 1 (accept (codes "P") (codes "M") (Replace 1 (codes "MOV(6,n);") ∷ [])) ∷ Act 1 (Cancel (codes "P")) ∷ cpu 3
 
 -- three edits in one accept, with blanks that aren't the canonical ones
 abbrev pub edits_text : List ℕ

@@ -1,5 +1,6 @@
 -- Runs of rungs, zones and calls.
 use Rattle.std.specs.Prelude.{◌≡◌, [], ◌∷◌, codes, pos}
+use Rattle.spec_base.specs.declared.limits.TheConstants.{LEAST_PRIORITY}
 use Rattle.spec_language.specs.declared.types.Base.TheVariants.{Bool as OneBit}
 use Rattle.spec_tables.specs.declared.task.TaskKind.TheVariants.{Continuous}
 use Rattle.spec_machine.specs.Project.{Project}
@@ -130,7 +131,7 @@ FalseConditions = replay false_conditions (lines (codes "mode run"
 -- The change to Run prescans each routine that the main one reaches by the text of a JSR, whatever stands before it: M and N,
 -- and not K. A subscript out of range does nothing.
 abbrev pub prescanned : Project
-prescanned = plain (bool (codes "o") ∷ bool (codes "s") ∷ bool (codes "r") ∷ bool (codes "ro") ∷ bool (codes "f") ∷ bool (codes "fo") ∷ timer (codes "t1") ∷ timer (codes "t2") ∷ timer (codes "t3") ∷ counter (codes "c1") ∷ counter (codes "c2") ∷ array (codes "z") OneBit 32 ∷ dint (codes "i") ∷ bool (codes "n") ∷ bool (codes "k") ∷ []) (task (codes "T") Continuous 16 (routines (codes "P") (routine (codes "M") (codes "OTE(o)ONS(s)OSR(r,ro)OSF(f,fo);" ∷ codes "TON(t1,?,?)TOF(t2,?,?)RTO(t3,?,?)CTU(c1,?,?)CTD(c2,?,?);" ∷ codes "OTE(z[i])AFI()JSR(N,0);" ∷ []) ∷ routine (codes "K") (codes "OTE(k);" ∷ []) ∷ routine (codes "N") (codes "OTE(n);" ∷ []) ∷ []) ∷ []) ∷ []) (is_initially (codes "o") (pos 1) ∷ is_initially (codes "ro") (pos 1) ∷ is_initially (codes "f") (pos 1) ∷ is_initially (codes "fo") (pos 1) ∷ is_initially (codes "t1.ACC") (pos 3) ∷ is_initially (codes "t1.DN") (pos 1) ∷ is_initially (codes "t2.PRE") (pos 5) ∷ is_initially (codes "t3.ACC") (pos 3) ∷ is_initially (codes "t3.DN") (pos 1) ∷ is_initially (codes "z[3]") (pos 1) ∷ is_initially (codes "i") (pos 40) ∷ is_initially (codes "n") (pos 1) ∷ is_initially (codes "k") (pos 1) ∷ []) (codes "o" ∷ codes "s" ∷ codes "r" ∷ codes "ro" ∷ codes "f" ∷ codes "fo" ∷ codes "t1.ACC" ∷ codes "t1.DN" ∷ codes "t2.ACC" ∷ codes "t3.ACC" ∷ codes "t3.DN" ∷ codes "c1.CU" ∷ codes "c2.CD" ∷ codes "z[3]" ∷ codes "n" ∷ codes "k" ∷ [])
+prescanned = plain (bool (codes "o") ∷ bool (codes "s") ∷ bool (codes "r") ∷ bool (codes "ro") ∷ bool (codes "f") ∷ bool (codes "fo") ∷ timer (codes "t1") ∷ timer (codes "t2") ∷ timer (codes "t3") ∷ counter (codes "c1") ∷ counter (codes "c2") ∷ array (codes "z") OneBit 32 ∷ dint (codes "i") ∷ bool (codes "n") ∷ bool (codes "k") ∷ []) (task (codes "T") Continuous LEAST_PRIORITY (routines (codes "P") (routine (codes "M") (codes "OTE(o)ONS(s)OSR(r,ro)OSF(f,fo);" ∷ codes "TON(t1,?,?)TOF(t2,?,?)RTO(t3,?,?)CTU(c1,?,?)CTD(c2,?,?);" ∷ codes "OTE(z[i])AFI()JSR(N,0);" ∷ []) ∷ routine (codes "K") (codes "OTE(k);" ∷ []) ∷ routine (codes "N") (codes "OTE(n);" ∷ []) ∷ []) ∷ []) ∷ []) (is_initially (codes "o") (pos 1) ∷ is_initially (codes "ro") (pos 1) ∷ is_initially (codes "f") (pos 1) ∷ is_initially (codes "fo") (pos 1) ∷ is_initially (codes "t1.ACC") (pos 3) ∷ is_initially (codes "t1.DN") (pos 1) ∷ is_initially (codes "t2.PRE") (pos 5) ∷ is_initially (codes "t3.ACC") (pos 3) ∷ is_initially (codes "t3.DN") (pos 1) ∷ is_initially (codes "z[3]") (pos 1) ∷ is_initially (codes "i") (pos 40) ∷ is_initially (codes "n") (pos 1) ∷ is_initially (codes "k") (pos 1) ∷ []) (codes "o" ∷ codes "s" ∷ codes "r" ∷ codes "ro" ∷ codes "f" ∷ codes "fo" ∷ codes "t1.ACC" ∷ codes "t1.DN" ∷ codes "t2.ACC" ∷ codes "t3.ACC" ∷ codes "t3.DN" ∷ codes "c1.CU" ∷ codes "c2.CD" ∷ codes "z[3]" ∷ codes "n" ∷ codes "k" ∷ [])
 
 abbrev pub Prescanned : Type 0
 Prescanned = replay prescanned (lines (codes "mode run"
@@ -219,7 +220,7 @@ JumpInZone = replay jump_in_zone (lines (codes "mode run"
 
 -- A return leaves the rest of its routine out; behind the call the condition is as it was.
 abbrev pub call_and_return : Project
-call_and_return = plain (bool (codes "a") ∷ bool (codes "b") ∷ bool (codes "c") ∷ []) (task (codes "T") Continuous 16 (routines (codes "P") (routine (codes "M") (codes "JSR(N,0)OTE(c);" ∷ []) ∷ routine (codes "N") (codes "XIC(a)RET();" ∷ codes "OTE(b);" ∷ []) ∷ []) ∷ []) ∷ []) (is_initially (codes "a") (pos 1) ∷ []) (codes "b" ∷ codes "c" ∷ [])
+call_and_return = plain (bool (codes "a") ∷ bool (codes "b") ∷ bool (codes "c") ∷ []) (task (codes "T") Continuous LEAST_PRIORITY (routines (codes "P") (routine (codes "M") (codes "JSR(N,0)OTE(c);" ∷ []) ∷ routine (codes "N") (codes "XIC(a)RET();" ∷ codes "OTE(b);" ∷ []) ∷ []) ∷ []) ∷ []) (is_initially (codes "a") (pos 1) ∷ []) (codes "b" ∷ codes "c" ∷ [])
 
 abbrev pub CallAndReturn : Type 0
 CallAndReturn = replay call_and_return (lines (codes "mode run"

@@ -1,5 +1,6 @@
 -- Runs of the machine, as the laws of the schedule and scripts see them.
 use Rattle.std.specs.Prelude.{ℕ, List, [], ◌∷◌, ◌++◌, Bool, Option, option_map, codes, pos}
+use Rattle.spec_base.specs.declared.limits.TheConstants.{OWN_LANE}
 use Rattle.spec_machine.specs.declared.event.Action.TheVariants.{WordIn, Test, ModeRun, ModeProgram}
 use Rattle.spec_machine.specs.declared.event.RungEdit.TheVariants.{Replace}
 use Rattle.spec_machine.specs.declared.event.Event.{Event}
@@ -20,7 +21,7 @@ abbrev pub verdicts_on : Project → List Event → List Bool
 verdicts_on p journal = verdicts (table_of p) (view p journal)
 
 abbrev pub run_mode : Event
-run_mode = Act 31 ModeRun
+run_mode = Act OWN_LANE ModeRun
 
 abbrev pub preempted : List Event
 preempted = run_mode ∷ cpu 2 ++ tick 2 ++ cpu 4

@@ -1,5 +1,6 @@
 -- Cases of layout: structures inside structures, arrays, and each fault of declared structures.
 use Rattle.std.specs.Prelude.{◌≡◌, ℕ, ◌+◌, ◌*◌, List, [], ◌∷◌, map, codes, Option, Some, None}
+use Rattle.spec_base.specs.declared.limits.TheConstants.{MAX_ELEMENTS, MAX_IMAGE_BYTES}
 use Rattle.spec_language.specs.declared.types.Base.{Base}
 use Rattle.spec_language.specs.declared.types.Base.TheVariants.{Bool as OneBit, Sint, Int, Dint, Timer, Counter, User}
 use Rattle.spec_language.specs.declared.types.DataType.{DataType}
@@ -32,8 +33,8 @@ cells = structure (codes "Cell") (of_type (codes "f") (codes "SINT") ∷ of_type
     ∷ []
 
 abbrev pub CellSizes : Type 0
-CellSizes = map (size_of cells) (single (User 0) ∷ single (User 1) ∷ many (User 0) 3 ∷ many OneBit 64 ∷ many Sint 5 ∷ many Int 3 ∷ many Timer 2 ∷ many Dint 65536 ∷ [])
-    ≡ 72 ∷ 12 ∷ 216 ∷ 8 ∷ 5 ∷ 6 ∷ 32 ∷ 262144 ∷ []
+CellSizes = map (size_of cells) (single (User 0) ∷ single (User 1) ∷ many (User 0) 3 ∷ many OneBit 64 ∷ many Sint 5 ∷ many Int 3 ∷ many Timer 2 ∷ many Dint MAX_ELEMENTS ∷ [])
+    ≡ 72 ∷ 12 ∷ 216 ∷ 8 ∷ 5 ∷ 6 ∷ 32 ∷ MAX_IMAGE_BYTES ∷ []
 
 abbrev pub member_at : DataType → ℕ → ℕ → Option Member
 member_at of byte bit = Some (record { of = of; at = 8 * byte + bit })

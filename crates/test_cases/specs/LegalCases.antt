@@ -1,5 +1,6 @@
 -- Traces with the laws that they keep or break. Each of the broken ones is a legal one with one or two events changed.
 use Rattle.std.specs.Prelude.{ℕ, List, [], ◌∷◌, ◌++◌, replicate, Bool, true, false, Some, None}
+use Rattle.spec_base.specs.declared.limits.TheConstants.{LEAST_PRIORITY, OWN_LANE}
 use Rattle.spec_schedule.specs.declared.trace.TraceMark.TheVariants.{Plain as Unmarked, Up, Down, Trigger, Sync, SyncEnd}
 use Rattle.spec_schedule.specs.declared.trace.StepFault.TheVariants.{Plain as NoFault, Minor}
 use Rattle.spec_schedule.specs.declared.trace.Verb.TheVariants.{Accept, Test, Untest, Assemble, Cancel, Run}
@@ -10,7 +11,7 @@ use Rattle.spec_schedule.specs.declared.trace.AuditTask.{AuditTask}
 use Rattle.spec_schedule.specs.declared.trace.Table.{Table}
 
 abbrev pub continuous : AuditTask
-continuous = record { continuous = true; priority = 16; programs = 1 }
+continuous = record { continuous = true; priority = LEAST_PRIORITY; programs = 1 }
 
 abbrev pub of_priority : ℕ → AuditTask
 of_priority p = record { continuous = false; priority = p; programs = 1 }
@@ -19,7 +20,7 @@ abbrev pub table_of : List AuditTask → Table
 table_of tasks = record { tasks = tasks; programs = 2 }
 
 abbrev pub mode_run : ℕ → TraceEvent
-mode_run mask = Act 31 Run None Done mask
+mode_run mask = Act OWN_LANE Run None Done mask
 
 abbrev pub step : ℕ → TraceEvent
 step t = Step t t Unmarked NoFault

@@ -2,6 +2,7 @@
 use Rattle.std.specs.Prelude.{ℕ, ◌+◌, ◌-◌, ◌/◌, Bool, true, false, List, [], ◌∷◌, ◌++◌, map, ℤ, Option, Some, None, Result, Ok, Err, codes, fold, flat_map, length, replicate}
 use Rattle.std.specs.List.{enumerate_from, range_with_len}
 use Rattle.std.specs.Result.{result_unwrap_or}
+use Rattle.spec_base.specs.declared.limits.TheConstants.{LEAST_PRIORITY}
 use Rattle.lgx_num.specs.declared.place.Place.{Place}
 use Rattle.lgx_num.specs.Image.{write}
 use Rattle.lgx_rung.specs.Tree.{Source, end}
@@ -90,7 +91,7 @@ with_watchdog ticks t = record t { watchdog = ticks }
 
 -- the continuous task T with the program P
 abbrev pub continuous : List (List ℕ) → TaskLines
-continuous texts = task (codes "T") Continuous 16 (program (codes "P") texts ∷ [])
+continuous texts = task (codes "T") Continuous LEAST_PRIORITY (program (codes "P") texts ∷ [])
 
 abbrev pub is_event : TaskKind → Bool
 is_event EventTask = true

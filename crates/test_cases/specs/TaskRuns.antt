@@ -1,5 +1,6 @@
 -- Runs of several tasks.
 use Rattle.std.specs.Prelude.{◌≡◌, [], ◌∷◌, codes, pos}
+use Rattle.spec_base.specs.declared.limits.TheConstants.{LEAST_PRIORITY}
 use Rattle.spec_language.specs.declared.types.Base.TheVariants.{Dint}
 use Rattle.spec_tables.specs.declared.task.TaskKind.TheVariants.{Continuous, Periodic, Event as EventTask}
 use Rattle.spec_machine.specs.Project.{Project}
@@ -106,7 +107,7 @@ RegionAtScanEnd = replay region_at_scan_end (lines (codes "mode run"
 
 -- A task runs its programs in order; a region that is open at the end of the first is closed there.
 abbrev pub two_programs : Project
-two_programs = plain [] (task (codes "T") Continuous 16 (program (codes "P") (codes "UID();" ∷ []) ∷ program (codes "R") [] ∷ []) ∷ task (codes "F") (Periodic 2) 5 (program (codes "Q") [] ∷ []) ∷ []) [] []
+two_programs = plain [] (task (codes "T") Continuous LEAST_PRIORITY (program (codes "P") (codes "UID();" ∷ []) ∷ program (codes "R") [] ∷ []) ∷ task (codes "F") (Periodic 2) 5 (program (codes "Q") [] ∷ []) ∷ []) [] []
 
 abbrev pub TwoPrograms : Type 0
 TwoPrograms = replay two_programs (lines (codes "mode run"

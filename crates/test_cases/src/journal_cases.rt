@@ -1,6 +1,7 @@
 // Texts of journals and scripts, computed by the definitions. Each function is a law: it does nothing, and its
 // contract is what is shown.
-ghost use Rattle.std.specs.Prelude.{◌≡◌, ◌∷◌, ◌++◌, [], codes, map, replicate, length, Ok, Err, pos};
+ghost use Rattle.std.specs.Prelude.{◌≡◌, ◌+◌, ◌-◌, ◌∷◌, ◌++◌, [], codes, map, replicate, length, Ok, Err, pos};
+ghost use Rattle.spec_base.specs.declared.limits.TheConstants.{MAX_ACTIONS, MAX_JOURNAL_STEPS, MAX_LINE_BYTES, OWN_LANE};
 ghost use Rattle.spec_text.specs.JournalText.{journal_of, journal_runs, text, refused, read_line};
 ghost use Rattle.spec_text.specs.ScriptText.{script_of};
 ghost use Rattle.test_cases.specs.JournalCases.{accept, paced_text, paced, tested_text, tested, clients_text, clients, edits_text, edits, edits_canonical, words_text, words, formless, before_end, plain, cut_scripts, lanes_text, lanes};
@@ -17,10 +18,10 @@ pub fn journals_are_read()
     ensures edits { journal_of edits_text ≡ Ok edits }
     ensures words { journal_of words_text ≡ Ok words }
     ensures empty { journal_of (codes " end \nend") ≡ Ok [] }
-    ensures long_comment { journal_of (replicate 65537 35 ++ codes "\nend") ≡ Ok [] }
-    ensures long_line { journal_of (codes "accept P M i 0 " ++ replicate 65521 65 ++ codes "\nend") ≡ Ok (Act 31 (accept (codes "P") (codes "M") (Insert 0 (replicate 65521 65) ∷ [])) ∷ []) }
+    ensures long_comment { journal_of (replicate (MAX_LINE_BYTES + 1) 35 ++ codes "\nend") ≡ Ok [] }
+    ensures long_line { journal_of (codes "accept P M i 0 " ++ replicate (MAX_LINE_BYTES - 15) 65 ++ codes "\nend") ≡ Ok (Act OWN_LANE (accept (codes "P") (codes "M") (Insert 0 (replicate (MAX_LINE_BYTES - 15) 65) ∷ [])) ∷ []) }
     ensures zeros { journal_of (codes "cpu 0000000002\n@00 in I 007 -0\nend") ≡ Ok (Cpu ∷ Cpu ∷ Act 0 (WordIn (codes "I") 7 (pos 0)) ∷ []) }
-    ensures whole_count { journal_runs (codes "cpu 4000000\ntick 4000000\nend") ≡ Ok (record { event = Cpu; count = 4000000 } ∷ record { event = Tick; count = 4000000 } ∷ []) }
+    ensures whole_count { journal_runs (codes "cpu 4000000\ntick 4000000\nend") ≡ Ok (record { event = Cpu; count = MAX_JOURNAL_STEPS } ∷ record { event = Tick; count = MAX_JOURNAL_STEPS } ∷ []) }
 {}
 
 /// Refused journals, with the line and its first cause.
@@ -29,8 +30,8 @@ pub fn journals_are_refused()
     ensures no_end { journal_of (codes "mode run\n\n") ≡ refused 3 J1 }
     ensures nothing { journal_of [] ≡ refused 1 J1 }
     ensures return_kept { journal_of (codes "mode run\nend\r") ≡ refused 2 J1 }
-    ensures long { journal_of (replicate 65537 99 ++ codes "\nend\n") ≡ refused 1 J1 }
-    ensures actions { read_line (record { steps = 0; ticks = 0; actions = 100000 }) (codes "clear") ≡ Err J4 }
+    ensures long { journal_of (replicate (MAX_LINE_BYTES + 1) 99 ++ codes "\nend\n") ≡ refused 1 J1 }
+    ensures actions { read_line (record { steps = 0; ticks = 0; actions = MAX_ACTIONS }) (codes "clear") ≡ Err J4 }
     ensures lane { journal_of (codes "# lane\n@31 mode run\nend\n") ≡ refused 2 J2 }
     ensures form_before_lane { journal_of (codes "@31 mode\nend\n") ≡ refused 1 J1 }
     ensures zero { journal_of (codes "mode run\ncpu 0\nend\n") ≡ refused 2 J4 }
