@@ -1,11 +1,11 @@
 -- The tokens of a text after blanks, a run or a single byte.
-use Rattle.std.proofs.Common.{◌≡◌, ℕ, zero, suc, ◌+◌, ◌-◌, ◌<◌, ◌≤◌, Bool, true, false, ◌||◌, nat_lt, List, [], ◌∷◌, ◌++◌, length, reverse, get_or, drop, take, slice_range, refl, ap, sym, ◌∙◌, subst, arith, IsTrue, length-drop}
-use Rattle.std.specs.Prelude.{◌==◌}
+use Rattle.std.proofs.Common.{◌≡◌, ℕ, zero, suc, ◌+◌, ◌-◌, ◌<◌, ◌≤◌, Bool, true, false, nat_lt, List, [], ◌∷◌, ◌++◌, length, reverse, get_or, drop, take, slice_range, refl, ap, sym, ◌∙◌, subst, arith, IsTrue, length-drop}
 use Rattle.std.specs.List.{list_all}
 use Rattle.std.proofs.lemmas.List.{drop_more, drop_all, take_more, reverse-append, reverse-reverse, length-reverse, get_or-drop, length-take}
 use Rattle.std.proofs.lemmas.List.Folds.{list_all-append}
-use Rattle.std.proofs.lemmas.Bool.{and_from, eqb-true, ltb-true, ltb-false}
-use Rattle.lgx_rung.proofs.Bytes.{blank_in_run, EndsRun, run_first}
+use Rattle.std.proofs.lemmas.Bool.{and_from, ltb-true, ltb-false}
+use Rattle.lgx_rung.specs.Lexemes.{EndsRun}
+use Rattle.lgx_rung.proofs.Bytes.{blank_in_run, run_read, one_mark}
 use Rattle.lgx_rung.specs.Tokens.{is_blank, is_operand_byte, is_operand, in_run, run_token, mark, inside_after, put_byte, tokens_from}
 
 -- ---- blanks
@@ -66,15 +66,6 @@ ends_here [] inside (suc at) h e = absurd (omega arith)
 ends_here (b ∷ bs) inside zero h e = e (omega arith)
 ends_here (b ∷ bs) inside (suc at) h e = ends_here bs inside at (omega arith) (λ k. e (omega arith))
 
-run_read : (text : List ℕ) (inside : Bool) (at : ℕ) (run : List ℕ) → 0 < length run → EndsRun inside text
-    → tokens_from text inside at run ≡ record { at = at - length run; token = run_token inside (reverse run) } ∷ tokens_from text inside at []
-run_read text inside at [] h e = absurd (omega arith)
-run_read [] inside at (c ∷ cs) h e = refl
-run_read (b ∷ bs) inside at (c ∷ cs) h e =
-    ap (λ x. put_byte x (is_blank b) b (tokens_from bs) inside at (c ∷ cs)) e
-    ∙ run_first (is_blank b) b bs inside at c cs
-    ∙ ap (λ x. record { at = at - length (c ∷ cs); token = run_token inside (reverse (c ∷ cs)) } ∷ put_byte x (is_blank b) b (tokens_from bs) inside at []) (sym e)
-
 pub run_moves : (text : List ℕ) (inside : Bool) (from at : ℕ) → from ≤ at → from < length text → in_run inside (get_or text from 0) ≡ true
     → (at < length text → in_run inside (get_or text at 0) ≡ false) → from < at
 run_moves text inside from at h k e stops = go (nat_lt from at) refl
@@ -100,12 +91,6 @@ run_ended text inside from at h k e =
     ∙ ap (λ r. record { at = from; token = run_token inside r } ∷ tokens_from (drop at text) inside at []) (reverse-reverse run)
 
 -- ---- a single byte
-
-one_mark : (b : ℕ) (bs : List ℕ) (inside : Bool) (at : ℕ) → in_run inside b ≡ false → is_blank b ≡ false
-    → tokens_from (b ∷ bs) inside at [] ≡ record { at = at; token = mark b } ∷ tokens_from bs (inside_after inside (mark b)) (at + 1) []
-one_mark b bs inside at h e =
-    ap (λ x. put_byte x (is_blank b) b (tokens_from bs) inside at []) h
-    ∙ ap (λ x. put_byte false x b (tokens_from bs) inside at []) e
 
 pub mark_read : (text : List ℕ) (inside : Bool) (at : ℕ) → at < length text → in_run inside (get_or text at 0) ≡ false → is_blank (get_or text at 0) ≡ false
     → tokens_from (drop at text) inside at [] ≡ record { at = at; token = mark (get_or text at 0) } ∷ tokens_from (drop (at + 1) text) (inside_after inside (mark (get_or text at 0))) (at + 1) []

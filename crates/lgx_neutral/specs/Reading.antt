@@ -10,7 +10,7 @@ use Rattle.lgx_rung.specs.Tree.{Source}
 -- after operands, of which there is at least one
 abbrev pub after : Op → List (List ℕ) → text.Place
 after op [] = text.First op
-after op (first ∷ others) = text.Behind op first others
+after op (first ∷ others) = text.After op first others
 
 -- after a comma
 abbrev pub next : Op → List (List ℕ) → text.Place

@@ -6,8 +6,8 @@ use Rattle.lgx_rung.specs.declared.op.Op.TheVariants.{Nop}
 use Rattle.lgx_rung.specs.declared.fault.TextFault.{TextFault}
 use Rattle.lgx_rung.specs.declared.fault.TextCode.{TextCode}
 use Rattle.lgx_rung.specs.declared.fault.TextCode.TheVariants.{T1, T2, T3, T4, T5}
-use Rattle.lgx_rung.specs.Text.{rung_tokens, IsNested, MayFollow, InElementPlace, kinds, IsWrong, StopsAt, IsOpen, IsCause, IsTextCause}
-use Rattle.lgx_rung.specs.Tokens.{Token, Mnemonic, Letters, Operand, OpenFork, CloseFork, OpenParen, CloseParen, Comma, Semicolon, Stray, Placed, tokens, Place, Element, Named, First, Behind, Next, Fork, Reader, At, Done, open_fork, read_at, read_token, read_end, read_on, read_tokens, read_rung}
+use Rattle.lgx_rung.specs.Text.{rung_tokens, IsNested, MayFollow, InElementPlace, unplaced, IsWrong, StopsAt, IsOpen, IsCause, IsTextCause}
+use Rattle.lgx_rung.specs.Tokens.{Token, Mnemonic, Letters, Operand, OpenFork, CloseFork, OpenParen, CloseParen, Comma, Semicolon, Stray, Placed, tokens, Place, Element, Named, First, After, Next, Fork, Reader, At, Done, open_fork, read_at, read_token, read_end, read_on, read_tokens, read_rung}
 use Rattle.lgx_rung.specs.Tree.{depth, Source}
 use Rattle.lgx_rung.proofs.Reading.{and_then, run, start, fit_by_run, goes_on}
 use Rattle.lgx_rung.proofs.Runs.{Runs, run_on, shorter, runs_before, ends_rung, rung_ends, cut_short, begins, runs_of_begins, one_more}
@@ -28,7 +28,7 @@ element_place : (ts : List Token) (s : Reader) → Runs ts s → IsAtElement s �
 element_place ts (At Element forks t) e h = begins (ts ++ Mnemonic Nop ∷ []) (At (Named Nop) forks t) (one_more ts (Mnemonic Nop) (At Element forks t) (At (Named Nop) forks t) e refl)
 element_place ts (At (Named op) forks t) e h = absurd h
 element_place ts (At (First op) forks t) e h = absurd h
-element_place ts (At (Behind op x xs) forks t) e h = absurd h
+element_place ts (At (After op x xs) forks t) e h = absurd h
 element_place ts (At (Next op x xs) forks t) e h = absurd h
 element_place ts (Done r) e h = absurd h
 
@@ -71,9 +71,9 @@ wrong ts (At (Named op) forks leg) t e = elsewhere ts (At (Named op) forks leg) 
 wrong ts (At (First op) forks leg) (Operand x) e = tt
 wrong ts (At (First op) forks leg) CloseParen e = tt
 wrong ts (At (First op) forks leg) t e = elsewhere ts (At (First op) forks leg) t e (λ h. h)
-wrong ts (At (Behind op x xs) forks leg) Comma e = tt
-wrong ts (At (Behind op x xs) forks leg) CloseParen e = tt
-wrong ts (At (Behind op x xs) forks leg) t e = elsewhere ts (At (Behind op x xs) forks leg) t e (λ h. h)
+wrong ts (At (After op x xs) forks leg) Comma e = tt
+wrong ts (At (After op x xs) forks leg) CloseParen e = tt
+wrong ts (At (After op x xs) forks leg) t e = elsewhere ts (At (After op x xs) forks leg) t e (λ h. h)
 wrong ts (At (Next op x xs) forks leg) (Operand y) e = tt
 wrong ts (At (Next op x xs) forks leg) t e = elsewhere ts (At (Next op x xs) forks leg) t e (λ h. h)
 wrong ts (Done r) t e = elsewhere ts (Done r) t e (λ h. h)
@@ -99,31 +99,31 @@ one_code T5 T4 ts t h k = absurd k
 
 -- ---- the reading of placed tokens
 
-read_run : (len : ℕ) (ts : List Placed) (r s : Reader) → run (kinds ts) r ≡ Ok s → read_tokens len ts r ≡ read_end len s
+read_run : (len : ℕ) (ts : List Placed) (r s : Reader) → run (unplaced ts) r ≡ Ok s → read_tokens len ts r ≡ read_end len s
 read_run len [] r s e = let same : r ≡ s = cc in ap (read_end len) same
 read_run len (t ∷ ts) r s e =
-    let q = shorter (read_token r t.token) (run (kinds ts)) s e in
+    let q = shorter (read_token r t.token) (run (unplaced ts)) s e in
     ap (λ x. read_on x t.at (read_tokens len ts)) q.1 ∙ read_run len ts q.0 s q.2
 
 abbrev fault : TextCode → ℕ → TextFault
 fault code at = record { code = code; at = at }
 
 read_stop : (len : ℕ) (before : List Placed) (next : Placed) (after : List Placed) (r s : Reader) (code : TextCode)
-    → run (kinds before) r ≡ Ok s → read_token s next.token ≡ Err code → read_tokens len (before ++ next ∷ after) r ≡ Err (fault code next.at)
+    → run (unplaced before) r ≡ Ok s → read_token s next.token ≡ Err code → read_tokens len (before ++ next ∷ after) r ≡ Err (fault code next.at)
 read_stop len [] next after r s code e h = let same : r ≡ s = cc in ap (λ x. read_on x next.at (read_tokens len after)) (ap (λ x. read_token x next.token) same ∙ h)
 read_stop len (t ∷ ts) next after r s code e h =
-    let q = shorter (read_token r t.token) (run (kinds ts)) s e in
+    let q = shorter (read_token r t.token) (run (unplaced ts)) s e in
     ap (λ x. read_on x t.at (read_tokens len (ts ++ next ∷ after))) q.1 ∙ read_stop len ts next after q.0 s code q.2 h
 
 data Outcome (ts : List Placed) (r : Reader) : Type 0 where
-  ends : (s : Reader) → run (kinds ts) r ≡ Ok s → Outcome ts r
+  ends : (s : Reader) → run (unplaced ts) r ≡ Ok s → Outcome ts r
   stops : (before : List Placed) (next : Placed) (after : List Placed) (s : Reader) (code : TextCode)
-      → ts ≡ before ++ next ∷ after → run (kinds before) r ≡ Ok s → read_token s next.token ≡ Err code → Outcome ts r
+      → ts ≡ before ++ next ∷ after → run (unplaced before) r ≡ Ok s → read_token s next.token ≡ Err code → Outcome ts r
 
 later : (t : Placed) (ts : List Placed) (r s : Reader) → read_token r t.token ≡ Ok s → Outcome ts s → Outcome (t ∷ ts) r
-later t ts r s e (ends u h) = ends u (ap (λ q. and_then q (run (kinds ts))) e ∙ h)
+later t ts r s e (ends u h) = ends u (ap (λ q. and_then q (run (unplaced ts))) e ∙ h)
 later t ts r s e (stops before next after u code split h k) =
-    stops (t ∷ before) next after u code (ap (λ x. t ∷ x) split) (ap (λ q. and_then q (run (kinds before))) e ∙ h) k
+    stops (t ∷ before) next after u code (ap (λ x. t ∷ x) split) (ap (λ q. and_then q (run (unplaced before))) e ∙ h) k
 
 first : (t : Placed) (ts : List Placed) (r : Reader) (q : Result Reader TextCode) → read_token r t.token ≡ q → ((s : Reader) → Outcome ts s) → Outcome (t ∷ ts) r
 first t ts r (Ok s) e go = later t ts r s e (go s)
@@ -136,20 +136,20 @@ outcome (t ∷ ts) r = first t ts r (read_token r t.token) refl (outcome ts)
 -- ---- causes
 
 -- the text ends while something is open
-ends_open : (text : List ℕ) (p : Place) (forks : List Fork) (leg : Source) (f : TextFault) → Runs (kinds (tokens text)) (At p forks leg)
+ends_open : (text : List ℕ) (p : Place) (forks : List Fork) (leg : Source) (f : TextFault) → Runs (unplaced (tokens text)) (At p forks leg)
     → IsOpenAt p forks → fault T3 (length text) ≡ f → IsTextCause text f
 ends_open text p forks leg f e h same =
-    subst (IsTextCause text) same (refl, cut_short (kinds (tokens text)) (At p forks leg) e (goes_on p forks leg), open_of_run (kinds (tokens text)) p forks leg e h)
+    subst (IsTextCause text) same (refl, cut_short (unplaced (tokens text)) (At p forks leg) e (goes_on p forks leg), open_of_run (unplaced (tokens text)) p forks leg e h)
 
-ends_early : (text : List ℕ) (s : Reader) (f : TextFault) → Runs (kinds (tokens text)) s → read_end (length text) s ≡ Err f → IsTextCause text f
+ends_early : (text : List ℕ) (s : Reader) (f : TextFault) → Runs (unplaced (tokens text)) s → read_end (length text) s ≡ Err f → IsTextCause text f
 ends_early text (Done r) f e h = cc
 ends_early text (At Element [] leg) f e h =
     let same : fault T4 (length text) ≡ f = cc in
-    subst (IsTextCause text) same (refl, cut_short (kinds (tokens text)) (At Element [] leg) e (goes_on Element [] leg), closed_of_run (kinds (tokens text)) leg e)
+    subst (IsTextCause text) same (refl, cut_short (unplaced (tokens text)) (At Element [] leg) e (goes_on Element [] leg), closed_of_run (unplaced (tokens text)) leg e)
 ends_early text (At Element (g ∷ gs) leg) f e h = ends_open text Element (g ∷ gs) leg f e tt (cc)
 ends_early text (At (Named op) forks leg) f e h = ends_open text (Named op) forks leg f e tt (cc)
 ends_early text (At (First op) forks leg) f e h = ends_open text (First op) forks leg f e tt (cc)
-ends_early text (At (Behind op x xs) forks leg) f e h = ends_open text (Behind op x xs) forks leg f e tt (cc)
+ends_early text (At (After op x xs) forks leg) f e h = ends_open text (After op x xs) forks leg f e tt (cc)
 ends_early text (At (Next op x xs) forks leg) f e h = ends_open text (Next op x xs) forks leg f e tt (cc)
 
 -- the code of a token that may not follow is one of three
@@ -172,15 +172,15 @@ found text f (ends s e) h = ends_early text s f e (sym (read_run (length text) (
 found text f (stops before next after s code split e k) h =
     let stop : read_rung text ≡ Err (fault code next.at) = ap (λ ts. read_tokens (length text) ts start) split ∙ read_stop (length text) before next after start s code e k in
     let same : fault code next.at ≡ f = cc in
-    let w : IsWrong code (kinds before) next.token = subst (λ q. IfErr q (λ c. IsWrong c (kinds before) next.token)) k (wrong (kinds before) s next.token e) in
-    subst (IsTextCause text) same (stops_at text code next.at (kinds before) next.token w
+    let w : IsWrong code (unplaced before) next.token = subst (λ q. IfErr q (λ c. IsWrong c (unplaced before) next.token)) k (wrong (unplaced before) s next.token e) in
+    subst (IsTextCause text) same (stops_at text code next.at (unplaced before) next.token w
     (record {
       before = before;
       next = next;
       after = after;
       is_text = split;
-      begins = begins (kinds before) s e;
-      ends = refuses (kinds before) next.token s code e k;
+      begins = begins (unplaced before) s e;
+      ends = refuses (unplaced before) next.token s code e k;
       is_wrong = w;
       is_there = refl;
     }))
@@ -197,9 +197,9 @@ answered (Err c) ts t s code h e n w =
 
 read_of_stop : (text : List ℕ) (code : TextCode) (at : ℕ) → StopsAt text code at → read_rung text ≡ Err (fault code at)
 read_of_stop text code at c =
-    let r = runs_of_begins (kinds c.before) c.begins in
+    let r = runs_of_begins (unplaced c.before) c.begins in
     ap (λ ts. read_tokens (length text) ts start) c.is_text
-    ∙ read_stop (length text) c.before c.next c.after start r.0 code r.1 (answered (read_token r.0 c.next.token) (kinds c.before) c.next.token r.0 code refl r.1 c.ends c.is_wrong)
+    ∙ read_stop (length text) c.before c.next c.after start r.0 code r.1 (answered (read_token r.0 c.next.token) (unplaced c.before) c.next.token r.0 code refl r.1 c.ends c.is_wrong)
     ∙ ap (λ x. Err (fault code x)) (sym c.is_there)
 
 closed_at_end : (ts : List Token) (s : Reader) (t : Token) (more : List Token) (u : Reader) → Runs ts s → and_then (read_token s t) (run more) ≡ Ok u → (IsOpen ts → ⊥) → (len : ℕ) → read_end len s ≡ Err (fault T4 len)
@@ -207,7 +207,7 @@ closed_at_end ts (At Element [] leg) t more u e h n len = refl
 closed_at_end ts (At Element (f ∷ fs) leg) t more u e h n len = absurd (n (open_of_run ts Element (f ∷ fs) leg e tt))
 closed_at_end ts (At (Named op) fs leg) t more u e h n len = absurd (n (open_of_run ts (Named op) fs leg e tt))
 closed_at_end ts (At (First op) fs leg) t more u e h n len = absurd (n (open_of_run ts (First op) fs leg e tt))
-closed_at_end ts (At (Behind op x xs) fs leg) t more u e h n len = absurd (n (open_of_run ts (Behind op x xs) fs leg e tt))
+closed_at_end ts (At (After op x xs) fs leg) t more u e h n len = absurd (n (open_of_run ts (After op x xs) fs leg e tt))
 closed_at_end ts (At (Next op x xs) fs leg) t more u e h n len = absurd (n (open_of_run ts (Next op x xs) fs leg e tt))
 closed_at_end ts (Done r) t more u e h n len = cc
 
@@ -216,7 +216,7 @@ open_at_end ts (At Element [] leg) t more u e h o len = absurd (closed_of_run ts
 open_at_end ts (At Element (f ∷ fs) leg) t more u e h o len = refl
 open_at_end ts (At (Named op) fs leg) t more u e h o len = refl
 open_at_end ts (At (First op) fs leg) t more u e h o len = refl
-open_at_end ts (At (Behind op x xs) fs leg) t more u e h o len = refl
+open_at_end ts (At (After op x xs) fs leg) t more u e h o len = refl
 open_at_end ts (At (Next op x xs) fs leg) t more u e h o len = refl
 open_at_end ts (Done r) t more u e h o len = cc
 
@@ -226,15 +226,15 @@ read_of_code text T2 at c = read_of_stop text T2 at c
 read_of_code text T5 at c = read_of_stop text T5 at c
 read_of_code text T3 at c =
     let l = c.1 in
-    let r = runs_before (kinds (tokens text)) (l.1 ∷ l.2) (Done l.0) (rung_ends (kinds (tokens text) ++ l.1 ∷ l.2) l.0 l.3.0 l.3.1) in
+    let r = runs_before (unplaced (tokens text)) (l.1 ∷ l.2) (Done l.0) (rung_ends (unplaced (tokens text) ++ l.1 ∷ l.2) l.0 l.3.0 l.3.1) in
     read_run (length text) (tokens text) start r.0 r.1
-    ∙ open_at_end (kinds (tokens text)) r.0 l.1 l.2 (Done l.0) r.1 r.2 c.2 (length text)
+    ∙ open_at_end (unplaced (tokens text)) r.0 l.1 l.2 (Done l.0) r.1 r.2 c.2 (length text)
     ∙ ap (λ x. Err (fault T3 x)) (sym c.0)
 read_of_code text T4 at c =
     let l = c.1 in
-    let r = runs_before (kinds (tokens text)) (l.1 ∷ l.2) (Done l.0) (rung_ends (kinds (tokens text) ++ l.1 ∷ l.2) l.0 l.3.0 l.3.1) in
+    let r = runs_before (unplaced (tokens text)) (l.1 ∷ l.2) (Done l.0) (rung_ends (unplaced (tokens text) ++ l.1 ∷ l.2) l.0 l.3.0 l.3.1) in
     read_run (length text) (tokens text) start r.0 r.1
-    ∙ closed_at_end (kinds (tokens text)) r.0 l.1 l.2 (Done l.0) r.1 r.2 c.2 (length text)
+    ∙ closed_at_end (unplaced (tokens text)) r.0 l.1 l.2 (Done l.0) r.1 r.2 c.2 (length text)
     ∙ ap (λ x. Err (fault T4 x)) (sym c.0)
 
 -- and the cause is read
@@ -243,8 +243,8 @@ read_of_cause text f c = read_of_code text f.code f.at c
 
 -- ---- rungs
 
-pub read_of_tokens : (text : List ℕ) (r : Source) → IsNested r → rung_tokens r ≡ kinds (tokens text) → read_rung text ≡ Ok r
-read_of_tokens text r h e = read_run (length text) (tokens text) start (Done r) (rung_ends (kinds (tokens text)) r h e)
+pub read_of_tokens : (text : List ℕ) (r : Source) → IsNested r → rung_tokens r ≡ unplaced (tokens text) → read_rung text ≡ Ok r
+read_of_tokens text r h e = read_run (length text) (tokens text) start (Done r) (rung_ends (unplaced (tokens text)) r h e)
 
 ends_whole : (len : ℕ) (s : Reader) (r : Source) → read_end len s ≡ Ok r → s ≡ Done r
 ends_whole len (Done x) r e = let same : x ≡ r = cc in ap Done same
@@ -252,15 +252,15 @@ ends_whole len (At Element [] leg) r e = cc
 ends_whole len (At Element (f ∷ fs) leg) r e = cc
 ends_whole len (At (Named op) fs leg) r e = cc
 ends_whole len (At (First op) fs leg) r e = cc
-ends_whole len (At (Behind op x xs) fs leg) r e = cc
+ends_whole len (At (After op x xs) fs leg) r e = cc
 ends_whole len (At (Next op x xs) fs leg) r e = cc
 
-whole : (text : List ℕ) (r : Source) → Outcome (tokens text) start → read_rung text ≡ Ok r → IsNested r × (rung_tokens r ≡ kinds (tokens text))
+whole : (text : List ℕ) (r : Source) → Outcome (tokens text) start → read_rung text ≡ Ok r → IsNested r × (rung_tokens r ≡ unplaced (tokens text))
 whole text r (ends s e) h =
-    ends_rung (kinds (tokens text)) r (e ∙ ap Ok (ends_whole (length text) s r (sym (read_run (length text) (tokens text) start s e) ∙ h)))
+    ends_rung (unplaced (tokens text)) r (e ∙ ap Ok (ends_whole (length text) s r (sym (read_run (length text) (tokens text) start s e) ∙ h)))
 whole text r (stops before next after s code split e k) h =
     let stop : read_rung text ≡ Err (fault code next.at) = ap (λ ts. read_tokens (length text) ts start) split ∙ read_stop (length text) before next after start s code e k in
     cc
 
-pub tokens_of_read : (text : List ℕ) (r : Source) → read_rung text ≡ Ok r → IsNested r × (rung_tokens r ≡ kinds (tokens text))
+pub tokens_of_read : (text : List ℕ) (r : Source) → read_rung text ≡ Ok r → IsNested r × (rung_tokens r ≡ unplaced (tokens text))
 tokens_of_read text r = whole text r (outcome (tokens text) start)

@@ -1,5 +1,5 @@
 -- A text is written of its tokens, and the tokens of a text that is written of a rung's tokens are these.
-use Rattle.std.proofs.Common.{◌≡◌, ℕ, ◌+◌, Bool, true, false, ◌||◌, List, [], ◌∷◌, ◌++◌, reverse, refl, ap, sym, ◌∙◌, subst, append_assoc, Option, Some, None, IsTrue}
+use Rattle.std.proofs.Common.{◌≡◌, ℕ, ◌+◌, Bool, true, false, List, [], ◌∷◌, ◌++◌, reverse, refl, ap, sym, ◌∙◌, subst, append_assoc, Option, Some, None, IsTrue}
 use Rattle.std.specs.Prelude.{◌==◌, if◌then◌else◌}
 use Rattle.std.specs.List.{list_all}
 use Rattle.std.proofs.lemmas.List.{append-nil, reverse-append}
@@ -9,14 +9,15 @@ use Rattle.lgx_num.specs.Name.{is_letter}
 use Rattle.lgx_rung.specs.declared.op.Op.{Op}
 use Rattle.lgx_rung.specs.declared.op.Op.TheVariants.{Xic}
 use Rattle.lgx_rung.specs.Mnemonics.{op_of, text_of}
-use Rattle.lgx_rung.specs.Text.{IsSpelling, IsWritten, kinds, list_tokens, leg_tokens, rung_tokens, operands, more_operands, canon_token, canon_tokens, canon, has_operands}
+use Rattle.lgx_rung.specs.Text.{IsSpelling, IsWritten, unplaced, list_tokens, leg_tokens, rung_tokens, operands, more_operands, canon_token, canon_tokens, canon, has_operands}
 use Rattle.lgx_rung.specs.Tokens.{is_blank, is_operand_byte, is_operand, in_run, word, run_token, mark, inside_after, end_run, put_byte, put_mark, tokens_from, tokens, Token, Mnemonic, Letters, Operand, OpenFork, CloseFork, OpenParen, CloseParen, Comma, Semicolon, Stray, Placed}
-use Rattle.lgx_rung.proofs.Bytes.{blank_in_run, EndsRun, run_first}
+use Rattle.lgx_rung.specs.Lexemes.{EndsRun}
+use Rattle.lgx_rung.proofs.Bytes.{blank_in_run, run_first}
 use Rattle.lgx_rung.specs.Tree.{end, one, fork, Legs, last, leg, instructions, leg_instructions, SourceIns, Source}
 
 -- ---- a text is written of its tokens
 
-reverse-cons : (b : ℕ) (bs : List ℕ) → reverse (b ∷ bs) ≡ reverse bs ++ b ∷ []
+pub reverse-cons : (b : ℕ) (bs : List ℕ) → reverse (b ∷ bs) ≡ reverse bs ++ b ∷ []
 reverse-cons b bs = reverse-append (b ∷ []) bs
 
 spelled_if : (b n : ℕ) (t u : Token) → IsSpelling t (n ∷ []) → IsSpelling u (b ∷ []) → IsSpelling (if b == n then t else u) (b ∷ [])
@@ -46,7 +47,7 @@ operand_of [] b [] e h = cc
 operand_of [] b (c ∷ cs) e h = cc
 operand_of (x ∷ xs) b bs e h = h
 
-list_all-reverse : (p : ℕ → Bool) (xs : List ℕ) → IsTrue (list_all p xs) → IsTrue (list_all p (reverse xs))
+pub list_all-reverse : (p : ℕ → Bool) (xs : List ℕ) → IsTrue (list_all p xs) → IsTrue (list_all p (reverse xs))
 list_all-reverse p [] h = refl
 list_all-reverse p (x ∷ xs) h =
     ap (list_all p) (reverse-cons x xs) ∙ list_all-append p (reverse xs) (x ∷ [])
@@ -56,22 +57,22 @@ spelled_run : (inside : Bool) (b : ℕ) (bs : List ℕ) → IsTrue (list_all (in
 spelled_run true b bs h = (refl, operand_of (reverse (b ∷ bs)) b (reverse bs) (reverse-cons b bs) (list_all-reverse is_operand_byte (b ∷ bs) h))
 spelled_run false b bs h = spelled_word (reverse (b ∷ bs)) (op_of (reverse (b ∷ bs))) (list_all-reverse is_letter (b ∷ bs) h) refl
 
-written_run : (inside : Bool) (at : ℕ) (run text : List ℕ) (ts : List Placed) → IsTrue (list_all (in_run inside) run) → IsWritten text (kinds ts)
-    → IsWritten (reverse run ++ text) (kinds (end_run inside at run ts))
+written_run : (inside : Bool) (at : ℕ) (run text : List ℕ) (ts : List Placed) → IsTrue (list_all (in_run inside) run) → IsWritten text (unplaced ts)
+    → IsWritten (reverse run ++ text) (unplaced (end_run inside at run ts))
 written_run inside at [] text ts h w = w
 written_run inside at (b ∷ bs) text ts h w = ([], reverse (b ∷ bs), text, (refl, refl, spelled_run inside b bs h, w))
 
 -- the tokens of what follows are what it is written of
 abbrev IsRest : List ℕ → Type 0
-IsRest text = (inside : Bool) (at : ℕ) (run : List ℕ) → IsTrue (list_all (in_run inside) run) → IsWritten (reverse run ++ text) (kinds (tokens_from text inside at run))
+IsRest text = (inside : Bool) (at : ℕ) (run : List ℕ) → IsTrue (list_all (in_run inside) run) → IsWritten (reverse run ++ text) (unplaced (tokens_from text inside at run))
 
 written_byte : (x y : Bool) (b : ℕ) (bs : List ℕ) → IsRest bs → (inside : Bool) (at : ℕ) (run : List ℕ) → in_run inside b ≡ x → is_blank b ≡ y → IsTrue (list_all (in_run inside) run)
-    → IsWritten (reverse run ++ b ∷ bs) (kinds (put_byte x y b (tokens_from bs) inside at run))
+    → IsWritten (reverse run ++ b ∷ bs) (unplaced (put_byte x y b (tokens_from bs) inside at run))
 written_byte true y b bs rest inside at run e f h =
-    subst (λ text. IsWritten text (kinds (tokens_from bs inside (at + 1) (b ∷ run)))) (ap (λ x. x ++ bs) (reverse-cons b run) ∙ append_assoc (reverse run) (b ∷ []) bs)
+    subst (λ text. IsWritten text (unplaced (tokens_from bs inside (at + 1) (b ∷ run)))) (ap (λ x. x ++ bs) (reverse-cons b run) ∙ append_assoc (reverse run) (b ∷ []) bs)
     (rest inside (at + 1) (b ∷ run) (and_from (in_run inside b) (list_all (in_run inside) run) e h))
 written_byte false true b bs rest inside at run e f h =
-    written_run inside at run (b ∷ bs) (tokens_from bs inside (at + 1) []) h (blank_before b bs (kinds (tokens_from bs inside (at + 1) [])) f (rest inside (at + 1) [] refl))
+    written_run inside at run (b ∷ bs) (tokens_from bs inside (at + 1) []) h (blank_before b bs (unplaced (tokens_from bs inside (at + 1) [])) f (rest inside (at + 1) [] refl))
 written_byte false false b bs rest inside at run e f h =
     written_run inside at run (b ∷ bs) (put_mark inside at (mark b) (tokens_from bs)) h
     ([], b ∷ [], bs, (refl, refl, spelled_mark b, rest (inside_after inside (mark b)) (at + 1) [] refl))
@@ -80,7 +81,7 @@ written_from : (text : List ℕ) → IsRest text
 written_from [] inside at run h = written_run inside at run [] [] h refl
 written_from (b ∷ bs) inside at run h = written_byte (in_run inside b) (is_blank b) b bs (written_from bs) inside at run refl refl h
 
-pub written_of_tokens : (text : List ℕ) → IsWritten text (kinds (tokens text))
+pub written_of_tokens : (text : List ℕ) → IsWritten text (unplaced (tokens text))
 written_of_tokens text = written_from text false 0 [] refl
 
 -- ---- the tokens of a text that is written of a rung's tokens
@@ -136,22 +137,22 @@ apart_rung r = apart_list r (Semicolon ∷ []) tt
 
 -- at every place these tokens
 abbrev Gives : List ℕ → (inside : Bool) → (run : List ℕ) → List Token → Type 0
-Gives text inside run ts = (at : ℕ) → kinds (tokens_from text inside at run) ≡ ts
+Gives text inside run ts = (at : ℕ) → unplaced (tokens_from text inside at run) ≡ ts
 
 over_blanks : (blanks text : List ℕ) (inside : Bool) (ts : List Token) → IsTrue (list_all is_blank blanks) → Gives text inside [] ts → Gives (blanks ++ text) inside [] ts
 over_blanks [] text inside ts h g at = g at
 over_blanks (b ∷ bs) text inside ts h g at =
     let parts = and_parts (is_blank b) (list_all is_blank bs) h in
-    ap (λ x. kinds (put_byte x (is_blank b) b (tokens_from (bs ++ text)) inside at [])) (blank_in_run inside b parts.0)
-    ∙ ap (λ x. kinds (put_byte false x b (tokens_from (bs ++ text)) inside at [])) parts.0
+    ap (λ x. unplaced (put_byte x (is_blank b) b (tokens_from (bs ++ text)) inside at [])) (blank_in_run inside b parts.0)
+    ∙ ap (λ x. unplaced (put_byte false x b (tokens_from (bs ++ text)) inside at [])) parts.0
     ∙ over_blanks bs text inside ts parts.1 g (at + 1)
 
 -- bytes of a run, put after those before them
-abbrev onto : List ℕ → List ℕ → List ℕ
+abbrev pub onto : List ℕ → List ℕ → List ℕ
 onto [] run = run
 onto (b ∷ bs) run = onto bs (b ∷ run)
 
-reverse-onto : (bs run : List ℕ) → reverse (onto bs run) ≡ reverse run ++ bs
+pub reverse-onto : (bs run : List ℕ) → reverse (onto bs run) ≡ reverse run ++ bs
 reverse-onto [] run = sym (append-nil (reverse run))
 reverse-onto (b ∷ bs) run = reverse-onto bs (b ∷ run) ∙ ap (λ x. x ++ bs) (reverse-cons b run) ∙ append_assoc (reverse run) (b ∷ []) bs
 
@@ -159,19 +160,19 @@ over_run : (bytes text : List ℕ) (inside : Bool) (run : List ℕ) (ts : List T
 over_run [] text inside run ts h g at = g at
 over_run (b ∷ bs) text inside run ts h g at =
     let parts = and_parts (in_run inside b) (list_all (in_run inside) bs) h in
-    ap (λ x. kinds (put_byte x (is_blank b) b (tokens_from (bs ++ text)) inside at run)) parts.0
+    ap (λ x. unplaced (put_byte x (is_blank b) b (tokens_from (bs ++ text)) inside at run)) parts.0
     ∙ over_run bs text inside (b ∷ run) ts parts.1 g (at + 1)
 
 run_ended : (y : Bool) (b : ℕ) (bs : List ℕ) (inside : Bool) (at c : ℕ) (cs : List ℕ)
-    → kinds (put_byte false y b (tokens_from bs) inside at (c ∷ cs)) ≡ run_token inside (reverse (c ∷ cs)) ∷ kinds (put_byte false y b (tokens_from bs) inside at [])
-run_ended y b bs inside at c cs = ap kinds (run_first y b bs inside at c cs)
+    → unplaced (put_byte false y b (tokens_from bs) inside at (c ∷ cs)) ≡ run_token inside (reverse (c ∷ cs)) ∷ unplaced (put_byte false y b (tokens_from bs) inside at [])
+run_ended y b bs inside at c cs = ap unplaced (run_first y b bs inside at c cs)
 
 end_of_run : (text : List ℕ) (inside : Bool) (c : ℕ) (cs : List ℕ) (ts : List Token) → EndsRun inside text → Gives text inside [] ts → Gives text inside (c ∷ cs) (run_token inside (reverse (c ∷ cs)) ∷ ts)
 end_of_run [] inside c cs ts h g at = ap (λ x. run_token inside (reverse (c ∷ cs)) ∷ x) (g at)
 end_of_run (b ∷ bs) inside c cs ts h g at =
-    ap (λ x. kinds (put_byte x (is_blank b) b (tokens_from bs) inside at (c ∷ cs))) h
+    ap (λ x. unplaced (put_byte x (is_blank b) b (tokens_from bs) inside at (c ∷ cs))) h
     ∙ run_ended (is_blank b) b bs inside at c cs
-    ∙ ap (λ x. run_token inside (reverse (c ∷ cs)) ∷ kinds (put_byte x (is_blank b) b (tokens_from bs) inside at [])) (sym h)
+    ∙ ap (λ x. run_token inside (reverse (c ∷ cs)) ∷ unplaced (put_byte x (is_blank b) b (tokens_from bs) inside at [])) (sym h)
     ∙ ap (λ x. run_token inside (reverse (c ∷ cs)) ∷ x) (g at)
 
 mark_ends_run : (t : Token) (inside : Bool) (bytes rest : List ℕ) → IsMark t → IsSpelling t bytes → EndsRun inside (bytes ++ rest)
@@ -219,10 +220,10 @@ operand_gives [] text ts h r g = cc
 operand_gives (b ∷ bs) text ts h r g = run_gives (b ∷ bs) text true b bs ts refl h r g
 
 -- what the tokens that follow give, read inside and outside
-abbrev Behind : List ℕ → List Token → Type 0
-Behind rest ts = (inside : Bool) → IsApart inside ts → Gives rest inside [] ts
+abbrev After : List ℕ → List Token → Type 0
+After rest ts = (inside : Bool) → IsApart inside ts → Gives rest inside [] ts
 
-token_gives : (t : Token) (ts : List Token) (inside : Bool) (bytes rest : List ℕ) → IsApart inside (t ∷ ts) → IsSpelling t bytes → IsWritten rest ts → Behind rest ts → Gives (bytes ++ rest) inside [] (t ∷ ts)
+token_gives : (t : Token) (ts : List Token) (inside : Bool) (bytes rest : List ℕ) → IsApart inside (t ∷ ts) → IsSpelling t bytes → IsWritten rest ts → After rest ts → Gives (bytes ++ rest) inside [] (t ∷ ts)
 token_gives (Mnemonic op) ts false bytes rest a h w k = mnemonic_gives bytes rest op ts h (written_ends_run rest ts false a.0 w) (k false a.1)
 token_gives (Mnemonic op) ts true bytes rest a h w k = absurd a
 token_gives (Operand x) ts true bytes rest a h w k =
@@ -245,14 +246,14 @@ token_gives Letters ts false bytes rest a h w k = absurd a
 token_gives Stray ts true bytes rest a h w k = absurd a
 token_gives Stray ts false bytes rest a h w k = absurd a
 
-gives : (ts : List Token) (text : List ℕ) → IsWritten text ts → Behind text ts
+gives : (ts : List Token) (text : List ℕ) → IsWritten text ts → After text ts
 gives [] text w inside a =
     subst (λ x. Gives x inside [] []) (append-nil text) (over_blanks text [] inside [] w (λ at. refl))
 gives (t ∷ ts) text w inside a =
     subst (λ x. Gives x inside [] (t ∷ ts)) (sym w.3.0)
     (over_blanks w.0 (w.1 ++ w.2) inside (t ∷ ts) w.3.1 (token_gives t ts inside w.1 w.2 a w.3.2 w.3.3 (gives ts w.2 w.3.3)))
 
-pub tokens_of_written : (text : List ℕ) (r : Source) → IsWritten text (rung_tokens r) → kinds (tokens text) ≡ rung_tokens r
+pub tokens_of_written : (text : List ℕ) (r : Source) → IsWritten text (rung_tokens r) → unplaced (tokens text) ≡ rung_tokens r
 tokens_of_written text r w = gives (rung_tokens r) text w false (apart_rung r) 0
 
 -- ---- the canonical spelling

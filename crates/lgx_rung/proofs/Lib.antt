@@ -5,5 +5,6 @@ pub mod Open
 pub mod Causes
 pub mod Bytes
 pub mod Lexing
+pub mod Lexemes
 pub mod Laws
 pub mod Walks

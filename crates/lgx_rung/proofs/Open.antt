@@ -3,7 +3,7 @@ use Rattle.std.proofs.Common.{◌≡◌, ℕ, suc, ◌+◌, ◌-◌, Bool, true,
 use Rattle.std.proofs.lemmas.List.{append-nil}
 use Rattle.lgx_rung.specs.declared.op.Op.{Op}
 use Rattle.lgx_rung.specs.Text.{IsOpen, open_forks, in_parentheses, list_tokens, leg_tokens, operands, more_operands}
-use Rattle.lgx_rung.specs.Tokens.{Token, Mnemonic, OpenFork, CloseFork, CloseParen, Comma, Place, Element, Named, First, Behind, Next, Fork, Reader, At, Done, read_token}
+use Rattle.lgx_rung.specs.Tokens.{Token, Mnemonic, OpenFork, CloseFork, CloseParen, Comma, Place, Element, Named, First, After, Next, Fork, Reader, At, Done, read_token}
 use Rattle.lgx_rung.specs.Tree.{end, one, fork, Legs, last, leg, SourceIns, Source}
 use Rattle.lgx_rung.proofs.Reading.{and_then, run, taken_by_run, finished, fork_tokens, place_tokens}
 use Rattle.lgx_rung.proofs.Runs.{Runs, runs_before}
@@ -62,7 +62,7 @@ forks_place : (p : Place) (n : ℕ) → open_forks n (place_tokens p) ≡ n
 forks_place Element n = refl
 forks_place (Named op) n = refl
 forks_place (First op) n = refl
-forks_place (Behind op x xs) n = ap (open_forks n) (sym (append-nil (more_operands xs))) ∙ forks_more xs n []
+forks_place (After op x xs) n = ap (open_forks n) (sym (append-nil (more_operands xs))) ∙ forks_more xs n []
 forks_place (Next op x xs) n = forks_more xs n (Comma ∷ [])
 
 pub forks_of_run : (ts : List Token) (p : Place) (forks : List Fork) (current : Source) → Runs ts (At p forks current) → open_forks 0 ts ≡ length forks
@@ -127,8 +127,8 @@ open_of_run ts Element [] current e h = absurd h
 open_of_run ts Element (f ∷ fs) current e h = inl (omega (arith, forks_of_run ts Element (f ∷ fs) current e))
 open_of_run ts (Named op) forks current e h = inr (inr (fork_tokens forks ++ list_tokens current, op, sym (taken_by_run ts (At (Named op) forks current) e) ∙ sym (append_assoc (fork_tokens forks) (list_tokens current) (Mnemonic op ∷ []))))
 open_of_run ts (First op) forks current e h = inr (inl (parens_of_run ts (First op) forks current e))
-open_of_run ts (Behind op x xs) forks current e h =
-    inr (inl (parens_of_run ts (Behind op x xs) forks current e ∙ ap (in_parentheses true) (sym (append-nil (more_operands xs))) ∙ parens_more xs true []))
+open_of_run ts (After op x xs) forks current e h =
+    inr (inl (parens_of_run ts (After op x xs) forks current e ∙ ap (in_parentheses true) (sym (append-nil (more_operands xs))) ∙ parens_more xs true []))
 open_of_run ts (Next op x xs) forks current e h = inr (inl (parens_of_run ts (Next op x xs) forks current e ∙ parens_more xs true (Comma ∷ [])))
 
 mnemonic_names : (s : Reader) (op : Op) (forks : List Fork) (current : Source) → and_then (read_token s (Mnemonic op)) (run []) ≡ Ok (At Element forks current) → ⊥

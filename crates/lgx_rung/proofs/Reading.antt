@@ -7,7 +7,7 @@ use Rattle.spec_base.specs.declared.limits.TheConstants.{MAX_FORKS}
 use Rattle.lgx_rung.specs.declared.op.Op.{Op}
 use Rattle.lgx_rung.specs.declared.fault.TextCode.{TextCode}
 use Rattle.lgx_rung.specs.Text.{list_tokens, leg_tokens, rung_tokens, operands, more_operands, IsNested}
-use Rattle.lgx_rung.specs.Tokens.{Token, Mnemonic, Operand, OpenFork, CloseFork, OpenParen, CloseParen, Comma, Semicolon, Place, Element, Named, First, Behind, Next, Fork, Reader, At, Done, instruction, open_fork, read_at, read_token}
+use Rattle.lgx_rung.specs.Tokens.{Token, Mnemonic, Operand, OpenFork, CloseFork, OpenParen, CloseParen, Comma, Semicolon, Place, Element, Named, First, After, Next, Fork, Reader, At, Done, instruction, open_fork, read_at, read_token}
 use Rattle.lgx_rung.specs.Tree.{end, one, fork, Legs, last, leg, append, depth, leg_depth, legs_of, fork_of, SourceIns, Source}
 use Rattle.lgx_rung.proofs.Trees.{append-end, append-append, depth-append}
 
@@ -52,7 +52,7 @@ abbrev pub place_tokens : Place → List Token
 place_tokens Element = []
 place_tokens (Named op) = Mnemonic op ∷ []
 place_tokens (First op) = Mnemonic op ∷ OpenParen ∷ []
-place_tokens (Behind op first others) = Mnemonic op ∷ OpenParen ∷ Operand first ∷ more_operands others
+place_tokens (After op first others) = Mnemonic op ∷ OpenParen ∷ Operand first ∷ more_operands others
 place_tokens (Next op first others) = Mnemonic op ∷ OpenParen ∷ Operand first ∷ (more_operands others ++ Comma ∷ [])
 
 abbrev pub taken : Reader → List Token
@@ -118,8 +118,8 @@ read_at_taken (First op) (Operand x) forks t = one_after (fork_tokens forks) (li
 read_at_taken (First op) CloseParen forks t =
     ap (λ x. fork_tokens forks ++ (x ++ [])) (list_tokens-append t (instruction op []))
     ∙ simp (append_assoc, append-nil)
-read_at_taken (Behind op x xs) Comma forks t = one_after (fork_tokens forks) (list_tokens t) (Mnemonic op ∷ OpenParen ∷ Operand x ∷ more_operands xs) Comma
-read_at_taken (Behind op x xs) CloseParen forks t =
+read_at_taken (After op x xs) Comma forks t = one_after (fork_tokens forks) (list_tokens t) (Mnemonic op ∷ OpenParen ∷ Operand x ∷ more_operands xs) Comma
+read_at_taken (After op x xs) CloseParen forks t =
     ap (λ y. fork_tokens forks ++ (y ++ [])) (list_tokens-append t (instruction op (x ∷ xs)))
     ∙ simp (append_assoc, append-nil)
 read_at_taken (Next op x xs) (Operand y) forks t =
@@ -187,8 +187,8 @@ read_at_fit Element Semicolon (f ∷ fs) t h hs = tt
 read_at_fit (Named op) OpenParen forks t h hs = (h, hs)
 read_at_fit (First op) (Operand x) forks t h hs = (h, hs)
 read_at_fit (First op) CloseParen forks t h hs = (element_fit forks t op [] h, hs)
-read_at_fit (Behind op x xs) Comma forks t h hs = (h, hs)
-read_at_fit (Behind op x xs) CloseParen forks t h hs = (element_fit forks t op (x ∷ xs) h, hs)
+read_at_fit (After op x xs) Comma forks t h hs = (h, hs)
+read_at_fit (After op x xs) CloseParen forks t h hs = (element_fit forks t op (x ∷ xs) h, hs)
 read_at_fit (Next op x xs) (Operand y) forks t h hs = (h, hs)
 read_at_fit _ _ forks t h hs = tt
 
@@ -217,7 +217,7 @@ legs_of-list_of last = refl
 legs_of-list_of (leg t legs) = ap (leg t) (legs_of-list_of legs)
 
 runs_operands : (ys : List (List ℕ)) (op : Op) (x : List ℕ) (xs : List (List ℕ)) (rest : List Token) (forks : List Fork) (t : Source)
-    → run (more_operands ys ++ CloseParen ∷ rest) (At (Behind op x xs) forks t) ≡ run rest (At Element forks (append t (instruction op (x ∷ (xs ++ ys)))))
+    → run (more_operands ys ++ CloseParen ∷ rest) (At (After op x xs) forks t) ≡ run rest (At Element forks (append t (instruction op (x ∷ (xs ++ ys)))))
 runs_operands [] op x xs rest forks t = ap (λ ys. run rest (At Element forks (append t (instruction op (x ∷ ys))))) (sym (append-nil xs))
 runs_operands (y ∷ ys) op x xs rest forks t =
     runs_operands ys op x (xs ++ y ∷ []) rest forks t
@@ -287,5 +287,5 @@ pub goes_on : (p : Place) (forks : List Fork) (t : Source) → GoesOn (At p fork
 goes_on Element forks t = element_goes_on forks t
 goes_on (Named op) forks t = (OpenParen, CloseParen ∷ closing forks, closes forks (append t (instruction op [])))
 goes_on (First op) forks t = (CloseParen, closing forks, closes forks (append t (instruction op [])))
-goes_on (Behind op x xs) forks t = (CloseParen, closing forks, closes forks (append t (instruction op (x ∷ xs))))
+goes_on (After op x xs) forks t = (CloseParen, closing forks, closes forks (append t (instruction op (x ∷ xs))))
 goes_on (Next op x xs) forks t = (Operand [], CloseParen ∷ closing forks, closes forks (append t (instruction op (x ∷ (xs ++ [] ∷ [])))))

@@ -2,6 +2,7 @@ pub mod Mnemonics
 pub mod OperandTable
 pub mod Tree
 pub mod Tokens
+pub mod Lexemes
 pub mod Text
 pub mod Coding
 pub mod Elements

@@ -135,8 +135,9 @@ EndsByMnemonic ts = (before : List Token) × (op : Op) × (ts ≡ before ++ Mnem
 abbrev pub IsOpen : List Token → Type 0
 IsOpen ts = (0 < open_forks 0 ts) ⊎ (IsTrue (in_parentheses false ts) ⊎ EndsByMnemonic ts)
 
-abbrev pub kinds : List Placed → List Token
-kinds ts = map (λ t. t.token) ts
+-- tokens without their places
+abbrev pub unplaced : List Placed → List Token
+unplaced ts = map (λ t. t.token) ts
 
 -- what is wrong with a token that may not follow those before it
 abbrev pub IsWrong : TextCode → List Token → Token → Type 0
@@ -155,9 +156,9 @@ pub record StopsAt (text : List ℕ) (code : TextCode) (at : ℕ) : Type 0 where
   pub next : Placed
   pub after : List Placed
   pub is_text : tokens text ≡ before ++ next ∷ after
-  pub begins : Begins (kinds before)
-  pub ends : MayFollow (kinds before) next.token → ⊥
-  pub is_wrong : IsWrong code (kinds before) next.token
+  pub begins : Begins (unplaced before)
+  pub ends : MayFollow (unplaced before) next.token → ⊥
+  pub is_wrong : IsWrong code (unplaced before) next.token
   pub is_there : at ≡ next.at
 
 abbrev pub IsCause : TextCode → ℕ → List ℕ → Type 0
@@ -165,9 +166,9 @@ IsCause T1 at text = StopsAt text T1 at
 IsCause T2 at text = StopsAt text T2 at
 IsCause T5 at text = StopsAt text T5 at
 -- the text ends while something is open
-IsCause T3 at text = (at ≡ length text) × IsCutShort (kinds (tokens text)) × IsOpen (kinds (tokens text))
+IsCause T3 at text = (at ≡ length text) × IsCutShort (unplaced (tokens text)) × IsOpen (unplaced (tokens text))
 -- the text ends elsewhere
-IsCause T4 at text = (at ≡ length text) × IsCutShort (kinds (tokens text)) × (IsOpen (kinds (tokens text)) → ⊥)
+IsCause T4 at text = (at ≡ length text) × IsCutShort (unplaced (tokens text)) × (IsOpen (unplaced (tokens text)) → ⊥)
 
 -- the first fault of a text
 abbrev pub IsTextCause : List ℕ → TextFault → Type 0

@@ -101,7 +101,7 @@ pub data Place : Type 0 where
   -- the first operand, or the closing parenthesis
   First : Op → Place
   -- a comma or the closing parenthesis, after the first operand and others
-  Behind : Op → (first : List ℕ) → (others : List (List ℕ)) → Place
+  After : Op → (first : List ℕ) → (others : List (List ℕ)) → Place
   -- the operand after a comma
   Next : Op → (first : List ℕ) → (others : List (List ℕ)) → Place
 
@@ -151,11 +151,11 @@ read_element _ forks leg = Err T1
 abbrev pub read_at : Place → Token → List Fork → (leg : Source) → Result Reader TextCode
 read_at Element t forks leg = read_element t forks leg
 read_at (Named op) OpenParen forks leg = Ok (At (First op) forks leg)
-read_at (First op) (Operand text) forks leg = Ok (At (Behind op text []) forks leg)
+read_at (First op) (Operand text) forks leg = Ok (At (After op text []) forks leg)
 read_at (First op) CloseParen forks leg = Ok (add_element forks leg (instruction op []))
-read_at (Behind op first others) Comma forks leg = Ok (At (Next op first others) forks leg)
-read_at (Behind op first others) CloseParen forks leg = Ok (add_element forks leg (instruction op (first ∷ others)))
-read_at (Next op first others) (Operand text) forks leg = Ok (At (Behind op first (others ++ text ∷ [])) forks leg)
+read_at (After op first others) Comma forks leg = Ok (At (Next op first others) forks leg)
+read_at (After op first others) CloseParen forks leg = Ok (add_element forks leg (instruction op (first ∷ others)))
+read_at (Next op first others) (Operand text) forks leg = Ok (At (After op first (others ++ text ∷ [])) forks leg)
 read_at _ _ forks leg = Err T1
 
 abbrev pub read_token : Reader → Token → Result Reader TextCode

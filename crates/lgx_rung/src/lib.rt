@@ -18,6 +18,7 @@ pub use op::{Op, mnemonics_are_read_back};
 pub use operands::{Family, OperandKind};
 pub use rung::{Element, Legs, OpenFork, SourceRung};
 pub use text::{
-    canonical_text_spells_its_rung, text_spells_one_rung, texts_are_read, worked_texts,
+    canonical_text_spells_its_rung, text_spells_one_rung, texts_are_read,
+    tokens_are_runs_and_single_bytes, worked_texts,
 };
 pub use texts::Texts;

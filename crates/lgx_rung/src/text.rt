@@ -1,11 +1,18 @@
 // Laws of neutral text, and texts worked by hand.
-ghost use Rattle.std.specs.Prelude.{◌≡◌, ◌↔◌, ℕ, List, [], ◌∷◌, codes, Ok, Err};
+ghost use Rattle.std.specs.Prelude.{◌≡◌, ◌↔◌, ℕ, false, List, [], ◌∷◌, codes, Ok, Err};
 ghost use Rattle.lgx_rung.specs.declared.fault.TextFault.{TextFault};
 ghost use Rattle.lgx_rung.specs.declared.fault.TextCode.TheVariants.{T1, T2, T3, T4, T5};
 ghost use Rattle.lgx_rung.specs.declared.op.Op.TheVariants.{Ote, Xic};
 ghost use Rattle.lgx_rung.specs.Text.{IsSourceRung, IsTextCause, Spells, canon};
-ghost use Rattle.lgx_rung.specs.Tokens.{faulty, ins, read_rung};
+ghost use Rattle.lgx_rung.specs.Lexemes.{AreTokens};
+ghost use Rattle.lgx_rung.specs.Tokens.{Placed, faulty, ins, read_rung, tokens};
 ghost use Rattle.lgx_rung.specs.Tree.{Source, end, fork, last, leg};
+
+/// The tokens of a text are what it is in plain words: blanks, a run that the next byte doesn't continue or a single byte, and so
+/// on.
+pub fn tokens_are_runs_and_single_bytes()
+    ensures { (text : List ℕ) (ts : List Placed) → (tokens text ≡ ts) ↔ AreTokens ts text false 0 }
+{}
 
 /// A text is read to the rung that it spells, and every other text to its first fault.
 pub fn texts_are_read()

@@ -1,0 +1,81 @@
+// Connections.
+ghost use Rattle.std.specs.Prelude.{◌≡◌, ◌+◌, ◌*◌, ◌≤◌, IfOk};
+
+use crate::trouble::Trouble;
+use crate::words::{Said, name, number, word};
+use lgx_conn::Conns;
+use lgx_num::Memory;
+use spec_tables::{ConnDef, ConnFault, Slot};
+use std::alloc::{AllocError, Global};
+
+/// `conns | CONNECTION, CONNECTION ? CALL; .. | ..`: what the calls answer.
+///
+/// A connection is `NAME in BYTE WORDS TASK` or the same with `out`. A call is `in NAME WORD`, `out NAME WORD` or `io NAME WORD`; a
+/// slot is its byte, its number and its task.
+pub fn conns_row(alloc: Global, text: &str) -> Result<String, Trouble> {
+    let (defs, calls) = text.split_once('?').ok_or(Trouble::Form)?;
+    let (first, second) = defs.split_once(',').ok_or(Trouble::Form)?;
+    let conns = conns(alloc, conn(first)?, conn(second)?)?;
+    let mut said = Said::new(alloc);
+    for call in calls.split(';') {
+        run(alloc, &mut said, &conns, call)?;
+    }
+    Ok(said.into_text())
+}
+
+fn conn(text: &str) -> Result<ConnDef, Trouble>
+    ensures { IfOk result (λ c. (c.words ≤ 128) × (c.byte + 4 * c.words ≤ 262144)) }
+{
+    let mut words = text.split_whitespace();
+    let name = name(&mut words)?;
+    let output = word(&mut words)? == "out";
+    let byte = number(&mut words)?;
+    let count = number(&mut words)?;
+    let task = number(&mut words)?;
+    if byte > 1000 || count > 128 {
+        return Err(Trouble::Form);
+    }
+    Ok(ConnDef {
+        name,
+        output,
+        byte,
+        words: count,
+        trigger: Some(task),
+    })
+}
+
+fn conns(alloc: Global, first: ConnDef, second: ConnDef) -> Result<Conns, Memory>
+    requires first { (first.words ≤ 128) × (first.byte + 4 * first.words ≤ 262144) }
+    requires second { (second.words ≤ 128) × (second.byte + 4 * second.words ≤ 262144) }
+{
+    Conns::new(alloc, &[first, second])
+}
+
+fn run(alloc: Global, said: &mut Said, conns: &Conns, call: &str) -> Result<(), Trouble> {
+    let mut words = call.split_whitespace();
+    let what = word(&mut words)?;
+    let name = name(&mut words)?;
+    let number = number(&mut words)?;
+    match what {
+        "in" => say_slot(alloc, said, conns.word_in(&name, number))?,
+        "out" => say_slot(alloc, said, conns.word_out(&name, number))?,
+        "io" => said.or_none(conns.io_word(&name, number))?,
+        _ => return Err(Trouble::Form),
+    }
+    Ok(())
+}
+
+fn say_slot(
+    alloc: Global,
+    said: &mut Said,
+    slot: Result<Slot, ConnFault>,
+) -> Result<(), AllocError> {
+    match slot {
+        Ok(slot) => {
+            said.number(i64::from(slot.byte))?;
+            said.number(i64::from(slot.io))?;
+            said.or_none(slot.trigger)
+        }
+        Err(fault) => said.word(format!(in alloc; "{fault:?}")?.as_str()),
+    }
+}

@@ -1,0 +1,102 @@
+//! Judges the rows of a table of the controller's parts on standard input: numbers, names, text, the image, types, tags, flat code, and the
+//! tables of faults, tasks, connections and forces.
+//!
+//! A row is `KIND | WHAT IS GIVEN | WHAT COMES OUT`; of what form the second part is, the function of the kind says. Lines that begin with
+//! `--` say why a row is so. What differs is printed, and at the end how many rows there were.
+#![tactic(auto)]
+
+mod conn;
+mod fault;
+mod force;
+mod image;
+mod num;
+mod prog;
+mod rung;
+mod sched;
+mod slow;
+mod tags;
+mod trouble;
+mod types;
+mod words;
+
+use std::alloc::Global;
+use std::io;
+use trouble::Trouble;
+
+fn main(rt: HostRuntime) -> io::Result<()> {
+    let mut rows = 0u32;
+    let mut differ = 0u32;
+    for line in rt.lines(rt.alloc()) {
+        let line = line?;
+        let row = line.as_str().trim();
+        if is_row(row) {
+            rows = rows.saturating_add(1);
+            if let Some(found) = found(rt.alloc(), row)? {
+                differ = differ.saturating_add(1);
+                println!(rt; "{row}")?;
+                println!(rt; "    {found}")?;
+            }
+        }
+    }
+    println!(rt; "{rows} rows, {differ} differ")
+}
+
+/// Whether a line is a row.
+fn is_row(line: &str) -> bool {
+    !line.is_empty() && !line.starts_with("--")
+}
+
+/// What comes out in place of what the row says, if that differs.
+fn found(alloc: Global, row: &str) -> io::Result<Option<String>> {
+    let (kind, given, wanted) = parts(row);
+    match said(alloc, kind, given) {
+        Ok(said) if said.as_str() == wanted => Ok(None),
+        Ok(said) => Ok(Some(said)),
+        Err(trouble) => Ok(Some(format!(in alloc; "{trouble:?}")?)),
+    }
+}
+
+/// The kind of a row, what is given, and what is to come out.
+fn parts(row: &str) -> (&str, &str, &str) {
+    let (kind, row) = row.split_once('|').unwrap_or((row, ""));
+    let (given, wanted) = row.split_once('|').unwrap_or((row, ""));
+    (kind.trim(), given.trim(), wanted.trim())
+}
+
+fn said(alloc: Global, kind: &str, given: &str) -> Result<String, Trouble> {
+    match kind {
+        "name" => num::name_row(alloc, given),
+        "same" => num::same_row(alloc, given),
+        "keep" => num::keep_row(alloc, given),
+        "bytes" => num::bytes_row(alloc, given),
+        "items" => num::items_row(alloc, given),
+        "copy" => num::copy_row(alloc, given),
+        "op" => rung::op_row(alloc, given),
+        "rung" => rung::rung_row(alloc, given),
+        "image" => image::image_row(alloc, given),
+        "grain" => image::grain_row(alloc, given),
+        "subscripts" => image::subscripts_row(alloc, given),
+        "bind" => image::bind_row(alloc, given),
+        _ => said_of_tables(alloc, kind, given),
+    }
+}
+
+fn said_of_tables(alloc: Global, kind: &str, given: &str) -> Result<String, Trouble> {
+    match kind {
+        "types" => types::types_row(alloc, given),
+        "chain" => types::chain_row(alloc, given),
+        "tags" => tags::tags_row(alloc, given),
+        "operand" => tags::operand_row(alloc, given),
+        "fixed" => tags::fixed_row(alloc, given),
+        "long" => tags::long_row(alloc, given),
+        "many" => tags::many_row(alloc, given),
+        "code" => prog::code_row(alloc, given),
+        "program" => prog::program_row(alloc, given),
+        "log" => fault::log_row(alloc, given),
+        "tasks" => sched::tasks_row(alloc, given),
+        "calls" => sched::calls_row(alloc, given),
+        "conns" => conn::conns_row(alloc, given),
+        "forces" => force::forces_row(alloc, given),
+        _ => Err(Trouble::Form),
+    }
+}

@@ -1,0 +1,350 @@
+// Tags and aliases.
+ghost use Rattle.std.specs.Prelude.{◌≡◌, ◌≤◌, false, true, length, IsTrue, IfOk};
+ghost use Rattle.spec_language.specs.Resolution.{aliases};
+ghost use Rattle.lgx_types.specs.Tables.{HasSize};
+
+use crate::trouble::Trouble;
+use crate::types::{say_base, table as type_table};
+use crate::words::{Said, number, word};
+use lgx_tags::{Found, Scope, SealError, TagCode, TagError, TagTable};
+use lgx_types::TypeTable;
+use spec_language::{Base, DataType};
+use std::alloc::{AllocError, Global};
+
+/// A table that isn't sealed, of so many programs, with at most so many aliases.
+#[derive(Drop)]
+struct Declared {
+    table: TagTable,
+    programs: u32,
+    count: u32,
+    ghost unsealed: { table.sealed ≡ false },
+    ghost scopes: { table.declarations.programs ≡ programs },
+    ghost few: { length (aliases table.declarations) ≤ count },
+}
+
+/// A table that is sealed.
+#[derive(Drop)]
+struct Sealed {
+    table: TagTable,
+    ghost sealed: { table.sealed ≡ true },
+}
+
+/// `tags | TYPES ? PROGRAMS; DECLARATION; .. ? CALL; .. | ..`: which declarations are refused, and for what; the answer of sealing, if it is
+/// refused; and else what the calls answer.
+///
+/// The types are as in a row of `types`. A declaration is `NAME TYPE`, `NAME TYPE LENGTH` or `NAME = TARGET`, and a name `a@0` is one
+/// of the program 0. `at TEXT` and `fixed TEXT` answer the bit that a text names, `bytes` the length of the image, `count` the number of
+/// tags, and `tag NUMBER` a tag's name, scope and bytes.
+pub fn tags_row(alloc: Global, text: &str) -> Result<String, Trouble> {
+    let (types, text) = text.split_once('?').ok_or(Trouble::Form)?;
+    let (declarations, calls) = text.split_once('?').ok_or(Trouble::Form)?;
+    let mut said = Said::new(alloc);
+    let declared = declare_all(alloc, &mut said, types, declarations)?;
+    said.number(i64::from(declared.table.bytes()))?;
+    match seal(declared) {
+        Ok(sealed) => {
+            for call in calls.split(';') {
+                run(alloc, &mut said, &sealed, call)?;
+            }
+        }
+        Err(SealError::Alias { code, alias }) => {
+            say_code(alloc, &mut said, code)?;
+            said.number(i64::from(alias))?;
+        }
+        Err(SealError::Memory) => return Err(Trouble::Memory),
+    }
+    Ok(said.into_text())
+}
+
+fn seal(declared: Declared) -> Result<Sealed, SealError> {
+    let Declared { mut table, .. } = declared;
+    table.seal()?;
+    Ok(Sealed { table })
+}
+
+fn declare_all(
+    alloc: Global,
+    said: &mut Said,
+    types: &str,
+    declarations: &str,
+) -> Result<Declared, Trouble> {
+    let (programs, declarations) = declarations.split_once(';').ok_or(Trouble::Form)?;
+    let programs = number(&mut programs.split_whitespace())?;
+    let mut declared = Declared {
+        table: TagTable::new(alloc, type_table(alloc, types)?, programs)?,
+        programs,
+        count: 0,
+    };
+    for declaration in declarations.split(';') {
+        match declare_text(&mut declared, declaration)? {
+            Ok(()) => {}
+            Err(TagError::Tag(code)) => say_code(alloc, said, code)?,
+            Err(TagError::Memory) => return Err(Trouble::Memory),
+        }
+    }
+    Ok(declared)
+}
+
+fn declare_text(declared: &mut Declared, text: &str) -> Result<Result<(), TagError>, Trouble> {
+    let mut words = text.split_whitespace();
+    let (name, scope) = scoped(word(&mut words)?)?;
+    let what = word(&mut words)?;
+    if what == "=" {
+        return alias(declared, scope, name, word(&mut words)?);
+    }
+    let base = base(declared.table.types(), what)?;
+    let dim = match words.next() {
+        Some(word) => word.parse::<u32>().ok().ok_or(Trouble::Form)?,
+        None => 0,
+    };
+    declare(declared, scope, name, DataType { base, dim })
+}
+
+/// A name and its scope.
+fn scoped(text: &str) -> Result<(&str, Scope), Trouble> {
+    match text.split_once('@') {
+        Some((name, program)) => {
+            let program = program.parse::<u32>().ok().ok_or(Trouble::Form)?;
+            Ok((name, Scope::Program(program)))
+        }
+        None => Ok((text, Scope::Controller)),
+    }
+}
+
+fn base(types: &TypeTable, word: &str) -> Result<Base, Trouble> {
+    let name = lgx_num::Name::read(word.as_bytes()).ok_or(Trouble::Form)?;
+    types.find(&name).ok_or(Trouble::Form)
+}
+
+fn is_scope(scope: Scope, programs: u32) -> bool {
+    match scope {
+        Scope::Program(program) => program < programs,
+        Scope::Controller => true,
+    }
+}
+
+/// Whether the type has a size.
+fn has_size(types: &TypeTable, of: DataType) -> bool
+    ensures { IsTrue result → HasSize types.now of }
+{
+    let fits = match of.base {
+        Base::User(i) => (i as usize) < types.structures().len(),
+        Base::Bool => of.dim % 32 == 0,
+        _ => true,
+    };
+    fits && of.dim <= 65536
+}
+
+fn declare(
+    declared: &mut Declared,
+    scope: Scope,
+    name: &str,
+    of: DataType,
+) -> Result<Result<(), TagError>, Trouble> {
+    if !has_size(declared.table.types(), of) {
+        return Err(Trouble::Form);
+    }
+    if let Scope::Program(program) = scope {
+        if program >= declared.programs {
+            return Err(Trouble::Form);
+        }
+    }
+    Ok(declared.table.declare(scope, name.as_bytes(), of))
+}
+
+fn alias(
+    declared: &mut Declared,
+    scope: Scope,
+    name: &str,
+    target: &str,
+) -> Result<Result<(), TagError>, Trouble> {
+    if declared.count > 1000 {
+        return Err(Trouble::Form);
+    }
+    if let Scope::Program(program) = scope {
+        if program >= declared.programs {
+            return Err(Trouble::Form);
+        }
+    }
+    let answer = declared
+        .table
+        .alias(scope, name.as_bytes(), target.as_bytes());
+    declared.count += 1;
+    Ok(answer)
+}
+
+fn run(alloc: Global, said: &mut Said, sealed: &Sealed, call: &str) -> Result<(), Trouble> {
+    let mut words = call.split_whitespace();
+    match word(&mut words)? {
+        "at" => {
+            let (text, scope) = scoped(word(&mut words)?)?;
+            say_bit(alloc, said, resolved(alloc, sealed, scope, text.as_bytes()))?;
+        }
+        "fixed" => {
+            let (text, scope) = scoped(word(&mut words)?)?;
+            say_bit(alloc, said, resolved_fixed(alloc, sealed, scope, text.as_bytes()))?;
+        }
+        "bytes" => said.number(i64::from(sealed.table.bytes()))?,
+        "count" => said.number(i64::from(tag_count(sealed)))?,
+        "tag" => say_tag(alloc, said, sealed, number(&mut words)?)?,
+        _ => return Err(Trouble::Form),
+    }
+    Ok(())
+}
+
+fn resolved(alloc: Global, sealed: &Sealed, scope: Scope, text: &[u8]) -> Result<Found, TagError> {
+    sealed.table.resolve(alloc, scope, text)
+}
+
+fn resolved_fixed(
+    alloc: Global,
+    sealed: &Sealed,
+    scope: Scope,
+    text: &[u8],
+) -> Result<Found, TagError> {
+    sealed.table.resolve_fixed(alloc, scope, text)
+}
+
+fn tag_count(sealed: &Sealed) -> u32 {
+    sealed.table.tag_count()
+}
+
+fn say_tag(alloc: Global, said: &mut Said, sealed: &Sealed, number: u32) -> Result<(), Trouble> {
+    let Some(span) = sealed.table.tag_at(number) else {
+        return Ok(said.word("none")?);
+    };
+    if number < sealed.table.tag_count() {
+        said.bytes(sealed.table.tag_name(number))?;
+    }
+    let scope = span.scope;
+    said.word(format!(in alloc; "{scope:?}")?.as_str())?;
+    said.number(i64::from(span.start))?;
+    Ok(said.number(i64::from(span.end))?)
+}
+
+fn say_code(alloc: Global, said: &mut Said, code: TagCode) -> Result<(), AllocError> {
+    said.word(format!(in alloc; "{code:?}")?.as_str())
+}
+
+fn say_bit(alloc: Global, said: &mut Said, found: Result<Found, TagError>) -> Result<(), Trouble> {
+    match found {
+        Ok(found) => {
+            let at = found.at;
+            said.number(i64::from(at))?;
+        }
+        Err(TagError::Tag(code)) => say_code(alloc, said, code)?,
+        Err(TagError::Memory) => return Err(Trouble::Memory),
+    }
+    Ok(())
+}
+
+/// Structures of 8, 16, 32 and 64 bytes, each of two of the one before.
+const NESTED: &str = "Two: x DINT 2; Four: a Two 2; Eight: b Four 2; Sixteen: c Eight 2";
+
+/// From byte 0 n, from 4 a, from 20 b, from 24 t, from 40 ts and from 88 d.
+const TAGS: &str = "0; n DINT; a DINT 4; b BOOL 32; t TIMER; ts TIMER 3; d Sixteen 2";
+
+/// `operand | TEXT | ..`: the bit that the text names, its type, the length of its array and the number of its variable subscripts, or the
+/// cause why it names nothing. The tags are `TAGS`.
+pub fn operand_row(alloc: Global, text: &str) -> Result<String, Trouble> {
+    let sealed = tags(alloc)?;
+    said_found(alloc, resolved(alloc, &sealed, Scope::Controller, text.as_bytes()))
+}
+
+/// `fixed | TEXT | ..`: the same where numbers alone may be subscripts.
+pub fn fixed_row(alloc: Global, text: &str) -> Result<String, Trouble> {
+    let sealed = tags(alloc)?;
+    said_found(alloc, resolved_fixed(alloc, &sealed, Scope::Controller, text.as_bytes()))
+}
+
+/// `long | BEFORE MIDDLE AFTER LAST | ..`: the same of a long text: before and after the middle stand a hundred copies. `-` stands for no
+/// text.
+pub fn long_row(alloc: Global, text: &str) -> Result<String, Trouble> {
+    let mut words = text.split_whitespace();
+    let before = part(word(&mut words)?);
+    let middle = part(word(&mut words)?);
+    let after = part(word(&mut words)?);
+    let last = part(word(&mut words)?);
+    let mut text = String::new(alloc);
+    for _ in 0..100 {
+        text.push_str(before)?;
+    }
+    text.push_str(middle)?;
+    for _ in 0..100 {
+        text.push_str(after)?;
+    }
+    text.push_str(last)?;
+    operand_row(alloc, text.as_str())
+}
+
+fn part(word: &str) -> &str {
+    if word == "-" { "" } else { word }
+}
+
+fn tags(alloc: Global) -> Result<Sealed, Trouble> {
+    let mut said = Said::new(alloc);
+    let declared = declare_all(alloc, &mut said, NESTED, TAGS)?;
+    seal(declared).ok().ok_or(Trouble::Form)
+}
+
+fn said_found(alloc: Global, found: Result<Found, TagError>) -> Result<String, Trouble> {
+    let mut said = Said::new(alloc);
+    match found {
+        Ok(found) => say_found(alloc, &mut said, &found)?,
+        Err(TagError::Tag(code)) => say_code(alloc, &mut said, code)?,
+        Err(TagError::Memory) => return Err(Trouble::Memory),
+    }
+    Ok(said.into_text())
+}
+
+fn say_found(alloc: Global, said: &mut Said, found: &Found) -> Result<(), AllocError> {
+    let at = found.at;
+    let of = found.of;
+    said.number(i64::from(at))?;
+    say_base(alloc, said, of.base)?;
+    said.number(i64::from(of.dim))?;
+    said.number(found.steps.len() as i64)
+}
+
+/// `many | TAGS PROGRAMS ? CALL; .. | ..`: what the calls answer at a table of so many DINTs of the controller, tag0, tag1, .., and after
+/// them one, `own`, of the controller and of each of so many programs.
+pub fn many_row(alloc: Global, text: &str) -> Result<String, Trouble> {
+    let (counts, calls) = text.split_once('?').ok_or(Trouble::Form)?;
+    let mut words = counts.split_whitespace();
+    let tags = number(&mut words)?;
+    let programs = number(&mut words)?;
+    let sealed = seal(many(alloc, tags, programs)?).ok().ok_or(Trouble::Form)?;
+    let mut said = Said::new(alloc);
+    for call in calls.split(';') {
+        run(alloc, &mut said, &sealed, call)?;
+    }
+    Ok(said.into_text())
+}
+
+const DINT: DataType = DataType {
+    base: Base::Dint,
+    dim: 0,
+};
+
+fn many(alloc: Global, tags: u32, programs: u32) -> Result<Declared, Trouble> {
+    let mut declared = Declared {
+        table: TagTable::new(alloc, type_table(alloc, "")?, programs)?,
+        programs,
+        count: 0,
+    };
+    for i in 0..tags {
+        let name = format!(in alloc; "tag{i}")?;
+        declare_or_fail(&mut declared, Scope::Controller, name.as_str())?;
+    }
+    declare_or_fail(&mut declared, Scope::Controller, "own")?;
+    for program in 0..programs {
+        declare_or_fail(&mut declared, Scope::Program(program), "own")?;
+    }
+    Ok(declared)
+}
+
+fn declare_or_fail(declared: &mut Declared, scope: Scope, name: &str) -> Result<(), Trouble> {
+    declare(declared, scope, name, DINT)?
+        .ok()
+        .ok_or(Trouble::Form)
+}
