@@ -27,7 +27,7 @@ use Rattle.spec_machine.specs.State.{State, Scan, Progress, progress_of, program
 use Rattle.spec_machine.specs.Releases.{Released, release_or_overlap}
 use Rattle.spec_machine.specs.ProcessorStep.{with_progress, scan_ended, after_effect, after_advance, scan_step, task_step}
 use Rattle.spec_machine.specs.Ticks.{Ticked, quiet, noted, release_if_due, after_watchdogs, tick}
-use Rattle.spec_machine.specs.Actions.{Acted, held_or, after_trigger, triggers, put_in, take_out, install_on, force_replied, edit_replied, run_from, program_from, clear_from, act}
+use Rattle.spec_machine.specs.Actions.{Acted, held_or, after_trigger, triggers, put_in, take_out, install_on, force_replied, edit_replied, mode_run_from, mode_program_from, clear_from, act}
 use Rattle.spec_machine.specs.Machine.{step, run_from as run_on, run}
 use Rattle.spec_tables.proofs.StateLists.{none_up}
 use Rattle.spec_machine.proofs.OrderlyTables.{Orderly, chosen_in_run, down_orderly, stop_orderly, region_orderly, copy_orderly, release_orderly, start_orderly, finish_orderly, rotate_orderly}
@@ -163,12 +163,12 @@ by_edit : (s : State) (x : Result Edited EditFault) → IsOrderly s → IsOrderl
 by_edit s (Err e) h = h
 by_edit s (Ok x) h = h
 
-by_run : (m : Mode) (s : State) → Orderly m s.table → IsOrderly (run_from m (in_mode m s)).state
+by_run : (m : Mode) (s : State) → Orderly m s.table → IsOrderly (mode_run_from m (in_mode m s)).state
 by_run Run s h = h
 by_run Program s h = start_orderly s.table s.tick
 by_run Faulted s h = h
 
-by_program : (m : Mode) (s : State) → Orderly m s.table → IsOrderly (program_from m (in_mode m s)).state
+by_program : (m : Mode) (s : State) → Orderly m s.table → IsOrderly (mode_program_from m (in_mode m s)).state
 by_program Run s h = stop_orderly Program s.table
 by_program Program s h = h
 by_program Faulted s h = h

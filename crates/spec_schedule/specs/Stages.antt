@@ -74,13 +74,13 @@ selected_after t c x = record { books = commanded x.before x.entry c.books; begu
 abbrev pub begun_by : ℕ → List Book → List Stage → Option ProgramRungs
 begun_by t books xs = (fold (selected_after t) (record { books = books; begun = None }) xs).begun
 
-abbrev pub scan_of : State → ℕ → Option Scan
-scan_of s t = (progress_of s t).scan
+abbrev pub scan_in_progress : State → ℕ → Option Scan
+scan_in_progress s t = (progress_of s t).scan
 
 -- After each event, the rungs of a task's scan are those that the accepted commands before its begin select.
 abbrev pub ScansKeepRungs : Project → Type 0
 ScansKeepRungs p =
-    (journal : List Event) (t : ℕ) → IfSome (scan_of (run p journal) t) (λ scan. begun_by t (start p).books (stages p journal) ≡ Some scan.rungs)
+    (journal : List Event) (t : ℕ) → IfSome (scan_in_progress (run p journal) t) (λ scan. begun_by t (start p).books (stages p journal) ≡ Some scan.rungs)
 
 -- ---- the copy law
 
@@ -112,7 +112,7 @@ is_copied c started ended =
     bytes_eq (slice_range ended.image c.target (c.target + length_of c)) (slice_range started.image c.source (c.source + length_of c))
 
 abbrev pub copy_in : State → ℕ → Option Copying
-copy_in s t = elim (scan_of s t) [ None ↦ None | Some scan ↦ scan.position.copy ]
+copy_in s t = elim (scan_in_progress s t) [ None ↦ None | Some scan ↦ scan.position.copy ]
 
 -- at the end of the CPS that t started with stage x, the first of its later stages that start or end one
 abbrev pub ends_whole : ℕ → Stage → Option Copying → Option Stage → Bool
