@@ -79,8 +79,12 @@ stepping (Step t _ _ _) = Some t
 stepping (Left t _ _) = Some t
 stepping _ = None
 
+abbrev pub is_task : ℕ → Option ℕ → Bool
+is_task t None = false
+is_task t (Some u) = nat_eq u t
+
 abbrev pub steps_here : TraceEvent → ℕ → Bool
-steps_here e t = elim (stepping e) [ None ↦ false | Some u ↦ nat_eq u t ]
+steps_here e t = is_task t (stepping e)
 
 -- what a processor step of the task does to its counts
 abbrev pub stepped : AuditTask → TraceEvent → Counted → Counted

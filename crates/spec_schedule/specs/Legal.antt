@@ -81,15 +81,22 @@ abbrev pub keeps_on : ℕ → List ℕ → Bool
 keeps_on t us = not (list_any (λ u. nat_eq u t) (drop (prefix_len (λ u. nat_eq u t) us) us))
 
 -- between two steps of t, while t stays up and no tick stands between them, no other task of its priority steps
+abbrev pub turn_kept : Table → CountedEvent → List CountedEvent → Option ℕ → Bool
+turn_kept table x xs None = true
+turn_kept table x xs (Some t) =
+    keeps_on t (who_steps table (priority_of table t) (take_while (stays_up t x) (before_tick xs)))
+
 abbrev pub keeps_turn : Table → CountedEvent → List CountedEvent → Bool
-keeps_turn table x xs = elim (stepping x.event) [
-  | None ↦ true
-  | Some t ↦ keeps_on t (who_steps table (priority_of table t) (take_while (λ y. stays_up t x y) (before_tick xs)))
-]
+keeps_turn table x xs = turn_kept table x xs (stepping x.event)
+
+-- another task of t's priority was counted up at place k, and hasn't gone down up to place y
+abbrev pub is_other_up : Table → ℕ → CountedEvent → CountedEvent → CountedTask → Bool
+is_other_up table t k y u =
+    u.counts.up && (nat_eq u.task.priority (priority_of table t) && not (nat_eq u.number t) && stays_up u.number k y)
 
 -- at place y every other task of t's priority that was counted up at place k has gone down
 abbrev pub others_went : Table → ℕ → CountedEvent → CountedEvent → Bool
-others_went table t k y = not (some_up (λ u. nat_eq u.task.priority (priority_of table t) && not (nat_eq u.number t) && stays_up u.number k y) table k)
+others_went table t k y = not (list_any (is_other_up table t k y) (counted_tasks table.tasks k.tasks))
 
 abbrev pub gives_turn : Table → ℕ → CountedEvent → List CountedEvent → Bool
 gives_turn table t k ys = list_all (λ y. not (steps_here y.event t) || others_went table t k y) (before_tick ys)
@@ -114,8 +121,12 @@ after_tick table t x (k ∷ ys) = not (is_tick k.event && is_turn table t x k) |
 -- Let a tick follow a step of t with no other step and no other tick between them. Where t could be passed over at it, t
 -- steps again before the next tick only after every other task of its priority that was up just before the tick has gone
 -- down.
+abbrev pub way_given : Table → CountedEvent → List CountedEvent → Option ℕ → Bool
+way_given table x xs None = true
+way_given table x xs (Some t) = after_tick table t x (after_actions xs)
+
 abbrev pub gives_way : Table → CountedEvent → List CountedEvent → Bool
-gives_way table x xs = elim (stepping x.event) [ None ↦ true | Some t ↦ after_tick table t x (after_actions xs) ]
+gives_way table x xs = way_given table x xs (stepping x.event)
 
 -- ---- the version law
 

@@ -17,6 +17,7 @@ use Rattle.spec_machine.specs.Edits.{Book, Edited, edit, book_at, selected}
 use Rattle.spec_machine.specs.ProcessorStep.{task_of}
 use Rattle.spec_machine.specs.Project.{Project}
 use Rattle.spec_machine.specs.State.{State, Scan, progress_of, start}
+use Rattle.spec_schedule.specs.Counting.{is_task}
 use Rattle.spec_schedule.specs.Legal.{each_from}
 use Rattle.spec_machine.specs.Machine.{TraceEntry, OfStep, OfAction, step, run}
 use Rattle.spec_schedule.specs.Refusals.{first_cause}
@@ -92,10 +93,6 @@ sync_start _ = None
 abbrev pub sync_end : TraceEntry → Option ℕ
 sync_end (OfStep m) = elim m.mark [ CopyEnd sync ↦ (if sync then task_of m.what else None) | _ ↦ None ]
 sync_end _ = None
-
-abbrev pub is_task : ℕ → Option ℕ → Bool
-is_task t None = false
-is_task t (Some u) = nat_eq u t
 
 abbrev pub starts_or_ends : ℕ → Stage → Bool
 starts_or_ends t x = is_task t (sync_start x.entry) || is_task t (sync_end x.entry)
