@@ -254,15 +254,15 @@ few_kinds Event = omega arith
 one_on : (i j : ℕ) → i + 1 + j ≡ i + suc j
 one_on i j = omega arith
 
+from_none : (j : ℕ) → 0 + j ≡ j
+from_none j = omega arith
+
 no_more_on : (i : ℕ) → i ≡ i + 0
 no_more_on i = omega arith
 
 optional_fits : (w : OperandKind) (o : Operand) → is_optional w ≡ true → Fits w o
 optional_fits NoParameters o h = tt
 optional_fits _ o h = absurd (cc h)
-
-from_zero : (j : ℕ) → 0 + j ≡ j
-from_zero j = omega arith
 
 -- the operands from number i on are those that were good for these kinds
 fit_all : (len : ℕ) (ws : List OperandKind) (os : List Operand) → AllGood len ws os → (i : ℕ) (all : List Operand) → ((j : ℕ) → operand_at all (i + j) ≡ operand_at os j) → FitFrom i ws all
@@ -272,7 +272,7 @@ fit_all len (w ∷ ws) (o ∷ os) g i all same =
     (subst (Fits w) (sym (ap (operand_at all) (no_more_on i) ∙ same 0)) g.0.1, fit_all len ws os g.1 (i + 1) all (λ j. ap (operand_at all) (one_on i j) ∙ same (suc j)))
 
 kinds_fit : (len : ℕ) (op : Op) (args : List Operand) → AllGood len (operand_kinds op) args → OperandsFit op args
-kinds_fit len op args g = fit_all len (operand_kinds op) args g 0 args (λ j. ap (operand_at args) (from_zero j))
+kinds_fit len op args g = fit_all len (operand_kinds op) args g 0 args (λ j. ap (operand_at args) (from_none j))
 
 -- ---- instructions and rungs
 

@@ -2,6 +2,7 @@
 -- one has something open. What keeps it so.
 use Rattle.std.proofs.Common.{◌≡◌, ℕ, ◌+◌, ◌<◌, Bool, true, false, cond, Option, Some, None, inl, inr, refl, sym, ◌∙◌, ap, subst, arith}
 use Rattle.std.specs.Prelude.{unwrap_or, slice_set}
+use Rattle.std.proofs.lemmas.Bool.{cond_both}
 use Rattle.std.specs.List.{position_from}
 use Rattle.spec_machine.specs.declared.reply.Mode.{Mode}
 use Rattle.spec_machine.specs.declared.reply.Mode.TheVariants.{Run}
@@ -60,11 +61,11 @@ state_orderly m s t x h c same = record {
 }
 
 region_keeps : (n : ℕ) (o : Option TaskState) (v : TaskState) → with_region_count n o ≡ Some v → (u : TaskState) × (o ≡ Some u) × (u.rank ≡ v.rank)
-region_keeps n None v h = absurd (let f : None ≡ Some v → ⊥ = λ p. cc in f h)
+region_keeps n None v h = absurd (cc h)
 region_keeps n (Some u) v h = (u, refl, ap (λ o. (unwrap_or o u).rank) h)
 
 copies_keep : (b : Bool) (o : Option TaskState) (v : TaskState) → with_cps_open b o ≡ Some v → (u : TaskState) × (o ≡ Some u) × (u.rank ≡ v.rank)
-copies_keep b None v h = absurd (let f : None ≡ Some v → ⊥ = λ p. cc in f h)
+copies_keep b None v h = absurd (cc h)
 copies_keep b (Some u) v h = (u, refl, ap (λ o. (unwrap_or o u).rank) h)
 
 pub region_orderly : (m : Mode) (s : Table) (t n : ℕ) → Orderly m s → chosen s ≡ Some t → Orderly m (set_region t n s)
@@ -128,12 +129,8 @@ new_state s t now = record {
 pub put_up_orderly : (s : Table) (t now : ℕ) → Orderly Run s → Orderly Run (put_up t now s)
 put_up_orderly s t now h = next_orderly s t _ h (new_state s t now)
 
-either : (m : Mode) (b : Bool) (x y : Table) → Orderly m x → Orderly m y → Orderly m (cond b x y)
-either m true x y p q = p
-either m false x y p q = q
-
 pub release_orderly : (s : Table) (t now : ℕ) → Orderly Run s → Orderly Run (release t now s)
-release_orderly s t now h = either Run (is_up s t) s (put_up t now s) h (put_up_orderly s t now h)
+release_orderly s t now h = cond_both (is_up s t) s (put_up t now s) (Orderly Run) (λ q. h) (λ q. put_up_orderly s t now h)
 
 put_up_if_orderly : (s : Table) (o : Option ℕ) (now : ℕ) → Orderly Run s → Orderly Run (put_up_if o now s)
 put_up_if_orderly s None now h = h
@@ -144,15 +141,15 @@ start_orderly s now = put_up_if_orderly (record (stop s) { run_since = now }) (p
 
 pub finish_orderly : (s : Table) (t now : ℕ) → Orderly Run s → chosen s ≡ Some t → Orderly Run (finish t now s)
 finish_orderly s t now h c =
-    put_up_if_orderly (with_state t None s) (cond (is_continuous (task s t).kind) (Some t) None) now (state_orderly Run s t None h c (λ v e. absurd (let f : None ≡ Some v → ⊥ = λ p. cc in f e)))
+    put_up_if_orderly (with_state t None s) (cond (is_continuous (task s t).kind) (Some t) None) now (state_orderly Run s t None h c (λ v e. absurd (cc e)))
 
 rank_next : (s : Table) (t : ℕ) (o : Option TaskState) → state_of s t ≡ o → IsNext s t (with_rank s.next o)
-rank_next s t None g = record { rank = λ v e. absurd (let f : None ≡ Some v → ⊥ = λ p. cc in f e); opens = λ v e o. absurd (let f : None ≡ Some v → ⊥ = λ p. cc in f e) }
+rank_next s t None g = record { rank = λ v e. absurd (cc e); opens = λ v e o. absurd (cc e) }
 rank_next s t (Some u) g = record { rank = λ v e. sym (ap (λ o. (unwrap_or o v).rank) e); opens = λ v e o. (u, g, ap is_open e ∙ o) }
 
 unless_open_orderly : (s : Table) (o : Option ℕ) → Orderly Run s → Orderly Run (unless_open o s)
 unless_open_orderly s None h = h
-unless_open_orderly s (Some t) h = either Run (is_open (state_of s t)) s (to_back t s) h (next_orderly s t (with_rank s.next (state_of s t)) h (rank_next s t (state_of s t) refl))
+unless_open_orderly s (Some t) h = cond_both (is_open (state_of s t)) s (to_back t s) (Orderly Run) (λ q. h) (λ q. next_orderly s t (with_rank s.next (state_of s t)) h (rank_next s t (state_of s t) refl))
 
 pub rotate_orderly : (s : Table) → Orderly Run s → Orderly Run (rotate s)
 rotate_orderly s h = unless_open_orderly s (chosen s) h

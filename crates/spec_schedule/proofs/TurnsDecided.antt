@@ -113,45 +113,63 @@ same_turns : (t : ℕ) (x : CountedEvent) (ys : List CountedEvent) → Each (λ 
 same_turns t x [] h k = tt
 same_turns t x (y ∷ ys) h k = (record { no_tick = not-true _ h.0; up = k.0 }, same_turns t x ys h.1 k.1)
 
--- if the test fails at a step of t, another task steps before t does again
-another_steps : (table : Table) (x : CountedEvent) (xs : List CountedEvent) (t : ℕ) → stepping x.event ≡ Some t → turn_kept table x xs (Some t) ≡ false → (u : ℕ) × StepsBetween (x ∷ xs) t u × (priority_of table u ≡ priority_of table t) × (nat_eq u t ≡ false)
-another_steps table x xs t e h =
-    let p : ℕ = priority_of table t in
-    let f : CountedEvent → Option ℕ = λ x. of_priority table p (stepping x.event) in
-    let early : List CountedEvent = before_tick xs in
-    let zs : List CountedEvent = take_while (stays_up t x) early in
+-- where the test fails after a step x of t: another task's step in the same turn, and then t's again
+record Another (table : Table) (x : CountedEvent) (xs : List CountedEvent) (t : ℕ) : Type 0 where
+  u : ℕ
+  between : List CountedEvent
+  other : CountedEvent
+  after : List CountedEvent
+  again : CountedEvent
+  rest : List CountedEvent
+  places : take_while (stays_up t x) (before_tick xs) ≡ between ++ other ∷ (after ++ again ∷ rest)
+  other_steps : of_priority table (priority_of table t) (stepping other.event) ≡ Some u
+  again_steps : of_priority table (priority_of table t) (stepping again.event) ≡ Some t
+  differs : nat_eq u t ≡ false
+
+another : (table : Table) (x : CountedEvent) (xs : List CountedEvent) (t : ℕ) → turn_kept table x xs (Some t) ≡ false → Another table x xs t
+another table x xs t h =
+    let f : CountedEvent → Option ℕ = λ x. of_priority table (priority_of table t) (stepping x.event) in
+    let zs : List CountedEvent = take_while (stays_up t x) (before_tick xs) in
     let c = keeps_on_cut t (filter_map f zs) h in
     let m = filter_cut f zs c.0 c.1 (c.2 ++ t ∷ c.3) c.4 in
     let n = filter_cut f m.2 c.2 t c.3 m.5 in
-    let whole : zs ≡ m.0 ++ m.1 ∷ (n.0 ++ n.1 ∷ n.2) = m.3 ∙ ap (λ ys. m.0 ++ m.1 ∷ ys) n.3 in
-    let up = cut_while (stays_up t x) early in
+    record { u = c.1; between = m.0; other = m.1; after = n.0; again = n.1; rest = n.2; places = m.3 ∙ ap (λ ys. m.0 ++ m.1 ∷ ys) n.3; other_steps = m.4; again_steps = n.4; differs = c.5 }
+
+-- what stands in the same turn, and the rest of the trace
+turn_places : (t : ℕ) (x : CountedEvent) (xs zs : List CountedEvent) → take_while (stays_up t x) (before_tick xs) ≡ zs → (rest : List CountedEvent) × (xs ≡ zs ++ rest) × Each (IsSameTurn t x) zs
+turn_places t x xs zs e =
+    let ys : List CountedEvent = take_while (stays_up t x) (before_tick xs) in
+    let up = cut_while (stays_up t x) (before_tick xs) in
     let front = cut_while (λ y. not (is_tick y.event)) xs in
-    let quiet : Each (λ y. not (is_tick y.event) ≡ true) zs = (each_parts (λ y. not (is_tick y.event) ≡ true) zs up.0 (subst (Each (λ y. not (is_tick y.event) ≡ true)) up.1 front.2)).0 in
-    let same : Each (IsSameTurn t x) (m.0 ++ m.1 ∷ (n.0 ++ n.1 ∷ n.2)) = subst (Each (IsSameTurn t x)) whole (same_turns t x zs quiet up.2) in
-    let first = each_parts (IsSameTurn t x) m.0 (m.1 ∷ (n.0 ++ n.1 ∷ n.2)) same in
-    let second = each_parts (IsSameTurn t x) n.0 (n.1 ∷ n.2) first.1.1 in
-    let u = steps_at table p c.1 (stepping m.1.event) m.4 in
-    let places : xs ≡ m.0 ++ m.1 ∷ (n.0 ++ n.1 ∷ (n.2 ++ (up.0 ++ front.0))) = front.1 ∙ ap (λ ys. ys ++ front.0) up.1 ∙ append_assoc zs up.0 front.0 ∙ ap (λ ys. ys ++ (up.0 ++ front.0)) whole ∙ two_cut m.0 m.1 n.0 n.1 n.2 (up.0 ++ front.0) in (
-      c.1,
+    let quiet = each_parts (λ y. not (is_tick y.event) ≡ true) ys up.0 (subst (Each (λ y. not (is_tick y.event) ≡ true)) up.1 front.2) in
+    (up.0 ++ front.0, front.1 ∙ ap (λ ws. ws ++ front.0) up.1 ∙ append_assoc ys up.0 front.0 ∙ ap (λ ws. ws ++ (up.0 ++ front.0)) e, subst (Each (IsSameTurn t x)) e (same_turns t x ys quiet.0 up.2))
+
+-- if the test fails at a step of t, another task steps before t does again
+another_steps : (table : Table) (x : CountedEvent) (xs : List CountedEvent) (t : ℕ) → stepping x.event ≡ Some t → (a : Another table x xs t) → StepsBetween (x ∷ xs) t a.u × (priority_of table a.u ≡ priority_of table t)
+another_steps table x xs t e a =
+    let p : ℕ = priority_of table t in
+    let later = turn_places t x xs _ a.places in
+    let first = each_parts (IsSameTurn t x) a.between (a.other ∷ (a.after ++ a.again ∷ a.rest)) later.2 in
+    let second = each_parts (IsSameTurn t x) a.after (a.again ∷ a.rest) first.1.1 in
+    let u = steps_at table p a.u (stepping a.other.event) a.other_steps in (
       record {
         before = [];
         first = x;
-        between = m.0;
-        other = m.1;
-        after = n.0;
-        again = n.1;
-        rest = n.2 ++ (up.0 ++ front.0);
-        places = ap (λ ys. x ∷ ys) places;
+        between = a.between;
+        other = a.other;
+        after = a.after;
+        again = a.again;
+        rest = a.rest ++ later.0;
+        places = ap (λ ys. x ∷ ys) (later.1 ∙ two_cut a.between a.other a.after a.again a.rest later.0);
         first_steps = e;
         other_steps = u.0;
-        again_steps = (steps_at table p t (stepping n.1.event) n.4).0;
+        again_steps = (steps_at table p t (stepping a.again.event) a.again_steps).0;
         between_same = first.0;
         other_same = first.1.0;
         after_same = second.0;
         again_same = second.1.0;
       },
       u.1,
-      c.5,
     )
 
 turns_tested : (table : Table) (xs : List CountedEvent) → KeepsTurns table xs → each_from (keeps_turn table) xs ≡ true
@@ -160,7 +178,7 @@ turns_tested table (x ∷ xs) h = and_from _ _ (go (stepping x.event) refl) (tur
   where
     go : (o : Option ℕ) → stepping x.event ≡ o → turn_kept table x xs o ≡ true
     go None e = refl
-    go (Some t) e = true_from_ne_false _ (λ f. (let s = another_steps table x xs t e f in cc (s.3, eq-eqb s.0 t (h t s.0 s.1 s.2))))
+    go (Some t) e = true_from_ne_false _ (λ f. (let a = another table x xs t f in let s = another_steps table x xs t e a in cc (a.differs, eq-eqb a.u t (h t a.u s.0 s.1))))
 
 pub turns_decided : TurnsAreDecided
 turns_decided table xs = (turns_kept table xs, turns_tested table xs)

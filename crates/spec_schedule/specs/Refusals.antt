@@ -5,7 +5,7 @@ use Rattle.std.specs.Bool.{beq as agree}
 use Rattle.std.specs.List.{position_from}
 -- a cause, if its test holds
 pub use Rattle.std.specs.Bool.{then_some as when}
-use Rattle.spec_base.specs.declared.limits.TheConstants.{MAX_PROGRAM_INSTRUCTIONS}
+use Rattle.spec_base.specs.declared.limits.TheConstants.{MAX_FORCES, MAX_PROGRAM_INSTRUCTIONS}
 use Rattle.lgx_num.specs.Name.{same}
 use Rattle.lgx_rung.specs.Tree.{Source}
 use Rattle.spec_tables.specs.declared.conn.ConnDef.{ConnDef}
@@ -23,7 +23,7 @@ use Rattle.spec_machine.specs.declared.reply.Reply.{Reply}
 use Rattle.spec_machine.specs.declared.reply.Reply.TheVariants.{Held, Mode, Conn, Force, Edit}
 use Rattle.spec_tables.specs.Tasks.{held}
 use Rattle.spec_tables.specs.Connections.{no_conn, conn_named, io_word}
-use Rattle.spec_tables.specs.Forces.{force_room, installed}
+use Rattle.spec_tables.specs.Forces.{installed}
 use Rattle.spec_machine.specs.Edits.{Change, Book, book_at, routine_at, other_owner, is_misplaced, first_again, taken_by, changes_in, changes_of, merged, scope_of, with_changes, instruction_count}
 use Rattle.spec_language.specs.Checked.{CheckScope, checked}
 use Rattle.spec_scan.specs.Position.{Rungs}
@@ -73,7 +73,7 @@ install_causes s name word =
   where
     is_full : Option ℕ → Bool
     is_full None = false
-    is_full (Some io) = nat_le force_room (installed (slice_set s.forces.words io None))
+    is_full (Some io) = nat_le MAX_FORCES (installed (slice_set s.forces.words io None))
 
 abbrev pub no_force_causes : State → List (Option Reply)
 no_force_causes s = when (nat_eq (installed s.forces.words) 0) (Force F3) ∷ []
