@@ -6,8 +6,7 @@ ghost use Rattle.spec_scan.specs.StatusWords.{reset};
 ghost use Rattle.spec_scan.specs.Arithmetic.{dest, math};
 ghost use Rattle.spec_scan.specs.Copies.{start_copy};
 ghost use Rattle.spec_scan.specs.Position.{Frame};
-ghost use Rattle.spec_scan.specs.Instructions.{row, acts_when_false, target, bad_timer, too_deep};
-ghost use Rattle.spec_base.specs.declared.limits.TheConstants.{MAX_FRAMES};
+ghost use Rattle.spec_scan.specs.Instructions.{row, acts_when_false, target, bad_timer, too_deep, frame_room};
 ghost use Rattle.lgx_image.specs.Args.{ArgInBounds, ArgsInBounds};
 ghost use Rattle.lgx_image.specs.Grains.{ChangesOnlyMarked};
 ghost use Rattle.lgx_time.specs.Families.{is_timer};
@@ -226,7 +225,7 @@ fn program_control(ins: &Ins, depth: usize) -> Control
 /// JSR: with all frames taken it is a major fault.
 fn call(ins: &Ins, depth: usize) -> Control
     requires { IsRoutine (operand_at ins.now.args 0) }
-    ensures call { result ≡ (if nat_lt depth MAX_FRAMES then Control.Call (target ins.now.args) else Control.MajorFault too_deep) }
+    ensures call { result ≡ (if nat_lt depth frame_room then Control.Call (target ins.now.args) else Control.MajorFault too_deep) }
     ensures can_follow { (len : ℕ) → CanFollow result depth len }
 {
     if depth < FRAMES {

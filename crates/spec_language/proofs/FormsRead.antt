@@ -3,8 +3,7 @@ use Rattle.std.specs.Prelude.{◌≡◌, ℕ, ◌-◌, ◌<◌, ◌≤◌, ◌�
 use Rattle.std.specs.List.{AllByRecursion as Each, list_all}
 use Rattle.std.specs.Char.{is_digit}
 use Rattle.std.proofs.Common.{sym, subst, arith, eqb-true, eq-eqb, ltb-true, ltb-false, leb-true, inl, inr}
-use Rattle.std.proofs.lemmas.Bool.{or_left}
-use Rattle.spec_language.proofs.Reaching.{or_right}
+use Rattle.std.proofs.lemmas.Bool.{or_left, or_right, not-true}
 use Rattle.std.proofs.lemmas.List.{append_assoc, append-nil}
 use Rattle.spec_base.specs.declared.limits.TheConstants.{MAX_NAME_BYTES, MAX_TAG_NAME_BYTES, MAX_TAG_NAME_PARTS}
 use Rattle.lgx_num.specs.Name.{is_name, is_name_byte, is_start, is_spelled, is_digit as is_digit_byte}
@@ -32,7 +31,7 @@ pub all_plain : (test : ℕ → Bool) (w : List ℕ) → test 46 ≡ false → t
 all_plain test [] p q r t = tt
 all_plain test (c ∷ cs) p q r t = (plain_by test c p q r (and_left (test c) _ t), all_plain test cs p q r (and_right (test c) _ t))
 
--- what may stand behind a word
+-- what may stand after a word
 abbrev IsEnded : List ℕ → Type 0
 IsEnded [] = ⊤
 IsEnded (c ∷ cs) = ((c == 46) ≡ true) ⊎ ((c == 91) ≡ true) ⊎ ((c == 93) ≡ true)
@@ -183,7 +182,7 @@ ended_rest f t k more e = go k.next
         which c (inl q) = inl (eq-eqb c 46 q)
         which c (inr q) = inr (inl (eq-eqb c 91 q))
 
--- with one more part, that is read behind the form
+-- with one more part, that is read after the form
 pub further : (g f : Form) (t s : List ℕ) (c : ℕ) → Starts g t → (c ≡ 46) ⊎ (c ≡ 91) → ((more : List ℕ) (outer : List Form) → IsEnded more → form_from (tokens ((c ∷ s) ++ more)) outer g ≡ form_from (tokens more) outer f) → Starts f (t ++ c ∷ s)
 further g f t s c k b step = record { name = k.name; rest = k.rest ++ c ∷ s; whole = cc (k.whole, append_assoc k.name k.rest (c ∷ s)); is_tag = k.is_tag; next = inr (go k.next); leads = λ more outer e. cc (append_assoc k.rest (c ∷ s) more, k.leads ((c ∷ s) ++ more) outer (ended b), step more outer e) }
   where
@@ -195,7 +194,7 @@ further g f t s c k b step = record { name = k.name; rest = k.rest ++ c ∷ s; w
     ended (inl h) = inl (eq-eqb c 46 h)
     ended (inr h) = inr (inl (eq-eqb c 91 h))
 
--- a word behind a dot
+-- a word after a dot
 pub dot_step : (g f : Form) (w more : List ℕ) (outer : List Form) → 0 < length w → Each IsPlain w → IsEnded more → dotted g w ≡ Some f → form_from (tokens ((46 ∷ w) ++ more)) outer g ≡ form_from (tokens more) outer f
 dot_step g f w more outer l p e d =
     let made : option_and_then (form_from (tokens more) outer) (dotted g w) ≡ form_from (tokens more) outer f = rw d refl in
@@ -207,10 +206,6 @@ bracket_step g f w more outer l p d =
     let made : option_and_then (form_from (tokens more) outer) (bracketed g w) ≡ form_from (tokens more) outer f = rw d refl in
     let split : tokens ((w ++ 93 ∷ []) ++ more) ≡ word w ∷ closing ∷ tokens more = cc (append_assoc w (93 ∷ []) more, word_tokens w (93 ∷ more) l p (inr (inr refl))) in
     subst (λ (ts : List Token). form_from (opening ∷ ts) outer g ≡ form_from (tokens more) outer f) (sym split) made
-
-pub no_bit : (b : Bool) → not b ≡ true → b ≡ false
-no_bit true p = absurd (cc p)
-no_bit false p = refl
 
 pub digits_no_name : (w : List ℕ) → are_digits 10 w ≡ true → is_name w ≡ false
 digits_no_name w p = go (is_name w) refl
@@ -227,10 +222,10 @@ inner_step g sub u more outer n k e =
     subst (λ (ts : List Token). form_from (opening ∷ ts) outer g ≡ form_from (tokens more) outer (indexed g sub)) (sym split) (go some.2 k.next)
   where
     at_once : are_digits 10 k.name ≡ false → bracketed g k.name ≡ Some (indexed g (tag k.name))
-    at_once d = rw (no_bit (is_bit g) n, d, k.is_tag) refl
+    at_once d = rw (not-true (is_bit g) n, d, k.is_tag) refl
 
     first_of : begun g k.name ≡ Some (tag k.name)
-    first_of = rw (no_bit (is_bit g) n, k.is_tag) refl
+    first_of = rw (not-true (is_bit g) n, k.is_tag) refl
 
     opened : (ts : List Token) → option_and_then (form_from ts (g ∷ outer)) (begun g k.name) ≡ form_from ts (g ∷ outer) (tag k.name)
     opened ts = rw first_of refl
@@ -252,13 +247,13 @@ pub starts : (f : Form) (t : List ℕ) → SpellsForm f t → Starts f t
 starts (tag name) t s = record { name = name; rest = []; whole = cc (s.1, append-nil name); is_tag = s.0; next = inl (refl, refl); leads = λ more outer e. refl }
 starts (member g n) t s =
     let some = name_some n s.3 in
-    subst (Starts (member g n)) (sym s.4) (further g (member g n) s.0 n 46 (starts g s.0 s.1) (inl refl) (λ more outer e. dot_step g (member g n) n more outer some.0 some.1 e (rw (no_bit (is_bit g) s.2, s.3) refl)))
+    subst (Starts (member g n)) (sym s.4) (further g (member g n) s.0 n 46 (starts g s.0 s.1) (inl refl) (λ more outer e. dot_step g (member g n) n more outer some.0 some.1 e (rw (not-true (is_bit g) s.2, s.3) refl)))
 starts (bit g n) t s =
     let some = digits_some s.1 s.4 in
-    subst (Starts (bit g n)) (sym s.6) (further g (bit g n) s.0 s.1 46 (starts g s.0 s.2) (inl refl) (λ more outer e. dot_step g (bit g n) s.1 more outer some.0 some.1 e (rw (no_bit (is_bit g) s.3, digits_no_name s.1 s.4, s.4, s.5) refl)))
+    subst (Starts (bit g n)) (sym s.6) (further g (bit g n) s.0 s.1 46 (starts g s.0 s.2) (inl refl) (λ more outer e. dot_step g (bit g n) s.1 more outer some.0 some.1 e (rw (not-true (is_bit g) s.3, digits_no_name s.1 s.4, s.4, s.5) refl)))
 starts (element g n) t s =
     let some = digits_some s.1 s.4 in
-    subst (Starts (element g n)) (sym s.6) (further g (element g n) s.0 (s.1 ++ 93 ∷ []) 91 (starts g s.0 s.2) (inr refl) (λ more outer e. bracket_step g (element g n) s.1 more outer some.0 some.1 (rw (no_bit (is_bit g) s.3, s.4, s.5) refl)))
+    subst (Starts (element g n)) (sym s.6) (further g (element g n) s.0 (s.1 ++ 93 ∷ []) 91 (starts g s.0 s.2) (inr refl) (λ more outer e. bracket_step g (element g n) s.1 more outer some.0 some.1 (rw (not-true (is_bit g) s.3, s.4, s.5) refl)))
 starts (indexed g sub) t s =
     subst (Starts (indexed g sub)) (sym s.5) (further g (indexed g sub) s.0 (s.1 ++ 93 ∷ []) 91 (starts g s.0 s.2) (inr refl) (λ more outer e. inner_step g sub s.1 more outer s.3 (starts sub s.1 s.4) e))
 

@@ -2,6 +2,7 @@
 use Rattle.std.specs.Prelude.{◌≡◌, ℕ, Bool, true, false, not, ◌||◌, ◌==◌, if◌then◌else◌, List, [], ◌∷◌, ◌++◌, IsTrue, Option, Some, None, option_and_then, refl}
 use Rattle.std.proofs.Common.{ap, subst, eqb-true}
 use Rattle.std.proofs.lemmas.List.{append_assoc, append-nil}
+use Rattle.std.proofs.lemmas.Option.{same_Some}
 use Rattle.lgx_num.specs.Name.{is_name}
 use Rattle.spec_language.specs.OperandForm.{is_tag_name, are_digits, digits_number, Form, tag, member, element, indexed, bit, is_bit, Token, word, dot, opening, closing, put_byte, put_token, tokens, dotted, bracketed, begun, form_from, form_of, form}
 use Rattle.spec_language.specs.FormLaws.{SpellsForm}
@@ -37,16 +38,13 @@ joined_tokens (c ∷ cs) = cc (joined_token c (tokens cs), joined_tokens cs)
 
 -- ---- one more part
 
-pub same_form : (f g : Form) → Some f ≡ Some g → f ≡ g
-same_form f g p = cc p
-
 pub dotted_spells : (f g : Form) (t w : List ℕ) → SpellsForm f t → dotted f w ≡ Some g → SpellsForm g (t ++ 46 ∷ w)
 dotted_spells f g t w s p = go (is_bit f) refl (is_name w) refl (are_digits 10 w) refl p
   where
     go : (a : Bool) → is_bit f ≡ a → (b : Bool) → is_name w ≡ b → (d : Bool) → are_digits 10 w ≡ d → (if a then None else if b then Some (member f w) else if d then Some (bit f (digits_number 10 w)) else None) ≡ Some g → SpellsForm g (t ++ 46 ∷ w)
     go true e b i d h q = absurd (cc q)
-    go false e true i d h q = subst (λ (z : Form). SpellsForm z (t ++ 46 ∷ w)) (same_form _ g q) (t, s, ap not e, i, refl)
-    go false e false i true h q = subst (λ (z : Form). SpellsForm z (t ++ 46 ∷ w)) (same_form _ g q) (t, w, s, ap not e, h, refl, refl)
+    go false e true i d h q = subst (λ (z : Form). SpellsForm z (t ++ 46 ∷ w)) (same_Some _ g q) (t, s, ap not e, i, refl)
+    go false e false i true h q = subst (λ (z : Form). SpellsForm z (t ++ 46 ∷ w)) (same_Some _ g q) (t, w, s, ap not e, h, refl, refl)
     go false e false i false h q = absurd (cc q)
 
 pub bracketed_spells : (f g : Form) (t w : List ℕ) → SpellsForm f t → bracketed f w ≡ Some g → SpellsForm g (t ++ 91 ∷ (w ++ 93 ∷ []))
@@ -54,8 +52,8 @@ bracketed_spells f g t w s p = go (is_bit f) refl (are_digits 10 w) refl (is_tag
   where
     go : (a : Bool) → is_bit f ≡ a → (b : Bool) → are_digits 10 w ≡ b → (d : Bool) → is_tag_name w ≡ d → (if a then None else if b then Some (element f (digits_number 10 w)) else if d then Some (indexed f (tag w)) else None) ≡ Some g → SpellsForm g (t ++ 91 ∷ (w ++ 93 ∷ []))
     go true e b i d h q = absurd (cc q)
-    go false e true i d h q = subst (λ (z : Form). SpellsForm z (t ++ 91 ∷ (w ++ 93 ∷ []))) (same_form _ g q) (t, w, s, ap not e, i, refl, refl)
-    go false e false i true h q = subst (λ (z : Form). SpellsForm z (t ++ 91 ∷ (w ++ 93 ∷ []))) (same_form _ g q) (t, w, s, ap not e, (h, refl), refl)
+    go false e true i d h q = subst (λ (z : Form). SpellsForm z (t ++ 91 ∷ (w ++ 93 ∷ []))) (same_Some _ g q) (t, w, s, ap not e, i, refl, refl)
+    go false e false i true h q = subst (λ (z : Form). SpellsForm z (t ++ 91 ∷ (w ++ 93 ∷ []))) (same_Some _ g q) (t, w, s, ap not e, (h, refl), refl)
     go false e false i false h q = absurd (cc q)
 
 pub begun_spells : (f g : Form) (w : List ℕ) → begun f w ≡ Some g → SpellsForm g w × IsTrue (not (is_bit f))
@@ -64,7 +62,7 @@ begun_spells f g w p = go (is_bit f) refl (is_tag_name w) refl p
     go : (a : Bool) → is_bit f ≡ a → (b : Bool) → is_tag_name w ≡ b → (if a || not b then None else Some (tag w)) ≡ Some g → SpellsForm g w × IsTrue (not (is_bit f))
     go true e b h q = absurd (cc q)
     go false e false h q = absurd (cc q)
-    go false e true h q = (subst (λ (z : Form). SpellsForm z w) (same_form _ g q) (h, refl), ap not e)
+    go false e true h q = (subst (λ (z : Form). SpellsForm z w) (same_Some _ g q) (h, refl), ap not e)
 
 -- ---- the whole
 
@@ -73,7 +71,7 @@ abbrev pub Under : List Form → List ℕ → Type 0
 Under [] p = p ≡ []
 Under (g ∷ outer) p = (q t : List ℕ) × Under outer q × SpellsForm g t × IsTrue (not (is_bit g)) × (p ≡ q ++ (t ++ 91 ∷ []))
 
--- what a step makes, where it makes something
+-- what a step makes, if it makes something
 pub stepped : (o : Option Form) (next : Form → Option Form) (r : Form) → option_and_then next o ≡ Some r → (g : Form) × (o ≡ Some g) × (next g ≡ Some r)
 stepped (Some g) next r p = (g, refl, p)
 stepped None next r p = absurd (cc p)
@@ -86,7 +84,7 @@ deeper outer f r w ts p t u s q known =
     subst (SpellsForm r) (cc (append_assoc p (t ++ 91 ∷ []) (w ++ joined ts), append_assoc t (91 ∷ []) (w ++ joined ts))) (known a.0 (p, t, u, s, b.1, refl) b.0 a.2)
 
 pub reads : (ts : List Token) (outer : List Form) (f r : Form) (p t : List ℕ) → Under outer p → SpellsForm f t → form_from ts outer f ≡ Some r → SpellsForm r (p ++ (t ++ joined ts))
-reads [] [] f r p t u s q = subst (λ (z : Form). SpellsForm z (p ++ (t ++ []))) (same_form f r q) (subst (λ (k : List ℕ). SpellsForm f k) (rw (u, append-nil) refl) s)
+reads [] [] f r p t u s q = subst (λ (z : Form). SpellsForm z (p ++ (t ++ []))) (same_Some f r q) (subst (λ (k : List ℕ). SpellsForm f k) (rw (u, append-nil) refl) s)
 reads [] (g ∷ outer) f r p t u s q = absurd (cc q)
 reads (dot ∷ word w ∷ ts) outer f r p t u s q =
     let a = stepped (dotted f w) (form_from ts outer) r q in

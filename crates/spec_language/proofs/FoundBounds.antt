@@ -108,7 +108,7 @@ indexed_lies types len g f subscript l known p =
 
 -- ---- forms
 
--- where numbers alone are subscripts nothing moves the place
+-- if numbers alone are subscripts, nothing moves the place
 abbrev IsFixed : Subscripts → Found → Type 0
 IsFixed operands f = ⊤
 IsFixed numbers_alone f = f.steps ≡ []

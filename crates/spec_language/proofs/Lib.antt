@@ -1,10 +1,10 @@
 pub mod Outlines
 pub mod Subscripts
 pub mod TypesFit
-mod TagsFit
+pub mod TagsFit
 pub mod FoundBounds
 pub mod OperandBounds
 pub mod Reaching
 pub mod SizesSettle
-mod FormsSpelled
-mod FormsRead
+pub mod FormsSpelled
+pub mod FormsRead

@@ -2,6 +2,7 @@
 use Rattle.std.specs.Prelude.{◌≡◌, ℕ, zero, suc, ◌+◌, ◌*◌, ◌<◌, ◌≤◌, Bool, true, false, not, ◌&&◌, nat_lt, ◌⊎◌, if◌then◌else◌, pos, codes, bytes_eq, position, List, [], ◌∷◌, ◌++◌, map, length, filter_map, Option, Some, None, option_map, Result, Ok, Err, refl}
 use Rattle.std.specs.Result.{result_ok}
 use Rattle.std.proofs.Common.{sym, subst, arith, ltb-true, inl, inr}
+use Rattle.std.proofs.lemmas.Bool.{not-true}
 use Rattle.lgx_num.specs.Name.{is_name, same}
 use Rattle.lgx_num.specs.Image.{IsByteAligned, bits_of}
 use Rattle.lgx_num.specs.declared.place.Path.{Path}
@@ -28,7 +29,7 @@ use Rattle.lgx_rung.specs.OperandTable.{operand_kinds}
 use Rattle.lgx_rung.specs.declared.operands.OperandKind.{OperandKind}
 use Rattle.lgx_rung.specs.declared.operands.OperandKind.TheVariants.{BoolPlace, BoolOrFlag, IntegerPlace, IntegerOrNumber, WholeTimer, WholeCounter, TimerOrCounter, CopySource, CopyTarget, FillTarget, QuestionMark, RoutineName, NoParameters, JumpLabel, OwnLabel, EventTask}
 use Rattle.spec_language.specs.Operands.{paired, path_of, is_bool, is_timer, is_counter, one_place, block_where, place_as, number_as, flag_as, found_as, read_as, data_operand, name_operand}
-use Rattle.spec_language.specs.Checked.{CheckScope, Spot, Label, labels, label_of, behind, operand_of, operands_of, settled, instruction_of, checked_tree, checked_legs, checked_from}
+use Rattle.spec_language.specs.Checked.{CheckScope, Spot, Label, labels, label_of, spot_after, operand_of, operands_of, settled, instruction_of, checked_tree, checked_legs, checked_from}
 use Rattle.lgx_num.specs.Paths.{BytesInBounds, OperandInBounds}
 use Rattle.std.specs.List.{AllByRecursion as Each}
 use Rattle.spec_base.specs.declared.limits.TheConstants.{TIMER_BYTES, COUNTER_BYTES}
@@ -106,10 +107,6 @@ block_lies types len true f o kinds l p =
     subst (λ (z : Operand). OperandInBounds z len) (ok_inj _ _ p) (l.filled, (l.subscripts, λ to h. let room = block_room types f.of.base f.of.dim f.stop to (kinds refl) (l.inside to h) in ((room.0, omega (arith, room.1, l.stop)), room)))
 block_lies types len false f o kinds l p = err_not_ok _ _ p
 
-pub not_true : (b : Bool) → not b ≡ true → b ≡ false
-not_true true p = absurd (cc p)
-not_true false p = refl
-
 pub no_bool : (base : Base) → nat_lt 0 (integer_bits base) ≡ true → is_bool base ≡ false
 no_bool OneBit p = absurd (omega (arith, ltb-true 0 0 p))
 no_bool _ p = refl
@@ -132,8 +129,8 @@ place_lies types len IntegerOrNumber f o l p = cell_lies types len (is_integer f
 place_lies types len WholeTimer f o l p = timer_lies types len (is_timer f.of.base) f o (λ h. h) l p
 place_lies types len WholeCounter f o l p = counter_lies types len (is_counter f.of.base) f o (λ h. h) l p
 place_lies types len TimerOrCounter f o l p = timer_or_counter_lies types len f o l p
-place_lies types len CopySource f o l p = block_lies types len (not (is_bool f.of.base)) f o (not_true (is_bool f.of.base)) l p
-place_lies types len CopyTarget f o l p = block_lies types len (not (is_bool f.of.base)) f o (not_true (is_bool f.of.base)) l p
+place_lies types len CopySource f o l p = block_lies types len (not (is_bool f.of.base)) f o (not-true (is_bool f.of.base)) l p
+place_lies types len CopyTarget f o l p = block_lies types len (not (is_bool f.of.base)) f o (not-true (is_bool f.of.base)) l p
 place_lies types len FillTarget f o l p = block_lies types len (nat_lt 0 (integer_bits f.of.base)) f o (no_bool f.of.base) l p
 place_lies types len QuestionMark f o l p = err_not_ok _ _ p
 place_lies types len RoutineName f o l p = err_not_ok _ _ p
@@ -173,7 +170,7 @@ name_lies len text named cause o known p = go (is_name text) named known p
     go true None k r = err_not_ok _ _ r
     go true (Some x) k r = subst (λ (z : Operand). OperandInBounds z len) (ok_inj _ _ r) (k x refl)
 
--- where each operand that a name may stand for is no place
+-- if each operand that a name may stand for is no place
 pub mapped_lies : {A : Type 0} (len : ℕ) (make : A → Operand) → ((a : A) → OperandInBounds (make a) len) → (o : Option A) (x : Operand) → option_map make o ≡ Some x → OperandInBounds x len
 mapped_lies len make known None x p = absurd (cc p)
 mapped_lies len make known (Some a) x p = subst (λ (z : Operand). OperandInBounds z len) (cc p) (known a)
@@ -229,20 +226,20 @@ mutual
   tree_lies s ls sound spot end made p = subst (λ (z : Tree Ins). Each (InsLies (bytes s.tags)) (instructions z)) (ok_inj _ _ p) tt
   tree_lies s ls sound spot (one i rest) made p =
       let a = bind_ok (instruction_of s ls spot i) _ made p in
-      let b = bind_ok (checked_tree (instruction_of s ls) (behind 1 spot) rest) _ made a.2 in
-      subst (λ (z : Tree Ins). Each (InsLies (bytes s.tags)) (instructions z)) (ok_inj _ _ b.2) (instruction_lies s ls spot i a.0 sound a.1, tree_lies s ls sound (behind 1 spot) rest b.0 b.1)
+      let b = bind_ok (checked_tree (instruction_of s ls) (spot_after 1 spot) rest) _ made a.2 in
+      subst (λ (z : Tree Ins). Each (InsLies (bytes s.tags)) (instructions z)) (ok_inj _ _ b.2) (instruction_lies s ls spot i a.0 sound a.1, tree_lies s ls sound (spot_after 1 spot) rest b.0 b.1)
   tree_lies s ls sound spot (fork t legs rest) made p =
-      let a = bind_ok (checked_tree (instruction_of s ls) (behind 0 spot) t) _ made p in
-      let b = bind_ok (checked_legs (instruction_of s ls) (behind (length (instructions t)) spot) legs) _ made a.2 in
-      let c = bind_ok (checked_tree (instruction_of s ls) (behind (length (instructions t) + length (leg_instructions legs)) spot) rest) _ made b.2 in
-      subst (λ (z : Tree Ins). Each (InsLies (bytes s.tags)) (instructions z)) (ok_inj _ _ c.2) (each_append (InsLies (bytes s.tags)) (instructions a.0) (leg_instructions b.0 ++ instructions c.0) (tree_lies s ls sound (behind 0 spot) t a.0 a.1) (each_append (InsLies (bytes s.tags)) (leg_instructions b.0) (instructions c.0) (legs_lie s ls sound (behind (length (instructions t)) spot) legs b.0 b.1) (tree_lies s ls sound (behind (length (instructions t) + length (leg_instructions legs)) spot) rest c.0 c.1)))
+      let a = bind_ok (checked_tree (instruction_of s ls) (spot_after 0 spot) t) _ made p in
+      let b = bind_ok (checked_legs (instruction_of s ls) (spot_after (length (instructions t)) spot) legs) _ made a.2 in
+      let c = bind_ok (checked_tree (instruction_of s ls) (spot_after (length (instructions t) + length (leg_instructions legs)) spot) rest) _ made b.2 in
+      subst (λ (z : Tree Ins). Each (InsLies (bytes s.tags)) (instructions z)) (ok_inj _ _ c.2) (each_append (InsLies (bytes s.tags)) (instructions a.0) (leg_instructions b.0 ++ instructions c.0) (tree_lies s ls sound (spot_after 0 spot) t a.0 a.1) (each_append (InsLies (bytes s.tags)) (leg_instructions b.0) (instructions c.0) (legs_lie s ls sound (spot_after (length (instructions t)) spot) legs b.0 b.1) (tree_lies s ls sound (spot_after (length (instructions t) + length (leg_instructions legs)) spot) rest c.0 c.1)))
 
   pub legs_lie : (s : CheckScope) (ls : List Label) (sound : Sound s.tags) (spot : Spot) (legs : Legs SourceIns) (made : Legs Ins) → checked_legs (instruction_of s ls) spot legs ≡ Ok made → Each (InsLies (bytes s.tags)) (leg_instructions made)
   legs_lie s ls sound spot last made p = subst (λ (z : Legs Ins). Each (InsLies (bytes s.tags)) (leg_instructions z)) (ok_inj _ _ p) tt
   legs_lie s ls sound spot (leg t legs) made p =
       let a = bind_ok (checked_tree (instruction_of s ls) spot t) _ made p in
-      let b = bind_ok (checked_legs (instruction_of s ls) (behind (length (instructions t)) spot) legs) _ made a.2 in
-      subst (λ (z : Legs Ins). Each (InsLies (bytes s.tags)) (leg_instructions z)) (ok_inj _ _ b.2) (each_append (InsLies (bytes s.tags)) (instructions a.0) (leg_instructions b.0) (tree_lies s ls sound spot t a.0 a.1) (legs_lie s ls sound (behind (length (instructions t)) spot) legs b.0 b.1))
+      let b = bind_ok (checked_legs (instruction_of s ls) (spot_after (length (instructions t)) spot) legs) _ made a.2 in
+      subst (λ (z : Legs Ins). Each (InsLies (bytes s.tags)) (leg_instructions z)) (ok_inj _ _ b.2) (each_append (InsLies (bytes s.tags)) (instructions a.0) (leg_instructions b.0) (tree_lies s ls sound spot t a.0 a.1) (legs_lie s ls sound (spot_after (length (instructions t)) spot) legs b.0 b.1))
 
 pub rungs_lie : (s : CheckScope) (ls : List Label) (sound : Sound s.tags) (rung before : ℕ) (rungs : List Source) (made : List (Tree Ins)) → checked_from (instruction_of s ls) rung before rungs ≡ Ok made → Each (OperandsInBounds (bytes s.tags)) made
 rungs_lie s ls sound rung before [] made p = subst (λ (z : List (Tree Ins)). Each (OperandsInBounds (bytes s.tags)) z) (ok_inj _ _ p) tt

@@ -12,13 +12,13 @@ use Rattle.lgx_rung.specs.declared.operands.OperandKind.{OperandKind}
 use Rattle.spec_language.specs.Operands.{is_optional, paired}
 use Rattle.lgx_rung.specs.declared.ins.Ins.{Ins}
 use Rattle.std.specs.Prelude.{nat_le}
-use Rattle.spec_language.specs.Checked.{code_number, label_faults, length_faults, CheckScope, Spot, Label, labels, behind, operand_of, operands_of, lesser, least, answered, settled, instruction_of, checked_tree, checked_legs, checked_from}
+use Rattle.spec_language.specs.Checked.{code_number, label_faults, length_faults, CheckScope, Spot, Label, labels, spot_after, operand_of, operands_of, lesser, least, answered, settled, instruction_of, checked_tree, checked_legs, checked_from}
 use Rattle.spec_language.specs.CheckedLaws.{tree_map, legs_map, source_outline, outline, KeepsOutline}
 use Rattle.spec_base.proofs.Binds.{bind_ok, ok_inj, err_not_ok}
 
 -- ---- one instruction
 
--- a list with one more in front, where there is a list
+-- a list with one more in front, if there is a list
 pub longer : (w : OperandKind) (t : List ℕ) (o : Option (List (OperandKind × List ℕ))) (ps : List (OperandKind × List ℕ)) → option_map (λ rest. (w, t) ∷ rest) o ≡ Some ps → (rest : List (OperandKind × List ℕ)) × (o ≡ Some rest) × (ps ≡ (w, t) ∷ rest)
 longer w t (Some rest) ps p = (rest, refl, cc p)
 longer w t None ps p = absurd (cc p)
@@ -44,7 +44,7 @@ some_lesser c (Some d) p = go (nat_le (code_number c) (code_number d)) p
     go true q = cc q
     go false q = cc q
 
--- where there is no least code there is none, and every operand stands for something
+-- if there is no least code there is none, and every operand stands for something
 pub none_least : (cs : List CheckCode) → least cs ≡ None → cs ≡ []
 none_least [] p = refl
 none_least (c ∷ cs) p = absurd (some_lesser c (least cs) p)
@@ -82,19 +82,19 @@ mutual
   tree_outline s ls spot end made p = rw (← ok_inj _ _ p) refl
   tree_outline s ls spot (one i rest) made p =
       let a = bind_ok (instruction_of s ls spot i) _ made p in
-      let b = bind_ok (checked_tree (instruction_of s ls) (behind 1 spot) rest) _ made a.2 in
-      rw (← ok_inj _ _ b.2, instruction_outline s ls spot i a.0 a.1, tree_outline s ls (behind 1 spot) rest b.0 b.1) refl
+      let b = bind_ok (checked_tree (instruction_of s ls) (spot_after 1 spot) rest) _ made a.2 in
+      rw (← ok_inj _ _ b.2, instruction_outline s ls spot i a.0 a.1, tree_outline s ls (spot_after 1 spot) rest b.0 b.1) refl
   tree_outline s ls spot (fork t legs rest) made p =
-      let a = bind_ok (checked_tree (instruction_of s ls) (behind 0 spot) t) _ made p in
-      let b = bind_ok (checked_legs (instruction_of s ls) (behind (length (instructions t)) spot) legs) _ made a.2 in
-      let c = bind_ok (checked_tree (instruction_of s ls) (behind (length (instructions t) + length (leg_instructions legs)) spot) rest) _ made b.2 in
+      let a = bind_ok (checked_tree (instruction_of s ls) (spot_after 0 spot) t) _ made p in
+      let b = bind_ok (checked_legs (instruction_of s ls) (spot_after (length (instructions t)) spot) legs) _ made a.2 in
+      let c = bind_ok (checked_tree (instruction_of s ls) (spot_after (length (instructions t) + length (leg_instructions legs)) spot) rest) _ made b.2 in
       rw (← ok_inj _ _ c.2, tree_outline s ls _ t a.0 a.1, legs_outline s ls _ legs b.0 b.1, tree_outline s ls _ rest c.0 c.1) refl
 
   pub legs_outline : (s : CheckScope) (ls : List Label) (spot : Spot) (legs : Legs SourceIns) (made : Legs Ins) → checked_legs (instruction_of s ls) spot legs ≡ Ok made → legs_map outline made ≡ legs_map source_outline legs
   legs_outline s ls spot last made p = rw (← ok_inj _ _ p) refl
   legs_outline s ls spot (leg t legs) made p =
       let a = bind_ok (checked_tree (instruction_of s ls) spot t) _ made p in
-      let b = bind_ok (checked_legs (instruction_of s ls) (behind (length (instructions t)) spot) legs) _ made a.2 in
+      let b = bind_ok (checked_legs (instruction_of s ls) (spot_after (length (instructions t)) spot) legs) _ made a.2 in
       rw (← ok_inj _ _ b.2, tree_outline s ls _ t a.0 a.1, legs_outline s ls _ legs b.0 b.1) refl
 
 pub rungs_outline : (s : CheckScope) (ls : List Label) (rung before : ℕ) (rungs : List Source) (made : List (Tree Ins)) → checked_from (instruction_of s ls) rung before rungs ≡ Ok made → map (tree_map outline) made ≡ map (tree_map source_outline) rungs

@@ -4,6 +4,7 @@ use Rattle.std.specs.Option.{option_or}
 use Rattle.std.specs.List.{list_any, position_or_len, range_with_len}
 use Rattle.std.proofs.Common.{sym, subst, arith, eqb-true, eq-eqb, ltb-true, inl, inr}
 use Rattle.std.proofs.lemmas.Bool.{or_left}
+pub use Rattle.std.proofs.lemmas.Bool.{or_right}
 use Rattle.std.proofs.lemmas.Option.{cond_some}
 use Rattle.lgx_num.specs.Name.{same}
 use Rattle.spec_language.specs.declared.types.Base.{Base}
@@ -18,10 +19,6 @@ use Rattle.spec_language.specs.TypeFaults.{reaches_itself}
 use Rattle.spec_language.proofs.TypesFit.{looked_up_has}
 
 -- ---- sets
-
-pub or_right : (x y : Bool) → y ≡ true → (x || y) ≡ true
-or_right true y p = refl
-or_right false y p = p
 
 pub among_kept : (test : ℕ → Bool) (xs : List ℕ) (i : ℕ) → among xs i ≡ true → test i ≡ true → among (filter test xs) i ≡ true
 among_kept test [] i p q = p
@@ -117,7 +114,7 @@ reach_later types (suc k) m u j h b p = go (le_cases m k h) (λ r. reach_later t
     go (inl r) known = reach_still types k u j b (known r)
     go (inr r) known = subst (λ (n : ℕ). among (reached_to n types u) j ≡ true) r p
 
--- ---- where structures are ordered
+-- ---- structures in order
 
 pub each_some : (P : ℕ → Type 0) (xs : List ℕ) → ((j : ℕ) → among xs j ≡ true → P j) → Each P xs
 each_some P [] h = tt

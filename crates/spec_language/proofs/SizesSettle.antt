@@ -2,6 +2,7 @@
 use Rattle.std.specs.Prelude.{map, ◌≡◌, ℕ, zero, suc, ◌+◌, ◌*◌, ◌%◌, ◌<◌, ◌≤◌, Bool, true, false, not, ◌&&◌, ◌||◌, ◌==◌, eqb, List, [], ◌∷◌, ◌++◌, length, flat_map, slice_get, slice_index, Option, Some, None, option_map, unwrap_or, is_none, refl}
 use Rattle.std.specs.List.{AllByRecursion as Each, IsDistinct, list_any, enumerate_from, range_with_len}
 use Rattle.std.proofs.Common.{ap, sym, subst, arith, eqb-true, eq-eqb}
+use Rattle.std.proofs.lemmas.Bool.{or_right}
 use Rattle.std.proofs.lemmas.Map.Steps.{length-le_from_distinct_below}
 use Rattle.spec_language.specs.declared.types.Base.{Base}
 use Rattle.spec_language.specs.declared.types.Base.TheVariants.{Bool as OneBit, Sint, Int, Dint, Timer, Counter, User}
@@ -17,7 +18,7 @@ use Rattle.spec_language.specs.TypeFaults.{type_fault, member_faults, structure_
 use Rattle.spec_language.specs.LayoutLaws.{IsEvenOf, IsEven, HasBytes, IsSoundType, FaultlessIsSound, SizesAreTheOnly}
 use Rattle.spec_base.proofs.Lists.{each_map, each_get, get_mapped}
 use Rattle.spec_language.proofs.TypesFit.{end_grows}
-use Rattle.spec_language.proofs.Reaching.{or_right, among_numbers, find_there, parts_there, reach_more, reach_later}
+use Rattle.spec_language.proofs.Reaching.{among_numbers, find_there, parts_there, reach_more, reach_later}
 
 -- ---- sizes by sizes
 

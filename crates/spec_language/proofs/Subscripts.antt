@@ -12,7 +12,7 @@ leads_behind (i ∷ is) at k to h =
     let r = leads_behind is at k h.1 h.3 in
     (h.0 * i.stride + r.0, (h.0, r.0, h.2, r.1, refl), omega (arith, r.2, h.4))
 
--- with one more subscript behind them
+-- with one more subscript after them
 pub leads_more : (is : List Index) (j : Index) (at to : ℕ) → CanReach (is ++ j ∷ []) at to → (b n : ℕ) × CanReach is at b × (n < j.length) × (to ≡ b + n * j.stride)
 leads_more [] j at to h = (at, h.0, refl, h.2, omega (arith, h.3, h.4))
 leads_more (i ∷ is) j at to h =

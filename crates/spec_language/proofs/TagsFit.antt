@@ -1,4 +1,4 @@
--- Tags lie in the image one behind the other.
+-- Tags lie in the image one after the other.
 use Rattle.std.specs.Prelude.{◌≡◌, ℕ, ◌+◌, ◌≤◌, List, [], ◌∷◌, Option, Some, None, refl}
 use Rattle.std.specs.Option.{option_or}
 use Rattle.std.proofs.Common.{sym, subst, arith}

@@ -135,31 +135,31 @@ instruction_of s ls spot i = settled ls spot i (operands_of s ls spot (paired (o
 
 -- ---- rungs
 
--- the spot behind so many instructions
-abbrev pub behind : ℕ → Spot → Spot
-behind n spot = record { rung = spot.rung; ins = spot.ins + n; before = spot.before + n; leads = false }
+-- the spot after so many instructions
+abbrev pub spot_after : ℕ → Spot → Spot
+spot_after n spot = record { rung = spot.rung; ins = spot.ins + n; before = spot.before + n; leads = false }
 
 abbrev mutual
   pub checked_tree : (Spot → SourceIns → Result Ins CheckFault) → Spot → Tree SourceIns → Result (Tree Ins) CheckFault
   checked_tree check spot end = Ok end
   checked_tree check spot (one i rest) =
       check spot i >>= λ i'.
-      checked_tree check (behind 1 spot) rest >>= λ rest'.
+      checked_tree check (spot_after 1 spot) rest >>= λ rest'.
       Ok (one i' rest')
   checked_tree check spot (fork t legs rest) =
-      checked_tree check (behind 0 spot) t >>= λ t'.
-      checked_legs check (behind (length (instructions t)) spot) legs >>= λ legs'.
-      checked_tree check (behind (length (instructions t) + length (leg_instructions legs)) spot) rest >>= λ rest'.
+      checked_tree check (spot_after 0 spot) t >>= λ t'.
+      checked_legs check (spot_after (length (instructions t)) spot) legs >>= λ legs'.
+      checked_tree check (spot_after (length (instructions t) + length (leg_instructions legs)) spot) rest >>= λ rest'.
       Ok (fork t' legs' rest')
 
   pub checked_legs : (Spot → SourceIns → Result Ins CheckFault) → Spot → Legs SourceIns → Result (Legs Ins) CheckFault
   checked_legs check spot last = Ok last
   checked_legs check spot (leg t legs) =
       checked_tree check spot t >>= λ t'.
-      checked_legs check (behind (length (instructions t)) spot) legs >>= λ legs'.
+      checked_legs check (spot_after (length (instructions t)) spot) legs >>= λ legs'.
       Ok (leg t' legs')
 
--- the rungs from this one on, behind so many instructions
+-- the rungs from this one on, after so many instructions
 abbrev pub checked_from : (Spot → SourceIns → Result Ins CheckFault) → ℕ → ℕ → List Source → Result (List (Tree Ins)) CheckFault
 checked_from check rung before [] = Ok []
 checked_from check rung before (r ∷ rs) =

@@ -3,7 +3,7 @@ use Rattle.std.specs.Prelude.{◌≡◌, ℕ, not, List, [], ◌∷◌, ◌++◌
 use Rattle.lgx_num.specs.Name.{is_name}
 use Rattle.spec_language.specs.OperandForm.{is_tag_name, are_digits, digits_number, Form, tag, member, element, indexed, bit, is_bit, form}
 
--- a tag name; behind a form that is no bit a dot and a member's name, digits or another form in brackets, or a dot and the
+-- a tag name; after a form that is no bit a dot and a member's name, digits or another form in brackets, or a dot and the
 -- digits of a bit
 abbrev pub SpellsForm : Form → List ℕ → Type 0
 SpellsForm (tag name) text = IsTrue (is_tag_name name) × (text ≡ name)

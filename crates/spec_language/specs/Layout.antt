@@ -81,7 +81,7 @@ placed_from decls sizes at [] = []
 placed_from decls sizes at (m ∷ ms) =
     (m.name, record { of = type_of decls m; at = 8 * begin_after at (type_of decls m) }) ∷ placed_from decls sizes (begin_after at (type_of decls m) + size_in sizes (type_of decls m)) ms
 
--- the byte behind the last of them
+-- the byte after the last of them
 abbrev pub end_from : List TypeDecl → List ℕ → ℕ → List MemberDecl → ℕ
 end_from decls sizes at [] = at
 end_from decls sizes at (m ∷ ms) = end_from decls sizes (begin_after at (type_of decls m) + size_in sizes (type_of decls m)) ms
@@ -95,7 +95,7 @@ abbrev pub sizes_to : ℕ → List TypeDecl → List ℕ
 sizes_to zero decls = replicate (length decls) 0
 sizes_to (suc depth) decls = map (structure_in decls (sizes_to depth decls)) decls
 
--- where no structure reaches itself, none holds others deeper than there are structures
+-- if no structure reaches itself, none holds others deeper than there are structures
 abbrev pub sizes : List TypeDecl → List ℕ
 sizes decls = sizes_to (length decls) decls
 
@@ -105,7 +105,7 @@ size_of decls t = size_in (sizes decls) t
 
 -- ---- members
 
--- the members of a TIMER and of a COUNTER: bits 31 down of the status word, and the two words behind it
+-- the members of a TIMER and of a COUNTER: bits 31 down of the status word, and the two words after it
 abbrev pub bit_at : ℕ → Member
 bit_at n = record { of = record { base = OneBit; dim = 0 }; at = n }
 

@@ -37,7 +37,7 @@ pub record SoundTypes (types : List TypeDecl) : Type 0 where
 
 -- ---- laws
 
--- where declared structures have no fault and each has a member, their sizes have settled: the rounds over how deep they
+-- if declared structures have no fault and each has a member, their sizes have settled: the rounds over how deep they
 -- are nested have gone far enough
 abbrev pub FaultlessIsSound : Type 0
 FaultlessIsSound = (types : List TypeDecl) → Each (λ d. 0 < length d.members) types → type_fault types ≡ None → SoundTypes types
@@ -46,6 +46,6 @@ FaultlessIsSound = (types : List TypeDecl) → Each (λ d. 0 < length d.members)
 abbrev pub SizesAreTheOnly : Type 0
 SizesAreTheOnly = (types : List TypeDecl) (others : List ℕ) → type_fault types ≡ None → map (structure_in types others) types ≡ others → others ≡ sizes types
 
--- where structures can be numbered so that each is above those inside it, none reaches itself
+-- if structures can be numbered so that each is above those inside it, none reaches itself
 abbrev pub OrderedHasNoRings : Type 0
 OrderedHasNoRings = (types : List TypeDecl) (order : ℕ → ℕ) → ((i j : ℕ) → among (parts types i) j ≡ true → order j < order i) → (i : ℕ) → reaches_itself types i ≡ false

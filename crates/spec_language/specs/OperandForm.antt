@@ -57,7 +57,7 @@ abbrev pub has_minus : List ℕ → Bool
 has_minus [] = false
 has_minus (c ∷ cs) = c == 45
 
--- decimal digits, maybe behind a minus, with the range of 32 bits
+-- decimal digits, maybe after a minus, with the range of 32 bits
 abbrev pub decimal_number : List ℕ → Option Number
 decimal_number text =
     if has_minus text
@@ -95,7 +95,7 @@ flag = spelled_in flags
 
 -- ---- operand forms
 
--- a tag name, and behind it members, elements by a number or by another operand, and last a bit
+-- a tag name, and after it members, elements by a number or by another operand, and last a bit
 pub data Form : Type 0 where
   tag : List ℕ → Form
   member : Form → List ℕ → Form
@@ -129,7 +129,7 @@ is_bit (element f i) = false
 is_bit (indexed f sub) = false
 is_bit (bit f n) = true
 
--- a word behind a dot: a member's name, or the number of a bit
+-- a word after a dot: a member's name, or the number of a bit
 abbrev pub dotted : Form → List ℕ → Option Form
 dotted f w = if is_bit f then None else if is_name w then Some (member f w) else if are_digits 10 w then Some (bit f (digits_number 10 w)) else None
 
@@ -137,7 +137,7 @@ dotted f w = if is_bit f then None else if is_name w then Some (member f w) else
 abbrev pub bracketed : Form → List ℕ → Option Form
 bracketed f w = if is_bit f then None else if are_digits 10 w then Some (element f (digits_number 10 w)) else if is_tag_name w then Some (indexed f (tag w)) else None
 
--- a word behind a bracket that begins a longer operand
+-- a word after a bracket that begins a longer operand
 abbrev pub begun : Form → List ℕ → Option Form
 begun f w = if is_bit f || not (is_tag_name w) then None else Some (tag w)
 

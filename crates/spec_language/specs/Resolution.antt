@@ -85,7 +85,7 @@ may_index f = is_integer f.of && length f.steps == 0
 abbrev pub index_by : List TypeDecl → DataType → Found → Index
 index_by types array i = record { of = record { kind = kind_of i.of.base; at = i.at }; stride = stride types array.base; length = array.dim }
 
--- what a variable subscript makes of an array, where the subscript's own text was found or has a cause: its cause comes
+-- what a variable subscript makes of an array, by what the subscript's own text names or its cause: its cause comes
 -- first, then G6 it may be no subscript, then G9 it is one too many
 abbrev pub find_indexed : List TypeDecl → Found → Result Found TagCode → Result Found TagCode
 find_indexed types f subscript = do
@@ -101,13 +101,13 @@ pub data Subscripts : Type 0 where
   operands : Subscripts
   numbers_alone : Subscripts
 
--- where numbers alone may be subscripts, an operand in brackets is G6, whatever it is
+-- if numbers alone may be subscripts, an operand in brackets is G6, whatever it is
 abbrev pub subscript_by : Subscripts → Result Found TagCode → Result Found TagCode
 subscript_by operands found = found
 subscript_by numbers_alone found = Err G6
 
 -- what a form names, where tags' names stand for what `named` says; a `[` at what is no array is met before what stands
--- behind it
+-- after it
 abbrev pub resolved : Subscripts → List TypeDecl → (List ℕ → Result Found TagCode) → Form → Result Found TagCode
 resolved s types named (tag name) = named name
 resolved s types named (member form name) = resolved s types named form >>= λ f. find_member types f name
@@ -139,7 +139,7 @@ meant types target_found e = go e.1.meaning
 abbrev pub in_form : Subscripts → List TypeDecl → (List ℕ → Result Found TagCode) → List ℕ → Result Found TagCode
 in_form s types named text = some_or (form text) G10 >>= resolved s types named
 
--- what a name stands for where at most so many aliases follow one another, and G7 where more do; numbers alone are
+-- what a name stands for if at most so many aliases follow one another, and G7 if more do; numbers alone are
 -- subscripts in an alias's target
 abbrev pub named_within : ℕ → Declarations → Scope → List ℕ → Result Found TagCode
 named_within zero d scope name = some_or (seen_from d scope name) G3 >>= meant d.types (λ _ _. Err G7)
@@ -162,7 +162,7 @@ named d = named_within (length (aliases d)) d
 abbrev pub found : Declarations → Scope → List ℕ → Result Found TagCode
 found d scope text = in_form operands d.types (named d scope) text
 
--- the same where numbers alone may be subscripts
+-- the same if numbers alone may be subscripts
 abbrev pub found_fixed : Declarations → Scope → List ℕ → Result Found TagCode
 found_fixed d scope text = in_form numbers_alone d.types (named d scope) text
 

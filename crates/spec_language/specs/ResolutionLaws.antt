@@ -50,6 +50,6 @@ pub record LiesIn (types : List TypeDecl) (len : ℕ) (f : Found) : Type 0 where
 abbrev pub FoundInBounds : Type 0
 FoundInBounds = (d : Declarations) (scope : Scope) (text : List ℕ) (f : Found) → Sound d → found d scope text ≡ Ok f → LiesIn d.types (bytes d) f
 
--- where numbers alone are subscripts, nothing moves the place
+-- if numbers alone are subscripts, nothing moves the place
 abbrev pub FixedInBounds : Type 0
 FixedInBounds = (d : Declarations) (scope : Scope) (text : List ℕ) (f : Found) → Sound d → found_fixed d scope text ≡ Ok f → LiesIn d.types (bytes d) f × (f.steps ≡ [])

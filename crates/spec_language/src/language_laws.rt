@@ -10,7 +10,7 @@ pub fn sizes_are_settled()
     ensures only { SizesAreTheOnly }
 {}
 
-/// Structures that can be put in order, each behind those inside it, don't reach themselves.
+/// Structures that can be put in order, each after those inside it, don't reach themselves.
 pub fn ordered_types_have_no_rings()
     ensures { OrderedHasNoRings }
 {}

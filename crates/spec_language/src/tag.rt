@@ -11,7 +11,7 @@ pub enum Scope {
 
 /// What is wrong with a tag or an operand: no tag name (G1), a name repeated in its scope (G2), an unknown tag (G3), an
 /// unknown member (G4), a subscript or bit number out of range or at what has none (G5), a subscript that is no integer
-/// place (G6), an alias whose chain doesn't end (G7), an image over 262,144 bytes (G8), a fifth variable subscript (G9),
+/// place (G6), an alias whose chain doesn't end (G7), an image over `MAX_IMAGE_BYTES` (G8), more than `MAX_SUBSCRIPTS` variable subscripts (G9),
 /// no operand form (G10).
 #[derive(Clone, Copy, PartialEq, Eq, Debug)]
 pub enum TagCode {
@@ -27,7 +27,7 @@ pub enum TagCode {
     G10,
 }
 
-/// What an operand's text names: its first bit in the image, which variable subscripts move, its type, and the byte behind
+/// What an operand's text names: its first bit in the image, which variable subscripts move, its type, and the byte after
 /// its tag.
 #[derive(Debug, Drop)]
 pub struct Found {

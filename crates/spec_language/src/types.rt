@@ -13,7 +13,7 @@ pub enum Base {
     User(u32),
 }
 
-/// A type: an element, or an array of `dim` elements where `dim` isn't 0.
+/// A type: an element, or an array of `dim` elements if `dim` isn't 0.
 #[derive(Clone, Copy, PartialEq, Eq, Debug)]
 pub struct DataType {
     pub base: Base,

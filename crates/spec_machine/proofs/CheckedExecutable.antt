@@ -33,11 +33,12 @@ use Rattle.lgx_rung.specs.OperandTable.{operand_kinds}
 use Rattle.lgx_rung.specs.declared.operands.OperandKind.{OperandKind}
 use Rattle.lgx_rung.specs.declared.operands.OperandKind.TheVariants.{BoolPlace, BoolOrFlag, IntegerPlace, IntegerOrNumber, WholeTimer, WholeCounter, TimerOrCounter, CopySource, CopyTarget, FillTarget, QuestionMark, RoutineName, NoParameters, JumpLabel, OwnLabel, EventTask}
 use Rattle.spec_language.specs.Operands.{is_optional, paired, path_of, is_bool, is_timer, is_counter, one_place, block_where, place_as, number_as, flag_as, found_as, read_as, data_operand, name_operand}
-use Rattle.spec_language.specs.Checked.{CheckScope, Spot, Label, labels, label_of, label_faults, length_faults, behind, operand_of, operands_of, code_number, lesser, least, answered, settled, instruction_of, checked_tree, checked_legs, checked_from}
+use Rattle.spec_language.specs.Checked.{CheckScope, Spot, Label, labels, label_of, label_faults, length_faults, spot_after, operand_of, operands_of, code_number, lesser, least, answered, settled, instruction_of, checked_tree, checked_legs, checked_from}
 use Rattle.spec_base.proofs.Binds.{bind_ok, ok_inj, err_not_ok}
 use Rattle.spec_base.proofs.Lists.{each_append}
 use Rattle.spec_language.specs.CheckedLaws.{OperandsInBounds, CheckedInBounds}
 use Rattle.spec_language.proofs.FoundBounds.{found_lies}
+use Rattle.spec_language.proofs.OperandBounds.{one_place_ok}
 use Rattle.spec_base.specs.declared.limits.TheConstants.{MAX_OPERANDS}
 use Rattle.spec_scan.specs.Fits.{IsCell, IsTimer, IsCounter, IsIntegers, IsRoutine, IsTask, operand_at, Fits, FitFrom, OperandsFit}
 use Rattle.spec_scan.specs.Executable.{EndsIn, IsExecutable, AreExecutable}
@@ -49,15 +50,8 @@ use Rattle.spec_machine.specs.ExecutableLaws.{CheckedAreExecutable}
 abbrev IsGood : ℕ → OperandKind → Operand → Type 0
 IsGood len w o = EndsIn len o × Fits w o
 
-one_place_ok : (test : Bool) (make : Path → Operand) (f : Found) (o : Operand) → one_place test make f ≡ Ok o → make (path_of f) ≡ o
-one_place_ok test make f o p = go (test && not (is_array f.of)) p
-  where
-    go : (b : Bool) → (if b then Ok (make (path_of f)) else Err C2) ≡ Ok o → make (path_of f) ≡ o
-    go true r = ok_inj _ _ r
-    go false r = err_not_ok _ _ r
-
 one_good : (len : ℕ) (w : OperandKind) (test : Bool) (make : Path → Operand) (f : Found) (o : Operand) → ((p : Path) → IsGood len w (make p)) → one_place test make f ≡ Ok o → IsGood len w o
-one_good len w test make f o good p = subst (λ (z : Operand). IsGood len w z) (one_place_ok test make f o p) (good (path_of f))
+one_good len w test make f o good p = subst (λ (z : Operand). IsGood len w z) (one_place_ok test make f o p).2 (good (path_of f))
 
 block_good : (types : List TypeDecl) (len : ℕ) (w : OperandKind) (test : Bool) (f : Found) (o : Operand) → LiesIn types len f → (test ≡ true → Fits w (operand.Block (record { path = path_of f; size = size_of types (single f.of.base); stop = f.stop }))) → block_where test types f ≡ Ok o → IsGood len w o
 block_good types len w true f o l fits p = subst (λ (z : Operand). IsGood len w z) (ok_inj _ _ p) (l.stop, fits refl)
@@ -260,15 +254,15 @@ few_kinds Event = omega arith
 one_on : (i j : ℕ) → i + 1 + j ≡ i + suc j
 one_on i j = omega arith
 
+from_none : (j : ℕ) → 0 + j ≡ j
+from_none j = omega arith
+
 no_more_on : (i : ℕ) → i ≡ i + 0
 no_more_on i = omega arith
 
 optional_fits : (w : OperandKind) (o : Operand) → is_optional w ≡ true → Fits w o
 optional_fits NoParameters o h = tt
 optional_fits _ o h = absurd (cc h)
-
-from_zero : (j : ℕ) → 0 + j ≡ j
-from_zero j = omega arith
 
 -- the operands from number i on are those that were good for these kinds
 fit_all : (len : ℕ) (ws : List OperandKind) (os : List Operand) → AllGood len ws os → (i : ℕ) (all : List Operand) → ((j : ℕ) → operand_at all (i + j) ≡ operand_at os j) → FitFrom i ws all
@@ -278,7 +272,7 @@ fit_all len (w ∷ ws) (o ∷ os) g i all same =
     (subst (Fits w) (sym (ap (operand_at all) (no_more_on i) ∙ same 0)) g.0.1, fit_all len ws os g.1 (i + 1) all (λ j. ap (operand_at all) (one_on i j) ∙ same (suc j)))
 
 kinds_fit : (len : ℕ) (op : Op) (args : List Operand) → AllGood len (operand_kinds op) args → OperandsFit op args
-kinds_fit len op args g = fit_all len (operand_kinds op) args g 0 args (λ j. ap (operand_at args) (from_zero j))
+kinds_fit len op args g = fit_all len (operand_kinds op) args g 0 args (λ j. ap (operand_at args) (from_none j))
 
 -- ---- instructions and rungs
 
@@ -314,20 +308,20 @@ module _ (s : CheckScope) (ls : List Label) (sound : Sound s.tags) where
     tree_shaped spot end made p = subst (λ (z : Tree Ins). Each (IsShaped (bytes s.tags)) (instructions z)) (ok_inj _ _ p) tt
     tree_shaped spot (one i rest) made p =
         let a = bind_ok (instruction_of s ls spot i) _ made p in
-        let b = bind_ok (checked_tree (instruction_of s ls) (behind 1 spot) rest) _ made a.2 in
-        subst (λ (z : Tree Ins). Each (IsShaped (bytes s.tags)) (instructions z)) (ok_inj _ _ b.2) (instruction_shaped spot i a.0 a.1, tree_shaped (behind 1 spot) rest b.0 b.1)
+        let b = bind_ok (checked_tree (instruction_of s ls) (spot_after 1 spot) rest) _ made a.2 in
+        subst (λ (z : Tree Ins). Each (IsShaped (bytes s.tags)) (instructions z)) (ok_inj _ _ b.2) (instruction_shaped spot i a.0 a.1, tree_shaped (spot_after 1 spot) rest b.0 b.1)
     tree_shaped spot (fork t legs rest) made p =
-        let a = bind_ok (checked_tree (instruction_of s ls) (behind 0 spot) t) _ made p in
-        let b = bind_ok (checked_legs (instruction_of s ls) (behind (length (instructions t)) spot) legs) _ made a.2 in
-        let c = bind_ok (checked_tree (instruction_of s ls) (behind (length (instructions t) + length (leg_instructions legs)) spot) rest) _ made b.2 in
-        subst (λ (z : Tree Ins). Each (IsShaped (bytes s.tags)) (instructions z)) (ok_inj _ _ c.2) (each_append (IsShaped (bytes s.tags)) (instructions a.0) (leg_instructions b.0 ++ instructions c.0) (tree_shaped (behind 0 spot) t a.0 a.1) (each_append (IsShaped (bytes s.tags)) (leg_instructions b.0) (instructions c.0) (legs_shaped (behind (length (instructions t)) spot) legs b.0 b.1) (tree_shaped (behind (length (instructions t) + length (leg_instructions legs)) spot) rest c.0 c.1)))
+        let a = bind_ok (checked_tree (instruction_of s ls) (spot_after 0 spot) t) _ made p in
+        let b = bind_ok (checked_legs (instruction_of s ls) (spot_after (length (instructions t)) spot) legs) _ made a.2 in
+        let c = bind_ok (checked_tree (instruction_of s ls) (spot_after (length (instructions t) + length (leg_instructions legs)) spot) rest) _ made b.2 in
+        subst (λ (z : Tree Ins). Each (IsShaped (bytes s.tags)) (instructions z)) (ok_inj _ _ c.2) (each_append (IsShaped (bytes s.tags)) (instructions a.0) (leg_instructions b.0 ++ instructions c.0) (tree_shaped (spot_after 0 spot) t a.0 a.1) (each_append (IsShaped (bytes s.tags)) (leg_instructions b.0) (instructions c.0) (legs_shaped (spot_after (length (instructions t)) spot) legs b.0 b.1) (tree_shaped (spot_after (length (instructions t) + length (leg_instructions legs)) spot) rest c.0 c.1)))
 
     legs_shaped : (spot : Spot) (legs : Legs SourceIns) (made : Legs Ins) → checked_legs (instruction_of s ls) spot legs ≡ Ok made → Each (IsShaped (bytes s.tags)) (leg_instructions made)
     legs_shaped spot last made p = subst (λ (z : Legs Ins). Each (IsShaped (bytes s.tags)) (leg_instructions z)) (ok_inj _ _ p) tt
     legs_shaped spot (leg t legs) made p =
         let a = bind_ok (checked_tree (instruction_of s ls) spot t) _ made p in
-        let b = bind_ok (checked_legs (instruction_of s ls) (behind (length (instructions t)) spot) legs) _ made a.2 in
-        subst (λ (z : Legs Ins). Each (IsShaped (bytes s.tags)) (leg_instructions z)) (ok_inj _ _ b.2) (each_append (IsShaped (bytes s.tags)) (instructions a.0) (leg_instructions b.0) (tree_shaped spot t a.0 a.1) (legs_shaped (behind (length (instructions t)) spot) legs b.0 b.1))
+        let b = bind_ok (checked_legs (instruction_of s ls) (spot_after (length (instructions t)) spot) legs) _ made a.2 in
+        subst (λ (z : Legs Ins). Each (IsShaped (bytes s.tags)) (leg_instructions z)) (ok_inj _ _ b.2) (each_append (IsShaped (bytes s.tags)) (instructions a.0) (leg_instructions b.0) (tree_shaped spot t a.0 a.1) (legs_shaped (spot_after (length (instructions t)) spot) legs b.0 b.1))
 
   rungs_shaped : (rung before : ℕ) (rungs : List Source) (made : List (Tree Ins)) → checked_from (instruction_of s ls) rung before rungs ≡ Ok made → AreShaped (bytes s.tags) made
   rungs_shaped rung before [] made p = subst (AreShaped (bytes s.tags)) (ok_inj _ _ p) tt

@@ -1,6 +1,8 @@
 -- The laws of the tasks from what keeps them orderly.
 use Rattle.std.proofs.Common.{◌≡◌, ℕ, true, false, Option, Some, None, refl, sym, ◌∙◌, subst}
 use Rattle.std.specs.Prelude.{IsTrue, is_some}
+use Rattle.std.proofs.lemmas.Option.{same_Some}
+use Rattle.spec_base.proofs.Lists.{value_of_some}
 use Rattle.spec_scan.specs.declared.bound.Effect.{Effect}
 use Rattle.spec_scan.specs.declared.bound.Effect.TheVariants.{Ran, Up, Down, Trigger, CopyStart, Copied, Left, Minor, Major}
 use Rattle.spec_scan.specs.Scan.{advance}
@@ -9,27 +11,23 @@ use Rattle.spec_machine.specs.State.{State, Scan, Progress, progress_of}
 use Rattle.spec_machine.specs.ProcessorStep.{after_effect, scan_step, task_step, with_progress, task_of}
 use Rattle.spec_machine.specs.Machine.{run}
 use Rattle.spec_machine.specs.TaskLaws.{OneOpen, UpInRun, RanksDiffer, RanksBelowNext, StepOfUpTask}
-use Rattle.spec_tables.proofs.StateLists.{inner, chosen_up}
+use Rattle.spec_tables.proofs.StateLists.{chosen_up}
 use Rattle.spec_machine.proofs.OrderlyRuns.{run_orderly}
 
--- a turn that is open, or that is there, is a task's that is up
-open_turn : (o : Option TaskState) → IsTrue (is_open o) → (u : TaskState) × (o ≡ Some u) × (is_open (Some u) ≡ true)
-open_turn None h = absurd (let f : false ≡ true → ⊥ = λ p. cc in f h)
-open_turn (Some u) h = (u, refl, h)
-
-up_turn : (o : Option TaskState) → IsTrue (is_some o) → (u : TaskState) × (o ≡ Some u)
-up_turn None h = absurd (let f : false ≡ true → ⊥ = λ p. cc in f h)
-up_turn (Some u) h = (u, refl)
+-- a state in which something is open is a task's that is up
+open_state : (o : Option TaskState) → IsTrue (is_open o) → (u : TaskState) × (o ≡ Some u) × (is_open (Some u) ≡ true)
+open_state None h = absurd (let f : false ≡ true → ⊥ = λ p. cc in f h)
+open_state (Some u) h = (u, refl, h)
 
 pub one_open : OneOpen
 one_open project journal t q h k =
     let s = (run project journal).table in
-    let p = open_turn (state_of s t) h in
-    let r = open_turn (state_of s q) k in
+    let p = open_state (state_of s t) h in
+    let r = open_state (state_of s q) k in
     (run_orderly project journal).alone t q p.0 r.0 p.1 r.1 p.2 r.2
 
 pub up_in_run : UpInRun
-up_in_run project journal t h = let p = up_turn (state_of (run project journal).table t) h in (run_orderly project journal).in_run t p.0 p.1
+up_in_run project journal t h = let p = value_of_some (state_of (run project journal).table t) h in (run_orderly project journal).in_run t p.0 p.1
 
 pub ranks_differ : RanksDiffer
 ranks_differ project journal t q u v g k e = (run_orderly project journal).differ t q u v g k e
@@ -62,7 +60,7 @@ by_scan s t p (Some scan) =
 by_task : (s : State) (o : Option ℕ) (t : ℕ) → chosen s.table ≡ o → task_of (task_step s o).moment.what ≡ Some t → IsTrue (is_up s.table t)
 by_task s None t c h = absurd (let f : None ≡ Some t → ⊥ = λ p. cc in f h)
 by_task s (Some q) t c h =
-    let e = inner q t (sym (by_scan s q (progress_of s q) (progress_of s q).scan) ∙ h) in
+    let e = same_Some q t (sym (by_scan s q (progress_of s q) (progress_of s q).scan) ∙ h) in
     let u = chosen_up s.table q c in
     subst (λ n. IsTrue (is_up s.table n)) e (subst (λ o. IsTrue (is_some o)) (sym u.1) refl)
 

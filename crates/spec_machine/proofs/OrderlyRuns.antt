@@ -1,5 +1,6 @@
 -- Each event keeps the tasks orderly, so they are in every state that a journal leads to.
 use Rattle.std.proofs.Common.{◌≡◌, ℕ, ◌+◌, Bool, true, false, cond, List, [], ◌∷◌, Option, Some, None, refl, sym, subst, Ok, Err}
+use Rattle.std.proofs.lemmas.Bool.{cond_both}
 use Rattle.std.specs.Prelude.{ℤ, Result, fold, nat_lt, length}
 use Rattle.std.specs.Int.{w32}
 use Rattle.std.specs.List.{range_with_len}
@@ -27,7 +28,7 @@ use Rattle.spec_machine.specs.State.{State, Scan, Progress, progress_of, program
 use Rattle.spec_machine.specs.Releases.{Released, release_or_overlap}
 use Rattle.spec_machine.specs.ProcessorStep.{with_progress, scan_ended, after_effect, after_advance, scan_step, task_step}
 use Rattle.spec_machine.specs.Ticks.{Ticked, quiet, noted, release_if_due, after_watchdogs, tick}
-use Rattle.spec_machine.specs.Actions.{Acted, held_or, after_trigger, triggers, put_in, take_out, install_on, force_replied, edit_replied, run_from, program_from, clear_from, act}
+use Rattle.spec_machine.specs.Actions.{Acted, held_or, after_trigger, triggers, put_in, take_out, install_on, force_replied, edit_replied, mode_run_from, mode_program_from, clear_from, act}
 use Rattle.spec_machine.specs.Machine.{step, run_from as run_on, run}
 use Rattle.spec_tables.proofs.StateLists.{none_up}
 use Rattle.spec_machine.proofs.OrderlyTables.{Orderly, chosen_in_run, down_orderly, stop_orderly, region_orderly, copy_orderly, release_orderly, start_orderly, finish_orderly, rotate_orderly}
@@ -44,23 +45,15 @@ from_run m s e h = subst (λ n. Orderly n s) (sym e) h
 
 -- ---- releases
 
-either : (b : Bool) (x y : Released) → IsOrderly x.state → IsOrderly y.state → IsOrderly (cond b x y).state
-either true x y p q = p
-either false x y p q = q
-
 after_release : (t : ℕ) (s : State) → s.mode ≡ Run → IsOrderly s → IsOrderly (release_or_overlap t s).state
 after_release t s e h =
-    either (is_up s.table t) _ _ h (from_run s.mode _ e (release_orderly s.table t s.tick (in_run s.mode s.table e h)))
+    cond_both (is_up s.table t) _ _ (λ (r : Released). IsOrderly r.state) (λ q. h) (λ q. from_run s.mode _ e (release_orderly s.table t s.tick (in_run s.mode s.table e h)))
 
 -- ---- the processor step
 
-either_state : (b : Bool) (x y : State) → IsOrderly x → IsOrderly y → IsOrderly (cond b x y)
-either_state true x y p q = p
-either_state false x y p q = q
-
 after_end : (t : ℕ) (p : Progress) (s : State) → s.mode ≡ Run → IsOrderly s → chosen s.table ≡ Some t → IsOrderly (scan_ended t p s)
 after_end t p s e h c =
-    either_state (nat_lt (p.ended + 1) (length (programs_of s t))) _ _ (region_orderly s.mode s.table t 0 h c) (from_run s.mode _ e (finish_orderly s.table t s.tick (in_run s.mode s.table e h) c))
+    cond_both (nat_lt (p.ended + 1) (length (programs_of s t))) _ _ IsOrderly (λ q. region_orderly s.mode s.table t 0 h c) (λ q. from_run s.mode _ e (finish_orderly s.table t s.tick (in_run s.mode s.table e h) c))
 
 by_effect : (s : State) (t : ℕ) (p : Progress) (n : ℕ) (effect : Effect) → s.mode ≡ Run → IsOrderly s → chosen s.table ≡ Some t → IsOrderly (after_effect s t p n effect).state
 by_effect s t p n Ran e h c = h
@@ -94,16 +87,8 @@ by_task s (Some t) h c = by_scan s t (progress_of s t) (progress_of s t).scan (c
 abbrev Running : State → Type 0
 Running s = (s.mode ≡ Run) × IsOrderly s
 
-either_tick : (b : Bool) (x y : Ticked) → Running x.state → Running y.state → Running (cond b x y).state
-either_tick true x y p q = p
-either_tick false x y p q = q
-
-release_mode : (b : Bool) (x y : Released) (m : Mode) → x.state.mode ≡ m → y.state.mode ≡ m → (cond b x y).state.mode ≡ m
-release_mode true x y m p q = p
-release_mode false x y m p q = q
-
 released_running : (t : ℕ) (s : State) → Running s → Running (release_or_overlap t s).state
-released_running t s h = (release_mode (is_up s.table t) _ _ Run h.0 h.0, after_release t s h.0 h.1)
+released_running t s h = (cond_both (is_up s.table t) _ _ (λ (r : Released). r.state.mode ≡ Run) (λ q. h.0) (λ q. h.0), after_release t s h.0 h.1)
 
 noted_running : (t : ℕ) (report : TickReport) (s : State) (f : Option _) → Running s → Running (noted t report s f).state
 noted_running t report s None h = h
@@ -112,7 +97,7 @@ noted_running t report s (Some f) h = h
 due_running : (ts : List ℕ) (x : Ticked) → Running x.state → Running (fold release_if_due x ts).state
 due_running [] x h = h
 due_running (t ∷ ts) x h =
-    due_running ts (release_if_due x t) (either_tick (due t x.state.tick x.state.table) _ x (noted_running t x.report (release_or_overlap t x.state).state (release_or_overlap t x.state).fault (released_running t x.state h)) h)
+    due_running ts (release_if_due x t) (cond_both (due t x.state.tick x.state.table) _ x (λ (y : Ticked). Running y.state) (λ q. noted_running t x.report (release_or_overlap t x.state).state (release_or_overlap t x.state).fault (released_running t x.state h)) (λ q. h))
 
 by_watchdogs : (s : State) (o : Option ℕ) → Running s → IsOrderly (after_watchdogs s o).state
 by_watchdogs s (Some t) h = stop_orderly Faulted s.table
@@ -163,12 +148,12 @@ by_edit : (s : State) (x : Result Edited EditFault) → IsOrderly s → IsOrderl
 by_edit s (Err e) h = h
 by_edit s (Ok x) h = h
 
-by_run : (m : Mode) (s : State) → Orderly m s.table → IsOrderly (run_from m (in_mode m s)).state
+by_run : (m : Mode) (s : State) → Orderly m s.table → IsOrderly (mode_run_from m (in_mode m s)).state
 by_run Run s h = h
 by_run Program s h = start_orderly s.table s.tick
 by_run Faulted s h = h
 
-by_program : (m : Mode) (s : State) → Orderly m s.table → IsOrderly (program_from m (in_mode m s)).state
+by_program : (m : Mode) (s : State) → Orderly m s.table → IsOrderly (mode_program_from m (in_mode m s)).state
 by_program Run s h = stop_orderly Program s.table
 by_program Program s h = h
 by_program Faulted s h = h

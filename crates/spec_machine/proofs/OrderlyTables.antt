@@ -1,7 +1,8 @@
--- A table of tasks is orderly where tasks are up in Run alone, their ranks differ and are below the next one, and at most
+-- A table of tasks is orderly if tasks are up in Run alone, their ranks differ and are below the next one, and at most
 -- one has something open. What keeps it so.
 use Rattle.std.proofs.Common.{◌≡◌, ℕ, ◌+◌, ◌<◌, Bool, true, false, cond, Option, Some, None, inl, inr, refl, sym, ◌∙◌, ap, subst, arith}
 use Rattle.std.specs.Prelude.{unwrap_or, slice_set}
+use Rattle.std.proofs.lemmas.Bool.{cond_both}
 use Rattle.std.specs.List.{position_from}
 use Rattle.spec_machine.specs.declared.reply.Mode.{Mode}
 use Rattle.spec_machine.specs.declared.reply.Mode.TheVariants.{Run}
@@ -29,17 +30,17 @@ down_orderly m s none = record { in_run = λ t u g. absurd (none t u g); below =
 pub stop_orderly : (m : Mode) (s : Table) → Orderly m (stop s)
 stop_orderly m s = down_orderly m (stop s) (none_up s.states)
 
--- ---- a change of the chosen task's turn that keeps its rank
+-- ---- a change of the chosen task's state that keeps its rank
 
--- the turn x has the rank of the turn that task t has
+-- the state x has the rank of the state that task t has
 abbrev SameRank : Table → ℕ → Option TaskState → Type 0
 SameRank s t x = (v : TaskState) → x ≡ Some v → (u : TaskState) × (state_of s t ≡ Some u) × (u.rank ≡ v.rank)
 
-abbrev with_turn : ℕ → Option TaskState → Table → Table
-with_turn t x s = record s { states = slice_set s.states t x }
+abbrev with_state : ℕ → Option TaskState → Table → Table
+with_state t x s = record s { states = slice_set s.states t x }
 
--- each turn afterwards has the rank of the same task's turn before
-from_before : (s : Table) (t : ℕ) (x : Option TaskState) → SameRank s t x → (q : ℕ) (v : TaskState) → state_of (with_turn t x s) q ≡ Some v → (u : TaskState) × (state_of s q ≡ Some u) × (u.rank ≡ v.rank)
+-- each state afterwards has the rank of the same task's state before
+from_before : (s : Table) (t : ℕ) (x : Option TaskState) → SameRank s t x → (q : ℕ) (v : TaskState) → state_of (with_state t x s) q ≡ Some v → (u : TaskState) × (state_of s q ≡ Some u) × (u.rank ≡ v.rank)
 from_before s t x same q v g =
     elim (after_set s.states t q x v g) [
       | inl p ↦ (let r = same v p.1 in (r.0, subst (λ n. state_of s n ≡ Some r.0) (sym p.0) r.1, r.2))
@@ -47,12 +48,12 @@ from_before s t x same q v g =
     ]
 
 -- what has something open afterwards is task t
-open_after : (m : Mode) (s : Table) (t : ℕ) (x : Option TaskState) → Orderly m s → chosen s ≡ Some t → (q : ℕ) (v : TaskState) → state_of (with_turn t x s) q ≡ Some v → is_open (Some v) ≡ true → q ≡ t
+open_after : (m : Mode) (s : Table) (t : ℕ) (x : Option TaskState) → Orderly m s → chosen s ≡ Some t → (q : ℕ) (v : TaskState) → state_of (with_state t x s) q ≡ Some v → is_open (Some v) ≡ true → q ≡ t
 open_after m s t x h c q v g o =
     elim (after_set s.states t q x v g) [ inl p ↦ p.0 | inr p ↦ only_chosen m s t q v h c p o ]
 
-pub turn_orderly : (m : Mode) (s : Table) (t : ℕ) (x : Option TaskState) → Orderly m s → chosen s ≡ Some t → SameRank s t x → Orderly m (with_turn t x s)
-turn_orderly m s t x h c same = record {
+pub state_orderly : (m : Mode) (s : Table) (t : ℕ) (x : Option TaskState) → Orderly m s → chosen s ≡ Some t → SameRank s t x → Orderly m (with_state t x s)
+state_orderly m s t x h c same = record {
   in_run = λ q v g. (let r = from_before s t x same q v g in h.in_run q r.0 r.1);
   below = λ q v g. (let r = from_before s t x same q v g in subst (λ n. n < s.next) r.2 (h.below q r.0 r.1));
   differ = λ q k v w g g' e. (let r = from_before s t x same q v g in let r' = from_before s t x same k w g' in h.differ q k r.0 r'.0 r.1 r'.1 (r.2 ∙ e ∙ sym r'.2));
@@ -60,22 +61,22 @@ turn_orderly m s t x h c same = record {
 }
 
 region_keeps : (n : ℕ) (o : Option TaskState) (v : TaskState) → with_region_count n o ≡ Some v → (u : TaskState) × (o ≡ Some u) × (u.rank ≡ v.rank)
-region_keeps n None v h = absurd (let f : None ≡ Some v → ⊥ = λ p. cc in f h)
+region_keeps n None v h = absurd (cc h)
 region_keeps n (Some u) v h = (u, refl, ap (λ o. (unwrap_or o u).rank) h)
 
 copies_keep : (b : Bool) (o : Option TaskState) (v : TaskState) → with_cps_open b o ≡ Some v → (u : TaskState) × (o ≡ Some u) × (u.rank ≡ v.rank)
-copies_keep b None v h = absurd (let f : None ≡ Some v → ⊥ = λ p. cc in f h)
+copies_keep b None v h = absurd (cc h)
 copies_keep b (Some u) v h = (u, refl, ap (λ o. (unwrap_or o u).rank) h)
 
 pub region_orderly : (m : Mode) (s : Table) (t n : ℕ) → Orderly m s → chosen s ≡ Some t → Orderly m (set_region t n s)
-region_orderly m s t n h c = turn_orderly m s t (with_region_count n (state_of s t)) h c (region_keeps n (state_of s t))
+region_orderly m s t n h c = state_orderly m s t (with_region_count n (state_of s t)) h c (region_keeps n (state_of s t))
 
 pub copy_orderly : (m : Mode) (s : Table) (t : ℕ) (b : Bool) → Orderly m s → chosen s ≡ Some t → Orderly m (set_copy t b s)
-copy_orderly m s t b h c = turn_orderly m s t (with_cps_open b (state_of s t)) h c (copies_keep b (state_of s t))
+copy_orderly m s t b h c = state_orderly m s t (with_cps_open b (state_of s t)) h c (copies_keep b (state_of s t))
 
--- ---- a turn with the next rank
+-- ---- a state with the next rank
 
--- the turn x has the next rank, and is open only where a turn of task t is
+-- the state x has the next rank, and is open only if a state of task t is
 pub record IsNext (s : Table) (t : ℕ) (x : Option TaskState) : Type 0 where
   pub rank : (v : TaskState) → x ≡ Some v → v.rank ≡ s.next
   pub opens : (v : TaskState) → x ≡ Some v → is_open (Some v) ≡ true → (u : TaskState) × (state_of s t ≡ Some u) × (is_open (Some u) ≡ true)
@@ -119,21 +120,17 @@ next_orderly s t x h n = record {
   alone = λ q k v w g g' o o'. (let r = next_open s t x n q v g o in let r' = next_open s t x n k w g' o' in h.alone q k r.0 r'.0 r.1 r'.1 r.2 r'.2);
 }
 
-new_turn : (s : Table) (t now : ℕ) → IsNext s t (Some (record { start = now; rank = s.next; region_count = 0; cps_open = false }))
-new_turn s t now = record {
+new_state : (s : Table) (t now : ℕ) → IsNext s t (Some (record { start = now; rank = s.next; region_count = 0; cps_open = false }))
+new_state s t now = record {
   rank = λ v e. sym (ap (λ o. (unwrap_or o v).rank) e);
   opens = λ v e o. absurd (let f : false ≡ true → ⊥ = λ p. cc in f (ap is_open e ∙ o));
 }
 
 pub put_up_orderly : (s : Table) (t now : ℕ) → Orderly Run s → Orderly Run (put_up t now s)
-put_up_orderly s t now h = next_orderly s t _ h (new_turn s t now)
-
-either : (m : Mode) (b : Bool) (x y : Table) → Orderly m x → Orderly m y → Orderly m (cond b x y)
-either m true x y p q = p
-either m false x y p q = q
+put_up_orderly s t now h = next_orderly s t _ h (new_state s t now)
 
 pub release_orderly : (s : Table) (t now : ℕ) → Orderly Run s → Orderly Run (release t now s)
-release_orderly s t now h = either Run (is_up s t) s (put_up t now s) h (put_up_orderly s t now h)
+release_orderly s t now h = cond_both (is_up s t) s (put_up t now s) (Orderly Run) (λ q. h) (λ q. put_up_orderly s t now h)
 
 put_up_if_orderly : (s : Table) (o : Option ℕ) (now : ℕ) → Orderly Run s → Orderly Run (put_up_if o now s)
 put_up_if_orderly s None now h = h
@@ -144,15 +141,15 @@ start_orderly s now = put_up_if_orderly (record (stop s) { run_since = now }) (p
 
 pub finish_orderly : (s : Table) (t now : ℕ) → Orderly Run s → chosen s ≡ Some t → Orderly Run (finish t now s)
 finish_orderly s t now h c =
-    put_up_if_orderly (with_turn t None s) (cond (is_continuous (task s t).kind) (Some t) None) now (turn_orderly Run s t None h c (λ v e. absurd (let f : None ≡ Some v → ⊥ = λ p. cc in f e)))
+    put_up_if_orderly (with_state t None s) (cond (is_continuous (task s t).kind) (Some t) None) now (state_orderly Run s t None h c (λ v e. absurd (cc e)))
 
 rank_next : (s : Table) (t : ℕ) (o : Option TaskState) → state_of s t ≡ o → IsNext s t (with_rank s.next o)
-rank_next s t None g = record { rank = λ v e. absurd (let f : None ≡ Some v → ⊥ = λ p. cc in f e); opens = λ v e o. absurd (let f : None ≡ Some v → ⊥ = λ p. cc in f e) }
+rank_next s t None g = record { rank = λ v e. absurd (cc e); opens = λ v e o. absurd (cc e) }
 rank_next s t (Some u) g = record { rank = λ v e. sym (ap (λ o. (unwrap_or o v).rank) e); opens = λ v e o. (u, g, ap is_open e ∙ o) }
 
 unless_open_orderly : (s : Table) (o : Option ℕ) → Orderly Run s → Orderly Run (unless_open o s)
 unless_open_orderly s None h = h
-unless_open_orderly s (Some t) h = either Run (is_open (state_of s t)) s (to_back t s) h (next_orderly s t (with_rank s.next (state_of s t)) h (rank_next s t (state_of s t) refl))
+unless_open_orderly s (Some t) h = cond_both (is_open (state_of s t)) s (to_back t s) (Orderly Run) (λ q. h) (λ q. next_orderly s t (with_rank s.next (state_of s t)) h (rank_next s t (state_of s t) refl))
 
 pub rotate_orderly : (s : Table) → Orderly Run s → Orderly Run (rotate s)
 rotate_orderly s h = unless_open_orderly s (chosen s) h

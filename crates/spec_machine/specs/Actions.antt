@@ -37,7 +37,7 @@ abbrev pub held_or : Bool → State → Acted → Acted
 held_or true s a = replied s reply.Held
 held_or false s a = a
 
--- I/O words and mode commands are answered Held exactly where a CPS is in progress.
+-- I/O words and mode commands are answered Held exactly if a CPS is in progress.
 abbrev pub unless_held : State → Acted → Acted
 unless_held s a = held_or (held s.table) s a
 
@@ -113,15 +113,15 @@ abbrev pub ran : State → Acted
 ran s = record { state = to_run s; outcome = record { reply = reply.Done; fault = None; released = mask_of (continuous_task s.table) } }
 
 -- From Faulted no change of mode is taken but `clear`, and a change to the present mode is refused.
-abbrev pub run_from : Mode → State → Acted
-run_from Program s = ran s
-run_from Run s = replied s (reply.Mode M1)
-run_from Faulted s = replied s (reply.Mode M2)
+abbrev pub mode_run_from : Mode → State → Acted
+mode_run_from Program s = ran s
+mode_run_from Run s = replied s (reply.Mode M1)
+mode_run_from Faulted s = replied s (reply.Mode M2)
 
-abbrev pub program_from : Mode → State → Acted
-program_from Program s = replied s (reply.Mode M1)
-program_from Run s = replied (to_program s) reply.Done
-program_from Faulted s = replied s (reply.Mode M2)
+abbrev pub mode_program_from : Mode → State → Acted
+mode_program_from Program s = replied s (reply.Mode M1)
+mode_program_from Run s = replied (to_program s) reply.Done
+mode_program_from Faulted s = replied s (reply.Mode M2)
 
 -- `clear` leads from Faulted to Program
 abbrev pub clear_from : Mode → State → Acted
@@ -129,10 +129,10 @@ clear_from Faulted s = replied (record s { mode = Program }) reply.Done
 clear_from _ s = replied s (reply.Mode M3)
 
 abbrev pub mode_run : State → Acted
-mode_run s = unless_held s (run_from s.mode s)
+mode_run s = unless_held s (mode_run_from s.mode s)
 
 abbrev pub mode_program : State → Acted
-mode_program s = unless_held s (program_from s.mode s)
+mode_program s = unless_held s (mode_program_from s.mode s)
 
 abbrev pub clear : State → Acted
 clear s = unless_held s (clear_from s.mode s)

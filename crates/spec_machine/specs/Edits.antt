@@ -46,7 +46,7 @@ abbrev pub around : List Change → ℕ × Source → List Source
 around changes (i, rung) =
     filter_map (put_before i) changes ++ slice_index_or (filter_map (put_instead i) changes) 0 (rung ∷ [])
 
--- The merged routine has these for each rung of the base, and then the rungs that were inserted behind the last.
+-- The merged routine has these for each rung of the base, and then the rungs that were inserted after the last.
 abbrev pub merged : List Source → List Change → List Source
 merged base changes =
     flat_map (around changes) (enumerate_from 0 base) ++ filter_map (put_before (length base)) changes
@@ -117,7 +117,7 @@ abbrev pub unless_same : ℕ → Option ℕ → Option ℕ
 unless_same client None = None
 unless_same client (Some owner) = if nat_eq owner client then None else Some owner
 
--- the owner, where it is another client
+-- the owner, if it is another client
 abbrev pub other_owner : Book → ℕ → Option ℕ
 other_owner b client = unless_same client b.owner
 
@@ -198,7 +198,7 @@ pub record Edited : Type 0 where
   pub books : List Book
   pub reply : Reply
 
--- An accept is refused first where its program or its routine isn't there. It is answered by its number.
+-- An accept is refused first if its program or its routine isn't there. It is answered by its number.
 abbrev pub accept : Declarations → List TaskName → List Book → ℕ → AcceptCommand → Result Edited EditFault
 accept tags tasks books client command = do
   n ← program_named books command.program
@@ -207,7 +207,7 @@ accept tags tasks books client command = do
     b' ← accept_in (scope_of tags tasks n b) client r command.edits b
     Ok (record { books = slice_set books n b'; reply = Version b'.newest })
 
--- The other four are refused where the program isn't there, where it is another client's, where nothing is accepted, and
+-- The other four are refused if the program isn't there, if it is another client's, if nothing is accepted, and
 -- then by a cause of their own.
 abbrev pub on_accepted : (Book → Result Book EditFault) → List Book → ℕ → List ℕ → Result Edited EditFault
 on_accepted change books client name = do

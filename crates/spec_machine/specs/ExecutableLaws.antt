@@ -1,4 +1,4 @@
--- Checked rungs are ready for the image of their tags.
+-- Checked rungs are executable over the image of their tags.
 use Rattle.std.specs.Prelude.{◌≡◌, List, Ok}
 use Rattle.lgx_rung.specs.Tree.{Source}
 use Rattle.spec_language.specs.Declarations.{bytes}

@@ -44,16 +44,16 @@ with_table table s = record s { table = table }
 
 -- ---- a task begins its next program, by the rungs that are selected now
 
-abbrev pub scan_of : State → ℕ → Scan
-scan_of s n =
+abbrev pub new_scan : State → ℕ → Scan
+new_scan s n =
     let rungs = selected (book_at s.books n) in
     record { program = n; first = slice_index_or s.firsts n false; rungs = rungs; position = first_position rungs }
 
 abbrev pub begin_program : State → ℕ → Progress → ℕ → Stepped
 begin_program s t p n =
-    plainly (record (with_progress t (record p { scan = Some (scan_of s n) }) s) { firsts = slice_set s.firsts n false }) (what.Began t n (selected_number (book_at s.books n)))
+    plainly (record (with_progress t (record p { scan = Some (new_scan s n) }) s) { firsts = slice_set s.firsts n false }) (what.Began t n (selected_number (book_at s.books n)))
 
--- the one behind those that ended since the task's release
+-- the one after those that ended since the task's release
 abbrev pub next_program : State → ℕ → Progress → ℕ
 next_program s t p = slice_index (programs_of s t) p.ended
 

@@ -55,8 +55,8 @@ lines_from watches s n (e ∷ es) =
     stamp x.state.tick n' (event_lines watches s x.state x.entry) ++ lines_from watches x.state n' es
 
 -- all lines of a journal
-abbrev pub lines : Project → List Event → List Stamped
-lines project journal = lines_from project.watches (start project) 0 journal
+abbrev pub report_lines : Project → List Event → List Stamped
+report_lines project journal = lines_from project.watches (start project) 0 journal
 
 -- the kept lines, and what the end line tells
 pub record Report : Type 0 where

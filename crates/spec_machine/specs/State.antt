@@ -22,7 +22,7 @@ pub record Scan : Type 0 where
   pub rungs : ProgramRungs
   pub position : Position
 
--- What a task has beside its turn: how many of its programs ended since its release, the scan in progress, and its flags,
+-- What a task has beside its state in the table: how many of its programs ended since its release, the scan in progress, and its flags,
 -- which it keeps while it is down.
 pub record Progress : Type 0 where
   pub ended : ℕ

@@ -5,7 +5,7 @@ ghost use Rattle.spec_machine.specs.EditText.{is_edit_text};
 use lgx_num::{Items, Name};
 use std::marker::Model;
 
-/// The text of a rung edit, seen as its bytes: at most 65,536 of them, with no line feed and no `|` among them, and
+/// The text of a rung edit, seen as its bytes: at most `MAX_LINE_BYTES` of them, with no line feed and no `|` among them, and
 /// no blank of neutral text (space, tab, CR, LF) at either end.
 #[derive(Drop)]
 pub struct Text {
@@ -40,7 +40,7 @@ impl Text {
     }
 }
 
-/// An edit of a rung, by its number in the base routine, from 0: another text, a rung before it (or behind the last), or none.
+/// An edit of a rung, by its number in the base routine, from 0: another text, a rung before it (or after the last), or none.
 #[derive(Drop)]
 pub enum RungEdit {
     Replace(u32, Text),
@@ -48,7 +48,7 @@ pub enum RungEdit {
     Delete(u32),
 }
 
-/// The accept of 1 to 16 edits of a routine.
+/// The accept of edits of a routine: one at least, and at most `MAX_EDITS`.
 #[derive(Drop)]
 pub struct Accept {
     pub program: Name,

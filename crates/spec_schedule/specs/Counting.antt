@@ -17,7 +17,7 @@ use Rattle.spec_schedule.specs.declared.trace.Table.{Table}
 
 -- ---- tasks
 
--- A task is counted up where it was released and hasn't gone down since. Its counts: how many of its programs have
+-- A task is counted up if it was released and hasn't gone down since. Its counts: how many of its programs have
 -- ended since its release, its region, whether a CPS of it is open, and how often it has gone down.
 pub record Counted : Type 0 where
   pub up : Bool
@@ -49,11 +49,11 @@ marked _ c = c
 
 -- A program has ended, and the region with it. A task goes down with its last program; a continuous one is released
 -- again in the same moment.
-abbrev pub went : AuditTask → Counted → Counted
-went d c = if d.continuous then released (gone_down c) else gone_down c
+abbrev pub after_last_program : AuditTask → Counted → Counted
+after_last_program d c = if d.continuous then released (gone_down c) else gone_down c
 
 abbrev pub program_ended : AuditTask → Counted → Counted
-program_ended d c = if nat_lt (c.ended + 1) d.programs then record c { ended = c.ended + 1; region_count = 0 } else went d c
+program_ended d c = if nat_lt (c.ended + 1) d.programs then record c { ended = c.ended + 1; region_count = 0 } else after_last_program d c
 
 -- every task goes down at a major fault, a watchdog's too, and at a change to Program that is answered `Done`
 abbrev pub stops : TraceEvent → Bool
@@ -79,8 +79,12 @@ stepping (Step t _ _ _) = Some t
 stepping (Left t _ _) = Some t
 stepping _ = None
 
+abbrev pub is_task : ℕ → Option ℕ → Bool
+is_task t None = false
+is_task t (Some u) = nat_eq u t
+
 abbrev pub steps_here : TraceEvent → ℕ → Bool
-steps_here e t = elim (stepping e) [ None ↦ false | Some u ↦ nat_eq u t ]
+steps_here e t = is_task t (stepping e)
 
 -- what a processor step of the task does to its counts
 abbrev pub stepped : AuditTask → TraceEvent → Counted → Counted

@@ -26,11 +26,11 @@ some_up test table x = list_any (λ u. u.counts.up && test u) (counted_tasks tab
 abbrev pub higher_up : Table → CountedEvent → ℕ → Bool
 higher_up table x t = some_up (λ u. nat_lt u.task.priority (priority_of table t)) table x
 
--- a step of t: t is counted up, and where a task of higher priority is, t has a region or a CPS open
+-- a step of t: t is counted up, and if a task of higher priority is, t has a region or a CPS open
 abbrev pub may_step : Table → CountedEvent → ℕ → Bool
 may_step table x t = (at x t).up && (is_open (at x t) || not (higher_up table x t))
 
--- an idle step stands only where no task is counted up
+-- an idle step stands only if no task is counted up
 abbrev pub keeps_priority : Table → CountedEvent → Bool
 keeps_priority table x = check x.event
   where
@@ -65,8 +65,8 @@ abbrev pub before_tick : List CountedEvent → List CountedEvent
 before_tick xs = take_while (λ x. not (is_tick x.event)) xs
 
 -- t hasn't gone down from the one place up to the other
-abbrev pub stays : ℕ → CountedEvent → CountedEvent → Bool
-stays t x y = nat_eq (at x t).downs (at y t).downs
+abbrev pub stays_up : ℕ → CountedEvent → CountedEvent → Bool
+stays_up t x y = nat_eq (at x t).downs (at y t).downs
 
 -- who steps, of the tasks with a priority
 abbrev pub of_priority : Table → ℕ → Option ℕ → Option ℕ
@@ -81,15 +81,22 @@ abbrev pub keeps_on : ℕ → List ℕ → Bool
 keeps_on t us = not (list_any (λ u. nat_eq u t) (drop (prefix_len (λ u. nat_eq u t) us) us))
 
 -- between two steps of t, while t stays up and no tick stands between them, no other task of its priority steps
+abbrev pub turn_kept : Table → CountedEvent → List CountedEvent → Option ℕ → Bool
+turn_kept table x xs None = true
+turn_kept table x xs (Some t) =
+    keeps_on t (who_steps table (priority_of table t) (take_while (stays_up t x) (before_tick xs)))
+
 abbrev pub keeps_turn : Table → CountedEvent → List CountedEvent → Bool
-keeps_turn table x xs = elim (stepping x.event) [
-  | None ↦ true
-  | Some t ↦ keeps_on t (who_steps table (priority_of table t) (take_while (λ y. stays t x y) (before_tick xs)))
-]
+keeps_turn table x xs = turn_kept table x xs (stepping x.event)
+
+-- another task of t's priority was counted up at place k, and hasn't gone down up to place y
+abbrev pub is_other_up : Table → ℕ → CountedEvent → CountedEvent → CountedTask → Bool
+is_other_up table t k y u =
+    u.counts.up && (nat_eq u.task.priority (priority_of table t) && not (nat_eq u.number t) && stays_up u.number k y)
 
 -- at place y every other task of t's priority that was counted up at place k has gone down
 abbrev pub others_went : Table → ℕ → CountedEvent → CountedEvent → Bool
-others_went table t k y = not (some_up (λ u. nat_eq u.task.priority (priority_of table t) && not (nat_eq u.number t) && stays u.number k y) table k)
+others_went table t k y = not (list_any (is_other_up table t k y) (counted_tasks table.tasks k.tasks))
 
 abbrev pub gives_turn : Table → ℕ → CountedEvent → List CountedEvent → Bool
 gives_turn table t k ys = list_all (λ y. not (steps_here y.event t) || others_went table t k y) (before_tick ys)
@@ -97,7 +104,7 @@ gives_turn table t k ys = list_all (λ y. not (steps_here y.event t) || others_w
 -- t could be passed over at tick k: it hasn't gone down since its step x, has nothing open, and no task of higher
 -- priority is counted up
 abbrev pub is_turn : Table → ℕ → CountedEvent → CountedEvent → Bool
-is_turn table t x k = stays t x k && not (is_open (at k t)) && not (higher_up table k t)
+is_turn table t x k = stays_up t x k && not (is_open (at k t)) && not (higher_up table k t)
 
 -- what stands after actions alone
 abbrev pub is_action : TraceEvent → Bool
@@ -114,8 +121,12 @@ after_tick table t x (k ∷ ys) = not (is_tick k.event && is_turn table t x k) |
 -- Let a tick follow a step of t with no other step and no other tick between them. Where t could be passed over at it, t
 -- steps again before the next tick only after every other task of its priority that was up just before the tick has gone
 -- down.
+abbrev pub way_given : Table → CountedEvent → List CountedEvent → Option ℕ → Bool
+way_given table x xs None = true
+way_given table x xs (Some t) = after_tick table t x (after_actions xs)
+
 abbrev pub gives_way : Table → CountedEvent → List CountedEvent → Bool
-gives_way table x xs = elim (stepping x.event) [ None ↦ true | Some t ↦ after_tick table t x (after_actions xs) ]
+gives_way table x xs = way_given table x xs (stepping x.event)
 
 -- ---- the version law
 

@@ -97,7 +97,7 @@ is_held_over project steps journal = list_all (λ k. is_held_after project (thro
 
 -- ---- partial and complete
 
--- A journal is partial for the counts, one a lane, where it begins with its own lane's `mode run`; the rest is of the
+-- A journal is partial for the counts, one a lane, if it begins with its own lane's `mode run`; the rest is of the
 -- script's lanes; each lane did the first of its actions, in order and in time; none was answered Held; the ticks stand
 -- at the pace; and processor steps beyond the script's stand only while a CPS is open.
 pub record IsPartial (project : Project) (script : Script) (counts : List ℕ) (journal : List Event) : Type 0 where
@@ -108,7 +108,7 @@ pub record IsPartial (project : Project) (script : Script) (counts : List ℕ) (
   pub ticks : IsTrue (is_paced script.pace journal)
   pub steps : IsTrue (is_held_over project script.steps journal)
 
--- It is complete where each count is the lane's length, the script's steps were made, and no CPS is open at its end.
+-- It is complete if each count is the lane's length, the script's steps were made, and no CPS is open at its end.
 pub record IsComplete (project : Project) (script : Script) (journal : List Event) : Type 0 where
   pub partial : IsPartial project script (map (λ list. length list) script.lanes) journal
   pub enough : script.steps ≤ steps_of journal

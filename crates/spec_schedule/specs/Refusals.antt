@@ -3,9 +3,9 @@
 use Rattle.std.specs.Prelude.{ℕ, List, [], ◌∷◌, ◌++◌, length, Bool, true, false, not, nat_lt, nat_le, nat_eq, Option, Some, None, option_map, is_none, unwrap_or, Result, Ok, Err, slice_set, slice_index_or, flat_map}
 use Rattle.std.specs.Bool.{beq as agree}
 use Rattle.std.specs.List.{position_from}
--- a cause, where its test holds
+-- a cause, if its test holds
 pub use Rattle.std.specs.Bool.{then_some as when}
-use Rattle.spec_base.specs.declared.limits.TheConstants.{MAX_PROGRAM_INSTRUCTIONS}
+use Rattle.spec_base.specs.declared.limits.TheConstants.{MAX_FORCES, MAX_PROGRAM_INSTRUCTIONS}
 use Rattle.lgx_num.specs.Name.{same}
 use Rattle.lgx_rung.specs.Tree.{Source}
 use Rattle.spec_tables.specs.declared.conn.ConnDef.{ConnDef}
@@ -23,7 +23,7 @@ use Rattle.spec_machine.specs.declared.reply.Reply.{Reply}
 use Rattle.spec_machine.specs.declared.reply.Reply.TheVariants.{Held, Mode, Conn, Force, Edit}
 use Rattle.spec_tables.specs.Tasks.{held}
 use Rattle.spec_tables.specs.Connections.{no_conn, conn_named, io_word}
-use Rattle.spec_tables.specs.Forces.{force_room, installed}
+use Rattle.spec_tables.specs.Forces.{installed}
 use Rattle.spec_machine.specs.Edits.{Change, Book, book_at, routine_at, other_owner, is_misplaced, first_again, taken_by, changes_in, changes_of, merged, scope_of, with_changes, instruction_count}
 use Rattle.spec_language.specs.Checked.{CheckScope, checked}
 use Rattle.spec_scan.specs.Position.{Rungs}
@@ -62,7 +62,7 @@ abbrev pub mode_causes : State → Modes → List (Option Reply)
 mode_causes s wanted =
     when (held s.table) Held ∷ when (is_mode s.mode mode.Faulted) (Mode M2) ∷ when (is_mode s.mode wanted) (Mode M1) ∷ []
 
--- ---- forces: a word that isn't there, or 256 other words that have one; none is installed
+-- ---- forces: a word that isn't there, or too many other words that have one; none is installed
 
 abbrev pub is_no_word : State → List ℕ → ℕ → Bool
 is_no_word s name word = nat_le (conn_of s name).words word
@@ -73,7 +73,7 @@ install_causes s name word =
   where
     is_full : Option ℕ → Bool
     is_full None = false
-    is_full (Some io) = nat_le force_room (installed (slice_set s.forces.words io None))
+    is_full (Some io) = nat_le MAX_FORCES (installed (slice_set s.forces.words io None))
 
 abbrev pub no_force_causes : State → List (Option Reply)
 no_force_causes s = when (nat_eq (installed s.forces.words) 0) (Force F3) ∷ []
@@ -90,7 +90,7 @@ book_named s name = book_at s.books (unwrap_or (program_at s name) (length s.boo
 abbrev pub no_program : State → List ℕ → Option Reply
 no_program s name = when (is_none (program_at s name)) (Edit E1)
 
--- the owner, where it is another client
+-- the owner, if it is another client
 abbrev pub owner_cause : Book → ℕ → Option Reply
 owner_cause b lane = option_map (λ owner. Edit (E3 owner)) (other_owner b lane)
 

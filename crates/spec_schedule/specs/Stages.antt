@@ -17,6 +17,7 @@ use Rattle.spec_machine.specs.Edits.{Book, Edited, edit, book_at, selected}
 use Rattle.spec_machine.specs.ProcessorStep.{task_of}
 use Rattle.spec_machine.specs.Project.{Project}
 use Rattle.spec_machine.specs.State.{State, Scan, progress_of, start}
+use Rattle.spec_schedule.specs.Counting.{is_task}
 use Rattle.spec_schedule.specs.Legal.{each_from}
 use Rattle.spec_machine.specs.Machine.{TraceEntry, OfStep, OfAction, step, run}
 use Rattle.spec_schedule.specs.Refusals.{first_cause}
@@ -74,13 +75,13 @@ selected_after t c x = record { books = commanded x.before x.entry c.books; begu
 abbrev pub begun_by : ℕ → List Book → List Stage → Option ProgramRungs
 begun_by t books xs = (fold (selected_after t) (record { books = books; begun = None }) xs).begun
 
-abbrev pub scan_of : State → ℕ → Option Scan
-scan_of s t = (progress_of s t).scan
+abbrev pub scan_in_progress : State → ℕ → Option Scan
+scan_in_progress s t = (progress_of s t).scan
 
 -- After each event, the rungs of a task's scan are those that the accepted commands before its begin select.
 abbrev pub ScansKeepRungs : Project → Type 0
 ScansKeepRungs p =
-    (journal : List Event) (t : ℕ) → IfSome (scan_of (run p journal) t) (λ scan. begun_by t (start p).books (stages p journal) ≡ Some scan.rungs)
+    (journal : List Event) (t : ℕ) → IfSome (scan_in_progress (run p journal) t) (λ scan. begun_by t (start p).books (stages p journal) ≡ Some scan.rungs)
 
 -- ---- the copy law
 
@@ -92,10 +93,6 @@ sync_start _ = None
 abbrev pub sync_end : TraceEntry → Option ℕ
 sync_end (OfStep m) = elim m.mark [ CopyEnd sync ↦ (if sync then task_of m.what else None) | _ ↦ None ]
 sync_end _ = None
-
-abbrev pub is_task : ℕ → Option ℕ → Bool
-is_task t None = false
-is_task t (Some u) = nat_eq u t
 
 abbrev pub starts_or_ends : ℕ → Stage → Bool
 starts_or_ends t x = is_task t (sync_start x.entry) || is_task t (sync_end x.entry)
@@ -112,7 +109,7 @@ is_copied c started ended =
     bytes_eq (slice_range ended.image c.target (c.target + length_of c)) (slice_range started.image c.source (c.source + length_of c))
 
 abbrev pub copy_in : State → ℕ → Option Copying
-copy_in s t = elim (scan_of s t) [ None ↦ None | Some scan ↦ scan.position.copy ]
+copy_in s t = elim (scan_in_progress s t) [ None ↦ None | Some scan ↦ scan.position.copy ]
 
 -- at the end of the CPS that t started with stage x, the first of its later stages that start or end one
 abbrev pub ends_whole : ℕ → Stage → Option Copying → Option Stage → Bool

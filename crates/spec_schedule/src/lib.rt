@@ -2,5 +2,7 @@
 #![tactic(auto)]
 
 mod trace;
+mod turn_laws;
 
 pub use trace::{AuditTask, StepFault, Table, TraceAnswer, TraceEvent, TraceMark, Verb};
+pub use turn_laws::turns_are_decided;

@@ -79,7 +79,7 @@ pub enum TraceEvent {
 }
 
 /// What the laws ask of a task: whether it is continuous, its priority (1 is the highest, and the continuous task
-/// has 16), and the number of its programs.
+/// has `LEAST_PRIORITY`), and the number of its programs.
 #[derive(Clone, Copy)]
 pub struct AuditTask {
     pub continuous: bool,

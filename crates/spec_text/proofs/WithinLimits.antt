@@ -12,7 +12,8 @@ use Rattle.spec_text.specs.declared.script.JournalFault.{JournalFault}
 use Rattle.spec_machine.specs.Events.{is_step, is_tick, is_action}
 use Rattle.spec_text.specs.TextLines.{lines, is_skipped}
 use Rattle.spec_text.specs.JournalText.{EventRun, events_of, run_of, lane_of, is_end, is_line, is_lane, is_allowed, Tally, with_run, no_events, IsWithin, read_line, runs_from, before_rest, refused, journal_runs, journal_of, all_events}
-use Rattle.spec_text.proofs.KeptScripts.{unless_keeps, some_keeps, any_some, both_true}
+use Rattle.std.proofs.lemmas.Bool.{and_parts}
+use Rattle.spec_text.proofs.KeptScripts.{unless_keeps, some_keeps, some_plain}
 
 -- ---- tallies of runs
 
@@ -22,7 +23,7 @@ Keeps t rs = is_allowed (fold with_run t rs) ≡ true
 line_within : (t : Tally) (line : List ℕ) → IfOk (read_line t line) (λ r. is_allowed (with_run t r) ≡ true)
 line_within t line =
     let P : EventRun → Type 0 = λ r. is_allowed (with_run t r) ≡ true in
-    unless_keeps (is_line line) J1 _ P (λ l. some_keeps (run_of line) J1 _ (λ r. Unit {0}) P (any_some (run_of line)) (λ r u. unless_keeps (is_lane (lane_of line)) J2 _ P (λ lane. unless_keeps (nat_lt 0 r.count && is_allowed (with_run t r)) J4 (λ v. Ok r) P (λ h. (both_true h).1))))
+    unless_keeps (is_line line) J1 _ P (λ l. some_keeps (run_of line) J1 _ (λ r. Unit {0}) P (some_plain (run_of line)) (λ r u. unless_keeps (is_lane (lane_of line)) J2 _ P (λ lane. unless_keeps (nat_lt 0 r.count && is_allowed (with_run t r)) J4 (λ v. Ok r) P (λ h. (and_parts _ _ h).1))))
 
 before_keeps : (t : Tally) (r : EventRun) (o : Result (List EventRun) JournalFault) → IfOk o (Keeps (with_run t r)) → IfOk (before_rest r o) (Keeps t)
 before_keeps t r (Err e) h = tt
@@ -76,7 +77,7 @@ bounded {m = m} e n h = search (arith, e, leb-true m n h)
 
 within : (rs : List EventRun) → Keeps no_events rs → IsWithin (events_of rs)
 within rs h =
-    record { steps = bounded (total (λ t. t.steps) is_step of_steps rs no_events) MAX_JOURNAL_STEPS (both_true (both_true h).0).0; ticks = bounded (total (λ t. t.ticks) is_tick of_ticks rs no_events) MAX_JOURNAL_STEPS (both_true (both_true h).0).1; actions = bounded (total (λ t. t.actions) is_action of_actions rs no_events) MAX_ACTIONS (both_true h).1 }
+    record { steps = bounded (total (λ t. t.steps) is_step of_steps rs no_events) MAX_JOURNAL_STEPS (and_parts _ _ (and_parts _ _ h).0).0; ticks = bounded (total (λ t. t.ticks) is_tick of_ticks rs no_events) MAX_JOURNAL_STEPS (and_parts _ _ (and_parts _ _ h).0).1; actions = bounded (total (λ t. t.actions) is_action of_actions rs no_events) MAX_ACTIONS (and_parts _ _ h).1 }
 
 expanded : (o : Result (List EventRun) JournalFault) → IfOk o (Keeps no_events) → IfOk (all_events o) IsWithin
 expanded (Err e) h = tt

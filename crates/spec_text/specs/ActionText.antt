@@ -11,14 +11,14 @@ use Rattle.spec_machine.specs.declared.event.Action.{Action}
 use Rattle.spec_machine.specs.declared.event.Action.TheVariants.{WordIn, WordOut, Accept, Test, Untest, Assemble, Cancel, ForceInstall, ForceEnable, ForceDisable, ForceRemove, ModeRun, ModeProgram, Clear}
 use Rattle.spec_machine.specs.Commands.{accept_command, is_edit_count}
 use Rattle.spec_base.specs.Pieces.{pieces}
-use Rattle.spec_text.specs.TextLines.{words, first_word, behind_word, spaced, number_of, signed_of}
+use Rattle.spec_text.specs.TextLines.{words, first_word, after_word, spaced, unsigned_of, signed_of}
 use Rattle.spec_machine.specs.EditText.{trimmed}
 
 infixl 10 ◌>>=◌
 abbrev pub ◌>>=◌ : {A B : Type 0} → Option A → (A → Option B) → Option B
 o >>= f = option_and_then f o
 
--- the answer where the word is this one
+-- the answer if the word is this one
 abbrev pub at_word : {A : Type 0} → List ℕ → List ℕ → Option A → Option A
 at_word word wanted o = if bytes_eq word wanted then o else None
 
@@ -35,32 +35,32 @@ name_of word = if is_name word then Some word else None
 
 -- `r INDEX TEXT` and `i INDEX TEXT`; TEXT is the rest without the blanks of neutral text at its ends, and may be empty
 abbrev pub text_edit_of : (ℕ → List ℕ → RungEdit) → List ℕ → Option RungEdit
-text_edit_of edit rest = option_map (λ index. edit index (trimmed (behind_word rest))) (number_of (first_word rest))
+text_edit_of edit rest = option_map (λ index. edit index (trimmed (after_word rest))) (unsigned_of (first_word rest))
 
 -- `d INDEX`
 abbrev pub delete_of : List (List ℕ) → Option RungEdit
-delete_of (index ∷ []) = option_map (λ n. Delete n) (number_of index)
+delete_of (index ∷ []) = option_map (λ n. Delete n) (unsigned_of index)
 delete_of _ = None
 
 abbrev pub edit_of : List ℕ → Option RungEdit
 edit_of part =
     let verb = first_word part in
-    let rest = behind_word part in
+    let rest = after_word part in
     option_or (at_word verb (codes "r") (text_edit_of (λ n t. Replace n t) rest))
     (option_or (at_word verb (codes "i") (text_edit_of (λ n t. Insert n t) rest)) (at_word verb (codes "d") (delete_of (words rest))))
 
--- EDITS are 1 to 16 parts separated by `|`
+-- EDITS are parts, as many as an accept may have, separated by `|`
 abbrev pub edits_of : List ℕ → Option (List RungEdit)
 edits_of text = let parts = pieces 124 text in if is_edit_count (length parts) then each_some (map edit_of parts) else None
 
 -- ---- actions
 
--- `accept PROGRAM ROUTINE EDITS`, behind its first word
+-- `accept PROGRAM ROUTINE EDITS`, after its first word
 abbrev pub accept_of : List ℕ → Option Action
 accept_of rest = do
   program ← name_of (first_word rest)
-  routine ← name_of (first_word (behind_word rest))
-  edits ← edits_of (behind_word (behind_word rest))
+  routine ← name_of (first_word (after_word rest))
+  edits ← edits_of (after_word (after_word rest))
   Some (Accept (accept_command program routine edits))
 
 -- `test PROGRAM` and its kin, `force enable` and its kin, `mode run` and `mode program`
@@ -77,14 +77,14 @@ one_word_of verb word =
 abbrev pub word_out_of : List ℕ → List ℕ → Option Action
 word_out_of conn word = do
   c ← name_of conn
-  w ← number_of word
+  w ← unsigned_of word
   Some (WordOut c w)
 
 -- `in CONN WORD VALUE`
 abbrev pub word_in_of : List ℕ → List ℕ → List ℕ → Option Action
 word_in_of conn word value = do
   c ← name_of conn
-  w ← number_of word
+  w ← unsigned_of word
   v ← signed_of value
   Some (WordIn c w v)
 
@@ -92,7 +92,7 @@ word_in_of conn word value = do
 abbrev pub install_of : List ℕ → List ℕ → List ℕ → List ℕ → Option Action
 install_of conn word mask value = do
   c ← name_of conn
-  w ← number_of word
+  w ← unsigned_of word
   m ← signed_of mask
   v ← signed_of value
   Some (ForceInstall c w m v)
@@ -107,11 +107,11 @@ command_of (verb ∷ a ∷ b ∷ c ∷ d ∷ []) = at_word verb (codes "force") 
 command_of _ = None
 
 abbrev pub action_of : List ℕ → Option Action
-action_of text = option_or (at_word (first_word text) (codes "accept") (accept_of (behind_word text))) (command_of (words text))
+action_of text = option_or (at_word (first_word text) (codes "accept") (accept_of (after_word text))) (command_of (words text))
 
 -- ---- the canonical text
 
--- an empty TEXT leaves no space behind INDEX
+-- an empty TEXT leaves no space after INDEX
 abbrev pub text_word : List ℕ → List (List ℕ)
 text_word [] = []
 text_word (c ∷ cs) = (c ∷ cs) ∷ []

@@ -12,7 +12,7 @@ use Rattle.spec_text.specs.declared.script.JournalCode.TheVariants.{J1, J2, J4}
 use Rattle.spec_text.specs.declared.script.JournalFault.{JournalFault}
 use Rattle.spec_machine.specs.Events.{is_step, is_tick, is_action}
 use Rattle.spec_base.specs.FirstCause.{◌>>=◌, unless, some_or}
-use Rattle.spec_text.specs.TextLines.{lines, is_skipped, words, first_word, behind_word, spaced, line_of, number_of}
+use Rattle.spec_text.specs.TextLines.{lines, is_skipped, words, first_word, after_word, spaced, line_of, unsigned_of}
 use Rattle.spec_text.specs.ActionText.{at_word, action_of, action_words}
 
 -- an event and how often it stands there; an action stands there once
@@ -28,7 +28,7 @@ events_of runs = flat_map (λ r. replicate r.count r.event) runs
 -- the lane that a line names by its first word, `@LANE`
 abbrev pub at_lane : List ℕ → Option ℕ
 at_lane [] = None
-at_lane (c ∷ digits) = if nat_eq c 64 then number_of digits else None
+at_lane (c ∷ digits) = if nat_eq c 64 then unsigned_of digits else None
 
 abbrev pub lane_of : List ℕ → Option ℕ
 lane_of line = at_lane (first_word line)
@@ -42,13 +42,13 @@ times e None = None
 times e (Some n) = Some (record { event = e; count = n })
 
 abbrev pub counted_run : List (List ℕ) → Option EventRun
-counted_run (verb ∷ count ∷ []) = option_or (at_word verb (codes "cpu") (times Cpu (number_of count))) (at_word verb (codes "tick") (times Tick (number_of count)))
+counted_run (verb ∷ count ∷ []) = option_or (at_word verb (codes "cpu") (times Cpu (unsigned_of count))) (at_word verb (codes "tick") (times Tick (unsigned_of count)))
 counted_run _ = None
 
 -- `@LANE ACTION`
 abbrev pub lane_run : List ℕ → Option ℕ → Option EventRun
 lane_run line None = None
-lane_run line (Some lane) = action_run lane (action_of (behind_word line))
+lane_run line (Some lane) = action_run lane (action_of (after_word line))
 
 -- what a line of a journal says; an action without a lane is of the journal's own lane
 abbrev pub run_of : List ℕ → Option EventRun
@@ -95,7 +95,7 @@ is_lane (Some lane) = nat_lt lane OWN_LANE
 
 -- ---- the first cause of a line, and the first line that has one
 
--- what a line says behind a text with this tally, or its first cause
+-- what a line says after a text with this tally, or its first cause
 abbrev pub read_line : Tally → List ℕ → Result EventRun JournalCode
 read_line t line = do
   _ ← unless (is_line line) J1
@@ -111,7 +111,7 @@ abbrev pub before_rest : EventRun → Result (List EventRun) JournalFault → Re
 before_rest r (Err e) = Err e
 before_rest r (Ok rs) = Ok (r ∷ rs)
 
--- the lines from number n on, behind a text with this tally; a text without `end` is refused at the line after its last
+-- the lines from number n on, after a text with this tally; a text without `end` is refused at the line after its last
 abbrev pub runs_from : ℕ → Tally → List (List ℕ) → Result (List EventRun) JournalFault
 runs_from n t [] = refused n J1
 runs_from n t (l ∷ ls) =

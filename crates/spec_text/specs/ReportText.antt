@@ -28,7 +28,7 @@ use Rattle.spec_machine.specs.declared.event.Event.{Event}
 use Rattle.spec_text.specs.TextLines.{line_of}
 use Rattle.spec_machine.specs.Project.{Project}
 use Rattle.spec_machine.specs.Machine.{run}
-use Rattle.spec_machine.specs.Report.{Stamped, Report, report_of, lines, steps_of}
+use Rattle.spec_machine.specs.Report.{Stamped, Report, report_of, report_lines, steps_of}
 
 -- the names of tasks, programs and watched places, as the project has them
 pub record Names : Type 0 where
@@ -157,4 +157,4 @@ report_text names r = flat_map (line_text names) r.lines ++ end_text r.tick r.st
 
 -- The report of a journal: its first lines up to the room, and then the end line, which counts the others.
 abbrev pub report : Project → List Event → List ℕ
-report project journal = report_text (names_of project) (report_of (lines project journal) (run project journal) (steps_of journal))
+report project journal = report_text (names_of project) (report_of (report_lines project journal) (run project journal) (steps_of journal))

@@ -10,7 +10,7 @@ use Rattle.spec_text.specs.declared.script.JournalCode.{JournalCode}
 use Rattle.spec_text.specs.declared.script.JournalCode.TheVariants.{J1, J2, J3, J4, J5}
 use Rattle.spec_text.specs.declared.script.JournalFault.{JournalFault}
 use Rattle.spec_base.specs.FirstCause.{◌>>=◌, unless, some_or}
-use Rattle.spec_text.specs.TextLines.{lines, is_skipped, words, first_word, behind_word, number_of}
+use Rattle.spec_text.specs.TextLines.{lines, is_skipped, words, first_word, after_word, unsigned_of}
 use Rattle.spec_text.specs.ActionText.{action_of}
 use Rattle.spec_text.specs.JournalText.{lane_of, is_end, is_line, refused}
 
@@ -25,7 +25,7 @@ bare_of (Some steps) (Some pace) (Some lanes) = Some (bare steps pace lanes)
 bare_of _ _ _ = None
 
 abbrev pub header_of : List (List ℕ) → Option Script
-header_of (verb ∷ steps ∷ pace ∷ lanes ∷ []) = if bytes_eq verb (codes "run") then bare_of (number_of steps) (number_of pace) (number_of lanes) else None
+header_of (verb ∷ steps ∷ pace ∷ lanes ∷ []) = if bytes_eq verb (codes "run") then bare_of (unsigned_of steps) (unsigned_of pace) (unsigned_of lanes) else None
 header_of _ = None
 
 -- steps and pace are within their limit, and lanes have lower numbers than a journal's own
@@ -38,23 +38,23 @@ read_header line = do
 
 -- ---- the other lines: `@LANE AT ACTION`
 
-pub record Turn : Type 0 where
+pub record LaneAction : Type 0 where
   pub lane : ℕ
   pub timed : Timed
 
-abbrev pub turn_from : Option ℕ → Option ℕ → Option Action → Option Turn
-turn_from (Some lane) (Some at) (Some action) = Some (record { lane = lane; timed = record { at = at; action = action } })
-turn_from _ _ _ = None
+abbrev pub lane_action_from : Option ℕ → Option ℕ → Option Action → Option LaneAction
+lane_action_from (Some lane) (Some at) (Some action) = Some (record { lane = lane; timed = record { at = at; action = action } })
+lane_action_from _ _ _ = None
 
-abbrev pub turn_of : List ℕ → Option Turn
-turn_of line = turn_from (lane_of line) (number_of (first_word (behind_word line))) (action_of (behind_word (behind_word line)))
+abbrev pub lane_action_of : List ℕ → Option LaneAction
+lane_action_of line = lane_action_from (lane_of line) (unsigned_of (first_word (after_word line))) (action_of (after_word (after_word line)))
 
 -- the actions of a lane so far
 abbrev pub lane_at : Script → ℕ → List Timed
 lane_at s lane = slice_index_or s.lanes lane []
 
-abbrev pub with_turn : Script → Turn → Script
-with_turn s t = record s { lanes = slice_set s.lanes t.lane (lane_at s t.lane ++ t.timed ∷ []) }
+abbrev pub with_lane_action : Script → LaneAction → Script
+with_lane_action s t = record s { lanes = slice_set s.lanes t.lane (lane_at s t.lane ++ t.timed ∷ []) }
 
 -- the tick of the lane's line before, or 0
 abbrev pub at_or_zero : Option Timed → ℕ
@@ -65,28 +65,28 @@ abbrev pub last_at : Script → ℕ → ℕ
 last_at s lane = at_or_zero (last_or None (lane_at s lane))
 
 -- The script with the line's action last in its lane, or the line's first cause. A script has not too many actions;
--- no action waits for a tick that doesn't come, and none stands behind one of its lane that waits longer.
-abbrev pub read_turn : Script → List ℕ → Result Script JournalCode
-read_turn s line = do
+-- no action waits for a tick that doesn't come, and none stands after one of its lane that waits longer.
+abbrev pub read_lane_line : Script → List ℕ → Result Script JournalCode
+read_lane_line s line = do
   _ ← unless (is_line line) J1
-  turn ← some_or (turn_of line) J1
-  _ ← unless (nat_lt turn.lane (length s.lanes)) J2
+  action ← some_or (lane_action_of line) J1
+  _ ← unless (nat_lt action.lane (length s.lanes)) J2
   _ ← unless (nat_lt (actions_in s) MAX_ACTIONS) J4
-  _ ← unless (nat_le turn.timed.at (last_tick s)) J3
-  _ ← unless (nat_le (last_at s turn.lane) turn.timed.at) J5
-  Ok (with_turn s turn)
+  _ ← unless (nat_le action.timed.at (last_tick s)) J3
+  _ ← unless (nat_le (last_at s action.lane) action.timed.at) J5
+  Ok (with_lane_action s action)
 
 -- ---- the first line that has a cause
 
--- the lines from number n on, behind a text that gave this script
-abbrev pub turns_from : ℕ → Script → List (List ℕ) → Result Script JournalFault
-turns_from n s [] = refused n J1
-turns_from n s (l ∷ ls) =
+-- the lines from number n on, after a text that gave this script
+abbrev pub lanes_from : ℕ → Script → List (List ℕ) → Result Script JournalFault
+lanes_from n s [] = refused n J1
+lanes_from n s (l ∷ ls) =
     elim (is_skipped l) [
-      | true ↦ turns_from (n + 1) s ls
+      | true ↦ lanes_from (n + 1) s ls
       | false ↦ elim (is_end l && is_line l) [
         | true ↦ Ok s
-        | false ↦ elim (read_turn s l) [ Err code ↦ refused n code | Ok s' ↦ turns_from (n + 1) s' ls ]
+        | false ↦ elim (read_lane_line s l) [ Err code ↦ refused n code | Ok s' ↦ lanes_from (n + 1) s' ls ]
       ]
     ]
 
@@ -95,7 +95,7 @@ script_from n [] = refused n J1
 script_from n (l ∷ ls) =
     elim (is_skipped l) [
       | true ↦ script_from (n + 1) ls
-      | false ↦ elim (read_header l) [ Err code ↦ refused n code | Ok s ↦ turns_from (n + 1) s ls ]
+      | false ↦ elim (read_header l) [ Err code ↦ refused n code | Ok s ↦ lanes_from (n + 1) s ls ]
     ]
 
 -- the script that a text is, or the first line with a cause and its first cause

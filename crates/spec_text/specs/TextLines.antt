@@ -10,8 +10,8 @@ use Rattle.spec_base.specs.Pieces.{pieces, is_empty}
 abbrev pub without_return : List ℕ → List ℕ
 without_return line = take (length line - (if nat_eq (suffix_len (λ c. nat_eq c 13) line) 0 then 0 else 1)) line
 
--- Lines end with a line feed, and a carriage return right before it is dropped. What stands behind the last line feed
--- is a line where it has a byte.
+-- Lines end with a line feed, and a carriage return right before it is dropped. What stands after the last line feed
+-- is a line if it has a byte.
 abbrev pub lines_of_pieces : List (List ℕ) → List (List ℕ)
 lines_of_pieces [] = []
 lines_of_pieces (p ∷ []) = if is_empty p then [] else p ∷ []
@@ -30,11 +30,11 @@ is_skipped (c ∷ cs) = nat_eq c 35
 abbrev pub is_space : ℕ → Bool
 is_space c = nat_eq c 32
 
--- words are separated by one or more spaces; spaces before the first and behind the last do no harm
+-- words are separated by one or more spaces; spaces before the first and after the last do no harm
 abbrev pub words : List ℕ → List (List ℕ)
 words line = filter (λ w. not (is_empty w)) (pieces 32 line)
 
--- the first word, or nothing where there is none, and what stands behind it
+-- the first word, or nothing if there is none, and what stands after it
 abbrev pub from_word : List ℕ → List ℕ
 from_word line = drop (prefix_len is_space line) line
 
@@ -44,14 +44,14 @@ word_len text = prefix_len (λ c. not (is_space c)) text
 abbrev pub first_word : List ℕ → List ℕ
 first_word line = take (word_len (from_word line)) (from_word line)
 
-abbrev pub behind_word : List ℕ → List ℕ
-behind_word line = drop (word_len (from_word line)) (from_word line)
+abbrev pub after_word : List ℕ → List ℕ
+after_word line = drop (word_len (from_word line)) (from_word line)
 
 -- words with a space between each two
 abbrev pub spaced : List (List ℕ) → List ℕ
 spaced ws = join_with_byte 32 ws
 
--- the same, and a line feed behind them
+-- the same, and a line feed after them
 abbrev pub line_of : List (List ℕ) → List ℕ
 line_of ws = spaced ws ++ 10 ∷ []
 
@@ -65,19 +65,19 @@ abbrev pub is_digits : List ℕ → Bool
 is_digits ds = nat_le 1 (length ds) && nat_le (length ds) 10 && all_ascii_digits ds
 
 -- a number of a text that isn't negative: digits, with the range of u32
-abbrev pub number_of : List ℕ → Option ℕ
-number_of ds = if is_digits ds && nat_lt (value_of ds) (2 ^ 32) then Some (value_of ds) else None
+abbrev pub unsigned_of : List ℕ → Option ℕ
+unsigned_of ds = if is_digits ds && nat_lt (value_of ds) (2 ^ 32) then Some (value_of ds) else None
 
 -- a value or mask: digits, perhaps with a `-` before them, with the range of i32
-abbrev pub in_range : ℤ → Option ℤ
-in_range v = if int_le (neg_ℤ (pos (2 ^ 31))) v && int_le v (pos (2 ^ 31 - 1)) then Some v else None
+abbrev pub as_i32 : ℤ → Option ℤ
+as_i32 v = if int_le (neg_ℤ (pos (2 ^ 31))) v && int_le v (pos (2 ^ 31 - 1)) then Some v else None
 
 abbrev pub magnitude : Bool → List ℕ → ℤ
 magnitude true ds = neg_ℤ (pos (value_of ds))
 magnitude false ds = pos (value_of ds)
 
 abbrev pub value_when : Bool → List ℕ → Option ℤ
-value_when negative ds = if is_digits ds then in_range (magnitude negative ds) else None
+value_when negative ds = if is_digits ds then as_i32 (magnitude negative ds) else None
 
 abbrev pub signed_of : List ℕ → Option ℤ
 signed_of [] = None

@@ -11,8 +11,8 @@ pub struct Timed {
 }
 
 /// What a run has to do: at least so many processor steps, a tick after every `pace`-th of them, and for each lane
-/// its actions in order. Steps and pace are 1 to 1,000,000; there are at most 31 lanes and 100,000 actions; and no
-/// action waits for a tick after the last, which is `steps` divided by `pace`, cut.
+/// its actions in order. Steps and pace are 1 to `MAX_SCRIPT_STEPS`; there are at most `OWN_LANE` lanes and `MAX_ACTIONS` actions; and
+/// no action waits for a tick after the last, which is `steps` divided by `pace`, cut.
 #[derive(Drop)]
 pub struct Script {
     pub steps: u32,

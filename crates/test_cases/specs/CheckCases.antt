@@ -156,7 +156,7 @@ FirstFaults = map fault_of (
 abbrev pub lbl : List ℕ → SourceIns
 lbl name = ins Lbl (name ∷ [])
 
--- a repeated label; an LBL behind another element, at the end of a fork's leg, and at the beginning of one; a jump before an
+-- a repeated label; an LBL after another element, at the end of a fork's leg, and at the beginning of one; a jump before an
 -- LBL that isn't first has no fault; an LBL with two operands gives no label
 abbrev pub LabelFaults : Type 0
 LabelFaults = map fault_of (

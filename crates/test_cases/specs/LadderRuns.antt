@@ -203,7 +203,7 @@ OneBitForBoth = replay one_bit_for_both (lines (codes "mode run"
     ∷ codes "end 0 18 run lost 0"
     ∷ [])
 
--- A jump keeps the zone: the MCR behind the label closes it, whatever its condition.
+-- A jump keeps the zone: the MCR after the label closes it, whatever its condition.
 abbrev pub jump_in_zone : Project
 jump_in_zone = plain (bool (codes "a") ∷ bool (codes "b") ∷ []) (continuous (codes "MCR();" ∷ codes "JMP(l);" ∷ codes "LBL(l)XIC(a)MCR();" ∷ codes "OTE(b);" ∷ []) ∷ []) [] (codes "b" ∷ [])
 
@@ -218,7 +218,7 @@ JumpInZone = replay jump_in_zone (lines (codes "mode run"
     ∷ codes "end 0 8 run lost 0"
     ∷ [])
 
--- A return leaves the rest of its routine out; behind the call the condition is as it was.
+-- A return leaves the rest of its routine out; after the call the condition is as it was.
 abbrev pub call_and_return : Project
 call_and_return = plain (bool (codes "a") ∷ bool (codes "b") ∷ bool (codes "c") ∷ []) (task (codes "T") Continuous LEAST_PRIORITY (routines (codes "P") (routine (codes "M") (codes "JSR(N,0)OTE(c);" ∷ []) ∷ routine (codes "N") (codes "XIC(a)RET();" ∷ codes "OTE(b);" ∷ []) ∷ []) ∷ []) ∷ []) (is_initially (codes "a") (pos 1) ∷ []) (codes "b" ∷ codes "c" ∷ [])
 

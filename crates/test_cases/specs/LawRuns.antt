@@ -14,7 +14,7 @@ use Rattle.test_cases.specs.JournalCases.{cpu, tick, timed, accept}
 use Rattle.test_cases.specs.Samples.{plain, continuous}
 use Rattle.spec_schedule.specs.Legal.{verdicts}
 use Rattle.spec_schedule.specs.TraceView.{table_of, view}
-use Rattle.spec_schedule.specs.Stages.{scan_of, stages, begun_by}
+use Rattle.spec_schedule.specs.Stages.{scan_in_progress, stages, begun_by}
 
 -- the verdicts on a run of the machine
 abbrev pub verdicts_on : Project → List Event → List Bool
@@ -42,7 +42,7 @@ abbrev pub emptied : List Event
 emptied = run_mode ∷ cpu 1 ++ Act 0 (accept (codes "P") (codes "M") (Replace 0 (codes ";") ∷ [])) ∷ Act 0 (Test (codes "P")) ∷ cpu 3
 
 abbrev pub rungs_at : Project → List Event → Option ProgramRungs
-rungs_at p journal = option_map {U = ProgramRungs} (λ scan. scan.rungs) (scan_of (run p journal) 0)
+rungs_at p journal = option_map {U = ProgramRungs} (λ scan. scan.rungs) (scan_in_progress (run p journal) 0)
 
 abbrev pub begun_at : Project → List Event → Option ProgramRungs
 begun_at p journal = begun_by 0 (start p).books (stages p journal)

@@ -25,7 +25,7 @@ many base n = record { base = base; dim = n }
 
 -- ---- structures with all kinds of members
 
--- a Cell holds Marks, which are declared behind it: f at byte 0, t at 4, c at 20, inner at 44, x at 68, in all 72; of Marks
+-- a Cell holds Marks, which are declared after it: f at byte 0, t at 4, c at 20, inner at 44, x at 68, in all 72; of Marks
 -- a is at byte 0, b at 1, c at 2, d at 4, e at 8, in all 9 and so 12
 abbrev pub cells : List TypeDecl
 cells = structure (codes "Cell") (of_type (codes "f") (codes "SINT") ∷ of_type (codes "t") (codes "TIMER") ∷ array_of (codes "c") (codes "COUNTER") 2 ∷ array_of (codes "inner") (codes "Marks") 2 ∷ of_type (codes "x") (codes "DINT") ∷ [])

@@ -97,7 +97,7 @@ goes_on = begun ++ quiet ∷ step 1 ∷ []
 abbrev pub alternates : List TraceEvent
 alternates = begun ++ quiet ∷ quiet ∷ step 1 ∷ step 0 ∷ step 1 ∷ []
 
--- the turn isn't given where another tick follows, and not where the task has a region open
+-- the turn isn't given if another tick follows, and not if the task has a region open
 abbrev pub keeps_it : List TraceEvent
 keeps_it = begun ++ Step 1 1 Up NoFault ∷ quiet ∷ step 1 ∷ Step 1 1 Down NoFault ∷ Left 1 1 true ∷ step 0 ∷ []
 

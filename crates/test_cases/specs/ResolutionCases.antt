@@ -70,7 +70,7 @@ UnknownTags = map (found shop (Program 0)) (codes "zz" ∷ codes "zz.x[9]" ∷ c
 abbrev pub UnknownMembers : Type 0
 UnknownMembers = map (found shop (Program 0)) (codes "i.PRE" ∷ codes "arr.x" ∷ codes "cells.f" ∷ codes "t.CU" ∷ codes "t.XX[zz]" ∷ codes "arr[t.q]" ∷ []) ≡ replicate 6 (Err G4)
 
--- G5: out of range; a bit of what is no integer; a `[` at what is no array, whatever stands behind it
+-- G5: out of range; a bit of what is no integer; a `[` at what is no array, whatever stands after it
 abbrev pub OutOfRange : Type 0
 OutOfRange = map (found shop (Program 0)) (codes "arr[4]" ∷ codes "arr[18446744073709551616]" ∷ codes "i.16" ∷ codes "only.0" ∷ codes "arr.3" ∷ codes "t.0" ∷ codes "i[0]" ∷ codes "i[zz]" ∷ codes "arr[i[zz]]" ∷ codes "arr[9].q" ∷ codes "arr[1][zz]" ∷ []) ≡ replicate 11 (Err G5)
 
@@ -81,7 +81,7 @@ NoSubscripts = map (found shop (Program 0)) (codes "arr[only]" ∷ codes "arr[ar
 abbrev pub FifthSubscript : Type 0
 FifthSubscript = map (found shop (Program 0)) (codes "deep[i].m[i].m[i].m[i].m[i]" ∷ codes "deep[i].m[i].m[i].m[i].m[i].q" ∷ codes "deep[i].m[i].m[i].m[i].m[zz]" ∷ []) ≡ Err G9 ∷ Err G9 ∷ Err G3 ∷ []
 
--- where numbers alone are subscripts
+-- if numbers alone are subscripts
 abbrev pub FixedCauses : Type 0
 FixedCauses = map (found_fixed shop (Program 0)) (codes "arr[3]" ∷ codes "arr[i]" ∷ codes "arr[zz]" ∷ codes "i[zz]" ∷ codes "zz[i]" ∷ codes "arr[" ∷ [])
     ≡ place_in (single Dint) 12 16 ∷ Err G6 ∷ Err G6 ∷ Err G5 ∷ Err G3 ∷ Err G10 ∷ []

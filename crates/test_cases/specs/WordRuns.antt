@@ -5,7 +5,7 @@ use Rattle.spec_tables.specs.declared.task.TaskKind.TheVariants.{Event as EventT
 use Rattle.spec_machine.specs.Project.{Project}
 use Rattle.test_cases.specs.Samples.{array, dint, continuous, program, task, plain, with_words, with_trigger, input, output, is_initially, lines, replay}
 
--- A force counts where forces are enabled, and the refusals of forces and words.
+-- A force counts if forces are enabled, and the refusals of forces and words.
 abbrev pub forced_words : Project
 forced_words = with_words (array (codes "Local:1:I") Dint 2 ∷ array (codes "d") Dint 2 ∷ dint (codes "Local:2:O") ∷ []) (continuous (codes "COP(Local:1:I[0],d[0],2);" ∷ []) ∷ []) (output (codes "Out1") (codes "Local:2:O") ∷ input (codes "In1") (codes "Local:1:I") ∷ []) [] (codes "d[0]" ∷ codes "d[1]" ∷ [])
 

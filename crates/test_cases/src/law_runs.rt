@@ -23,7 +23,7 @@ pub fn runs_are_legal()
     ensures copy { verdicts_on whole_copy held_copy ≡ all_hold }
 {}
 
-/// A scan keeps the rungs that were selected at its begin, also where others are selected in its middle.
+/// A scan keeps the rungs that were selected at its begin, also if others are selected in its middle.
 pub fn scans_keep_rungs()
     ensures kept { rungs_at one_nop (take 5 emptied) ≡ begun_at one_nop (take 5 emptied) }
     ensures taken { rungs_at one_nop emptied ≡ begun_at one_nop emptied }
