@@ -156,45 +156,44 @@ entry_at v s sound h k = elim (cases_lt k (length (tasks s))) [
       get_or_past (tasks s) k no_entry past ∙ (ap (λ d. (d, None)) (sym (get_or_past s.defs k no_task (omega arith))) ∙ ap (λ o. (task s k, o)) (sym (get_or_past s.states k None (omega arith))))
 ]
 
--- the front of the queues is the first task, and no other is
-first_is_front : (v : TableView) (s : Table) → IsSound v → Represents v s → (t p : ℕ) → FrontAt v.queues t p → (x : TaskState) → state_of s t ≡ Some x → (task s t).priority ≡ p + 1 → (k : ℕ) (o : Option TaskState) → state_of s k ≡ o → is_first (tasks s) (task s k) o ≡ eqb t k
-first_is_front v s sound h t p f x tx pr k None e = sym (ne_eqb t k (λ t_k. none-some x (sym e ∙ (ap (state_of s) (sym t_k) ∙ tx))))
-first_is_front v s sound h t p f x tx pr k (Some u) e = elim (cases_eq k t) [
-  | inl k_t ↦
-      ap not (list_any_none (λ other. precedes other.0 other.1 (task s k) (Some u)) (tasks s) (All-from_get_or (λ y. precedes y.0 y.1 (task s k) (Some u) ≡ false) (tasks s) no_entry (λ i l. subst (λ y. precedes y.0 y.1 (task s k) (Some u) ≡ false) (sym (entry_at v s sound h i)) (none_before k_t i (state_of s i) refl))))
-      ∙ sym (eq-eqb t k (sym k_t))
-  | inr ne ↦
-      ap not (list_any_at (λ other. precedes other.0 other.1 (task s k) (Some u)) (tasks s) t no_entry in_list
-      (subst (λ y. precedes y.0 y.1 (task s k) (Some u) ≡ true) (sym (entry_at v s sound h t)) (subst (λ y. precedes (task s t) y (task s k) (Some u) ≡ true) (sym tx) (front_precedes v s sound h t p f x tx pr k u e ne))))
-      ∙ sym (ne_eqb t k (λ t_k. ne (sym t_k)))
+-- no task precedes the front of the queues
+none_before : (v : TableView) (s : Table) → IsSound v → Represents v s → (t p : ℕ) → FrontAt v.queues t p → (x : TaskState) → state_of s t ≡ Some x → (task s t).priority ≡ p + 1 → (i : ℕ) (o : Option TaskState) → state_of s i ≡ o → precedes (task s i) o (task s t) (Some x) ≡ false
+none_before v s sound h t p f x tx pr i None e = refl
+none_before v s sound h t p f x tx pr i (Some w) e = elim (cases_eq i t) [
+  | inl i_t ↦
+      let same : w ≡ x = same_Some w x (sym e ∙ (ap (state_of s) i_t ∙ tx)) in
+      subst (λ j. precedes (task s j) (Some w) (task s t) (Some x) ≡ false) (sym i_t) (subst (λ z. precedes (task s t) (Some z) (task s t) (Some x) ≡ false) (sym same) (precedes_itself (task s t) x))
+  | inr ne ↦ precedes_asym (task s t) (task s i) x w (front_precedes v s sound h t p f x tx pr i w e ne)
 ]
-  where
-    in_list : t < length (tasks s)
-    in_list =
-        let l = within s.states t (subst (λ y. IsTrue (is_some y)) (sym tx) refl) in
-        let n = length-zip s.defs s.states in
-        let same = same_length v s sound h in
-        omega arith
 
-    none_before : k ≡ t → (i : ℕ) (y : Option TaskState) → state_of s i ≡ y → precedes (task s i) y (task s k) (Some u) ≡ false
-    none_before k_t i None e' = refl
-    none_before k_t i (Some w) e' =
-        let here : u ≡ x = same_Some u x (sym e ∙ (ap (state_of s) k_t ∙ tx)) in
-        subst (λ j. precedes (task s i) (Some w) (task s j) (Some u) ≡ false) (sym k_t)
-        (subst (λ z. precedes (task s i) (Some w) (task s t) (Some z) ≡ false) (sym here) (elim (cases_eq i t) [
-          | inl i_t ↦
-              let same : w ≡ x = same_Some w x (sym e' ∙ (ap (state_of s) i_t ∙ tx)) in
-              subst (λ j. precedes (task s j) (Some w) (task s t) (Some x) ≡ false) (sym i_t) (subst (λ z. precedes (task s t) (Some z) (task s t) (Some x) ≡ false) (sym same) (precedes_itself (task s t) x))
-          | inr ne ↦ precedes_asym (task s t) (task s i) x w (front_precedes v s sound h t p f x tx pr i w e' ne)
-        ]))
+front_is_first : (v : TableView) (s : Table) → IsSound v → Represents v s → (t p : ℕ) → FrontAt v.queues t p → (x : TaskState) → state_of s t ≡ Some x → (task s t).priority ≡ p + 1 → is_first (tasks s) (task s t) (state_of s t) ≡ true
+front_is_first v s sound h t p f x tx pr =
+    let none = list_any_none (λ other. precedes other.0 other.1 (task s t) (Some x)) (tasks s)
+    (All-from_get_or (λ y. precedes y.0 y.1 (task s t) (Some x) ≡ false) (tasks s) no_entry
+    (λ i l. subst (λ y. precedes y.0 y.1 (task s t) (Some x) ≡ false) (sym (entry_at v s sound h i)) (none_before v s sound h t p f x tx pr i (state_of s i) refl))) in
+    ap (is_first (tasks s) (task s t)) tx ∙ ap not none
 
+-- and no other is the first task
+other_not_first : (v : TableView) (s : Table) → IsSound v → Represents v s → (t p : ℕ) → FrontAt v.queues t p → (x : TaskState) → state_of s t ≡ Some x → (task s t).priority ≡ p + 1 → (k : ℕ) (o : Option TaskState) → state_of s k ≡ o → (k ≡ t → ⊥) → is_first (tasks s) (task s k) o ≡ false
+other_not_first v s sound h t p f x tx pr k None e ne = refl
+other_not_first v s sound h t p f x tx pr k (Some u) e ne =
+    let l = within s.states t (subst (λ y. IsTrue (is_some y)) (sym tx) refl) in
+    let n = length-zip s.defs s.states in
+    let same = same_length v s sound h in
+    ap not (list_any_at (λ other. precedes other.0 other.1 (task s k) (Some u)) (tasks s) t no_entry (omega arith)
+    (subst (λ y. precedes y.0 y.1 (task s k) (Some u) ≡ true) (sym (entry_at v s sound h t)) (subst (λ y. precedes (task s t) y (task s k) (Some u) ≡ true) (sym tx) (front_precedes v s sound h t p f x tx pr k u e ne))))
+
+-- the front of the queues, if there is one, is the first task and no other
 front_by : (v : TableView) (s : Table) → IsSound v → Represents v s → (o : Option ℕ) → front_of v.queues ≡ o → (k : ℕ) → is_first (tasks s) (task s k) (state_of s k) ≡ is_it o k
 front_by v s sound h None e k = ap (is_first (tasks s) (task s k)) (all_down_if_none v s sound h (front-none v.queues e) k (state_of s k) refl)
 front_by v s sound h (Some t) e k =
     let f = front-some v.queues t e in
     let here = up_at_front v s h t f.0 f.1 in
     let x = value_of_some (state_of s t) here.0 in
-    first_is_front v s sound h t f.0 f.1 x.0 x.1 here.1 k (state_of s k) refl
+    elim (cases_eq k t) [
+      | inl k_t ↦ ap (λ i. is_first (tasks s) (task s i) (state_of s i)) k_t ∙ (front_is_first v s sound h t f.0 f.1 x.0 x.1 here.1 ∙ sym (eq-eqb t k (sym k_t)))
+      | inr ne ↦ other_not_first v s sound h t f.0 f.1 x.0 x.1 here.1 k (state_of s k) refl ne ∙ sym (ne_eqb t k (λ t_k. ne (sym t_k)))
+    ]
 
 pub first-front : (v : TableView) (s : Table) → IsSound v → Represents v s → position_from (λ t. is_first (tasks s) t.0 t.1) 0 (tasks s) ≡ front_of v.queues
 first-front v s sound h =

@@ -5,4 +5,4 @@ mod queue;
 mod table;
 
 pub use spec_tables::{TaskDef, TaskKind};
-pub use table::{Release, TaskTable, ActiveTask};
+pub use table::{ActiveTask, Release, TaskTable};

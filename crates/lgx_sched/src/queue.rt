@@ -23,6 +23,7 @@ impl Model for Queue {
 }
 
 impl Queue {
+    /// A queue without a task.
     fn new() -> Queue
         ensures { result ≡ [] }
     {
@@ -31,12 +32,14 @@ impl Queue {
         }
     }
 
+    /// Task number `i`.
     fn get(&self, i: usize) -> Option<u32>
         ensures { result ≡ slice_get self.now i }
     {
         self.tasks.as_slice().get(i).copied()
     }
 
+    /// Puts a task last.
     fn push(&mut self, t: u32)
         requires { length self.old < MAX_TASKS }
         ensures { self.new ≡ self.old ++ t ∷ [] }
@@ -51,6 +54,7 @@ impl Queue {
         let _ = self.tasks.pop_at(0);
     }
 
+    /// Takes out all tasks.
     fn clear(&mut self)
         ensures { self.new ≡ [] }
     {
@@ -142,7 +146,7 @@ fn front(queues: &[Queue]) -> Option<u32>
     None
 }
 
-/// Takes out all tasks.
+/// Empties each queue.
 fn empty(queues: &mut [Queue])
     ensures { queues.new ≡ map (λ q. []) queues.old }
 {

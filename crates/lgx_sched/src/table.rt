@@ -30,6 +30,7 @@ pub enum Release {
     Overlap,
 }
 
+/// The tasks in project order: which are up, their turns at each priority, and which has something open.
 #[derive(Drop)]
 pub struct TaskTable {
     defs: Items<TaskDef>,
@@ -259,6 +260,7 @@ impl TaskTable {
         }
     }
 
+    /// A task that was down is up, last in its queue.
     fn put_up(&mut self, t: u32, now: u32)
         requires task { t < length self.old.defs }
         requires down { up_of self.old t ≡ None }
@@ -273,6 +275,7 @@ impl TaskTable {
         self.queues.push_last(place, t);
     }
 
+    /// The front goes to the end of its queue.
     fn put_last(&mut self, t: u32)
         requires none_open { self.old.open_task ≡ None }
         requires front { front_of self.old.queues ≡ Some t }
@@ -283,6 +286,7 @@ impl TaskTable {
         self.queues.push_last(place, t);
     }
 
+    /// Every task goes down.
     fn put_all_down(&mut self, run_since: u32)
         ensures exact { self.new ≡ record (all_down self.old) { run_since = run_since } }
         ensures table { IsTable self.old }
@@ -293,6 +297,7 @@ impl TaskTable {
         self.run_since = run_since;
     }
 
+    /// What is kept of the task that is to run.
     fn active_task(&self, t: u32) -> ActiveTask
         requires chosen { next_task self.now ≡ Some t }
         ensures up { up_of self.now t ≡ Some result }
@@ -304,6 +309,7 @@ impl TaskTable {
         }
     }
 
+    /// The task that is to run has other regions, or another CPS.
     fn change(&mut self, t: u32, up: ActiveTask)
         requires chosen { next_task self.old ≡ Some t }
         ensures { self.new ≡ with_active t up self.old }
@@ -313,6 +319,7 @@ impl TaskTable {
         self.open_task = open_task;
     }
 
+    /// The task that is to run goes down.
     fn take_out(&mut self, t: u32)
         requires chosen { next_task self.old ≡ Some t }
         ensures exact { self.new ≡ dequeued t self.old }
@@ -325,6 +332,7 @@ impl TaskTable {
     }
 }
 
+/// Whether it is the kind of the continuous task.
 fn is_continuous(kind: TaskKind) -> bool
     ensures { result ≡ is_continuous kind }
 {
@@ -343,6 +351,7 @@ fn place(defs: &[TaskDef], t: u32) -> usize
     defs[t as usize].priority as usize - 1
 }
 
+/// The first continuous task.
 fn continuous_task(defs: &[TaskDef]) -> Option<u32>
     requires { length defs.now ≤ MAX_TASKS }
     ensures { result ≡ position_from (λ d. is_continuous d.kind) 0 defs.now }
@@ -366,6 +375,7 @@ fn task_if_open(t: u32, up: ActiveTask) -> Option<u32>
     }
 }
 
+/// Whether the task is up with a CPS in progress.
 fn has_cps(up: Option<ActiveTask>) -> bool
     ensures { result ≡ has_cps up }
 {
@@ -375,6 +385,7 @@ fn has_cps(up: Option<ActiveTask>) -> bool
     }
 }
 
+/// Whether the task has been up for the ticks of its watchdog.
 fn has_run_out(now: u32, def: TaskDef, up: Option<ActiveTask>) -> bool
     ensures { result ≡ has_run_out now def up }
 {
@@ -384,6 +395,7 @@ fn has_run_out(now: u32, def: TaskDef, up: Option<ActiveTask>) -> bool
     }
 }
 
+/// The first task that has been up for the ticks of its watchdog.
 fn first_expired(now: u32, defs: &[TaskDef], ups: &[Option<ActiveTask>]) -> Option<u32>
     requires few { length defs.now ≤ MAX_TASKS }
     requires as_many { length ups.now ≡ length defs.now }

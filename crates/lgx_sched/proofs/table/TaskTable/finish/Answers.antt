@@ -1,4 +1,4 @@
--- The task is down, and up again where it is the continuous one.
+-- The task is down, and up again if it is the continuous one.
 use Rattle.std.proofs.Common.{◌≡◌, List, [], None, length, ◌<◌, ap, ◌∙◌, subst, sym}
 use Rattle.spec_tables.specs.declared.task.TaskDef.{TaskDef}
 use Rattle.spec_tables.specs.Tasks.{no_task, is_continuous, finish}

@@ -1,4 +1,4 @@
--- A table that was just made stands for the list in which all tasks are down.
+-- A table that was just made represents the list in which all tasks are down.
 use Rattle.std.proofs.Common.{◌∙◌, subst}
 use Rattle.lgx_sched.specs.TableView.{TableView}
 use Rattle.lgx_sched.specs.Represents.{Represents, IsTable, none_up}

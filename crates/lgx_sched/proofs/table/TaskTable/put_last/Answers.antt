@@ -1,4 +1,4 @@
--- The front has room behind its own queue, and the table stays one.
+-- The front has room at the end of its own queue, and the table stays one.
 use Rattle.std.proofs.Common.{◌≡◌, List, [], Some, None, length, ◌<◌, ap, ◌∙◌, subst, sym}
 use Rattle.spec_tables.specs.declared.task.TaskDef.{TaskDef}
 use Rattle.lgx_sched.specs.TableView.{TableView, def_of, place_of, front_of}
