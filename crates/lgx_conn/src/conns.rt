@@ -34,7 +34,7 @@ impl Model for Conns {
 }
 
 impl Conns {
-    /// The connections of these definitions: at most [`MAX_CONNECTIONS`], each of at most [`MAX_CONNECTION_WORDS`] words
+    /// The connections of these definitions: at most `MAX_CONNECTIONS`, each of at most `MAX_CONNECTION_WORDS` words
     /// that lie in the image.
     pub fn new(alloc: Global, defs: &[ConnDef]) -> Result<Conns, Memory>
         requires few { length defs.now ≤ MAX_CONNECTIONS }

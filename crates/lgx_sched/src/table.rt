@@ -53,7 +53,7 @@ impl Model for TaskTable {
 }
 
 impl TaskTable {
-    /// A table of these tasks in project order, at most [`MAX_TASKS`], with all of them down.
+    /// A table of these tasks in project order, at most `MAX_TASKS`, with all of them down.
     pub fn new(alloc: Global, defs: &[TaskDef]) -> Result<TaskTable, Memory>
         requires few { length defs.now ≤ MAX_TASKS }
         requires priorities { All (λ d. (0 < d.priority) × (d.priority ≤ LEAST_PRIORITY)) defs.now }
