@@ -114,8 +114,7 @@ fn find(defs: &[ConnDef], name: &Name) -> Option<usize>
     ensures place { result ≡ position_from (λ c. same c.name name.now) 0 defs.now }
     ensures within { IfSome result (λ n. n < length defs.now) }
 {
-    for n in 0..defs.len() {
-        let def = &defs[n];
+    for (n, def) in defs.iter().enumerate() {
         if def.name.same(name) {
             return Some(n);
         }

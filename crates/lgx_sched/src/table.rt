@@ -356,8 +356,8 @@ fn continuous_task(defs: &[TaskDef]) -> Option<u32>
     requires { length defs.now ≤ MAX_TASKS }
     ensures { result ≡ position_from (λ d. is_continuous d.kind) 0 defs.now }
 {
-    for t in 0..defs.len() {
-        if is_continuous(defs[t].kind) {
+    for (t, def) in defs.iter().enumerate() {
+        if is_continuous(def.kind) {
             return Some(t as u32);
         }
     }
@@ -401,8 +401,8 @@ fn first_expired(now: u32, defs: &[TaskDef], ups: &[Option<ActiveTask>]) -> Opti
     requires as_many { length ups.now ≡ length defs.now }
     ensures { result ≡ position_from (λ t. has_run_out now t.0 t.1) 0 (zip defs.now ups.now) }
 {
-    for t in 0..defs.len() {
-        if has_run_out(now, defs[t], ups[t]) {
+    for (t, def) in defs.iter().enumerate() {
+        if has_run_out(now, *def, ups[t]) {
             return Some(t as u32);
         }
     }
