@@ -10,25 +10,26 @@ use Rattle.spec_tables.specs.declared.conn.Slot.{Slot}
 use Rattle.spec_tables.specs.declared.conn.ConnFault.{ConnFault}
 use Rattle.spec_tables.specs.declared.conn.ConnFault.TheVariants.{N1, N2, N3}
 use Rattle.spec_tables.specs.Connections.{no_conn, conn_named, words_of, trigger_at, slot_of, in_direction, slot_in, slot, io_in, io_word}
+use Rattle.spec_base.specs.declared.limits.TheConstants.{MAX_CONNECTIONS, MAX_CONNECTION_WORDS}
 use Rattle.lgx_conn.specs.Numbered.{IsSmall, IsNumbered}
 
--- there are at most 8,192 words
-pub few_words : (conns : List ConnDef) (n : ℕ) → length conns ≤ 64 → All IsSmall conns → words_of (take n conns) ≤ 8192
+-- there are few words in all
+pub few_words : (conns : List ConnDef) (n : ℕ) → length conns ≤ MAX_CONNECTIONS → All IsSmall conns → words_of (take n conns) ≤ MAX_CONNECTIONS * MAX_CONNECTION_WORDS
 few_words conns n few small =
-    let most = sum_by-le (λ (c : ConnDef). c.words) 128 (take n conns) (All-take (λ (c : ConnDef). c.words ≤ 128) n conns (All-weaker IsSmall (λ (c : ConnDef). c.words ≤ 128) (λ c h. h.0) conns small)) in
+    let most = sum_by-le (λ (c : ConnDef). c.words) MAX_CONNECTION_WORDS (take n conns) (All-take (λ (c : ConnDef). c.words ≤ MAX_CONNECTION_WORDS) n conns (All-weaker IsSmall (λ (c : ConnDef). c.words ≤ MAX_CONNECTION_WORDS) (λ c h. h.0) conns small)) in
     bound (words_of (take n conns)) (length (take n conns)) (length conns) (subst (λ m. m ≤ length conns) (sym (length-take n conns)) (least n (length conns))) few most
   where
     least : (a b : ℕ) → min a b ≤ b
     least a b = omega arith
 
-    bound : (s a b : ℕ) → a ≤ b → b ≤ 64 → s ≤ a * 128 → s ≤ 8192
+    bound : (s a b : ℕ) → a ≤ b → b ≤ MAX_CONNECTIONS → s ≤ a * MAX_CONNECTION_WORDS → s ≤ MAX_CONNECTIONS * MAX_CONNECTION_WORDS
     bound s a b l l' h = omega arith
 
 pub is_small : (conns : List ConnDef) (n : ℕ) (c : ConnDef) → All IsSmall conns → n < length conns → c ≡ get_or conns n c → IsSmall c
 is_small conns n c small l e = subst IsSmall (sym e) (small n c l)
 
 -- the number of a word fits
-pub word_fits : (conns : List ConnDef) (firsts : List ℕ) (n word first words : ℕ) → IsNumbered conns firsts → n < length conns → first ≡ get_or firsts n first → word < words → words ≤ 128 → first + word < 2 ^ 32
+pub word_fits : (conns : List ConnDef) (firsts : List ℕ) (n word first words : ℕ) → IsNumbered conns firsts → n < length conns → first ≡ get_or firsts n first → word < words → words ≤ MAX_CONNECTION_WORDS → first + word < 2 ^ 32
 word_fits conns firsts n word first words is l e lw few =
     let l' : n < length firsts = subst (λ m. n < m) (sym is.as_many) l in
     let read : first ≡ words_of (take n conns) = get_or_read firsts n first l' e 0 ∙ is.first n l in

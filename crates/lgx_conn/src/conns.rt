@@ -2,6 +2,7 @@
 ghost use Rattle.std.specs.Prelude.{◌≡◌, ◌<◌, ◌≤◌, Bool, true, false, length, IfOk, IfSome, slice_index_or};
 ghost use Rattle.std.specs.List.{All, position_from};
 ghost use Rattle.lgx_num.specs.Name.{same};
+ghost use Rattle.spec_base.specs.declared.limits.TheConstants.{MAX_CONNECTIONS};
 ghost use Rattle.spec_tables.specs.Connections.{slot, io_word, no_conn, trigger_at};
 ghost use Rattle.lgx_conn.specs.Numbered.{IsSmall};
 
@@ -12,12 +13,11 @@ use std::marker::Model;
 
 /// The connections of a project in their order, seen as the list of their definitions.
 ///
-/// A name is found by a walk over at most 64 names of at most 40 bytes: a map would have to take memory for a key
-/// without case at each call.
+/// A name is found by a walk over all names: a map would have to take memory for a key without case at each call.
 #[derive(Drop)]
 pub struct Conns {
     defs: Items<ConnDef>,
-    // for each the number of its first word among the words of all
+    /// For each the number of its first word among the words of all.
     firsts: Vec<u32>,
 }
 
@@ -34,9 +34,10 @@ impl Model for Conns {
 }
 
 impl Conns {
-    /// The connections of these definitions: at most 64, each of at most 128 words that lie in the image.
+    /// The connections of these definitions: at most `MAX_CONNECTIONS`, each of at most `MAX_CONNECTION_WORDS` words
+    /// that lie in the image.
     pub fn new(alloc: Global, defs: &[ConnDef]) -> Result<Conns, Memory>
-        requires few { length defs.now ≤ 64 }
+        requires few { length defs.now ≤ MAX_CONNECTIONS }
         requires small { All IsSmall defs.now }
         ensures { IfOk result (λ conns. conns ≡ defs.now) }
     {
@@ -83,6 +84,7 @@ impl Conns {
         }
     }
 
+    /// The slot of a word, whose connection must be an output if `output` says so, and else an input.
     fn slot(&self, conn: &Name, word: u32, output: bool) -> Result<Slot, ConnFault>
         ensures { result ≡ slot self.now conn.now word output }
     {
@@ -107,13 +109,12 @@ impl Conns {
     }
 }
 
-// The number of a connection by its name.
+/// The number of a connection by its name.
 fn find(defs: &[ConnDef], name: &Name) -> Option<usize>
     ensures place { result ≡ position_from (λ c. same c.name name.now) 0 defs.now }
     ensures within { IfSome result (λ n. n < length defs.now) }
 {
-    for n in 0..defs.len() {
-        let def = &defs[n];
+    for (n, def) in defs.iter().enumerate() {
         if def.name.same(name) {
             return Some(n);
         }
@@ -121,7 +122,7 @@ fn find(defs: &[ConnDef], name: &Name) -> Option<usize>
     None
 }
 
-// The last word of an input triggers the connection's task.
+/// The task that a word triggers: the last word of an input triggers the connection's task.
 fn trigger_at(def: &ConnDef, word: u32) -> Option<u32>
     requires { word < def.now.words }
     ensures { result ≡ trigger_at def.now word }
@@ -134,6 +135,7 @@ fn trigger_at(def: &ConnDef, word: u32) -> Option<u32>
     }
 }
 
+/// The same definition once more.
 fn copied(def: &ConnDef) -> ConnDef
     ensures { result ≡ def.now }
 {

@@ -2,8 +2,6 @@
 #![tactic(auto)]
 
 mod conns;
-#[cfg(test)]
-mod tests;
 
 pub use conns::Conns;
 pub use spec_tables::{ConnDef, ConnFault, Slot};

@@ -1,19 +1,19 @@
 // The last faults, in a ring of fixed room.
 ghost use Rattle.std.specs.Prelude.{◌≡◌, ℕ, ◌≤◌, ◌==◌, ◌↔◌, List, [], ◌∷◌, ◌++◌, length, slice_get, IfOk, IsNone};
 ghost use Rattle.spec_tables.specs.declared.fault.Fault.{Fault};
+ghost use Rattle.spec_base.specs.declared.limits.TheConstants.{FAULT_LOG_LENGTH};
 ghost use Rattle.lgx_fault.specs.Kept.{last_faults};
 
 use circular_buffer::HeapCircularBuffer;
 use lgx_num::Memory;
+use spec_base::limits::FAULT_LOG_LENGTH;
 use spec_tables::Fault;
 use std::alloc::Global;
 use std::marker::Model;
 
-const ROOM: usize = 64;
-
-/// The last 64 faults that were noted, oldest first. Its room is taken once, by [`FaultLog::new`].
+/// The last [`FAULT_LOG_LENGTH`] faults that were noted, oldest first. Its room is taken once, by [`FaultLog::new`].
 ///
-/// A controller records minor and major faults as long as it runs; that it keeps 64 of them is this project's own choice.
+/// A controller records minor and major faults as long as it runs; how many it keeps is this project's own choice.
 #[derive(Drop)]
 pub struct FaultLog {
     ring: HeapCircularBuffer<Fault>,
@@ -21,13 +21,14 @@ pub struct FaultLog {
 
 impl Model for FaultLog {
     ghost use Rattle.std.specs.Prelude.{◌≡◌, List};
+    ghost use Rattle.spec_base.specs.declared.limits.TheConstants.{FAULT_LOG_LENGTH};
     ghost use Rattle.spec_tables.specs.declared.fault.Fault.{Fault};
 
     ghost Value = { List Fault };
 
     ghost view = { λ l. l.ring.items };
 
-    ghost invariant = { λ l. l.ring.capacity ≡ 64 };
+    ghost invariant = { λ l. l.ring.capacity ≡ FAULT_LOG_LENGTH };
 }
 
 impl FaultLog {
@@ -35,11 +36,11 @@ impl FaultLog {
     pub fn new(alloc: Global) -> Result<FaultLog, Memory>
         ensures { IfOk result (λ log. log ≡ []) }
     {
-        let ring = HeapCircularBuffer::with_capacity(alloc, ROOM)?;
+        let ring = HeapCircularBuffer::with_capacity(alloc, FAULT_LOG_LENGTH)?;
         Ok(FaultLog { ring })
     }
 
-    /// Notes a fault behind the others. Where 64 are held, the oldest is given up. It takes no memory.
+    /// Notes a fault after the others. If the log is full, the oldest is given up. It takes no memory.
     pub fn note(&mut self, fault: Fault)
         ensures step { self.new ≡ last_faults (self.old ++ fault ∷ []) }
         ensures holds { (all : List Fault) → self.old ≡ last_faults all → self.new ≡ last_faults (all ++ fault ∷ []) }
@@ -47,10 +48,10 @@ impl FaultLog {
         self.ring.push_back(fault);
     }
 
-    /// The number of faults that are held: 0 to 64.
+    /// The number of faults that are held.
     pub fn len(&self) -> u32
         ensures value { result ≡ length self.now }
-        ensures room { result ≤ 64 }
+        ensures room { result ≤ FAULT_LOG_LENGTH }
     {
         self.ring.len() as u32
     }

@@ -1,10 +1,8 @@
-//! The log of the controller's faults: the last 64 of all that were recorded, oldest first.
+//! The log of the controller's faults: the last of all that were recorded, oldest first.
 #![tactic(auto)]
 
 mod fault_log;
 mod laws;
-#[cfg(test)]
-mod tests;
 
 pub use fault_log::FaultLog;
 pub use laws::law_of_notes;

@@ -1,29 +1,27 @@
 // The table of forces.
-ghost use Rattle.std.specs.Prelude.{◌≡◌, ◌<◌, length, map, option_map, IfOk, Some, None};
+ghost use Rattle.std.specs.Prelude.{◌≡◌, ◌<◌, length, option_map, IfOk, Some, None};
 ghost use Rattle.spec_tables.specs.Forces.{no_forces, install, enable, disable, remove_all, forced, masked};
 ghost use Rattle.lgx_force.specs.Seen.{Answers, force_of};
 
 use lgx_num::Memory;
+use spec_base::limits::MAX_FORCES;
 use spec_tables::ForceFault;
 use std::alloc::Global;
 use std::marker::Model;
 
-/// At most so many words have a force.
-const ROOM: u32 = 256;
-
 /// A force as it is kept.
 #[derive(Clone, Copy)]
-pub struct Kept {
+pub struct StoredForce {
     pub mask: i32,
     pub value: i32,
 }
 
-/// The forces of the I/O words. At most 256 words have one.
+/// The forces of the I/O words. At most [`MAX_FORCES`] words have one.
 ///
 /// It has a place for each word, so that a word is forced without a look at the others.
 #[derive(Drop)]
 pub struct ForceTable {
-    words: Vec<Option<Kept>>,
+    words: Vec<Option<StoredForce>>,
     installed: u32,
     enabled: bool,
 }
@@ -47,12 +45,9 @@ impl ForceTable {
         ensures exact { IfOk result (λ table. table ≡ no_forces words) }
         ensures words { IfOk result (λ table. length table.words ≡ words) }
     {
-        let mut kept = Vec::with_capacity(alloc, words as usize)?;
-        for _word in 0..words {
-            kept.push(None)?;
-        }
+        let words = vec![in alloc; None; words as usize]?;
         Ok(ForceTable {
-            words: kept,
+            words,
             installed: 0,
             enabled: false,
         })
@@ -60,7 +55,7 @@ impl ForceTable {
 
     /// Installs a force: the masked bits of the word shall be those of the value. It replaces an earlier one of the word.
     ///
-    /// F1 comes where there is no such word, and F2 where 256 other words have a force.
+    /// F1 comes if there is no such word, and F2 if [`MAX_FORCES`] other words have a force.
     pub fn install(&mut self, word: u32, mask: i32, value: i32) -> Result<(), ForceFault>
         ensures exact { Answers (install self.old word mask value) self.old self.new result }
         ensures words { length self.new.words ≡ length self.old.words }
@@ -69,15 +64,15 @@ impl ForceTable {
             return Err(ForceFault::F1);
         }
         let others = self.installed - u32::from(self.words[word as usize].is_some());
-        if others >= ROOM {
+        if others as usize >= MAX_FORCES {
             return Err(ForceFault::F2);
         }
-        self.words[word as usize] = Some(Kept { mask, value });
+        self.words[word as usize] = Some(StoredForce { mask, value });
         self.installed = others + 1;
         Ok(())
     }
 
-    /// Enables the forces. F3 comes where none is installed (profile).
+    /// Enables the forces. F3 comes if none is installed (profile).
     pub fn enable(&mut self) -> Result<(), ForceFault>
         ensures exact { Answers (enable self.old) self.old self.new result }
         ensures words { length self.new.words ≡ length self.old.words }
@@ -97,7 +92,7 @@ impl ForceTable {
         self.enabled = false;
     }
 
-    /// Removes all forces, and disables (profile). F3 comes where none is installed.
+    /// Removes all forces, and disables (profile). F3 comes if none is installed.
     pub fn remove_all(&mut self) -> Result<(), ForceFault>
         ensures exact { Answers (remove_all self.old) self.old self.new result }
         ensures words { length self.new.words ≡ length self.old.words }
@@ -105,9 +100,9 @@ impl ForceTable {
         if self.installed == 0 {
             return Err(ForceFault::F3);
         }
-        clear(&mut self.words);
+        self.words.fill(None);
         self.installed = 0;
-        self.enabled = false;
+        self.disable();
         Ok(())
     }
 
@@ -124,15 +119,8 @@ impl ForceTable {
     }
 }
 
-fn clear(words: &mut Vec<Option<Kept>>)
-    ensures { words.new.items ≡ map (λ w. None) words.old.items }
-{
-    for word in 0..words.len() {
-        words[word] = None;
-    }
-}
-
-fn masked(force: Option<Kept>, value: i32) -> i32
+/// The word's value under its force, if it has one.
+fn masked(force: Option<StoredForce>, value: i32) -> i32
     ensures { result ≡ masked (option_map force_of force) value }
 {
     match force {
@@ -141,7 +129,7 @@ fn masked(force: Option<Kept>, value: i32) -> i32
     }
 }
 
-// The masked bits are the force's, and the others the word's.
+/// The masked bits are the force's, and the others the word's.
 fn with_bits(mask: i32, held: i32, value: i32) -> i32
     ensures { result ≡ masked (Some (record { mask = mask; value = held })) value }
 {

@@ -1,24 +1,25 @@
 -- What is true of every table stays true at each step.
-use Rattle.std.proofs.Common.{◌≡◌, ℕ, ◌+◌, ◌-◌, ◌<◌, ◌≤◌, zero, suc, Bool, true, false, cond, List, [], ◌∷◌, ◌++◌, length, get_or, set, drop, map, Option, Some, None, IfSome, option_map, inl, inr, is_some, refl, sym, ap, ◌∙◌, subst, arith, if◌then◌else◌, count_by, sum_by}
-use Rattle.std.specs.List.{slice_get}
+use Rattle.std.proofs.Common.{◌≡◌, ℕ, ◌+◌, ◌-◌, ◌*◌, ◌<◌, ◌≤◌, zero, suc, Bool, true, false, cond, List, [], ◌∷◌, ◌++◌, length, get_or, set, drop, map, replicate, Option, Some, None, IfSome, option_map, inl, inr, is_some, refl, sym, ap, ◌∙◌, subst, arith, if◌then◌else◌, count_by, sum_by}
+use Rattle.std.specs.List.{slice_get, All}
 use Rattle.std.proofs.lemmas.Bool.{cases_eq, cases_lt, false≢true, eq-eqb, ne_eqb}
-use Rattle.std.proofs.lemmas.List.{get_or-set_same, get_or-set_other, length-set, get_or_past, length-append}
+use Rattle.std.proofs.lemmas.List.{get_or-set_same, get_or-set_other, length-set, get_or_past, length-append, length-map, length-replicate}
+use Rattle.std.proofs.lemmas.List.Folds.{sum_by-replicate}
+use Rattle.std.proofs.lemmas.List.Elements.{All-head}
+use Rattle.std.proofs.lemmas.Option.{same_Some}
+use Rattle.spec_base.specs.declared.limits.TheConstants.{MAX_TASKS}
 use Rattle.std.proofs.lemmas.List.Sums.{sum_by-set, sum_by-cons, get_or-le-sum_by, count_by-le-length}
 use Rattle.spec_tables.specs.declared.task.TaskDef.{TaskDef}
 use Rattle.spec_tables.specs.Tasks.{TaskState, Table, state_of, task, or_else}
-use Rattle.lgx_sched.specs.declared.table.Up.{Up}
-use Rattle.lgx_sched.specs.Ready.{Ready, up_of, queue_at, place_of, has_open, front_of, next_task, pushed, popped, up_last, out_of_line, to_the_end, with_up, all_down}
-use Rattle.lgx_sched.specs.StandsFor.{Each, without_rank, IsUpAt, StandsFor, IsSound, is_it}
-use Rattle.lgx_sched.proofs.Chosen.{within, same_length, front-some, up_at_front, turn_as_up}
+use Rattle.lgx_sched.specs.declared.table.ActiveTask.{ActiveTask}
+use Rattle.lgx_sched.specs.TableView.{TableView, up_of, queue_at, place_of, has_open, front_of, next_task, pushed, popped, enqueued, dequeued, rotated, with_active, all_down}
+use Rattle.lgx_sched.specs.Represents.{without_rank, IsUpAt, Represents, IsSound, is_it}
+use Rattle.lgx_sched.proofs.Chosen.{within, same_length, front-some, up_at_front, state_as_up}
 use Rattle.lgx_sched.proofs.Steps.{IsUp, IsHead, starts_with, place_is, place_fits}
 
 -- ---- the task that is to run
 
-pub some_same : {X : Type 0} (a b : X) → Some a ≡ Some b → a ≡ b
-some_same a b e = cc
-
 -- it is the first of its queue
-pub head-by : (v : Ready) (s : Table) (t : ℕ) (o : Option ℕ) → IsSound v → StandsFor v s → v.opened ≡ o → or_else o (front_of v.queues) ≡ Some t → IsHead v t
+pub head-by : (v : TableView) (s : Table) (t : ℕ) (o : Option ℕ) → IsSound v → Represents v s → v.open_task ≡ o → or_else o (front_of v.queues) ≡ Some t → IsHead v t
 head-by v s t None sound h is e =
     let f = front-some v.queues t e in
     let p = f.0 in
@@ -30,23 +31,24 @@ head-by v s t None sound h is e =
     less_one n p' e' = omega arith
 head-by v s t (Some o) sound h is e =
     let first : IfSome (Some o) (λ k. slice_get (queue_at v (place_of v k)) 0 ≡ Some k) = subst (λ x. IfSome x (λ k. slice_get (queue_at v (place_of v k)) 0 ≡ Some k)) is sound.first in
-    subst (λ k. slice_get (queue_at v (place_of v k)) 0 ≡ Some k) (some_same o t e) first
+    subst (λ k. slice_get (queue_at v (place_of v k)) 0 ≡ Some k) (same_Some o t e) first
 
-pub head-next : (v : Ready) (s : Table) (t : ℕ) → IsSound v → StandsFor v s → next_task v ≡ Some t → IsHead v t
-head-next v s t sound h e = head-by v s t v.opened sound h refl e
+pub head-next : (v : TableView) (s : Table) (t : ℕ) → IsSound v → Represents v s → next_task v ≡ Some t → IsHead v t
+head-next v s t sound h e = head-by v s t v.open_task sound h refl e
 
-pub up-head : (v : Ready) (s : Table) (t : ℕ) → StandsFor v s → IsHead v t → IsUp (state_of s t)
+pub up-head : (v : TableView) (s : Table) (t : ℕ) → Represents v s → IsHead v t → IsUp (state_of s t)
 up-head v s t h head =
-    (subst (λ q. Each (IsUpAt (state_of s) (λ k. (task s k).priority) (place_of v t + 1)) q) (starts_with (queue_at v (place_of v t)) t head) ((h.queues (place_of v t)).each)).0.0
+    let up : ℕ → Type 0 = IsUpAt (state_of s) (λ k. (task s k).priority) (place_of v t + 1) in
+    (All-head up t _ (subst (λ q. All up q) (starts_with (queue_at v (place_of v t)) t head) ((h.queues (place_of v t)).each))).0
 
-pub task-head : (v : Ready) (s : Table) (t : ℕ) → IsSound v → StandsFor v s → IsHead v t → t < length v.defs
+pub task-head : (v : TableView) (s : Table) (t : ℕ) → IsSound v → Represents v s → IsHead v t → t < length v.defs
 task-head v s t sound h head =
     subst (λ n. t < n) (same_length v s sound h ∙ sym (ap (λ (xs : List TaskDef). length xs) h.defs)) (within s.states t (up-head v s t h head))
 
 -- nothing else has something open
 only_mine : (o : Option ℕ) (qs : List (List ℕ)) (t k : ℕ) → or_else o (front_of qs) ≡ Some t → (k ≡ t → ⊥) → is_it o k ≡ false
 only_mine None qs t k e ne = refl
-only_mine (Some o) qs t k e ne = ne_eqb o k (λ o_k. ne (sym o_k ∙ some_same o t e))
+only_mine (Some o) qs t k e ne = ne_eqb o k (λ o_k. ne (sym o_k ∙ same_Some o t e))
 
 -- ---- room
 
@@ -59,15 +61,15 @@ length_le_sum qs p = elim (cases_lt p (length qs)) [
     least : (n : ℕ) → 0 ≤ n
     least n = omega arith
 
-count_is : (us : List (Option Up)) (t : ℕ) (x : Option Up) → t < length us → count_by is_some (set us t x) + cond (is_some (get_or us t None)) 1 0 ≡ count_by is_some us + cond (is_some x) 1 0
-count_is us t x l = sum_by-set (λ (o : Option Up). cond (is_some o) 1 0) us t x None l
+count_is : (us : List (Option ActiveTask)) (t : ℕ) (x : Option ActiveTask) → t < length us → count_by is_some (set us t x) + cond (is_some (get_or us t None)) 1 0 ≡ count_by is_some us + cond (is_some x) 1 0
+count_is us t x l = sum_by-set (λ (o : Option ActiveTask). cond (is_some o) 1 0) us t x None l
 
 -- a queue has room for a task that is down
-pub room-up : (v : Ready) (t p : ℕ) → IsSound v → t < length v.defs → up_of v t ≡ None → length (queue_at v p) < 32
+pub room-up : (v : TableView) (t p : ℕ) → IsSound v → t < length v.defs → up_of v t ≡ None → length (queue_at v p) < MAX_TASKS
 room-up v t p sound l down =
     let l' : t < length v.ups = subst (λ n. t < n) (sym sound.as_many) l in
-    let fresh : Option Up = Some (record { start = 0; region_count = 0; cps_open = false }) in
-    let one : count_by is_some (set v.ups t fresh) + 0 ≡ count_by is_some v.ups + 1 = subst (λ (o : Option Up). count_by is_some (set v.ups t fresh) + cond (is_some o) 1 0 ≡ count_by is_some v.ups + 1) down (count_is v.ups t fresh l') in
+    let fresh : Option ActiveTask = Some (record { start = 0; region_count = 0; cps_open = false }) in
+    let one : count_by is_some (set v.ups t fresh) + 0 ≡ count_by is_some v.ups + 1 = subst (λ (o : Option ActiveTask). count_by is_some (set v.ups t fresh) + cond (is_some o) 1 0 ≡ count_by is_some v.ups + 1) down (count_is v.ups t fresh l') in
     let most = count_by-le-length is_some (set v.ups t fresh) in
     let len = length-set v.ups t fresh in
     let sum = length_le_sum v.queues p in
@@ -76,7 +78,7 @@ room-up v t p sound l down =
     let few = sound.few in
     omega arith
 
-pub room-last : (v : Ready) (t p : ℕ) → IsSound v → slice_get (queue_at v p) 0 ≡ Some t → length (drop 1 (queue_at v p)) < 32
+pub room-last : (v : TableView) (t p : ℕ) → IsSound v → slice_get (queue_at v p) 0 ≡ Some t → length (drop 1 (queue_at v p)) < MAX_TASKS
 room-last v t p sound head =
     let sum = length_le_sum v.queues p in
     let most = count_by-le-length is_some v.ups in
@@ -121,30 +123,30 @@ first-pushed qs p t k o e = elim (cases_eq k p) [
     kept [] e' = absurd (none_some o e')
     kept (x ∷ xs) e' = e'
 
-up_too : (o : Option Up) (x : Option TaskState) → o ≡ option_map without_rank x → IsUp x → is_some o ≡ true
+up_too : (o : Option ActiveTask) (x : Option TaskState) → o ≡ option_map without_rank x → IsUp x → is_some o ≡ true
 up_too o None e w = absurd (false≢true w)
-up_too o (Some x) e w = ap (λ (y : Option Up). is_some y) e
+up_too o (Some x) e w = ap (λ (y : Option ActiveTask). is_some y) e
 
 -- ---- the steps
 
-pub sound-up : (v : Ready) (t now : ℕ) → IsSound v → t < length v.defs → up_of v t ≡ None → IsSound (up_last t now v)
+pub sound-up : (v : TableView) (t now : ℕ) → IsSound v → t < length v.defs → up_of v t ≡ None → IsSound (enqueued t now v)
 sound-up v t now sound l down =
     let l' : t < length v.ups = subst (λ n. t < n) (sym sound.as_many) l in
-    let fresh : Option Up = Some (record { start = now; region_count = 0; cps_open = false }) in
+    let fresh : Option ActiveTask = Some (record { start = now; region_count = 0; cps_open = false }) in
     record {
       few = sound.few;
       as_many = length-set v.ups t fresh ∙ sound.as_many;
-      sixteen = length-set v.queues (place_of v t) (queue_at v (place_of v t) ++ t ∷ []) ∙ sound.sixteen;
+      queue_each = length-set v.queues (place_of v t) (queue_at v (place_of v t) ++ t ∷ []) ∙ sound.queue_each;
       priorities = sound.priorities;
       periods = sound.periods;
       alone = λ k. elim (cases_eq k t) [
-        | inl e ↦ ap (λ i. has_open (get_or (set v.ups t fresh) i None)) e ∙ (ap has_open (get_or-set_same v.ups t fresh None l') ∙ (sym (ap has_open down) ∙ (sound.alone t ∙ ap (λ i. is_it v.opened i) (sym e))))
+        | inl e ↦ ap (λ i. has_open (get_or (set v.ups t fresh) i None)) e ∙ (ap has_open (get_or-set_same v.ups t fresh None l') ∙ (sym (ap has_open down) ∙ (sound.alone t ∙ ap (λ i. is_it v.open_task i) (sym e))))
         | inr ne ↦ ap has_open (get_or-set_other v.ups t k fresh None ne) ∙ sound.alone k
       ];
-      first = pushed_first v.opened sound.first;
+      first = pushed_first v.open_task sound.first;
       room =
           let sum = sum-pushed v.queues (place_of v t) t (place_fits v sound t l) in
-          let one : count_by is_some (set v.ups t fresh) + 0 ≡ count_by is_some v.ups + 1 = subst (λ (o : Option Up). count_by is_some (set v.ups t fresh) + cond (is_some o) 1 0 ≡ count_by is_some v.ups + 1) down (count_is v.ups t fresh l') in
+          let one : count_by is_some (set v.ups t fresh) + 0 ≡ count_by is_some v.ups + 1 = subst (λ (o : Option ActiveTask). count_by is_some (set v.ups t fresh) + cond (is_some o) 1 0 ≡ count_by is_some v.ups + 1) down (count_is v.ups t fresh l') in
           let room = sound.room in
           omega arith;
     }
@@ -153,7 +155,7 @@ sound-up v t now sound l down =
     pushed_first None h = h
     pushed_first (Some k) h = first-pushed v.queues (place_of v t) t (place_of v k) k h
 
-pub sound-down : (v : Ready) (s : Table) (t : ℕ) → IsSound v → StandsFor v s → next_task v ≡ Some t → IsSound (out_of_line t v)
+pub sound-down : (v : TableView) (s : Table) (t : ℕ) → IsSound v → Represents v s → next_task v ≡ Some t → IsSound (dequeued t v)
 sound-down v s t sound h next =
     let head = head-next v s t sound h next in
     let l = task-head v s t sound h head in
@@ -161,23 +163,23 @@ sound-down v s t sound h next =
     record {
       few = sound.few;
       as_many = length-set v.ups t None ∙ sound.as_many;
-      sixteen = length-set v.queues (place_of v t) (drop 1 (queue_at v (place_of v t))) ∙ sound.sixteen;
+      queue_each = length-set v.queues (place_of v t) (drop 1 (queue_at v (place_of v t))) ∙ sound.queue_each;
       priorities = sound.priorities;
       periods = sound.periods;
       alone = λ k. elim (cases_eq k t) [
         | inl e ↦ ap (λ i. has_open (get_or (set v.ups t None) i None)) e ∙ ap has_open (get_or-set_same v.ups t None None l')
-        | inr ne ↦ ap has_open (get_or-set_other v.ups t k None None ne) ∙ (sound.alone k ∙ only_mine v.opened v.queues t k next ne)
+        | inr ne ↦ ap has_open (get_or-set_other v.ups t k None None ne) ∙ (sound.alone k ∙ only_mine v.open_task v.queues t k next ne)
       ];
       first = tt;
       room =
           let sum = sum-popped v.queues (place_of v t) t (place_fits v sound t l) head in
-          let is_up : is_some (up_of v t) ≡ true = up_too (up_of v t) (state_of s t) (turn_as_up v s h t) (up-head v s t h head) in
+          let is_up : is_some (up_of v t) ≡ true = up_too (up_of v t) (state_of s t) (state_as_up v s h t) (up-head v s t h head) in
           let one : count_by is_some (set v.ups t None) + 1 ≡ count_by is_some v.ups + 0 = subst (λ b. count_by is_some (set v.ups t None) + cond b 1 0 ≡ count_by is_some v.ups + 0) is_up (count_is v.ups t None l') in
           let room = sound.room in
           omega arith;
     }
 
-pub sound-last : (v : Ready) (s : Table) (t : ℕ) → IsSound v → StandsFor v s → v.opened ≡ None → IsHead v t → IsSound (to_the_end t v)
+pub sound-last : (v : TableView) (s : Table) (t : ℕ) → IsSound v → Represents v s → v.open_task ≡ None → IsHead v t → IsSound (rotated t v)
 sound-last v s t sound h none head =
     let l = task-head v s t sound h head in
     let p = place_of v t in
@@ -187,7 +189,7 @@ sound-last v s t sound h none head =
     record {
       few = sound.few;
       as_many = sound.as_many;
-      sixteen = length-set qs p (get_or qs p [] ++ t ∷ []) ∙ (same_len ∙ sound.sixteen);
+      queue_each = length-set qs p (get_or qs p [] ++ t ∷ []) ∙ (same_len ∙ sound.queue_each);
       priorities = sound.priorities;
       periods = sound.periods;
       alone = sound.alone;
@@ -199,7 +201,7 @@ sound-last v s t sound h none head =
           omega arith;
     }
 
-pub sound-with : (v : Ready) (s : Table) (t : ℕ) (u : Up) → IsSound v → StandsFor v s → next_task v ≡ Some t → IsSound (with_up t u v)
+pub sound-with : (v : TableView) (s : Table) (t : ℕ) (u : ActiveTask) → IsSound v → Represents v s → next_task v ≡ Some t → IsSound (with_active t u v)
 sound-with v s t u sound h next =
     let head = head-next v s t sound h next in
     let l = task-head v s t sound h head in
@@ -207,16 +209,16 @@ sound-with v s t u sound h next =
     record {
       few = sound.few;
       as_many = length-set v.ups t (Some u) ∙ sound.as_many;
-      sixteen = sound.sixteen;
+      queue_each = sound.queue_each;
       priorities = sound.priorities;
       periods = sound.periods;
       alone = λ k. elim (cases_eq k t) [
         | inl e ↦ ap (λ i. has_open (get_or (set v.ups t (Some u)) i None)) e ∙ (ap has_open (get_or-set_same v.ups t (Some u) None l') ∙ mine (has_open (Some u)) k (sym e))
-        | inr ne ↦ ap has_open (get_or-set_other v.ups t k (Some u) None ne) ∙ (sound.alone k ∙ (only_mine v.opened v.queues t k next ne ∙ other (has_open (Some u)) k ne))
+        | inr ne ↦ ap has_open (get_or-set_other v.ups t k (Some u) None ne) ∙ (sound.alone k ∙ (only_mine v.open_task v.queues t k next ne ∙ other (has_open (Some u)) k ne))
       ];
       first = head_if (has_open (Some u)) head;
       room =
-          let is_up : is_some (up_of v t) ≡ true = up_too (up_of v t) (state_of s t) (turn_as_up v s h t) (up-head v s t h head) in
+          let is_up : is_some (up_of v t) ≡ true = up_too (up_of v t) (state_of s t) (state_as_up v s h t) (up-head v s t h head) in
           let one : count_by is_some (set v.ups t (Some u)) + 1 ≡ count_by is_some v.ups + 1 = subst (λ b. count_by is_some (set v.ups t (Some u)) + cond b 1 0 ≡ count_by is_some v.ups + 1) is_up (count_is v.ups t (Some u) l') in
           let room = sound.room in
           omega arith;
@@ -234,11 +236,8 @@ sound-with v s t u sound h next =
     head_if true x = x
     head_if false x = tt
 
-abbrev pub no_queues : List (List ℕ) → List (List ℕ)
+abbrev no_queues : List (List ℕ) → List (List ℕ)
 no_queues qs = map (λ q. []) qs
-
-abbrev pub no_ups : List (Option Up) → List (Option Up)
-no_ups us = map (λ u. None) us
 
 sum_empty : (qs : List (List ℕ)) → sum_by (λ (q : List ℕ). length q) (no_queues qs) ≡ 0
 sum_empty [] = refl
@@ -247,34 +246,29 @@ sum_empty (q ∷ qs) = sum_by-cons (λ (x : List ℕ). length x) [] (no_queues q
     none : (n : ℕ) → n ≡ 0 → 0 + n ≡ 0
     none n e = omega arith
 
-count_none : (us : List (Option Up)) → count_by (λ (o : Option Up). is_some o) (no_ups us) ≡ 0
-count_none [] = refl
-count_none (u ∷ us) = sum_by-cons (λ (o : Option Up). cond (is_some o) 1 0) None (no_ups us) ∙ none (count_by (λ (o : Option Up). is_some o) (no_ups us)) (count_none us)
+-- the states of so many tasks that are all down
+abbrev pub no_ups : ℕ → List (Option ActiveTask)
+no_ups n = replicate n None
+
+pub count_none : (n : ℕ) → count_by (λ (o : Option ActiveTask). is_some o) (no_ups n) ≡ 0
+count_none n = sum_by-replicate (λ (o : Option ActiveTask). cond (is_some o) 1 0) n None ∙ times n
   where
-    none : (n : ℕ) → n ≡ 0 → 0 + n ≡ 0
-    none n e = omega arith
+    times : (m : ℕ) → m * 0 ≡ 0
+    times m = omega arith
 
-pub all_none : (us : List (Option Up)) (t : ℕ) → get_or (no_ups us) t None ≡ None
-all_none [] t = refl
-all_none (u ∷ us) zero = refl
-all_none (u ∷ us) (suc t) = all_none us t
+pub all_none : (n t : ℕ) → get_or (no_ups n) t None ≡ None
+all_none zero t = refl
+all_none (suc n) zero = refl
+all_none (suc n) (suc t) = all_none n t
 
-length_none : (us : List (Option Up)) → length (no_ups us) ≡ length us
-length_none [] = refl
-length_none (u ∷ us) = ap suc (length_none us)
-
-length_empty : (qs : List (List ℕ)) → length (no_queues qs) ≡ length qs
-length_empty [] = refl
-length_empty (q ∷ qs) = ap suc (length_empty qs)
-
-pub sound-none : (v : Ready) (ran : ℕ) → IsSound v → IsSound (record (all_down v) { run_since = ran })
+pub sound-none : (v : TableView) (ran : ℕ) → IsSound v → IsSound (record (all_down v) { run_since = ran })
 sound-none v ran sound = record {
   few = sound.few;
-  as_many = length_none v.ups ∙ sound.as_many;
-  sixteen = length_empty v.queues ∙ sound.sixteen;
+  as_many = length-replicate (length v.ups) None ∙ sound.as_many;
+  queue_each = length-map v.queues (λ q. []) ∙ sound.queue_each;
   priorities = sound.priorities;
   periods = sound.periods;
-  alone = λ k. ap has_open (all_none v.ups k);
+  alone = λ k. ap has_open (all_none (length v.ups) k);
   first = tt;
-  room = sum_empty v.queues ∙ sym (count_none v.ups);
+  room = sum_empty v.queues ∙ sym (count_none (length v.ups));
 }

@@ -1,35 +1,35 @@
--- What each step of the table does to the list that it stands for.
-use Rattle.std.proofs.Common.{◌≡◌, ℕ, ◌+◌, ◌-◌, ◌<◌, ◌≤◌, zero, suc, List, [], ◌∷◌, ◌++◌, length, get_or, set, drop, map, Option, Some, None, option_map, inl, inr, IsTrue, is_some, refl, sym, ap, ◌∙◌, subst, arith}
+-- What each step of the table does to the list that it represents.
+use Rattle.std.proofs.Common.{◌≡◌, ℕ, ◌+◌, ◌-◌, ◌<◌, ◌≤◌, zero, suc, List, [], ◌∷◌, ◌++◌, length, get_or, set, drop, map, replicate, Option, Some, None, option_map, inl, inr, IsTrue, is_some, refl, sym, ap, ◌∙◌, subst, arith}
 use Rattle.std.specs.List.{slice_get}
 use Rattle.std.proofs.lemmas.Bool.{cases_eq, false≢true}
+use Rattle.std.proofs.lemmas.List.Elements.{All-nil}
+use Rattle.std.proofs.lemmas.Option.{none-some, same_Some}
 use Rattle.std.proofs.lemmas.List.{get_or-set_same, get_or-set_other, set-set, set-get_or, map-set}
+use Rattle.spec_base.specs.declared.limits.TheConstants.{LEAST_PRIORITY}
 use Rattle.spec_tables.specs.declared.task.TaskDef.{TaskDef}
 use Rattle.spec_tables.specs.Tasks.{TaskState, Table, state_of, task, no_task, stop}
-use Rattle.lgx_sched.specs.declared.table.Up.{Up}
-use Rattle.lgx_sched.specs.Ready.{Ready, up_of, def_of, queue_at, place_of, pushed, popped, all_down}
-use Rattle.lgx_sched.specs.StandsFor.{rank_of, without_rank, IsQueueOf, StandsFor, IsSound}
+use Rattle.lgx_sched.specs.declared.table.ActiveTask.{ActiveTask}
+use Rattle.lgx_sched.specs.TableView.{TableView, up_of, def_of, queue_at, place_of, pushed, popped, all_down}
+use Rattle.lgx_sched.specs.Represents.{rank_of, without_rank, IsUpAt, IsQueueOf, Represents, IsSound}
 use Rattle.lgx_sched.proofs.Queues.{same_queue, other_queue, queue-push, queue-pop}
-use Rattle.lgx_sched.proofs.Chosen.{same_length, turn_as_up}
+use Rattle.lgx_sched.proofs.Chosen.{same_length, state_as_up}
 
 abbrev pub IsUp : Option TaskState → Type 0
 IsUp o = IsTrue (is_some o)
 
 -- the task is the first of its queue
-abbrev pub IsHead : Ready → ℕ → Type 0
+abbrev pub IsHead : TableView → ℕ → Type 0
 IsHead v t = slice_get (queue_at v (place_of v t)) 0 ≡ Some t
 
 pub starts_with : (q : List ℕ) (t : ℕ) → slice_get q 0 ≡ Some t → q ≡ t ∷ drop 1 q
-starts_with [] t e = absurd (cc)
-starts_with (u ∷ us) t e = ap (λ x. x ∷ us) (same u t e)
-  where
-    same : (a b : ℕ) → Some a ≡ Some b → a ≡ b
-    same a b s = cc
+starts_with [] t e = absurd (none-some t e)
+starts_with (u ∷ us) t e = ap (λ x. x ∷ us) (same_Some u t e)
 
 -- the place of a task's queue by the list
-pub place_is : (v : Ready) (s : Table) → StandsFor v s → (t : ℕ) → place_of v t ≡ (task s t).priority - 1
+pub place_is : (v : TableView) (s : Table) → Represents v s → (t : ℕ) → place_of v t ≡ (task s t).priority - 1
 place_is v s h t = ap (λ (xs : List TaskDef). (get_or xs t no_task).priority - 1) h.defs
 
-pub priority_is : (v : Ready) (s : Table) → IsSound v → StandsFor v s → (t : ℕ) → t < length v.defs → (task s t).priority ≡ place_of v t + 1
+pub priority_is : (v : TableView) (s : Table) → IsSound v → Represents v s → (t : ℕ) → t < length v.defs → (task s t).priority ≡ place_of v t + 1
 priority_is v s sound h t l =
     let positive : 0 < (task s t).priority = subst (λ (xs : List TaskDef). 0 < (get_or xs t no_task).priority) h.defs ((sound.priorities t l).0) in
     one_more ((task s t).priority) positive ∙ ap (λ n. n + 1) (sym (place_is v s h t))
@@ -37,23 +37,23 @@ priority_is v s sound h t l =
     one_more : (n : ℕ) → 0 < n → n ≡ n - 1 + 1
     one_more n l' = omega arith
 
-pub place_fits : (v : Ready) → IsSound v → (t : ℕ) → t < length v.defs → place_of v t < length v.queues
-place_fits v sound t l = subst (λ n. place_of v t < n) (sym sound.sixteen) (below ((def_of v t).priority) (sound.priorities t l))
+pub place_fits : (v : TableView) → IsSound v → (t : ℕ) → t < length v.defs → place_of v t < length v.queues
+place_fits v sound t l = subst (λ n. place_of v t < n) (sym sound.queue_each) (below ((def_of v t).priority) (sound.priorities t l))
   where
-    below : (n : ℕ) → (0 < n) × (n ≤ 16) → n - 1 < 16
+    below : (n : ℕ) → (0 < n) × (n ≤ LEAST_PRIORITY) → n - 1 < LEAST_PRIORITY
     below n b = omega (arith, b.0, b.1)
 
-pub fits_turns : (v : Ready) (s : Table) → IsSound v → StandsFor v s → (t : ℕ) → t < length v.defs → t < length s.states
-fits_turns v s sound h t l = subst (λ n. t < n) (ap (λ (xs : List TaskDef). length xs) h.defs ∙ sym (same_length v s sound h)) l
+pub fits_states : (v : TableView) (s : Table) → IsSound v → Represents v s → (t : ℕ) → t < length v.defs → t < length s.states
+fits_states v s sound h t l = subst (λ n. t < n) (ap (λ (xs : List TaskDef). length xs) h.defs ∙ sym (same_length v s sound h)) l
 
 -- ---- the first task of its queue goes down
 
 abbrev pub lowered : ℕ → Table → Table
 lowered t s = record s { states = set s.states t None }
 
-pub stands-down : (v : Ready) (s : Table) (o : Option ℕ) (t : ℕ) → IsSound v → StandsFor v s → t < length v.defs → IsHead v t → StandsFor (record v { ups = set v.ups t None; queues = popped v.queues (place_of v t); opened = o }) (lowered t s)
-stands-down v s o t sound h l head =
-    let l' = fits_turns v s sound h t l in
+pub represents-down : (v : TableView) (s : Table) (o : Option ℕ) (t : ℕ) → IsSound v → Represents v s → t < length v.defs → IsHead v t → Represents (record v { ups = set v.ups t None; queues = popped v.queues (place_of v t); open_task = o }) (lowered t s)
+represents-down v s o t sound h l head =
+    let l' = fits_states v s sound h t l in
     let pr : ℕ → ℕ = λ k. (task s k).priority in
     let here : state_of (lowered t s) t ≡ None = get_or-set_same s.states t None None l' in
     let same : (k : ℕ) → (k ≡ t → ⊥) → state_of (lowered t s) k ≡ state_of s k = λ k ne. get_or-set_other s.states t k None None ne in
@@ -63,7 +63,7 @@ stands-down v s o t sound h l head =
     let fits = place_fits v sound t l in
     record {
       defs = h.defs;
-      ups = ap (λ (xs : List (Option Up)). set xs t None) h.ups ∙ sym (map-set (option_map without_rank) s.states t None);
+      ups = ap (λ (xs : List (Option ActiveTask)). set xs t None) h.ups ∙ sym (map-set (option_map without_rank) s.states t None);
       run_since = h.run_since;
       below = λ k w. subst (λ x. rank_of x < s.next) (sym (was k w)) (h.below k (subst IsUp (was k w) w));
       differ = λ k i wk wi e. h.differ k i (subst IsUp (was k wk) wk) (subst IsUp (was i wi) wi) (sym (ap rank_of (was k wk)) ∙ (e ∙ ap rank_of (was i wi)));
@@ -80,14 +80,14 @@ stands-down v s o t sound h l head =
     cancel : (i j n : ℕ) → n ≡ i + 1 → n ≡ j + 1 → i ≡ j
     cancel i j n e e' = omega arith
 
--- ---- a task comes up behind all others
+-- ---- a task comes up after all others
 
 abbrev pub raised : ℕ → TaskState → Table → Table
 raised t u s = record s { states = set s.states t (Some u); next = s.next + 1 }
 
-pub stands-up : (v : Ready) (s : Table) (o : Option ℕ) (t : ℕ) (u : TaskState) → IsSound v → StandsFor v s → t < length v.defs → state_of s t ≡ None → u.rank ≡ s.next → StandsFor (record v { ups = set v.ups t (Some (without_rank u)); queues = pushed v.queues (place_of v t) t; opened = o }) (raised t u s)
-stands-up v s o t u sound h l down rank =
-    let l' = fits_turns v s sound h t l in
+pub represents-up : (v : TableView) (s : Table) (o : Option ℕ) (t : ℕ) (u : TaskState) → IsSound v → Represents v s → t < length v.defs → state_of s t ≡ None → u.rank ≡ s.next → Represents (record v { ups = set v.ups t (Some (without_rank u)); queues = pushed v.queues (place_of v t) t; open_task = o }) (raised t u s)
+represents-up v s o t u sound h l down rank =
+    let l' = fits_states v s sound h t l in
     let pr : ℕ → ℕ = λ k. (task s k).priority in
     let new = state_of (raised t u s) in
     let here : new t ≡ Some u = get_or-set_same s.states t (Some u) None l' in
@@ -99,7 +99,7 @@ stands-up v s o t u sound h l down rank =
     let old_below : (k : ℕ) → (k ≡ t → ⊥) → IsUp (new k) → rank_of (new k) < s.next = λ k ne w. subst (λ x. rank_of x < s.next) (sym (same k ne)) (h.below k (subst IsUp (same k ne) w)) in
     record {
       defs = h.defs;
-      ups = ap (λ (xs : List (Option Up)). set xs t (Some (without_rank u))) h.ups ∙ sym (map-set (option_map without_rank) s.states t (Some u));
+      ups = ap (λ (xs : List (Option ActiveTask)). set xs t (Some (without_rank u))) h.ups ∙ sym (map-set (option_map without_rank) s.states t (Some u));
       run_since = h.run_since;
       below = λ k w. elim (cases_eq k t) [
         | inl e ↦ at_most (rank_of (new k)) s.next (ap (λ i. rank_of (new i)) e ∙ here_rank)
@@ -139,11 +139,11 @@ stands-up v s o t u sound h l down rank =
     clash : (a b : ℕ) → a < b → a ≡ b → ⊥
     clash a b l e = omega arith
 
--- ---- a turn changes and keeps its rank
+-- ---- a state changes and keeps its rank
 
-pub stands-changed : (v : Ready) (s : Table) (o : Option ℕ) (t : ℕ) (x u : TaskState) → IsSound v → StandsFor v s → t < length v.defs → state_of s t ≡ Some x → u.rank ≡ x.rank → StandsFor (record v { ups = set v.ups t (Some (without_rank u)); opened = o }) (record s { states = set s.states t (Some u) })
-stands-changed v s o t x u sound h l was rank =
-    let l' = fits_turns v s sound h t l in
+pub represents-changed : (v : TableView) (s : Table) (o : Option ℕ) (t : ℕ) (x u : TaskState) → IsSound v → Represents v s → t < length v.defs → state_of s t ≡ Some x → u.rank ≡ x.rank → Represents (record v { ups = set v.ups t (Some (without_rank u)); open_task = o }) (record s { states = set s.states t (Some u) })
+represents-changed v s o t x u sound h l was rank =
+    let l' = fits_states v s sound h t l in
     let s' : Table = record s { states = set s.states t (Some u) } in
     let here : state_of s' t ≡ Some u = get_or-set_same s.states t (Some u) None l' in
     let ranks : (k : ℕ) → rank_of (state_of s' k) ≡ rank_of (state_of s k) = λ k. elim (cases_eq k t) [
@@ -157,7 +157,7 @@ stands-changed v s o t x u sound h l was rank =
     let back : (k : ℕ) → IsUp (state_of s' k) → IsUp (state_of s k) = λ k w. subst IsTrue (ups k) w in
     record {
       defs = h.defs;
-      ups = ap (λ (xs : List (Option Up)). set xs t (Some (without_rank u))) h.ups ∙ sym (map-set (option_map without_rank) s.states t (Some u));
+      ups = ap (λ (xs : List (Option ActiveTask)). set xs t (Some (without_rank u))) h.ups ∙ sym (map-set (option_map without_rank) s.states t (Some u));
       run_since = h.run_since;
       below = λ k w. subst (λ n. n < s.next) (sym (ranks k)) (h.below k (back k w));
       differ = λ k i wk wi e. h.differ k i (back k wk) (back i wi) (sym (ranks k) ∙ (e ∙ ranks i));
@@ -167,32 +167,32 @@ stands-changed v s o t x u sound h l was rank =
 
 -- ---- the first task of its queue goes to its end
 
-pub stands-last : (v : Ready) (s : Table) (t : ℕ) (x : TaskState) → IsSound v → StandsFor v s → IsSound (record v { ups = set v.ups t None; queues = popped v.queues (place_of v t); opened = None }) → t < length v.defs → IsHead v t → state_of s t ≡ Some x → StandsFor (record v { queues = pushed (popped v.queues (place_of v t)) (place_of v t) t }) (raised t (record x { rank = s.next }) s)
-stands-last v s t x sound h sound' l head was =
+pub represents-last : (v : TableView) (s : Table) (t : ℕ) (x : TaskState) → IsSound v → Represents v s → IsSound (record v { ups = set v.ups t None; queues = popped v.queues (place_of v t); open_task = None }) → t < length v.defs → IsHead v t → state_of s t ≡ Some x → Represents (record v { queues = pushed (popped v.queues (place_of v t)) (place_of v t) t }) (raised t (record x { rank = s.next }) s)
+represents-last v s t x sound h sound' l head was =
     let u : TaskState = record x { rank = s.next } in
-    let down = stands-down v s None t sound h l head in
-    let here : state_of (lowered t s) t ≡ None = get_or-set_same s.states t None None (fits_turns v s sound h t l) in
-    let up = stands-up (record v { ups = set v.ups t None; queues = popped v.queues (place_of v t); opened = None }) (lowered t s) v.opened t u sound' down l here refl in
-    let turns_are : set (set s.states t None) t (Some u) ≡ set s.states t (Some u) = set-set s.states t None (Some u) in
-    let up_is : up_of v t ≡ Some (without_rank u) = turn_as_up v s h t ∙ ap (option_map without_rank) was in
+    let down = represents-down v s None t sound h l head in
+    let here : state_of (lowered t s) t ≡ None = get_or-set_same s.states t None None (fits_states v s sound h t l) in
+    let up = represents-up (record v { ups = set v.ups t None; queues = popped v.queues (place_of v t); open_task = None }) (lowered t s) v.open_task t u sound' down l here refl in
+    let states_are : set (set s.states t None) t (Some u) ≡ set s.states t (Some u) = set-set s.states t None (Some u) in
+    let up_is : up_of v t ≡ Some (without_rank u) = state_as_up v s h t ∙ ap (option_map without_rank) was in
     let ups_are : set (set v.ups t None) t (Some (without_rank u)) ≡ v.ups =
     set-set v.ups t None (Some (without_rank u)) ∙ (ap (λ y. set v.ups t y) (sym up_is) ∙ set-get_or v.ups t None) in
     let qs = pushed (popped v.queues (place_of v t)) (place_of v t) t in
-    subst (λ (xs : List (Option Up)). StandsFor (record v { ups = xs; queues = qs }) (raised t u s)) ups_are
-    (subst (λ (xs : List (Option TaskState)). StandsFor (record v { ups = set (set v.ups t None) t (Some (without_rank u)); queues = qs }) (record s { states = xs; next = s.next + 1 })) turns_are up)
+    subst (λ (xs : List (Option ActiveTask)). Represents (record v { ups = xs; queues = qs }) (raised t u s)) ups_are
+    (subst (λ (xs : List (Option TaskState)). Represents (record v { ups = set (set v.ups t None) t (Some (without_rank u)); queues = qs }) (record s { states = xs; next = s.next + 1 })) states_are up)
 
 -- ---- every task goes down
 
-abbrev no_turns : List (Option TaskState) → List (Option TaskState)
-no_turns us = map (λ u. None) us
+abbrev no_states : List (Option TaskState) → List (Option TaskState)
+no_states us = map (λ u. None) us
 
-abbrev no_ups : List (Option Up) → List (Option Up)
-no_ups us = map (λ u. None) us
+abbrev no_ups : List (Option ActiveTask) → List (Option ActiveTask)
+no_ups us = replicate (length us) None
 
 abbrev no_queues : List (List ℕ) → List (List ℕ)
 no_queues qs = map (λ q. []) qs
 
-nothing : (us : List (Option TaskState)) (t : ℕ) → get_or (no_turns us) t None ≡ None
+nothing : (us : List (Option TaskState)) (t : ℕ) → get_or (no_states us) t None ≡ None
 nothing [] t = refl
 nothing (u ∷ us) zero = refl
 nothing (u ∷ us) (suc t) = nothing us t
@@ -202,12 +202,12 @@ empty [] k = refl
 empty (q ∷ qs) zero = refl
 empty (q ∷ qs) (suc k) = empty qs k
 
-none_twice : (us : List (Option TaskState)) → no_ups (map (option_map without_rank) us) ≡ map (option_map without_rank) (no_turns us)
+none_twice : (us : List (Option TaskState)) → no_ups (map (option_map without_rank) us) ≡ map (option_map without_rank) (no_states us)
 none_twice [] = refl
 none_twice (u ∷ us) = ap (λ xs. None ∷ xs) (none_twice us)
 
-pub stands-none : (v : Ready) (s : Table) (ran : ℕ) → StandsFor v s → StandsFor (record (all_down v) { run_since = ran }) (record (stop s) { run_since = ran })
-stands-none v s ran h =
+pub represents-none : (v : TableView) (s : Table) (ran : ℕ) → Represents v s → Represents (record (all_down v) { run_since = ran }) (record (stop s) { run_since = ran })
+represents-none v s ran h =
     let no_one : (k : ℕ) → IsUp (state_of (stop s) k) → ⊥ = λ k w. false≢true (subst IsUp (nothing s.states k) w) in
     record {
       defs = h.defs;
@@ -216,5 +216,5 @@ stands-none v s ran h =
       below = λ k w. absurd (no_one k w);
       differ = λ k i wk wi e. absurd (no_one k wk);
       queues = λ p. subst (λ q. IsQueueOf (state_of (stop s)) (λ t. (task s t).priority) (p + 1) q) (sym (empty v.queues p))
-          (record { each = tt; all = λ k w. absurd (no_one k w.0); by_rank = tt });
+          (record { each = All-nil (IsUpAt (state_of (stop s)) (λ t. (task s t).priority) (p + 1)); all = λ k w. absurd (no_one k w.0); by_rank = tt });
     }

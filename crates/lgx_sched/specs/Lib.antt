@@ -1,2 +1,2 @@
-pub mod Ready
-pub mod StandsFor
+pub mod TableView
+pub mod Represents

@@ -2,11 +2,7 @@
 #![tactic(auto)]
 
 mod queue;
-#[cfg(test)]
-mod slow;
 mod table;
-#[cfg(test)]
-mod tests;
 
 pub use spec_tables::{TaskDef, TaskKind};
-pub use table::{Release, TaskTable, Up};
+pub use table::{ActiveTask, Release, TaskTable};

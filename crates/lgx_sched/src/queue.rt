@@ -1,19 +1,17 @@
 // The tasks that are up, a queue for each priority.
 ghost use Rattle.std.specs.Prelude.{◌≡◌, ◌<◌, List, [], ◌∷◌, ◌++◌, drop, length, map, replicate, IfOk, slice_get, slice_set, slice_index_or};
-ghost use Rattle.lgx_sched.specs.Ready.{front_of, pushed, popped};
+ghost use Rattle.spec_base.specs.declared.limits.TheConstants.{MAX_TASKS, LEAST_PRIORITY};
+ghost use Rattle.lgx_sched.specs.TableView.{front_of, pushed, popped};
 
 use arrayvec::ArrayVec;
+use spec_base::limits::{LEAST_PRIORITY, MAX_TASKS};
 use std::alloc::{AllocError, Global};
 use std::marker::Model;
 
-const ROOM: usize = 32;
-
-const PRIORITIES: usize = 16;
-
-// The tasks of one priority in the order of their turns.
+/// The tasks of one priority in the order of their turns.
 #[derive(Drop)]
 struct Queue {
-    tasks: ArrayVec<u32, ROOM>,
+    tasks: ArrayVec<u32, MAX_TASKS>,
 }
 
 impl Model for Queue {
@@ -25,6 +23,7 @@ impl Model for Queue {
 }
 
 impl Queue {
+    /// A queue without a task.
     fn new() -> Queue
         ensures { result ≡ [] }
     {
@@ -33,26 +32,29 @@ impl Queue {
         }
     }
 
+    /// Task number `i`.
     fn get(&self, i: usize) -> Option<u32>
         ensures { result ≡ slice_get self.now i }
     {
         self.tasks.as_slice().get(i).copied()
     }
 
+    /// Puts a task last.
     fn push(&mut self, t: u32)
-        requires { length self.old < 32 }
+        requires { length self.old < MAX_TASKS }
         ensures { self.new ≡ self.old ++ t ∷ [] }
     {
         self.tasks.push(t);
     }
 
-    // Takes out the first task, if there is one.
+    /// Takes out the first task, if there is one.
     fn pop_first(&mut self)
         ensures { self.new ≡ drop 1 self.old }
     {
         let _ = self.tasks.pop_at(0);
     }
 
+    /// Takes out all tasks.
     fn clear(&mut self)
         ensures { self.new ≡ [] }
     {
@@ -75,12 +77,12 @@ impl Model for Queues {
 }
 
 impl Queues {
-    /// Sixteen empty queues.
+    /// An empty queue for each priority.
     pub fn new(alloc: Global) -> Result<Queues, AllocError>
-        ensures { IfOk result (λ queues. queues ≡ replicate 16 []) }
+        ensures { IfOk result (λ queues. queues ≡ replicate LEAST_PRIORITY []) }
     {
-        let mut queues = Vec::with_capacity(alloc, PRIORITIES)?;
-        for _place in 0..PRIORITIES {
+        let mut queues = Vec::with_capacity(alloc, LEAST_PRIORITY as usize)?;
+        for _place in 0..LEAST_PRIORITY {
             queues.push(Queue::new())?;
         }
         Ok(Queues { queues })
@@ -112,15 +114,17 @@ impl Queues {
         empty(&mut self.queues);
     }
 
+    /// Puts a task last in the queue at `place`.
     pub fn push_last(&mut self, place: usize, t: u32)
         requires within { place < length self.old }
-        requires room { length (slice_index_or self.old place []) < 32 }
+        requires room { length (slice_index_or self.old place []) < MAX_TASKS }
         ensures { self.new ≡ pushed self.old place t }
     {
         let queue = &mut self.queues[place];
         queue.push(t);
     }
 
+    /// Takes out the first task of the queue at `place`, if there is one.
     pub fn pop_first(&mut self, place: usize)
         requires within { place < length self.old }
         ensures { self.new ≡ popped self.old place }
@@ -130,6 +134,7 @@ impl Queues {
     }
 }
 
+/// The front of the first queue that has a task.
 fn front(queues: &[Queue]) -> Option<u32>
     ensures { result ≡ front_of queues.now }
 {
@@ -141,11 +146,11 @@ fn front(queues: &[Queue]) -> Option<u32>
     None
 }
 
-fn empty(queues: &mut Vec<Queue>)
-    ensures { queues.new.items ≡ map (λ q. []) queues.old.items }
+/// Empties each queue.
+fn empty(queues: &mut [Queue])
+    ensures { queues.new ≡ map (λ q. []) queues.old }
 {
-    for i in 0..queues.len() {
-        let queue = &mut queues[i];
+    for queue in queues.iter_mut() {
         queue.clear();
     }
 }

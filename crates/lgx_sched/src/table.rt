@@ -1,20 +1,21 @@
 // The table of tasks.
-ghost use Rattle.std.specs.Prelude.{◌≡◌, ℕ, ◌+◌, ◌-◌, ◌<◌, ◌≤◌, ◌^◌, Bool, List, [], ◌∷◌, length, drop, map, replicate, Option, Some, None, IfOk, IfSome, IsNone, slice_set, slice_get, slice_index_or};
-ghost use Rattle.std.specs.List.{All, position_from};
+ghost use Rattle.std.specs.Prelude.{◌≡◌, ℕ, ◌+◌, ◌-◌, ◌<◌, ◌≤◌, ◌^◌, Bool, List, [], ◌∷◌, length, drop, map, Option, Some, None, IfOk, IfSome, IsNone, slice_set, slice_get, slice_index_or};
+ghost use Rattle.std.specs.List.{All, position_from, zip};
+ghost use Rattle.spec_base.specs.declared.limits.TheConstants.{MAX_TASKS, LEAST_PRIORITY};
 ghost use Rattle.spec_tables.specs.Tasks.{Table, no_task, chosen, is_up, release, start, stop, finish, rotate, is_continuous, expired, due, region_up, region_down, region_clear, set_copy, held};
-ghost use Rattle.lgx_sched.specs.Ready.{Ready, up_of, def_of, queue_at, place_of, next_task, ready_at, front_of, pushed, popped, up_last, out_of_line, to_the_end, with_up, all_down, opened_by, regions_of, copies_of, has_run_out, run_out_from};
-ghost use Rattle.lgx_sched.specs.StandsFor.{StandsFor, IsInLine, AtMostUp, IsTable, HasPeriod, none_up, release_answer};
+ghost use Rattle.lgx_sched.specs.TableView.{TableView, up_of, def_of, queue_at, place_of, next_task, ready_at, front_of, pushed, popped, enqueued, dequeued, rotated, with_active, all_down, task_if_open, region_count_of, has_cps, has_run_out};
+ghost use Rattle.lgx_sched.specs.Represents.{Represents, IsInLine, AtMostUp, IsTable, HasPeriod, none_up, release_answer};
 
 use crate::queue::Queues;
 use lgx_num::{Items, Memory};
 use spec_tables::{TaskDef, TaskKind};
-use std::alloc::{AllocError, Global};
+use std::alloc::Global;
 use std::marker::Model;
 
 /// What is kept of a task that is up: the tick of its start, the number of its open regions, and whether it has a CPS
 /// in progress.
 #[derive(Clone, Copy)]
-pub struct Up {
+pub struct ActiveTask {
     pub start: u32,
     pub region_count: u32,
     pub cps_open: bool,
@@ -29,69 +30,70 @@ pub enum Release {
     Overlap,
 }
 
+/// The tasks in project order: which are up, their turns at each priority, and which has something open.
 #[derive(Drop)]
 pub struct TaskTable {
     defs: Items<TaskDef>,
-    ups: Vec<Option<Up>>,
+    ups: Vec<Option<ActiveTask>>,
     queues: Queues,
-    opened: Option<u32>,
+    open_task: Option<u32>,
     run_since: u32,
 }
 
 impl Model for TaskTable {
-    ghost use Rattle.lgx_sched.specs.Ready.{Ready};
+    ghost use Rattle.lgx_sched.specs.TableView.{TableView};
 
-    ghost Value = { Ready };
+    ghost Value = { TableView };
 
-    ghost use Rattle.lgx_sched.specs.StandsFor.{IsTable};
+    ghost use Rattle.lgx_sched.specs.Represents.{IsTable};
 
-    ghost view = { λ t. record { defs = t.defs; ups = t.ups.items; queues = t.queues; opened = t.opened; run_since = t.run_since } };
+    ghost view = { λ t. record { defs = t.defs; ups = t.ups.items; queues = t.queues; open_task = t.open_task; run_since = t.run_since } };
 
-    ghost invariant = { λ t. IsTable (record { defs = t.defs; ups = t.ups.items; queues = t.queues; opened = t.opened; run_since = t.run_since }) };
+    ghost invariant = { λ t. IsTable (record { defs = t.defs; ups = t.ups.items; queues = t.queues; open_task = t.open_task; run_since = t.run_since }) };
 }
 
 impl TaskTable {
-    /// A table of these tasks in project order, at most 32, with all of them down.
+    /// A table of these tasks in project order, at most `MAX_TASKS`, with all of them down.
     pub fn new(alloc: Global, defs: &[TaskDef]) -> Result<TaskTable, Memory>
-        requires few { length defs.now < 33 }
-        requires priorities { All (λ d. (0 < d.priority) × (d.priority ≤ 16)) defs.now }
+        requires few { length defs.now ≤ MAX_TASKS }
+        requires priorities { All (λ d. (0 < d.priority) × (d.priority ≤ LEAST_PRIORITY)) defs.now }
         requires periods { All (λ d. HasPeriod d.kind) defs.now }
-        ensures stands { IfOk result (λ table. (next : ℕ) → StandsFor table (none_up defs.now next)) }
+        ensures represents { IfOk result (λ table. (next : ℕ) → Represents table (none_up defs.now next)) }
         ensures defs { IfOk result (λ table. table.defs ≡ defs.now) }
     {
         let kept = Vec::from_slice(alloc, defs)?;
-        let ups = none_up(alloc, defs.len())?;
+        let ups = vec![in alloc; None; defs.len()]?;
         let queues = Queues::new(alloc)?;
         Ok(TaskTable {
             defs: Items::of(kept),
             ups,
             queues,
-            opened: None,
+            open_task: None,
             run_since: 0,
         })
     }
 
     /// The task that is to run: the one that has something open, else the first of the first queue that has one.
     ///
-    /// It is None exactly where no task is up.
+    /// It is None exactly if no task is up.
     pub fn chosen(&self) -> Option<u32>
         ensures front { result ≡ next_task self.now }
-        ensures stands { (s : Table) → StandsFor self.now s → result ≡ chosen s }
+        ensures represents { (s : Table) → Represents self.now s → result ≡ chosen s }
     {
-        match self.opened {
+        match self.open_task {
             Some(t) => Some(t),
             None => self.queues.front(),
         }
     }
 
-    /// The task of a priority, 1 to 16, that has exactly `i` up tasks of the same priority before it in line.
+    /// The task of a priority that has exactly `i` up tasks of the same priority before it in line.
     ///
-    /// It is None exactly where there is none: at most `i` tasks of that priority are up.
+    /// It is None exactly if there is none: at most `i` tasks of that priority are up.
     pub fn ready(&self, priority: u8, i: u32) -> Option<u32>
-        requires { (0 < priority) × (priority ≤ 16) }
+        requires { (0 < priority) × (priority ≤ LEAST_PRIORITY) }
         ensures place { result ≡ ready_at self.now priority i }
-        ensures in_line { (s : Table) → StandsFor self.now s → IfSome result (IsInLine s priority i) }
-        ensures none { (s : Table) → StandsFor self.now s → IsNone result → AtMostUp s priority i }
+        ensures in_line { (s : Table) → Represents self.now s → IfSome result (IsInLine s priority i) }
+        ensures none { (s : Table) → Represents self.now s → IsNone result → AtMostUp s priority i }
     {
         self.queues.get(priority as usize - 1, i as usize)
     }
@@ -99,8 +101,8 @@ impl TaskTable {
     /// Releases a task at the tick `now`: it is up, last in its queue. A task that is up overlaps, and stays as it is.
     pub fn release(&mut self, t: u32, now: u32) -> Release
         requires task { t < length self.old.defs }
-        ensures answer { (s : Table) → StandsFor self.old s → result ≡ release_answer (is_up s t) }
-        ensures stands { (s : Table) → StandsFor self.old s → StandsFor self.new (release t now s) }
+        ensures answer { (s : Table) → Represents self.old s → result ≡ release_answer (is_up s t) }
+        ensures represents { (s : Table) → Represents self.old s → Represents self.new (release t now s) }
         ensures defs { self.new.defs ≡ self.old.defs }
     {
         if self.ups[t as usize].is_some() {
@@ -112,10 +114,10 @@ impl TaskTable {
 
     /// Puts the chosen task last in its queue, unless it has something open. So equal priorities take turns at ticks.
     pub fn rotate(&mut self)
-        ensures stands { (s : Table) → StandsFor self.old s → StandsFor self.new (rotate s) }
+        ensures represents { (s : Table) → Represents self.old s → Represents self.new (rotate s) }
         ensures defs { self.new.defs ≡ self.old.defs }
     {
-        if self.opened.is_none() {
+        if self.open_task.is_none() {
             if let Some(t) = self.queues.front() {
                 self.put_last(t);
             }
@@ -125,7 +127,7 @@ impl TaskTable {
     /// Takes down the chosen task `t` after its last program; the continuous task is released again at once.
     pub fn finish(&mut self, t: u32, now: u32)
         requires chosen { next_task self.old ≡ Some t }
-        ensures stands { (s : Table) → StandsFor self.old s → StandsFor self.new (finish t now s) }
+        ensures represents { (s : Table) → Represents self.old s → Represents self.new (finish t now s) }
         ensures defs { self.new.defs ≡ self.old.defs }
     {
         self.take_out(t);
@@ -136,7 +138,7 @@ impl TaskTable {
 
     /// The change to Run at the tick `now`: every task goes down, and the continuous one is released.
     pub fn start(&mut self, now: u32)
-        ensures stands { (s : Table) → StandsFor self.old s → StandsFor self.new (start now s) }
+        ensures represents { (s : Table) → Represents self.old s → Represents self.new (start now s) }
         ensures defs { self.new.defs ≡ self.old.defs }
     {
         self.put_all_down(now);
@@ -147,7 +149,7 @@ impl TaskTable {
 
     /// The change to Program, or to Faulted: every task goes down.
     pub fn stop(&mut self)
-        ensures stands { (s : Table) → StandsFor self.old s → StandsFor self.new (stop s) }
+        ensures represents { (s : Table) → Represents self.old s → Represents self.new (stop s) }
         ensures defs { self.new.defs ≡ self.old.defs }
     {
         self.put_all_down(self.run_since);
@@ -156,7 +158,7 @@ impl TaskTable {
     /// Whether a periodic task is due at the tick `now`.
     pub fn due(&self, t: u32, now: u32) -> bool
         requires task { t < length self.now.defs }
-        ensures { (s : Table) → StandsFor self.now s → result ≡ due t now s }
+        ensures { (s : Table) → Represents self.now s → result ≡ due t now s }
     {
         match self.defs.as_slice()[t as usize].kind {
             TaskKind::Periodic(period) => self.run_since < now
@@ -167,15 +169,15 @@ impl TaskTable {
 
     /// The first task in project order that has been up for the ticks of its watchdog at the tick `now`.
     pub fn expired(&self, now: u32) -> Option<u32>
-        ensures { (s : Table) → StandsFor self.now s → result ≡ expired now s }
+        ensures { (s : Table) → Represents self.now s → result ≡ expired now s }
     {
         first_expired(now, self.defs.as_slice(), &self.ups)
     }
 
-    /// The number of open regions of a task; 0 where it is down.
+    /// The number of open regions of a task; 0 if it is down.
     pub fn region_count(&self, t: u32) -> u32
         requires task { t < length self.now.defs }
-        ensures { result ≡ regions_of (up_of self.now t) }
+        ensures { result ≡ region_count_of (up_of self.now t) }
     {
         match self.ups[t as usize] {
             Some(up) => up.region_count,
@@ -186,30 +188,30 @@ impl TaskTable {
     /// Opens a region of the chosen task `t` (UID). It must have fewer than 4,294,967,295.
     pub fn region_up(&mut self, t: u32)
         requires chosen { next_task self.old ≡ Some t }
-        requires room { regions_of (up_of self.old t) + 1 < 2 ^ 32 }
-        ensures stands { (s : Table) → StandsFor self.old s → StandsFor self.new (region_up t s) }
+        requires room { region_count_of (up_of self.old t) + 1 < 2 ^ 32 }
+        ensures represents { (s : Table) → Represents self.old s → Represents self.new (region_up t s) }
         ensures defs { self.new.defs ≡ self.old.defs }
     {
-        let up = self.up_now(t);
+        let up = self.active_task(t);
         self.change(
             t,
-            Up {
+            ActiveTask {
                 region_count: up.region_count + 1,
                 ..up
             },
         );
     }
 
-    /// Closes a region of the chosen task `t` (UIE). Where none is open it does nothing.
+    /// Closes a region of the chosen task `t` (UIE). If none is open it does nothing.
     pub fn region_down(&mut self, t: u32)
         requires chosen { next_task self.old ≡ Some t }
-        ensures stands { (s : Table) → StandsFor self.old s → StandsFor self.new (region_down t s) }
+        ensures represents { (s : Table) → Represents self.old s → Represents self.new (region_down t s) }
         ensures defs { self.new.defs ≡ self.old.defs }
     {
-        let up = self.up_now(t);
+        let up = self.active_task(t);
         self.change(
             t,
-            Up {
+            ActiveTask {
                 region_count: up.region_count.saturating_sub(1),
                 ..up
             },
@@ -219,13 +221,13 @@ impl TaskTable {
     /// Closes all regions of the chosen task `t`, as the end of a program scan does.
     pub fn region_clear(&mut self, t: u32)
         requires chosen { next_task self.old ≡ Some t }
-        ensures stands { (s : Table) → StandsFor self.old s → StandsFor self.new (region_clear t s) }
+        ensures represents { (s : Table) → Represents self.old s → Represents self.new (region_clear t s) }
         ensures defs { self.new.defs ≡ self.old.defs }
     {
-        let up = self.up_now(t);
+        let up = self.active_task(t);
         self.change(
             t,
-            Up {
+            ActiveTask {
                 region_count: 0,
                 ..up
             },
@@ -235,13 +237,13 @@ impl TaskTable {
     /// A CPS of the chosen task `t` starts, or has copied its last element.
     pub fn set_copy(&mut self, t: u32, sync: bool)
         requires chosen { next_task self.old ≡ Some t }
-        ensures stands { (s : Table) → StandsFor self.old s → StandsFor self.new (set_copy t sync s) }
+        ensures represents { (s : Table) → Represents self.old s → Represents self.new (set_copy t sync s) }
         ensures defs { self.new.defs ≡ self.old.defs }
     {
-        let up = self.up_now(t);
+        let up = self.active_task(t);
         self.change(
             t,
-            Up {
+            ActiveTask {
                 cps_open: sync,
                 ..up
             },
@@ -250,21 +252,22 @@ impl TaskTable {
 
     /// Whether a CPS is in progress.
     pub fn held(&self) -> bool
-        ensures { (s : Table) → StandsFor self.now s → result ≡ held s }
+        ensures { (s : Table) → Represents self.now s → result ≡ held s }
     {
-        match self.opened {
+        match self.open_task {
             Some(t) => has_cps(self.ups[t as usize]),
             None => false,
         }
     }
 
+    /// A task that was down is up, last in its queue.
     fn put_up(&mut self, t: u32, now: u32)
         requires task { t < length self.old.defs }
         requires down { up_of self.old t ≡ None }
-        ensures { self.new ≡ up_last t now self.old }
+        ensures { self.new ≡ enqueued t now self.old }
     {
         let place = place(self.defs.as_slice(), t);
-        self.ups[t as usize] = Some(Up {
+        self.ups[t as usize] = Some(ActiveTask {
             start: now,
             region_count: 0,
             cps_open: false,
@@ -272,27 +275,30 @@ impl TaskTable {
         self.queues.push_last(place, t);
     }
 
+    /// The front goes to the end of its queue.
     fn put_last(&mut self, t: u32)
-        requires none_open { self.old.opened ≡ None }
+        requires none_open { self.old.open_task ≡ None }
         requires front { front_of self.old.queues ≡ Some t }
-        ensures { self.new ≡ to_the_end t self.old }
+        ensures { self.new ≡ rotated t self.old }
     {
         let place = place(self.defs.as_slice(), t);
         self.queues.pop_first(place);
         self.queues.push_last(place, t);
     }
 
+    /// Every task goes down.
     fn put_all_down(&mut self, run_since: u32)
         ensures exact { self.new ≡ record (all_down self.old) { run_since = run_since } }
         ensures table { IsTable self.old }
     {
-        put_down(&mut self.ups);
+        self.ups.fill(None);
         self.queues.clear();
-        self.opened = None;
+        self.open_task = None;
         self.run_since = run_since;
     }
 
-    fn up_now(&self, t: u32) -> Up
+    /// What is kept of the task that is to run.
+    fn active_task(&self, t: u32) -> ActiveTask
         requires chosen { next_task self.now ≡ Some t }
         ensures up { up_of self.now t ≡ Some result }
         ensures table { IsTable self.now }
@@ -303,27 +309,30 @@ impl TaskTable {
         }
     }
 
-    fn change(&mut self, t: u32, up: Up)
+    /// The task that is to run has other regions, or another CPS.
+    fn change(&mut self, t: u32, up: ActiveTask)
         requires chosen { next_task self.old ≡ Some t }
-        ensures { self.new ≡ with_up t up self.old }
+        ensures { self.new ≡ with_active t up self.old }
     {
         self.ups[t as usize] = Some(up);
-        let opened = opened_by(t, up);
-        self.opened = opened;
+        let open_task = task_if_open(t, up);
+        self.open_task = open_task;
     }
 
+    /// The task that is to run goes down.
     fn take_out(&mut self, t: u32)
         requires chosen { next_task self.old ≡ Some t }
-        ensures exact { self.new ≡ out_of_line t self.old }
+        ensures exact { self.new ≡ dequeued t self.old }
         ensures table { IsTable self.old }
     {
         let place = place(self.defs.as_slice(), t);
         self.ups[t as usize] = None;
         self.queues.pop_first(place);
-        self.opened = None;
+        self.open_task = None;
     }
 }
 
+/// Whether it is the kind of the continuous task.
 fn is_continuous(kind: TaskKind) -> bool
     ensures { result ≡ is_continuous kind }
 {
@@ -333,7 +342,7 @@ fn is_continuous(kind: TaskKind) -> bool
     }
 }
 
-// The place of a task's queue among the queues.
+/// The place of a task's queue among the queues.
 fn place(defs: &[TaskDef], t: u32) -> usize
     requires task { t < length defs.now }
     requires priority { 0 < (slice_index_or defs.now t no_task).priority }
@@ -342,21 +351,22 @@ fn place(defs: &[TaskDef], t: u32) -> usize
     defs[t as usize].priority as usize - 1
 }
 
+/// The first continuous task.
 fn continuous_task(defs: &[TaskDef]) -> Option<u32>
-    requires { length defs.now < 33 }
+    requires { length defs.now ≤ MAX_TASKS }
     ensures { result ≡ position_from (λ d. is_continuous d.kind) 0 defs.now }
 {
-    for t in 0..defs.len() {
-        if is_continuous(defs[t].kind) {
+    for (t, def) in defs.iter().enumerate() {
+        if is_continuous(def.kind) {
             return Some(t as u32);
         }
     }
     None
 }
 
-// The task, if this opens something.
-fn opened_by(t: u32, up: Up) -> Option<u32>
-    ensures { result ≡ opened_by t up }
+/// The task, if it has something open.
+fn task_if_open(t: u32, up: ActiveTask) -> Option<u32>
+    ensures { result ≡ task_if_open t up }
 {
     if up.region_count > 0 || up.cps_open {
         Some(t)
@@ -365,8 +375,9 @@ fn opened_by(t: u32, up: Up) -> Option<u32>
     }
 }
 
-fn has_cps(up: Option<Up>) -> bool
-    ensures { result ≡ copies_of up }
+/// Whether the task is up with a CPS in progress.
+fn has_cps(up: Option<ActiveTask>) -> bool
+    ensures { result ≡ has_cps up }
 {
     match up {
         Some(up) => up.cps_open,
@@ -374,25 +385,8 @@ fn has_cps(up: Option<Up>) -> bool
     }
 }
 
-fn none_up(alloc: Global, tasks: usize) -> Result<Vec<Option<Up>>, AllocError>
-    ensures { IfOk result (λ ups. ups.items ≡ replicate tasks None) }
-{
-    let mut ups = Vec::with_capacity(alloc, tasks)?;
-    for _task in 0..tasks {
-        ups.push(None)?;
-    }
-    Ok(ups)
-}
-
-fn put_down(ups: &mut Vec<Option<Up>>)
-    ensures { ups.new.items ≡ map (λ u. None) ups.old.items }
-{
-    for t in 0..ups.len() {
-        ups[t] = None;
-    }
-}
-
-fn has_run_out(now: u32, def: TaskDef, up: Option<Up>) -> bool
+/// Whether the task has been up for the ticks of its watchdog.
+fn has_run_out(now: u32, def: TaskDef, up: Option<ActiveTask>) -> bool
     ensures { result ≡ has_run_out now def up }
 {
     match up {
@@ -401,13 +395,14 @@ fn has_run_out(now: u32, def: TaskDef, up: Option<Up>) -> bool
     }
 }
 
-fn first_expired(now: u32, defs: &[TaskDef], ups: &[Option<Up>]) -> Option<u32>
-    requires few { length defs.now < 33 }
+/// The first task that has been up for the ticks of its watchdog.
+fn first_expired(now: u32, defs: &[TaskDef], ups: &[Option<ActiveTask>]) -> Option<u32>
+    requires few { length defs.now ≤ MAX_TASKS }
     requires as_many { length ups.now ≡ length defs.now }
-    ensures { result ≡ run_out_from now 0 defs.now ups.now }
+    ensures { result ≡ position_from (λ t. has_run_out now t.0 t.1) 0 (zip defs.now ups.now) }
 {
-    for t in 0..defs.len() {
-        if has_run_out(now, defs[t], ups[t]) {
+    for (t, def) in defs.iter().enumerate() {
+        if has_run_out(now, *def, ups[t]) {
             return Some(t as u32);
         }
     }

@@ -22,7 +22,7 @@ words_of conns = sum_by (λ c. c.words) conns
 abbrev pub trigger_at : ConnDef → ℕ → Option ℕ
 trigger_at c word = if not c.output && nat_eq (word + 1) c.words then c.trigger else None
 
--- Word k of a connection is bytes 4k to 4k + 3 of its tag, and it is numbered behind the words of all earlier
+-- Word k of a connection is bytes 4k to 4k + 3 of its tag, and it is numbered after the words of all earlier
 -- connections.
 abbrev pub slot_of : List ConnDef → ℕ → ConnDef → ℕ → Slot
 slot_of conns n c word = record { byte = c.byte + 4 * word; io = words_of (take n conns) + word; trigger = trigger_at c word }

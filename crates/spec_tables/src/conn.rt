@@ -1,8 +1,8 @@
 // Connections of controller tags to modules.
 use lgx_num::Name;
 
-/// A connection: its words, at most 128 of four bytes each, are the bytes of one controller tag from `byte` on. The last word
-/// of an input triggers the event task `trigger`.
+/// A connection: its words of four bytes each are the bytes of one controller tag from `byte` on. The last word of an input
+/// triggers the event task `trigger`.
 #[derive(Drop)]
 pub struct ConnDef {
     pub name: Name,

@@ -1,9 +1,9 @@
 -- One queue more is empty.
-use Rattle.std.proofs.Common.{[], ◌<◌, length, arith}
-use Rattle.lgx_sched.proofs.Calls.{written_from}
+use Rattle.std.proofs.Common.{◌∙◌, List, [], ℕ, set, ap}
+use Rattle.std.proofs.lemmas.List.Edits.{map_over_more}
 use Rattle.lgx_sched.proofs.queue.empty.Goals as goal
 
-pub loop-i-preserved : goal.loop-i-preserved
-loop-i-preserved c =
-    let l : c.loop-i.i < length c.args.queues.now.items = omega (arith, c.args.queues.now.ok.0) in
-    (written_from [] _ c.args.queues.now.items _ c.loop-i.i l c.loop-i.invariant.0 c.clear.ensures, c.loop-i.invariant.1)
+pub loop-queue-preserved : goal.loop-queue-preserved
+loop-queue-preserved c =
+    ap (λ (q : List ℕ). set c.loop-queue.queues c.loop-queue.queue-index q) c.clear.ensures
+    ∙ map_over_more (λ (q : List ℕ). []) c.args.queues.now c.loop-queue.queues c.loop-queue.queue-index c.queue-item.result c.loop-queue-test.true c.loop-queue.invariant c.queue-item.is

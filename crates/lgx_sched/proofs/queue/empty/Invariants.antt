@@ -1,5 +1,5 @@
 use Rattle.std.proofs.Common.{◌≡◌, ◌++◌, [], drop, take, map}
 use Rattle.lgx_sched.proofs.queue.empty.Given as goal
 
-abbrev pub invariant-loop-i : goal.invariant-loop-i
-invariant-loop-i l = (l.queues.items ≡ map (λ q. []) (take l.i l.fn.queues.items) ++ drop l.i l.fn.queues.items) × (l.queues.len ≡ l.fn.queues.len)
+abbrev pub invariant-loop-queue : goal.invariant-loop-queue
+invariant-loop-queue l = l.queues ≡ map (λ q. []) (take l.queue-index l.fn.queues) ++ drop l.queue-index l.fn.queues

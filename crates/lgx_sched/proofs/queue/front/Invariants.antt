@@ -1,5 +1,5 @@
 use Rattle.std.proofs.Common.{◌≡◌, drop}
-use Rattle.lgx_sched.specs.Ready.{front_of}
+use Rattle.lgx_sched.specs.TableView.{front_of}
 use Rattle.lgx_sched.proofs.queue.front.Given as goal
 
 abbrev pub invariant-loop-queue : goal.invariant-loop-queue

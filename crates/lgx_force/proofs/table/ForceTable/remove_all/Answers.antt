@@ -1,10 +1,13 @@
 -- No word has a force any more.
-use Rattle.std.proofs.Common.{ap, sym, ◌∙◌}
-use Rattle.lgx_force.proofs.Words.{remove-ok, count_cleared, count_of}
+use Rattle.std.proofs.Common.{Ok, sym, ◌∙◌, subst}
+use Rattle.spec_tables.specs.Forces.{Forces, remove_all}
+use Rattle.spec_tables.proofs.StateLists.{none_alone}
+use Rattle.lgx_force.specs.Seen.{Answers}
+use Rattle.lgx_force.proofs.Words.{remove-ok}
 use Rattle.lgx_force.proofs.table.ForceTable.remove_all.Goals as goal
 
-pub invariant_of-self : goal.invariant_of-self
-invariant_of-self c = sym (ap count_of c.clear.ensures ∙ count_cleared c.self.inside.words.items)
-
 pub returns-clause-exact : goal.returns-clause-exact
-returns-clause-exact c = remove-ok c.self.inside.words.items _ c.self.inside.enabled c.args.self.now (λ z. c.if-self-eq0.false (c.self.invariant ∙ z)) c.clear.ensures c.self.view_is
+returns-clause-exact c =
+    let cleared = c.fill.ensures.items (none_alone _ (λ x h. h)) in
+    subst (λ (f : Forces). Answers (remove_all c.args.self.now) c.args.self.now f (Ok tt)) (sym c.disable.ensures.exact)
+    (remove-ok c.self.inside.words.items _ _ c.self.inside.enabled c.args.self.now (λ z. c.if-self-eq0.false (c.self.invariant ∙ z)) cleared c.self.inside.words.ok.0 c.self.view_is)

@@ -1,15 +1,15 @@
 -- The table stays one, and knows whether the task has something open.
 use Rattle.std.proofs.Common.{◌≡◌, Some, subst, sym, arith}
-use Rattle.lgx_sched.specs.Ready.{Ready, next_task}
+use Rattle.lgx_sched.specs.TableView.{TableView, next_task}
 use Rattle.lgx_sched.proofs.Tables.{known_task}
 use Rattle.lgx_sched.proofs.Calls.{with_from}
 use Rattle.lgx_sched.proofs.table.TaskTable.change.Goals as goal
 
 pub index_mut-requires : goal.index_mut-requires
 index_mut-requires c =
-    let l = known_task _ c.args.t c.self.invariant (subst (λ (v : Ready). next_task v ≡ Some c.args.t) (sym c.self.view_is) c.requires.chosen) in
+    let l = known_task _ c.args.t c.self.invariant (subst (λ (v : TableView). next_task v ≡ Some c.args.t) (sym c.self.view_is) c.requires.chosen) in
     let same = c.self.invariant.0.as_many in
     omega arith
 
 pub invariant_of-self : goal.invariant_of-self
-invariant_of-self c = with_from _ c.args.t c.args.up _ c.self.invariant (subst (λ (v : Ready). next_task v ≡ Some c.args.t) (sym c.self.view_is) c.requires.chosen) c.opened_by-opened.ensures
+invariant_of-self c = with_from _ c.args.t c.args.up _ c.self.invariant (subst (λ (v : TableView). next_task v ≡ Some c.args.t) (sym c.self.view_is) c.requires.chosen) c.task_if_open-open_task.ensures

@@ -1,8 +1,8 @@
 use Rattle.std.proofs.Common.{rules, ◌≡◌, sym, ◌∙◌}
 use Rattle.std.proofs.lemmas.Grind.{common_steps}
 use Rattle.std.proofs.Common.{arith}
-use Rattle.lgx_sched.specs.Ready.{ready_at}
-use Rattle.lgx_sched.specs.StandsFor.{IsInLine}
+use Rattle.lgx_sched.specs.TableView.{ready_at}
+use Rattle.lgx_sched.specs.Represents.{IsInLine}
 use Rattle.lgx_sched.proofs.InLine.{if_some, none_from, ready_in_line, ready_none}
 use Rattle.lgx_sched.proofs.table.TaskTable.ready.Goals as goal
 

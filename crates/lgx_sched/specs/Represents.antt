@@ -1,34 +1,28 @@
--- What it means that the table of tasks stands for a list of task states with ranks.
-use Rattle.std.specs.Prelude.{◌≡◌, ℕ, ◌+◌, ◌<◌, ◌≤◌, Bool, true, false, IsTrue, nat_eq, List, [], ◌∷◌, length, map, sum_by, count_by, Option, Some, None, IfSome, is_some, option_map, ◌⊎◌, slice_get, replicate}
+-- What it means that the table of tasks represents a list of task states with ranks.
+use Rattle.std.specs.Prelude.{◌≡◌, ℕ, ◌+◌, ◌<◌, ◌≤◌, Bool, true, false, IsTrue, nat_eq, List, [], ◌∷◌, length, map, sum_by, count_by, Option, Some, None, IfSome, is_some, option_map, slice_get, replicate}
+use Rattle.std.specs.List.{All, Contains}
+use Rattle.spec_base.specs.declared.limits.TheConstants.{MAX_TASKS, LEAST_PRIORITY}
 use Rattle.spec_tables.specs.declared.task.TaskDef.{TaskDef}
 use Rattle.spec_tables.specs.declared.task.TaskKind.{TaskKind}
 use Rattle.spec_tables.specs.declared.task.TaskKind.TheVariants.{Periodic}
 use Rattle.spec_tables.specs.Tasks.{TaskState, Table, state_of, task}
-use Rattle.lgx_sched.specs.declared.table.Up.{Up}
+use Rattle.lgx_sched.specs.declared.table.ActiveTask.{ActiveTask}
 use Rattle.lgx_sched.specs.declared.table.Release.{Release}
 use Rattle.lgx_sched.specs.declared.table.Release.TheVariants.{Released, Overlap}
-use Rattle.lgx_sched.specs.Ready.{Ready, up_of, def_of, queue_at, place_of, has_open}
+use Rattle.lgx_sched.specs.TableView.{TableView, up_of, def_of, queue_at, place_of, has_open}
 
-abbrev pub Each : (ℕ → Type 0) → List ℕ → Type 0
-Each P [] = Unit {0}
-Each P (t ∷ ts) = P t × Each P ts
-
-abbrev pub In : ℕ → List ℕ → Type 0
-In t [] = ⊥
-In t (u ∷ us) = (t ≡ u) ⊎ In t us
-
--- each task has a lower rank than all behind it
+-- each task has a lower rank than all after it
 abbrev pub Ascends : (ℕ → ℕ) → List ℕ → Type 0
 Ascends rank [] = Unit {0}
-Ascends rank (t ∷ ts) = Each (λ u. rank t < rank u) ts × Ascends rank ts
+Ascends rank (t ∷ ts) = All (λ u. rank t < rank u) ts × Ascends rank ts
 
 -- the rank of a task that is up
 abbrev pub rank_of : Option TaskState → ℕ
 rank_of None = 0
 rank_of (Some u) = u.rank
 
--- a turn but for its rank
-abbrev pub without_rank : TaskState → Up
+-- a state but for its rank
+abbrev pub without_rank : TaskState → ActiveTask
 without_rank u = record { start = u.start; region_count = u.region_count; cps_open = u.cps_open }
 
 -- task t is up and has priority p
@@ -37,14 +31,14 @@ IsUpAt states priority p t = IsTrue (is_some (states t)) × (priority t ≡ p)
 
 -- the tasks of priority p that are up, each once, by their ranks
 pub record IsQueueOf (states : ℕ → Option TaskState) (priority : ℕ → ℕ) (p : ℕ) (q : List ℕ) : Type 0 where
-  pub each : Each (IsUpAt states priority p) q
-  pub all : (t : ℕ) → IsUpAt states priority p t → In t q
+  pub each : All (IsUpAt states priority p) q
+  pub all : (t : ℕ) → IsUpAt states priority p t → Contains q t
   pub by_rank : Ascends (λ t. rank_of (states t)) q
 
 -- the tasks of priority p that are up with a rank below n, each once, by their ranks
 pub record IsAheadOf (states : ℕ → Option TaskState) (priority : ℕ → ℕ) (p n : ℕ) (q : List ℕ) : Type 0 where
-  pub each : Each (λ t. IsUpAt states priority p t × (rank_of (states t) < n)) q
-  pub all : (t : ℕ) → IsUpAt states priority p t → rank_of (states t) < n → In t q
+  pub each : All (λ t. IsUpAt states priority p t × (rank_of (states t) < n)) q
+  pub all : (t : ℕ) → IsUpAt states priority p t → rank_of (states t) < n → Contains q t
   pub by_rank : Ascends (λ t. rank_of (states t)) q
 
 -- task t is up with priority p, and exactly i tasks of this priority that are up have a lower rank
@@ -59,7 +53,7 @@ AtMostUp s p i = (q : List ℕ) × (IsQueueOf (state_of s) (λ k. (task s k).pri
 -- The same tasks are up, with the same starts, regions and open CPS; the tick of the last change to Run is the same; the
 -- ranks of the tasks that are up differ and are below the next; and the up tasks of each priority stand in their queue by
 -- rank. The numbers of the ranks don't matter.
-pub record StandsFor (v : Ready) (s : Table) : Type 0 where
+pub record Represents (v : TableView) (s : Table) : Type 0 where
   pub defs : v.defs ≡ s.defs
   pub ups : v.ups ≡ map (option_map without_rank) s.states
   pub run_since : v.run_since ≡ s.run_since
@@ -83,21 +77,21 @@ abbrev pub is_it : Option ℕ → ℕ → Bool
 is_it None t = false
 is_it (Some o) t = nat_eq o t
 
--- There are at most 32 tasks, and a queue for each priority; what is open is known, is of one task alone, and this task
+-- There are few tasks, and a queue for each priority; what is open is known, is of one task alone, and this task
 -- is the first of its queue; and the queues have no more tasks than are up.
-pub record IsSound (v : Ready) : Type 0 where
-  pub few : length v.defs ≤ 32
+pub record IsSound (v : TableView) : Type 0 where
+  pub few : length v.defs ≤ MAX_TASKS
   pub as_many : length v.ups ≡ length v.defs
-  pub sixteen : length v.queues ≡ 16
-  pub priorities : (t : ℕ) → t < length v.defs → (0 < (def_of v t).priority) × ((def_of v t).priority ≤ 16)
+  pub queue_each : length v.queues ≡ LEAST_PRIORITY
+  pub priorities : (t : ℕ) → t < length v.defs → (0 < (def_of v t).priority) × ((def_of v t).priority ≤ LEAST_PRIORITY)
   pub periods : (t : ℕ) → t < length v.defs → HasPeriod ((def_of v t).kind)
-  pub alone : (t : ℕ) → has_open (up_of v t) ≡ is_it v.opened t
-  pub first : IfSome v.opened (λ t. slice_get (queue_at v (place_of v t)) 0 ≡ Some t)
+  pub alone : (t : ℕ) → has_open (up_of v t) ≡ is_it v.open_task t
+  pub first : IfSome v.open_task (λ t. slice_get (queue_at v (place_of v t)) 0 ≡ Some t)
   pub room : sum_by (λ (q : List ℕ). length q) v.queues ≡ count_by is_some v.ups
 
--- it is sound, and there is a list that it stands for
-abbrev pub IsTable : Ready → Type 0
-IsTable v = IsSound v × ((s : Table) × StandsFor v s)
+-- it is sound, and there is a list that it represents
+abbrev pub IsTable : TableView → Type 0
+IsTable v = IsSound v × ((s : Table) × Represents v s)
 
 -- the list of a table that was just made: every task is down
 abbrev pub none_up : List TaskDef → ℕ → Table
