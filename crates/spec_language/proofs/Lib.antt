@@ -6,5 +6,5 @@ pub mod FoundBounds
 pub mod OperandBounds
 pub mod Reaching
 pub mod SizesSettle
-mod FormsSpelled
-mod FormsRead
+pub mod FormsSpelled
+pub mod FormsRead
