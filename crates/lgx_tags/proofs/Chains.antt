@@ -12,14 +12,12 @@ use Rattle.spec_base.specs.FirstCause.{◌>>=◌, some_or}
 use Rattle.spec_language.specs.Declarations.{Entry, Declarations, same_scope, is_named, entry_of}
 use Rattle.spec_language.specs.Resolution.{seen_from, meant, named_within}
 use Rattle.spec_language.proofs.FoundBounds.{and_left}
-use Rattle.lgx_tags.specs.Chains.{Answer, Known, number_in, seen_number, answer, answer_at, answer_of, named_by, target_in, value_in, Below, is_g7, is_open}
+use Rattle.lgx_tags.specs.Chains.{Answer, Resolved, number_in, seen_number, answer, answer_at, answer_of, named_by, target_in, value_in, Below, is_g7, is_open}
 use Rattle.lgx_tags.specs.Starts.{start_of}
 use Rattle.lgx_tags.proofs.Starts.{next, seek, entry_found}
-use Rattle.lgx_tags.proofs.Declares.{ArePlaced}
+use Rattle.lgx_tags.proofs.Declares.{AreInScopes}
 use Rattle.lgx_tags.proofs.Monotone.{BelowAll, named_unfolds, meant_below, target_below}
-
-pub some_inj : {A : Type 0} (a b : A) → Some a ≡ Some b → a ≡ b
-some_inj a b p = cc p
+use Rattle.std.proofs.lemmas.Option.{same_Some}
 
 -- ---- the entry that a name is seen as
 
@@ -28,9 +26,9 @@ seek_get s name [] x p = absurd (cc p)
 seek_get s name (e ∷ es) x p = go (is_named s name e) (seek s name es) (λ y q. seek_get s name es y q) p
   where
     go : (b : Bool) (o : Option (ℕ × Entry)) → ((y : ℕ × Entry) → o ≡ Some y → slice_get es y.0 ≡ Some y.1) → cond b (Some (0, e)) (option_map next o) ≡ Some x → slice_get (e ∷ es) x.0 ≡ Some x.1
-    go true o known q = subst (λ (x : ℕ × Entry). slice_get (e ∷ es) x.0 ≡ Some x.1) (some_inj (0, e) x q) refl
+    go true o known q = subst (λ (x : ℕ × Entry). slice_get (e ∷ es) x.0 ≡ Some x.1) (same_Some (0, e) x q) refl
     go false None known q = absurd (cc q)
-    go false (Some y) known q = subst (λ (x : ℕ × Entry). slice_get (e ∷ es) x.0 ≡ Some x.1) (some_inj (next y) x q) (known y refl)
+    go false (Some y) known q = subst (λ (x : ℕ × Entry). slice_get (e ∷ es) x.0 ≡ Some x.1) (same_Some (next y) x q) (known y refl)
 
 pub scope_same : (s t : Scope) → same_scope s t ≡ true → s ≡ t
 scope_same Controller Controller p = refl
@@ -43,9 +41,9 @@ seek_scope s name [] x p = absurd (cc p)
 seek_scope s name (e ∷ es) x p = go (is_named s name e) refl (seek s name es) (λ y q. seek_scope s name es y q) p
   where
     go : (b : Bool) → is_named s name e ≡ b → (o : Option (ℕ × Entry)) → ((y : ℕ × Entry) → o ≡ Some y → y.1.scope ≡ s) → cond b (Some (0, e)) (option_map next o) ≡ Some x → x.1.scope ≡ s
-    go true r o known q = subst (λ (x : ℕ × Entry). x.1.scope ≡ s) (some_inj (0, e) x q) (scope_same e.scope s (and_left (same_scope e.scope s) _ r))
+    go true r o known q = subst (λ (x : ℕ × Entry). x.1.scope ≡ s) (same_Some (0, e) x q) (scope_same e.scope s (and_left (same_scope e.scope s) _ r))
     go false r None known q = absurd (cc q)
-    go false r (Some y) known q = subst (λ (x : ℕ × Entry). x.1.scope ≡ s) (some_inj (next y) x q) (known y refl)
+    go false r (Some y) known q = subst (λ (x : ℕ × Entry). x.1.scope ≡ s) (same_Some (next y) x q) (known y refl)
 
 seek_from : (s : Scope) (name : List ℕ) (es : List Entry) (i : ℕ) → position_from (is_named s name) i es ≡ option_map (λ x. i + x.0) (seek s name es)
 seek_from s name [] i = refl
@@ -96,14 +94,14 @@ number_seen es (Program p) name = rw (number_sought, number_sought) (go (seek (P
 abbrev begun_at : Declarations → ℕ × Entry → ℕ × Entry
 begun_at d x = (start_of d x.1.scope x.0, x.1)
 
-own_scope : (d : Declarations) (s : Scope) (name : List ℕ) → ArePlaced d.programs d.entries → entry_of d s name ≡ option_map (begun_at d) (seek s name d.entries)
+own_scope : (d : Declarations) (s : Scope) (name : List ℕ) → AreInScopes d.programs d.entries → entry_of d s name ≡ option_map (begun_at d) (seek s name d.entries)
 own_scope d s name h = entry_found d s name h ∙ go (seek s name d.entries) refl
   where
     go : (o : Option (ℕ × Entry)) → seek s name d.entries ≡ o → option_map (λ x. (start_of d s x.0, x.1)) o ≡ option_map (begun_at d) o
     go None r = refl
     go (Some y) r = ap (λ (t : Scope). Some (start_of d t y.0, y.1)) (sym (seek_scope s name d.entries y r))
 
-pub seen_is : (d : Declarations) (s : Scope) (name : List ℕ) → ArePlaced d.programs d.entries → seen_from d s name ≡ option_map (begun_at d) (sought d.entries s name)
+pub seen_is : (d : Declarations) (s : Scope) (name : List ℕ) → AreInScopes d.programs d.entries → seen_from d s name ≡ option_map (begun_at d) (sought d.entries s name)
 seen_is d Controller name h = own_scope d Controller name h
 seen_is d (Program p) name h = ap (λ (o : Option (ℕ × Entry)). option_or o (entry_of d Controller name)) (own_scope d (Program p) name h) ∙ ap (option_or (option_map (begun_at d) (seek (Program p) name d.entries))) (own_scope d Controller name h) ∙ go (seek (Program p) name d.entries)
   where
@@ -120,14 +118,14 @@ abbrev pub of_sought : Values → Option (ℕ × Entry) → Answer
 of_sought v None = Err G3
 of_sought v (Some x) = v x.0 x.1
 
-pub named_value : (n : ℕ) (d : Declarations) (s : Scope) (name : List ℕ) → ArePlaced d.programs d.entries → named_within n d s name ≡ of_sought (value_in n d) (sought d.entries s name)
+pub named_value : (n : ℕ) (d : Declarations) (s : Scope) (name : List ℕ) → AreInScopes d.programs d.entries → named_within n d s name ≡ of_sought (value_in n d) (sought d.entries s name)
 named_value n d s name h = named_unfolds n d s name ∙ ap (λ (o : Option (ℕ × Entry)). some_or o G3 >>= meant d.types (target_in n d)) (seen_is d s name h) ∙ go (sought d.entries s name)
   where
     go : (o : Option (ℕ × Entry)) → (some_or (option_map (begun_at d) o) G3 >>= meant d.types (target_in n d)) ≡ of_sought (value_in n d) o
     go None = refl
     go (Some x) = refl
 
-pub known_value : (es : List Entry) (known : List Known) (s : Scope) (name : List ℕ) → named_by es known s name ≡ of_sought (λ i e. answer_at known i) (sought es s name)
+pub known_value : (es : List Entry) (known : List Resolved) (s : Scope) (name : List ℕ) → named_by es known s name ≡ of_sought (λ i e. answer_at known i) (sought es s name)
 known_value es known s name = ap (answer_of known) (number_seen es s name) ∙ go (sought es s name)
   where
     go : (o : Option (ℕ × Entry)) → answer_of known (option_map (λ x. x.0) o) ≡ of_sought (λ i e. answer_at known i) o
@@ -145,10 +143,10 @@ sought_below es v w s name h = go (sought es s name) refl
     go (Some x) r = h x.0 x.1 (sought_get es s name x r)
 
 -- what is known of names is no more than a chain of so many gives, where that is so of the entries
-pub known_below : (n : ℕ) (d : Declarations) (known : List Known) → ArePlaced d.programs d.entries → EachBelow d.entries (λ i e. answer_at known i) (value_in n d) → (s : Scope) → BelowAll (named_by d.entries known s) (named_within n d s)
+pub known_below : (n : ℕ) (d : Declarations) (known : List Resolved) → AreInScopes d.programs d.entries → EachBelow d.entries (λ i e. answer_at known i) (value_in n d) → (s : Scope) → BelowAll (named_by d.entries known s) (named_within n d s)
 known_below n d known h b s name = subst (λ (a : Answer). Below a (named_within n d s name)) (sym (known_value d.entries known s name)) (subst (λ (a : Answer). Below (of_sought (λ i e. answer_at known i) (sought d.entries s name)) a) (sym (named_value n d s name h)) (sought_below d.entries (λ i e. answer_at known i) (value_in n d) s name b))
 
-pub named_known : (n : ℕ) (d : Declarations) (known : List Known) → ArePlaced d.programs d.entries → EachBelow d.entries (value_in n d) (λ i e. answer_at known i) → (s : Scope) → BelowAll (named_within n d s) (named_by d.entries known s)
+pub named_known : (n : ℕ) (d : Declarations) (known : List Resolved) → AreInScopes d.programs d.entries → EachBelow d.entries (value_in n d) (λ i e. answer_at known i) → (s : Scope) → BelowAll (named_within n d s) (named_by d.entries known s)
 named_known n d known h b s name = subst (λ (a : Answer). Below a (named_by d.entries known s name)) (sym (named_value n d s name h)) (subst (λ (a : Answer). Below (of_sought (value_in n d) (sought d.entries s name)) a) (sym (known_value d.entries known s name)) (sought_below d.entries (value_in n d) (λ i e. answer_at known i) s name b))
 
 -- ---- chains that may be longer
@@ -164,11 +162,11 @@ value_up n m d i e h = let on : n + (m - n) ≡ m = omega arith in subst (λ (m 
 
 -- ---- when all chains are walked
 
-pub g7_closed : (k : Known) → answer k ≡ Err G7 → is_open k ≡ true
+pub g7_closed : (k : Resolved) → answer k ≡ Err G7 → is_open k ≡ true
 g7_closed (Ok s) p = absurd (cc p)
 g7_closed (Err given) p = let q : given ≡ G7 = cc p in ap is_g7 q
 
-pub open_g7 : (k : Known) → is_open k ≡ true → answer k ≡ Err G7
+pub open_g7 : (k : Resolved) → is_open k ≡ true → answer k ≡ Err G7
 open_g7 (Ok s) p = absurd (cc p)
 open_g7 (Err G7) p = refl
 open_g7 (Err code.G1) p = absurd (cc p)

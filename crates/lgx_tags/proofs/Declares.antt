@@ -1,7 +1,7 @@
 -- What one more entry changes.
-use Rattle.std.specs.Prelude.{◌≡◌, ℕ, ◌+◌, ◌<◌, ◌≤◌, Bool, true, false, cond, ◌||◌, nat_le, nat_lt, if◌then◌else◌, List, [], ◌∷◌, ◌++◌, length, position, Some, None, is_some, option_map, refl}
-use Rattle.std.specs.List.{AllByRecursion as Each, position_from, list_any, filter_map}
-use Rattle.std.proofs.Common.{sym, ap, ◌∙◌, arith, leb-true, ltb-true, ltb-false, length-append}
+use Rattle.std.specs.Prelude.{◌≡◌, ℕ, ◌+◌, ◌<◌, ◌≤◌, Bool, true, false, ◌||◌, nat_le, if◌then◌else◌, List, [], ◌∷◌, ◌++◌, length, position, Some, None, is_some, option_map, refl}
+use Rattle.std.specs.List.{AllByRecursion as Each, list_any, filter_map}
+use Rattle.std.proofs.Common.{sym, ap, ◌∙◌, arith, leb-true, length-append}
 use Rattle.std.proofs.lemmas.Iterator.Adapters.{position_from-zero}
 use Rattle.std.proofs.lemmas.List.{map-append, append-nil}
 use Rattle.std.proofs.lemmas.List.Elements.{filter_map-append}
@@ -15,31 +15,28 @@ use Rattle.spec_base.specs.FirstCause.{where_true, first}
 use Rattle.spec_language.specs.Declarations.{tag, alias, Entry, Declarations, is_named, is_name_in, bytes, declared_as, entry_faults, declare_fault, alias_fault}
 use Rattle.spec_language.specs.Resolution.{target_of, aliases}
 use Rattle.spec_language.proofs.FoundBounds.{and_left}
-use Rattle.spec_base.proofs.Lists.{each_append, each_map}
+use Rattle.spec_base.proofs.Lists.{each_append, each_map, any_some}
 use Rattle.lgx_tags.specs.Keys.{key_of}
 use Rattle.lgx_tags.specs.Scopes.{IsScopeOf}
-use Rattle.lgx_tags.specs.Tables.{IsLetIn, IsKept, keys_of}
+use Rattle.lgx_tags.specs.Tables.{IsAdmitted, Represents, keys_of}
 use Rattle.lgx_tags.specs.declared.key.Key.{Key}
-use Rattle.lgx_tags.proofs.Spans.{span, total, total_append, total_ordered, end_is, ordered}
+use Rattle.lgx_tags.proofs.Spans.{padded_size, padded_total, total_append, total_ordered, end_is, ordered}
 use Rattle.lgx_tags.proofs.Lookups.{same_key, key_position}
+use Rattle.std.proofs.lemmas.Bool.{lt-ltb, le-ltb}
+use Rattle.std.proofs.Common.{get_or}
+use Rattle.std.specs.Prelude.{slice_get}
+use Rattle.std.proofs.lemmas.Option.{slice_get-get_or}
+use Rattle.spec_base.specs.declared.limits.TheConstants.{MAX_IMAGE_BYTES, MAX_NAME_BYTES, MAX_TAG_NAME_BYTES}
 
 -- ---- names
 
--- a name has at most 80 bytes in either scope
-pub name_short : (s : Scope) (name : List ℕ) → is_name_in s name ≡ true → length name ≤ 80
-name_short Controller name p = leb-true (length name) 80 (and_left (nat_le (length name) 80) _ p)
-name_short (Program q) name p = omega (arith, leb-true (length name) 40 (and_left (nat_le (length name) 40) _ p))
-
-any_from : {X : Type 0} (test : X → Bool) (xs : List X) (i : ℕ) → list_any test xs ≡ is_some (position_from test i xs)
-any_from test [] i = refl
-any_from test (x ∷ xs) i = by_test (test x) (any_from test xs (i + 1))
-  where
-    by_test : (b : Bool) → list_any test xs ≡ is_some (position_from test (i + 1) xs) → (b || list_any test xs) ≡ is_some (cond b (Some i) (position_from test (i + 1) xs))
-    by_test true e = refl
-    by_test false e = e
+-- a name has at most MAX_TAG_NAME_BYTES bytes in either scope
+pub name_short : (s : Scope) (name : List ℕ) → is_name_in s name ≡ true → length name ≤ MAX_TAG_NAME_BYTES
+name_short Controller name p = leb-true (length name) MAX_TAG_NAME_BYTES (and_left (nat_le (length name) MAX_TAG_NAME_BYTES) _ p)
+name_short (Program q) name p = omega (arith, leb-true (length name) MAX_NAME_BYTES (and_left (nat_le (length name) MAX_NAME_BYTES) _ p))
 
 pub any_position : {X : Type 0} (test : X → Bool) (xs : List X) → list_any test xs ≡ is_some (position test xs)
-any_position test xs = any_from test xs 0 ∙ ap is_some (sym (position_from-zero test xs))
+any_position test xs = any_some test xs 0 ∙ ap is_some (sym (position_from-zero test xs))
 
 pub misnamed : (d : Declarations) (s : Scope) (name : List ℕ) → is_name_in s name ≡ false → alias_fault d s name ≡ Some G1
 misnamed d s name p = rw p refl
@@ -50,7 +47,7 @@ taken d s name i p q = let any : list_any (is_named s name) d.entries ≡ true =
 pub free_name : (d : Declarations) (s : Scope) (name : List ℕ) → is_name_in s name ≡ true → position (is_named s name) d.entries ≡ None → alias_fault d s name ≡ None
 free_name d s name p q = let any : list_any (is_named s name) d.entries ≡ false = any_position (is_named s name) d.entries ∙ ap is_some q in rw (p, any) refl
 
--- G8 comes behind the faults of names
+-- G8 comes after the faults of names
 first_some : (xs ys : List TagCode) (code : TagCode) → first xs ≡ Some code → first (xs ++ ys) ≡ Some code
 first_some [] ys code p = absurd (cc p)
 first_some (x ∷ xs) ys code p = p
@@ -62,39 +59,30 @@ first_none (x ∷ xs) ys p = absurd (cc p)
 pub name_first : (d : Declarations) (s : Scope) (name : List ℕ) (of : DataType) (code : TagCode) → alias_fault d s name ≡ Some code → declare_fault d s name of ≡ Some code
 name_first d s name of code p = first_some (entry_faults d s name) _ code p
 
-lt_true : (a b : ℕ) → a < b → nat_lt a b ≡ true
-lt_true a b h = go (nat_lt a b) refl
-  where
-    go : (t : Bool) → nat_lt a b ≡ t → t ≡ true
-    go true q = refl
-    go false q = absurd (omega (arith, ltb-false a b q))
+pub too_long : (d : Declarations) (s : Scope) (name : List ℕ) (of : DataType) → alias_fault d s name ≡ None → MAX_IMAGE_BYTES < bytes (declared_as d s name (tag of)) → declare_fault d s name of ≡ Some G8
+too_long d s name of p h = first_none (entry_faults d s name) _ p ∙ ap (λ (b : Bool). first (where_true b G8)) (lt-ltb MAX_IMAGE_BYTES (bytes (declared_as d s name (tag of))) h)
 
-lt_false : (a b : ℕ) → b ≤ a → nat_lt a b ≡ false
-lt_false a b h = go (nat_lt a b) refl
-  where
-    go : (t : Bool) → nat_lt a b ≡ t → t ≡ false
-    go true q = absurd (omega (arith, ltb-true a b q))
-    go false q = refl
+pub fits_in : (d : Declarations) (s : Scope) (name : List ℕ) (of : DataType) → alias_fault d s name ≡ None → bytes (declared_as d s name (tag of)) ≤ MAX_IMAGE_BYTES → declare_fault d s name of ≡ None
+fits_in d s name of p h = first_none (entry_faults d s name) _ p ∙ ap (λ (b : Bool). first (where_true b G8)) (le-ltb MAX_IMAGE_BYTES (bytes (declared_as d s name (tag of))) h)
 
-pub too_long : (d : Declarations) (s : Scope) (name : List ℕ) (of : DataType) → alias_fault d s name ≡ None → 262144 < bytes (declared_as d s name (tag of)) → declare_fault d s name of ≡ Some G8
-too_long d s name of p h = first_none (entry_faults d s name) _ p ∙ ap (λ (b : Bool). first (where_true b G8)) (lt_true 262144 (bytes (declared_as d s name (tag of))) h)
+-- ---- the entry of a number
 
-pub fits_in : (d : Declarations) (s : Scope) (name : List ℕ) (of : DataType) → alias_fault d s name ≡ None → bytes (declared_as d s name (tag of)) ≤ 262144 → declare_fault d s name of ≡ None
-fits_in d s name of p h = first_none (entry_faults d s name) _ p ∙ ap (λ (b : Bool). first (where_true b G8)) (lt_false 262144 (bytes (declared_as d s name (tag of))) h)
+pub entry_there : (es : List Entry) (i : ℕ) (e : Entry) → i < length es → e ≡ get_or es i e → slice_get es i ≡ Some e
+entry_there es i e h p = slice_get-get_or es i e h ∙ ap Some (sym p)
 
 -- ---- bytes
 
-abbrev pub ArePlaced : ℕ → List Entry → Type 0
-ArePlaced programs es = Each (λ e. IsScopeOf programs e.scope) es
+abbrev pub AreInScopes : ℕ → List Entry → Type 0
+AreInScopes programs es = Each (λ e. IsScopeOf programs e.scope) es
 
-pub all_placed : (types : List TypeDecl) (programs : ℕ) (es : List Entry) → Each (IsLetIn types programs) es → ArePlaced programs es
-all_placed types programs es h = each_map (IsLetIn types programs) (λ e. IsScopeOf programs e.scope) es (λ e p. p.placed) h
+pub all_placed : (types : List TypeDecl) (programs : ℕ) (es : List Entry) → Each (IsAdmitted types programs) es → AreInScopes programs es
+all_placed types programs es h = each_map (IsAdmitted types programs) (λ e. IsScopeOf programs e.scope) es (λ e p. p.placed) h
 
-pub bytes_are : (d : Declarations) → ArePlaced d.programs d.entries → bytes d ≡ total d.types d.entries
+pub bytes_are : (d : Declarations) → AreInScopes d.programs d.entries → bytes d ≡ padded_total d.types d.entries
 bytes_are d h = omega (arith, end_is d.types 0 (ordered d.entries d.programs) refl, total_ordered d.types d.entries d.programs h)
 
 -- one more entry takes its bytes, in whatever scope
-pub bytes_more : (d : Declarations) (e : Entry) → ArePlaced d.programs d.entries → IsScopeOf d.programs e.scope → bytes (record d { entries = d.entries ++ e ∷ [] }) ≡ bytes d + span d.types e
+pub bytes_more : (d : Declarations) (e : Entry) → AreInScopes d.programs d.entries → IsScopeOf d.programs e.scope → bytes (record d { entries = d.entries ++ e ∷ [] }) ≡ bytes d + padded_size d.types e
 bytes_more d e h p =
     omega (arith, bytes_are (record d { entries = d.entries ++ e ∷ [] }) (each_append (λ e. IsScopeOf d.programs e.scope) d.entries (e ∷ []) h (p, tt)), bytes_are d h, total_append d.types d.entries (e ∷ []))
 
@@ -110,11 +98,11 @@ key_new s name es p = any_position (same_key (key_of s name)) (keys_of es) ∙ a
 pub keys_insert : (s : Scope) (name : List ℕ) (es : List Entry) (ks : List Key) (k : Key) → ks ≡ keys_of es → k ≡ key_of s name → position (is_named s name) es ≡ None → (if list_any (same_key k) ks then ks else ks ++ k ∷ []) ≡ keys_of es ++ key_of s name ∷ []
 keys_insert s name es ks k p q free = rw (p, q, key_new s name es free) refl
 
-pub kept_more : (d : Declarations) (e : Entry) (ks : List Key) (count count' : ℕ) → IsKept d ks count → IsLetIn d.types d.programs e → count' ≡ bytes (record d { entries = d.entries ++ e ∷ [] }) → count' ≤ 262144 → length (aliases (record d { entries = d.entries ++ e ∷ [] })) < 4294967296 → IsKept (record d { entries = d.entries ++ e ∷ [] }) (keys_of d.entries ++ key_of e.scope e.name ∷ []) count'
-kept_more d e ks count count' k l p r f = record { let_in = each_append (IsLetIn d.types d.programs) d.entries (e ∷ []) k.let_in (l, tt); keyed = sym (keys_more d.entries e); counted = p; room = r; few = f }
+pub kept_more : (d : Declarations) (e : Entry) (ks : List Key) (count count' : ℕ) → Represents d ks count → IsAdmitted d.types d.programs e → count' ≡ bytes (record d { entries = d.entries ++ e ∷ [] }) → count' ≤ MAX_IMAGE_BYTES → length (aliases (record d { entries = d.entries ++ e ∷ [] })) < 4294967296 → Represents (record d { entries = d.entries ++ e ∷ [] }) (keys_of d.entries ++ key_of e.scope e.name ∷ []) count'
+kept_more d e ks count count' k l p r f = record { admitted = each_append (IsAdmitted d.types d.programs) d.entries (e ∷ []) k.admitted (l, tt); keyed = sym (keys_more d.entries e); counted = p; room = r; few = f }
 
 -- an alias takes no bytes
-pub bytes_same : (d : Declarations) (e : Entry) → Each (IsLetIn d.types d.programs) d.entries → IsScopeOf d.programs e.scope → span d.types e ≡ 0 → bytes d ≡ bytes (record d { entries = d.entries ++ e ∷ [] })
+pub bytes_same : (d : Declarations) (e : Entry) → Each (IsAdmitted d.types d.programs) d.entries → IsScopeOf d.programs e.scope → padded_size d.types e ≡ 0 → bytes d ≡ bytes (record d { entries = d.entries ++ e ∷ [] })
 bytes_same d e h p z = omega (arith, bytes_more d e (all_placed d.types d.programs d.entries h) p)
 
 -- ---- aliases

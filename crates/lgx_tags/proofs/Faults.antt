@@ -14,12 +14,12 @@ use Rattle.spec_language.specs.ResolutionLaws.{IsSoundMeaning, Sound}
 use Rattle.spec_language.specs.Declarations.{Meaning, tag, alias, Entry, Declarations, same_scope, bytes}
 use Rattle.spec_language.specs.Resolution.{target_of, found_fixed, first_bad, seal_fault}
 use Rattle.spec_base.proofs.Lists.{each_append, each_flat}
-use Rattle.lgx_tags.specs.Layouts.{scopes, numbered, tags_in, order_of, lay, lay_end, laid_of}
-use Rattle.lgx_tags.specs.Chains.{Known, answer, is_target, bad_from, count_aliases, Walked}
-use Rattle.lgx_tags.specs.declared.layout.Numbered.{Numbered}
-use Rattle.lgx_tags.proofs.Declares.{ArePlaced}
-use Rattle.lgx_tags.proofs.Walked.{walked_alias}
-use Rattle.lgx_tags.proofs.Sounds.{some_bytes}
+use Rattle.lgx_tags.specs.Layouts.{scopes, numbered, tags_in, order_of, place_tags, place_tags_end, placed_tags}
+use Rattle.lgx_tags.specs.Chains.{Resolved, answer, is_target, bad_from, count_aliases, AllResolved}
+use Rattle.lgx_tags.specs.declared.layout.NumberedTag.{NumberedTag}
+use Rattle.lgx_tags.proofs.Declares.{AreInScopes}
+use Rattle.lgx_tags.proofs.ResolvedChains.{resolved_alias}
+use Rattle.lgx_tags.proofs.SoundTags.{some_bytes}
 use Rattle.lgx_tags.proofs.Segments.{ends_at}
 
 abbrev with_scope : Entry → Option (Scope × List ℕ)
@@ -33,14 +33,14 @@ count_is (e ∷ es) = go e.meaning (count_is es)
     go (tag of) p = p
     go (alias t) p = ap suc p
 
-fault_same : (k : Known) → result_err (answer k) ≡ result_err k
+fault_same : (k : Resolved) → result_err (answer k) ≡ result_err k
 fault_same (Ok s) = refl
 fault_same (Err code) = refl
 
 abbrev or_next : Option TagCode → ℕ → Option (TagCode × ℕ) → Option (TagCode × ℕ)
 or_next o k rest = option_or (option_map (λ code. (code, k)) o) rest
 
-bad_is : (d : Declarations) (known : List Known) → ArePlaced d.programs d.entries → Walked d known → (n k : ℕ) (es : List Entry) → ((i : ℕ) → slice_get es i ≡ slice_get d.entries (n + i)) → bad_from known n k es ≡ first_bad d k (filter_map with_scope es)
+bad_is : (d : Declarations) (known : List Resolved) → AreInScopes d.programs d.entries → AllResolved d known → (n k : ℕ) (es : List Entry) → ((i : ℕ) → slice_get es i ≡ slice_get d.entries (n + i)) → bad_from known n k es ≡ first_bad d k (filter_map with_scope es)
 bad_is d known h w n k [] g = refl
 bad_is d known h w n k (e ∷ es) g = go e.meaning refl (bad_is d known h w (suc n) k es rest) (bad_is d known h w (suc n) (suc k) es rest)
   where
@@ -59,10 +59,10 @@ bad_is d known h w n k (e ∷ es) g = go e.meaning refl (bad_is d known h w (suc
     go : (m : Meaning) → e.meaning ≡ m → bad_from known (suc n) k es ≡ first_bad d k (filter_map with_scope es) → bad_from known (suc n) (suc k) es ≡ first_bad d (suc k) (filter_map with_scope es) → cond (is_target m) (or_next (result_err (slice_index_or known n (Err G7))) k (bad_from known (suc n) (suc k) es)) (bad_from known (suc n) k es) ≡ first_bad d k (filter_map with_scope (record { scope = e.scope; name = e.name; meaning = m } ∷ es))
     go (tag of) p same next = same
     go (alias t) p same next =
-        let fault : result_err (slice_index_or known n (Err G7)) ≡ result_err (found_fixed d e.scope t) = sym (fault_same (slice_index_or known n (Err G7))) ∙ ap result_err (sym (walked_alias d known h w n e t there p)) in
+        let fault : result_err (slice_index_or known n (Err G7)) ≡ result_err (found_fixed d e.scope t) = sym (fault_same (slice_index_or known n (Err G7))) ∙ ap result_err (sym (resolved_alias d known h w n e t there p)) in
         ap (λ (o : Option TagCode). or_next o k (bad_from known (suc n) (suc k) es)) fault ∙ ap (or_next (result_err (found_fixed d e.scope t)) k) next
 
-pub bad_fault : (d : Declarations) (known : List Known) → ArePlaced d.programs d.entries → Walked d known → bad_from known 0 0 d.entries ≡ seal_fault d
+pub bad_fault : (d : Declarations) (known : List Resolved) → AreInScopes d.programs d.entries → AllResolved d known → bad_from known 0 0 d.entries ≡ seal_fault d
 bad_fault d known h w = bad_is d known h w 0 0 d.entries (λ i. ap (slice_get d.entries) (zero_on i))
   where
     zero_on : (i : ℕ) → i ≡ 0 + i
@@ -79,14 +79,14 @@ sound_tags types s n (e ∷ es) h = each_append (λ t. IsSoundType types t.of) (
     one true (alias target) p = tt
     one false m p = tt
 
-many : (types : List TypeDecl) (at : ℕ) (ts : List Numbered) → Each (λ t. IsSoundType types t.of) ts → at + length ts ≤ lay_end types at ts
+many : (types : List TypeDecl) (at : ℕ) (ts : List NumberedTag) → Each (λ t. IsSoundType types t.of) ts → at + length ts ≤ place_tags_end types at ts
 many types at [] h = omega arith
 many types at (t ∷ ts) h = omega (arith, some_bytes types t.of h.0, many types (round_up 4 (at + size_of types t.of)) ts h.1)
 
-lay_length : (types : List TypeDecl) (at : ℕ) (ts : List Numbered) → length (lay types at ts) ≡ length ts
-lay_length types at [] = refl
-lay_length types at (t ∷ ts) = ap suc (lay_length types (round_up 4 (at + size_of types t.of)) ts)
+place_tags_length : (types : List TypeDecl) (at : ℕ) (ts : List NumberedTag) → length (place_tags types at ts) ≡ length ts
+place_tags_length types at [] = refl
+place_tags_length types at (t ∷ ts) = ap suc (place_tags_length types (round_up 4 (at + size_of types t.of)) ts)
 
 -- there are no more tags than bytes
-pub tags_few : (d : Declarations) → Sound d → length (laid_of d) ≤ bytes d
-tags_few d s = omega (arith, lay_length d.types 0 (order_of d), ends_at d, many d.types 0 (order_of d) (each_flat (λ t. IsSoundType d.types t.of) (λ s. tags_in s 0 d.entries) (scopes d.programs) (λ sc. sound_tags d.types sc 0 d.entries s.tags)))
+pub tags_few : (d : Declarations) → Sound d → length (placed_tags d) ≤ bytes d
+tags_few d s = omega (arith, place_tags_length d.types 0 (order_of d), ends_at d, many d.types 0 (order_of d) (each_flat (λ t. IsSoundType d.types t.of) (λ s. tags_in s 0 d.entries) (scopes d.programs) (λ sc. sound_tags d.types sc 0 d.entries s.tags)))

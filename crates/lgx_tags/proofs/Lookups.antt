@@ -15,9 +15,12 @@ use Rattle.spec_language.specs.declared.tag.Scope.TheVariants.{Controller, Progr
 use Rattle.spec_language.specs.Declarations.{Entry, same_scope, is_named}
 use Rattle.spec_language.proofs.FoundBounds.{and_left, and_right}
 use Rattle.lgx_tags.specs.Keys.{lowered, key_of}
-use Rattle.lgx_tags.specs.Tables.{IsLetIn, keys_of}
+use Rattle.lgx_tags.specs.Tables.{IsAdmitted, keys_of}
 use Rattle.lgx_tags.specs.declared.key.Key.{Key}
 use Rattle.lgx_tags.specs.contracts.key.KeyPartialEq.TheImpl.{eq-value}
+use Rattle.std.specs.Cmp.Derive.{both_true}
+use Rattle.spec_base.proofs.Lists.{same_truth}
+use Rattle.spec_base.specs.declared.limits.TheConstants.{MAX_TAG_NAME_BYTES}
 
 -- ---- keys
 
@@ -26,16 +29,6 @@ same_key k l = eq-value.it k l
 
 abbrev lower : List ℕ → List ℕ
 lower = map to_ascii_lowercase
-
-and_both : (a b : Bool) → a ≡ true → b ≡ true → (a && b) ≡ true
-and_both a b p q = rw p q
-
--- two tests that imply each other answer alike
-alike : (a b : Bool) → (a ≡ true → b ≡ true) → (b ≡ true → a ≡ true) → a ≡ b
-alike true true p q = refl
-alike false false p q = refl
-alike true false p q = sym (p refl)
-alike false true p q = q refl
 
 -- the names that two keys are of
 keyed_name : (zeros a b : List ℕ) → length a ≡ length b → lower (a ++ drop (length a) zeros) ≡ lower (b ++ drop (length b) zeros) → lower b ≡ lower a
@@ -54,10 +47,10 @@ abbrev of_names : List ℕ → List ℕ → Bool
 of_names a b = (length a == length b) && pointwise nat_eq (lowered a) (lowered b)
 
 named_alike : (a b : List ℕ) → of_names a b ≡ same b a
-named_alike a b = alike (of_names a b) (same b a) (λ p. (bytes_eq-Decides (lower b) (lower a)).1 (keyed_name (replicate 80 0) a b (eqb-true (length a) (length b) (and_left (length a == length b) _ p)) ((bytes_eq-Decides (lowered a) (lowered b)).0 (and_right (length a == length b) _ p)))) (λ p. let e : lower b ≡ lower a = (bytes_eq-Decides (lower b) (lower a)).0 p in let long : length a ≡ length b = sym (length-map a to_ascii_lowercase) ∙ ap length (sym e) ∙ length-map b to_ascii_lowercase in and_both (length a == length b) (pointwise nat_eq (lowered a) (lowered b)) (eq-eqb (length a) (length b) long) ((bytes_eq-Decides (lowered a) (lowered b)).1 (name_keyed (replicate 80 0) a b e)))
+named_alike a b = same_truth (of_names a b) (same b a) (λ p. (bytes_eq-Decides (lower b) (lower a)).1 (keyed_name (replicate MAX_TAG_NAME_BYTES 0) a b (eqb-true (length a) (length b) (and_left (length a == length b) _ p)) ((bytes_eq-Decides (lowered a) (lowered b)).0 (and_right (length a == length b) _ p)))) (λ p. let e : lower b ≡ lower a = (bytes_eq-Decides (lower b) (lower a)).0 p in let long : length a ≡ length b = sym (length-map a to_ascii_lowercase) ∙ ap length (sym e) ∙ length-map b to_ascii_lowercase in both_true (eq-eqb (length a) (length b) long) ((bytes_eq-Decides (lowered a) (lowered b)).1 (name_keyed (replicate MAX_TAG_NAME_BYTES 0) a b e)))
 
 eq_turned : (p q : ℕ) → nat_eq p q ≡ (q == p)
-eq_turned p q = alike (nat_eq p q) (q == p) (λ h. eq-eqb q p (sym (eqb-true p q h))) (λ h. eq-eqb p q (sym (eqb-true q p h)))
+eq_turned p q = same_truth (nat_eq p q) (q == p) (λ h. eq-eqb q p (sym (eqb-true p q h))) (λ h. eq-eqb p q (sym (eqb-true q p h)))
 
 pub key_named : (s t : Scope) (a b : List ℕ) → same_key (key_of s a) (key_of t b) ≡ (same_scope t s && same b a)
 key_named Controller Controller a b = named_alike a b
@@ -82,16 +75,16 @@ and_false : (a b : Bool) → b ≡ false → (a && b) ≡ false
 and_false true b p = p
 and_false false b p = refl
 
-not_named : (s : Scope) (name : List ℕ) (e : Entry) → length e.name ≤ 80 → 80 < length name → is_named s name e ≡ false
+not_named : (s : Scope) (name : List ℕ) (e : Entry) → length e.name ≤ MAX_TAG_NAME_BYTES → MAX_TAG_NAME_BYTES < length name → is_named s name e ≡ false
 not_named s name e p q = and_false (same_scope e.scope s) (same e.name name) (go (same e.name name) refl)
   where
     go : (b : Bool) → same e.name name ≡ b → b ≡ false
     go true h = absurd (omega (arith, same_length e.name name h))
     go false h = refl
 
-long_from : (types : List TypeDecl) (programs : ℕ) (s : Scope) (name : List ℕ) (es : List Entry) (i : ℕ) → Each (IsLetIn types programs) es → 80 < length name → position_from (is_named s name) i es ≡ None
+long_from : (types : List TypeDecl) (programs : ℕ) (s : Scope) (name : List ℕ) (es : List Entry) (i : ℕ) → Each (IsAdmitted types programs) es → MAX_TAG_NAME_BYTES < length name → position_from (is_named s name) i es ≡ None
 long_from types programs s name [] i h q = refl
 long_from types programs s name (e ∷ es) i h q = rw (not_named s name e h.0.short q) (long_from types programs s name es (i + 1) h.1 q)
 
-pub long_nowhere : (types : List TypeDecl) (programs : ℕ) (s : Scope) (name : List ℕ) (es : List Entry) → Each (IsLetIn types programs) es → 80 < length name → position (is_named s name) es ≡ None
+pub long_nowhere : (types : List TypeDecl) (programs : ℕ) (s : Scope) (name : List ℕ) (es : List Entry) → Each (IsAdmitted types programs) es → MAX_TAG_NAME_BYTES < length name → position (is_named s name) es ≡ None
 long_nowhere types programs s name es h q = position_from-zero (is_named s name) es ∙ long_from types programs s name es 0 h q

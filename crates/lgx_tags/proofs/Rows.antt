@@ -1,7 +1,7 @@
--- The tags of each scope, as they are put behind one another.
+-- The tags of each scope, as they are put after one another.
 use Rattle.std.specs.Prelude.{◌≡◌, ℕ, zero, suc, ◌+◌, ◌<◌, ◌≤◌, Bool, true, false, cond, ◌==◌, List, [], ◌∷◌, ◌++◌, length, map, drop, replicate, slice_set, slice_index_or, refl}
 use Rattle.std.specs.List.{AllByRecursion as Each, range_with_len}
-use Rattle.std.proofs.Common.{sym, ap, ◌∙◌, arith, eqb-true, eq-eqb, append_assoc, get_or}
+use Rattle.std.proofs.Common.{sym, ap, ◌∙◌, arith, eq-eqb, append_assoc, get_or}
 use Rattle.std.proofs.lemmas.List.{append-nil, drop_more, length-map}
 use Rattle.std.proofs.lemmas.List.FromFn.{length-range_with_len}
 use Rattle.spec_language.specs.declared.types.TypeDecl.{TypeDecl}
@@ -10,12 +10,13 @@ use Rattle.spec_language.specs.declared.tag.Scope.TheVariants.{Controller, Progr
 use Rattle.spec_language.specs.Layout.{round_up, size_of}
 use Rattle.spec_language.specs.Declarations.{Meaning, tag, alias, Entry, same_scope}
 use Rattle.lgx_tags.specs.Scopes.{IsScopeOf}
-use Rattle.lgx_tags.specs.Layouts.{scopes, slot_of, numbered, tags_in, with_entry, rows_of, lay_end}
-use Rattle.lgx_tags.specs.declared.layout.Numbered.{Numbered}
+use Rattle.lgx_tags.specs.Layouts.{scopes, slot_of, numbered, tags_in, with_entry, rows_of, place_tags_end}
+use Rattle.lgx_tags.specs.declared.layout.NumberedTag.{NumberedTag}
+use Rattle.std.proofs.lemmas.Bool.{ne_eqb}
 
 -- ---- one entry more
 
-abbrev pub added : Scope → Scope → List Numbered → List Numbered
+abbrev pub added : Scope → Scope → List NumberedTag → List NumberedTag
 added own s ts = cond (same_scope own s) ts []
 
 pub tags_snoc : (s : Scope) (n : ℕ) (es : List Entry) (e : Entry) → tags_in s n (es ++ e ∷ []) ≡ tags_in s n es ++ added e.scope s (numbered (n + length es) e.meaning)
@@ -25,48 +26,41 @@ tags_snoc s n [] e = append-nil (added e.scope s (numbered n e.meaning)) ∙ ap 
     at = omega arith
 tags_snoc s n (x ∷ es) e =
     let at : suc n + length es ≡ n + suc (length es) = omega arith in
-    let front : List Numbered = cond (same_scope x.scope s) (numbered n x.meaning) [] in
-    ap (λ (l : List Numbered). front ++ l) (tags_snoc s (suc n) es e ∙ ap (λ (m : ℕ). tags_in s (suc n) es ++ added e.scope s (numbered m e.meaning)) at) ∙ sym (append_assoc front (tags_in s (suc n) es) (added e.scope s (numbered (n + suc (length es)) e.meaning)))
+    let front : List NumberedTag = cond (same_scope x.scope s) (numbered n x.meaning) [] in
+    ap (λ (l : List NumberedTag). front ++ l) (tags_snoc s (suc n) es e ∙ ap (λ (m : ℕ). tags_in s (suc n) es ++ added e.scope s (numbered m e.meaning)) at) ∙ sym (append_assoc front (tags_in s (suc n) es) (added e.scope s (numbered (n + suc (length es)) e.meaning)))
 
-map_same : (f g : Scope → List Numbered) (ps : List ℕ) → Each (λ p. f (Program p) ≡ g (Program p)) ps → map f (map Program ps) ≡ map g (map Program ps)
+map_same : (f g : Scope → List NumberedTag) (ps : List ℕ) → Each (λ p. f (Program p) ≡ g (Program p)) ps → map f (map Program ps) ≡ map g (map Program ps)
 map_same f g [] h = refl
 map_same f g (p ∷ ps) h = rw (h.0, map_same f g ps h.1) refl
 
-not_equal : (a b : ℕ) → (a ≡ b → ⊥) → (a == b) ≡ false
-not_equal a b h = go (a == b) refl
-  where
-    go : (t : Bool) → (a == b) ≡ t → t ≡ false
-    go true q = absurd (h (eqb-true a b q))
-    go false q = refl
-
--- the scopes of a list, with some tags behind those of one scope
-abbrev more : (Scope → List Numbered) → Scope → List Numbered → Scope → List Numbered
+-- the scopes of a list, with some tags after those of one scope
+abbrev more : (Scope → List NumberedTag) → Scope → List NumberedTag → Scope → List NumberedTag
 more f own ts s = f s ++ added own s ts
 
-past : (f : Scope → List Numbered) (q : ℕ) (ts : List Numbered) (a n : ℕ) → q < a → Each (λ p. f (Program p) ≡ more f (Program q) ts (Program p)) (range_with_len a n)
+past : (f : Scope → List NumberedTag) (q : ℕ) (ts : List NumberedTag) (a n : ℕ) → q < a → Each (λ p. f (Program p) ≡ more f (Program q) ts (Program p)) (range_with_len a n)
 past f q ts a zero h = tt
-past f q ts a (suc n) h = let e : (q == a) ≡ false = not_equal q a (λ r. omega arith) in (rw e (sym (append-nil (f (Program a)))), past f q ts (a + 1) n (omega arith))
+past f q ts a (suc n) h = let e : (q == a) ≡ false = ne_eqb q a (λ r. omega arith) in (rw e (sym (append-nil (f (Program a)))), past f q ts (a + 1) n (omega arith))
 
-put_range : (f : Scope → List Numbered) (q : ℕ) (ts : List Numbered) (a n i : ℕ) → q ≡ a + i → i < n → slice_set (map f (map Program (range_with_len a n))) i (slice_index_or (map f (map Program (range_with_len a n))) i [] ++ ts) ≡ map (more f (Program q) ts) (map Program (range_with_len a n))
+put_range : (f : Scope → List NumberedTag) (q : ℕ) (ts : List NumberedTag) (a n i : ℕ) → q ≡ a + i → i < n → slice_set (map f (map Program (range_with_len a n))) i (slice_index_or (map f (map Program (range_with_len a n))) i [] ++ ts) ≡ map (more f (Program q) ts) (map Program (range_with_len a n))
 put_range f q ts a zero i p h = absurd (omega arith)
 put_range f q ts a (suc n) zero p h =
     let at : (q == a) ≡ true = eq-eqb q a (omega arith) in
-    rw at (ap (λ (l : List (List Numbered)). (f (Program a) ++ ts) ∷ l) (map_same f (more f (Program q) ts) (range_with_len (a + 1) n) (past f q ts (a + 1) n (omega arith))))
+    rw at (ap (λ (l : List (List NumberedTag)). (f (Program a) ++ ts) ∷ l) (map_same f (more f (Program q) ts) (range_with_len (a + 1) n) (past f q ts (a + 1) n (omega arith))))
 put_range f q ts a (suc n) (suc i) p h =
-    let at : (q == a) ≡ false = not_equal q a (λ r. omega arith) in
+    let at : (q == a) ≡ false = ne_eqb q a (λ r. omega arith) in
     rw (at, append-nil (f (Program a)), put_range f q ts (a + 1) n i (omega arith) (omega arith)) refl
 
-none_added : (f : Scope → List Numbered) (ts : List Numbered) (ps : List ℕ) → Each (λ p. f (Program p) ≡ more f Controller ts (Program p)) ps
+none_added : (f : Scope → List NumberedTag) (ts : List NumberedTag) (ps : List ℕ) → Each (λ p. f (Program p) ≡ more f Controller ts (Program p)) ps
 none_added f ts [] = tt
 none_added f ts (p ∷ ps) = (sym (append-nil (f (Program p))), none_added f ts ps)
 
-pub put_scopes : (f : Scope → List Numbered) (own : Scope) (programs : ℕ) (ts : List Numbered) → IsScopeOf programs own → slice_set (map f (scopes programs)) (slot_of own) (slice_index_or (map f (scopes programs)) (slot_of own) [] ++ ts) ≡ map (more f own ts) (scopes programs)
-put_scopes f Controller programs ts h = ap (λ (l : List (List Numbered)). (f Controller ++ ts) ∷ l) (map_same f (more f Controller ts) (range_with_len 0 programs) (none_added f ts (range_with_len 0 programs)))
+pub put_scopes : (f : Scope → List NumberedTag) (own : Scope) (programs : ℕ) (ts : List NumberedTag) → IsScopeOf programs own → slice_set (map f (scopes programs)) (slot_of own) (slice_index_or (map f (scopes programs)) (slot_of own) [] ++ ts) ≡ map (more f own ts) (scopes programs)
+put_scopes f Controller programs ts h = ap (λ (l : List (List NumberedTag)). (f Controller ++ ts) ∷ l) (map_same f (more f Controller ts) (range_with_len 0 programs) (none_added f ts (range_with_len 0 programs)))
 put_scopes f (Program q) programs ts h =
     let at : q + 1 ≡ suc q = omega arith in
     rw (at, append-nil (f Controller), put_range f q ts 0 programs q (omega arith) h) refl
 
-same_rows : (f g : Scope → List Numbered) (ss : List Scope) → ((s : Scope) → f s ≡ g s) → map f ss ≡ map g ss
+same_rows : (f g : Scope → List NumberedTag) (ss : List Scope) → ((s : Scope) → f s ≡ g s) → map f ss ≡ map g ss
 same_rows f g [] h = refl
 same_rows f g (s ∷ ss) h = rw (h s, same_rows f g ss h) refl
 
@@ -99,18 +93,18 @@ slot_within programs (Program p) h = omega arith
 
 -- no entries, no tags
 pub rows_empty : (programs : ℕ) → rows_of [] programs ≡ replicate (programs + 1) []
-rows_empty programs = let at : programs + 1 ≡ suc programs = omega arith in rw at (ap (λ (l : List (List Numbered)). [] ∷ l) (none 0 programs))
+rows_empty programs = let at : programs + 1 ≡ suc programs = omega arith in rw at (ap (λ (l : List (List NumberedTag)). [] ∷ l) (none 0 programs))
   where
     none : (a n : ℕ) → map (λ s. tags_in s 0 []) (map Program (range_with_len a n)) ≡ replicate n []
     none a zero = refl
-    none a (suc n) = ap (λ (l : List (List Numbered)). [] ∷ l) (none (a + 1) n)
+    none a (suc n) = ap (λ (l : List (List NumberedTag)). [] ∷ l) (none (a + 1) n)
 
 -- ---- where they end
 
-pub lay_grows : (types : List TypeDecl) (at : ℕ) (ts : List Numbered) → at ≤ lay_end types at ts
-lay_grows types at [] = omega arith
-lay_grows types at (t ∷ ts) = omega (arith, lay_grows types (round_up 4 (at + size_of types t.of)) ts)
+pub place_tags_grows : (types : List TypeDecl) (at : ℕ) (ts : List NumberedTag) → at ≤ place_tags_end types at ts
+place_tags_grows types at [] = omega arith
+place_tags_grows types at (t ∷ ts) = omega (arith, place_tags_grows types (round_up 4 (at + size_of types t.of)) ts)
 
 -- the tag of an index ends before the last one does
-pub lay_within : (types : List TypeDecl) (at i : ℕ) (ts : List Numbered) (d : Numbered) → i < length ts → at + size_of types (get_or ts i d).of ≤ lay_end types at (drop i ts)
-lay_within types at i ts d h = rw (drop_more ts i d h) (omega (arith, lay_grows types (round_up 4 (at + size_of types (get_or ts i d).of)) (drop (i + 1) ts)))
+pub place_tags_within : (types : List TypeDecl) (at i : ℕ) (ts : List NumberedTag) (d : NumberedTag) → i < length ts → at + size_of types (get_or ts i d).of ≤ place_tags_end types at (drop i ts)
+place_tags_within types at i ts d h = rw (drop_more ts i d h) (omega (arith, place_tags_grows types (round_up 4 (at + size_of types (get_or ts i d).of)) (drop (i + 1) ts)))

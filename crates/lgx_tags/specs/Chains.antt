@@ -12,7 +12,7 @@ use Rattle.spec_language.specs.declared.types.DataType.{DataType}
 use Rattle.spec_language.specs.Declarations.{Meaning, tag, alias, Entry, Declarations, is_named}
 use Rattle.spec_language.specs.Resolution.{numbers_alone, tag_found, meant, in_form, named_within, aliases}
 use Rattle.lgx_tags.specs.Starts.{start_of}
-use Rattle.lgx_tags.specs.declared.layout.Spot.{Spot}
+use Rattle.lgx_tags.specs.declared.layout.FixedPlace.{FixedPlace}
 
 abbrev pub Answer : Type 0
 Answer = Result Found TagCode
@@ -26,25 +26,25 @@ abbrev pub seen_number : List Entry → Scope → List ℕ → Option ℕ
 seen_number entries Controller name = number_in entries Controller name
 seen_number entries (Program p) name = option_or (number_in entries (Program p) name) (number_in entries Controller name)
 
-abbrev pub Known : Type 0
-Known = Result Spot TagCode
+abbrev pub Resolved : Type 0
+Resolved = Result FixedPlace TagCode
 
 -- what is known of an entry, as the answer that it gives
-abbrev pub found_at : Spot → Found
+abbrev pub found_at : FixedPlace → Found
 found_at s = record { at = s.at; steps = []; of = s.of; stop = s.stop }
 
-abbrev pub answer : Known → Answer
+abbrev pub answer : Resolved → Answer
 answer (Ok s) = Ok (found_at s)
 answer (Err code) = Err code
 
-abbrev pub answer_at : List Known → ℕ → Answer
+abbrev pub answer_at : List Resolved → ℕ → Answer
 answer_at known i = answer (slice_index_or known i (Err G7))
 
-abbrev pub answer_of : List Known → Option ℕ → Answer
+abbrev pub answer_of : List Resolved → Option ℕ → Answer
 answer_of known None = Err G3
 answer_of known (Some i) = answer_at known i
 
-abbrev pub named_by : List Entry → List Known → Scope → List ℕ → Answer
+abbrev pub named_by : List Entry → List Resolved → Scope → List ℕ → Answer
 named_by entries known scope name = answer_of known (seen_number entries scope name)
 
 -- ---- chains of at most so many aliases
@@ -65,16 +65,13 @@ Below a b = (a ≡ Err G7) ⊎ (a ≡ b)
 -- ---- what is known while chains are walked
 
 -- an entry that is no alias isn't counted; an alias's fault comes with its number among the aliases
-abbrev pub fault_of : Known → Option TagCode
-fault_of known = result_err known
-
 abbrev pub is_target : Meaning → Bool
 is_target (tag of) = false
 is_target (alias target) = true
 
-abbrev pub bad_from : List Known → ℕ → ℕ → List Entry → Option (TagCode × ℕ)
+abbrev pub bad_from : List Resolved → ℕ → ℕ → List Entry → Option (TagCode × ℕ)
 bad_from known i k [] = None
-bad_from known i k (e ∷ es) = cond (is_target e.meaning) (option_or (option_map (λ code. (code, k)) (fault_of (slice_index_or known i (Err G7)))) (bad_from known (suc i) (suc k) es)) (bad_from known (suc i) k es)
+bad_from known i k (e ∷ es) = cond (is_target e.meaning) (option_or (option_map (λ code. (code, k)) (result_err (slice_index_or known i (Err G7)))) (bad_from known (suc i) (suc k) es)) (bad_from known (suc i) k es)
 
 abbrev pub count_aliases : List Entry → ℕ
 count_aliases [] = 0
@@ -85,39 +82,39 @@ is_g7 G7 = true
 is_g7 _ = false
 
 -- not known yet
-abbrev pub is_open : Known → Bool
+abbrev pub is_open : Resolved → Bool
 is_open (Ok s) = false
 is_open (Err code) = is_g7 code
 
-abbrev pub open_in : List Known → ℕ
+abbrev pub open_in : List Resolved → ℕ
 open_in known = count_by is_open known
 
 -- What is known so far: each tag; and of aliases those whose chains are walked. So many are known as chains may be long,
 -- so what is known is what the definition gives.
-pub record Partly (d : Declarations) (known : List Known) : Type 0 where
+pub record PartlyResolved (d : Declarations) (known : List Resolved) : Type 0 where
   pub long : length known ≡ length d.entries
   pub few : open_in known ≤ length (aliases d)
   pub below : (i : ℕ) (e : Entry) → slice_get d.entries i ≡ Some e → Below (answer_at known i) (value_in (length (aliases d) - open_in known) d i e)
   pub tags : (i : ℕ) (e : Entry) (of : DataType) → slice_get d.entries i ≡ Some e → e.meaning ≡ tag of → answer_at known i ≡ Ok (tag_found d.types (start_of d e.scope i) of)
 
 -- an alias that isn't known wouldn't be with what is known
-abbrev pub IsStill : Declarations → List Known → ℕ → Type 0
-IsStill d known i = (e : Entry) (target : List ℕ) → slice_get d.entries i ≡ Some e → e.meaning ≡ alias target → is_open (slice_index_or known i (Err G7)) ≡ true → in_form numbers_alone d.types (named_by d.entries known e.scope) target ≡ Err G7
+abbrev pub IsStuck : Declarations → List Resolved → ℕ → Type 0
+IsStuck d known i = (e : Entry) (target : List ℕ) → slice_get d.entries i ≡ Some e → e.meaning ≡ alias target → is_open (slice_index_or known i (Err G7)) ≡ true → in_form numbers_alone d.types (named_by d.entries known e.scope) target ≡ Err G7
 
 -- all is known, or will never be
-pub record Walked (d : Declarations) (known : List Known) : Type 0 where
-  pub partly : Partly d known
-  pub still : (i : ℕ) → IsStill d known i
+pub record AllResolved (d : Declarations) (known : List Resolved) : Type 0 where
+  pub partly : PartlyResolved d known
+  pub stuck : (i : ℕ) → IsStuck d known i
 
 -- what came of looking at an entry: all that was known is still, and either one more is, or nothing has changed and
 -- nothing is to be found there
-pub record Looked (d : Declarations) (i : ℕ) (old new : List Known) : Type 0 where
-  pub partly : Partly d new
+pub record ResolvesEntry (d : Declarations) (i : ℕ) (old new : List Resolved) : Type 0 where
+  pub partly : PartlyResolved d new
   pub fewer : open_in new ≤ open_in old
-  pub still : open_in new ≡ open_in old → (new ≡ old) × IsStill d new i
+  pub stuck : open_in new ≡ open_in old → (new ≡ old) × IsStuck d new i
 
 -- what came of looking at all of them
-pub record Passed (d : Declarations) (old new : List Known) : Type 0 where
-  pub partly : Partly d new
+pub record ResolvesPass (d : Declarations) (old new : List Resolved) : Type 0 where
+  pub partly : PartlyResolved d new
   pub fewer : open_in new ≤ open_in old
-  pub still : open_in new ≡ open_in old → (new ≡ old) × ((i : ℕ) → i < length d.entries → IsStill d new i)
+  pub stuck : open_in new ≡ open_in old → (new ≡ old) × ((i : ℕ) → i < length d.entries → IsStuck d new i)

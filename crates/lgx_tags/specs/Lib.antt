@@ -1,6 +1,7 @@
 pub mod Meanings
 pub mod Keys
 pub mod Scopes
+pub mod Errors
 pub mod Tables
 pub mod Layouts
 pub mod Starts
@@ -8,7 +9,6 @@ pub mod Chains
 pub mod Sealing
 pub mod Sealed
 pub mod Parts
-pub mod Shapes
+pub mod FormStates
 pub mod TagNames
-pub mod Walk
-pub mod Fresh
+pub mod TextReading

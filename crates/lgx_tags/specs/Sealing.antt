@@ -1,15 +1,12 @@
 -- A sealed table, and the tags that it tells of.
-use Rattle.std.specs.Prelude.{◌≡◌, ℕ, ◌+◌, ◌<◌, Bool, List, length, map, filter, Option, Some, None, ⊤}
+use Rattle.std.specs.Prelude.{◌≡◌, ℕ, ◌+◌, ◌<◌, Bool, List, length, map, filter, None}
 use Rattle.spec_language.specs.declared.types.TypeDecl.{TypeDecl}
-use Rattle.spec_language.specs.declared.tag.TagCode.{TagCode}
 use Rattle.spec_language.specs.Declarations.{Entry, Declarations, entry_size, laid}
 use Rattle.spec_language.specs.Resolution.{seal_fault}
 use Rattle.lgx_tags.specs.Meanings.{is_tag}
-use Rattle.lgx_tags.specs.Layouts.{laid_of}
-use Rattle.lgx_tags.specs.Chains.{Known, Walked}
-use Rattle.lgx_tags.specs.declared.layout.Laid.{Laid}
-use Rattle.lgx_tags.specs.declared.error.SealError.{SealError}
-use Rattle.lgx_tags.specs.declared.error.SealError.TheVariants.{Alias, Memory}
+use Rattle.lgx_tags.specs.Layouts.{placed_tags}
+use Rattle.lgx_tags.specs.Chains.{Resolved, AllResolved}
+use Rattle.lgx_tags.specs.declared.layout.PlacedTag.{PlacedTag}
 use Rattle.lgx_tags.specs.declared.span.TagSpan.{TagSpan}
 
 -- ---- the tags in the order of the layout
@@ -33,14 +30,9 @@ tag_names d = map (λ x. x.1.name) (tags_of d)
 
 -- ---- sealing
 
--- a refusal names the first alias with a fault; want of memory may come at any time
-abbrev pub IsSealFault : Option (TagCode × ℕ) → SealError → Type 0
-IsSealFault fault (Alias code alias) = fault ≡ Some (code, alias)
-IsSealFault fault Memory = ⊤
-
 -- what a sealed table keeps: its tags as they are laid, and what each entry stands for
-pub record IsSeal (d : Declarations) (laid : List Laid) (known : List Known) : Type 0 where
-  pub tags : laid ≡ laid_of d
+pub record IsSealOf (d : Declarations) (laid : List PlacedTag) (known : List Resolved) : Type 0 where
+  pub tags : laid ≡ placed_tags d
   pub few : length laid < 4294967296
-  pub walked : Walked d known
+  pub all_resolved : AllResolved d known
   pub faultless : seal_fault d ≡ None

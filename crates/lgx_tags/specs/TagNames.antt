@@ -1,4 +1,4 @@
--- The parts of a tag name behind its first colon.
+-- The parts of a tag name after its first colon.
 use Rattle.std.specs.Prelude.{ℕ, zero, suc, Bool, false, ◌&&◌, List, [], ◌∷◌}
 use Rattle.spec_language.specs.OperandForm.{is_part}
 

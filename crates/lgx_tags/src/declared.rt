@@ -1,5 +1,7 @@
 // Tags and aliases in the order in which they are declared.
 ghost use Rattle.std.specs.Prelude.{◌≡◌, ℕ, ◌<◌, ◌≤◌, List, [], ◌∷◌, ◌++◌, None, Some, slice_get, length, vec_len, vec_capacity, position, IfOk, IfSome, IfErr, IsNone, OnOk, OnErr};
+ghost use Rattle.spec_base.specs.Causes.{IsFaultOf};
+ghost use Rattle.spec_base.specs.declared.limits.TheConstants.{MAX_IMAGE_BYTES, MAX_TAG_NAME_BYTES};
 ghost use Rattle.spec_language.specs.declared.tag.Scope.{Scope as In};
 ghost use Rattle.spec_language.specs.Declarations.{tag, alias, is_named, is_name_in, bytes, declared_as, declare_fault, alias_fault};
 ghost use Rattle.spec_language.specs.Resolution.{aliases};
@@ -8,26 +10,25 @@ ghost use Rattle.std.specs.List.{AllByRecursion as Each};
 ghost use Rattle.std.specs.Option.{option_or};
 ghost use Rattle.lgx_types.specs.Tables.{HasSize};
 ghost use Rattle.lgx_tags.specs.Chains.{seen_number};
-ghost use Rattle.lgx_tags.specs.Layouts.{laid_of};
+ghost use Rattle.lgx_tags.specs.Layouts.{placed_tags, IsOfEntries};
 ghost use Rattle.lgx_tags.specs.Scopes.{IsScopeOf};
-ghost use Rattle.lgx_tags.specs.Tables.{IsLetIn, IsRefusal};
+ghost use Rattle.lgx_tags.specs.Errors.{fault_of};
+ghost use Rattle.lgx_tags.specs.Tables.{IsAdmitted};
 
 use crate::entry::Entry;
 use crate::error::TagError;
-use crate::key::{Key, ROOM};
-use crate::layout::{Known, Laid, by_scope, in_order, lay, round_up};
+use crate::key::Key;
+use crate::layout::{PlacedTag, Resolved, by_scope, in_order, place_tags, round_up};
 use crate::tag_name::{is_name, is_tag_name};
 use indexmap::IndexSet;
 use lgx_num::Memory;
 use lgx_types::TypeTable;
+use spec_base::limits::{MAX_IMAGE_BYTES, MAX_TAG_NAME_BYTES};
 use spec_language::{DataType, Scope, TagCode};
 use std::alloc::Global;
 use std::marker::Model;
 
-/// The length of the longest image, in bytes (profile).
-const LONGEST: u32 = 262144;
-
-// Whether a text may be a tag's name in a scope: a controller's tag may have a name of several parts.
+/// Whether a text may be a tag's name in a scope: a controller's tag may have a name of several parts.
 fn is_name_in(scope: Scope, name: &[u8]) -> bool
     ensures { result ≡ is_name_in scope name.now }
 {
@@ -37,7 +38,7 @@ fn is_name_in(scope: Scope, name: &[u8]) -> bool
     }
 }
 
-// Pushes an entry where there is room for it.
+/// Pushes an entry, for which there is room.
 fn push_within(entries: &mut Vec<Entry>, entry: Entry)
     requires { vec_len entries.old < vec_capacity entries.old }
     ensures { entries.new.items ≡ entries.old.items ++ entry ∷ [] }
@@ -62,11 +63,11 @@ impl Model for Declared {
 
     ghost Value = { Declarations };
 
-    ghost use Rattle.lgx_tags.specs.Tables.{IsKept};
+    ghost use Rattle.lgx_tags.specs.Tables.{Represents};
 
     ghost view = { λ t. record { types = t.types; programs = t.programs; entries = t.entries.items } };
 
-    ghost invariant = { λ t. IsKept (record { types = t.types; programs = t.programs; entries = t.entries.items }) t.keys.keys t.bytes };
+    ghost invariant = { λ t. Represents (record { types = t.types; programs = t.programs; entries = t.entries.items }) t.keys.keys t.bytes };
 }
 
 impl Declared {
@@ -90,17 +91,17 @@ impl Declared {
         ensures within { IfSome result (λ i. i < length self.now.entries) }
     {
         let keys = &self.keys;
-        if name.len() > ROOM {
+        if name.len() > MAX_TAG_NAME_BYTES {
             return None;
         }
         let key = Key::of(scope, name);
         keys.get_index_of(&key)
     }
 
-    // What is wrong with a name that is to be declared: it is no name of its scope, or its scope has it already.
+    /// What is wrong with a name that is to be declared: it is no name of its scope, or its scope has it already.
     fn name_fault(&self, scope: Scope, name: &[u8]) -> Option<TagCode>
         ensures fault { result ≡ alias_fault self.now scope name.now }
-        ensures short { IsNone result → length name.now ≤ 80 }
+        ensures short { IsNone result → length name.now ≤ MAX_TAG_NAME_BYTES }
         ensures free { IsNone result → position (is_named scope name.now) self.now.entries ≡ None }
     {
         if !is_name_in(scope, name) {
@@ -112,7 +113,7 @@ impl Declared {
         }
     }
 
-    // The length of the image with one more tag of a type.
+    /// The length of the image with one more tag of a type.
     fn bytes_with(&self, of: DataType) -> u32
         requires sized { HasSize self.now.types of }
         ensures value { (scope : In) (name : List ℕ) → IsScopeOf self.now.programs scope → result ≡ bytes (declared_as self.now scope name (tag of)) }
@@ -120,12 +121,12 @@ impl Declared {
         self.bytes + round_up(self.types.size_of(of))
     }
 
-    // Adds an entry behind the others, where the image then has so many bytes.
+    /// Adds an entry after the others, with which the image has so many bytes.
     fn add(&mut self, entry: Entry, count: u32) -> Result<(), Memory>
-        requires let_in { IsLetIn self.old.types self.old.programs entry }
+        requires admitted { IsAdmitted self.old.types self.old.programs entry }
         requires free { position (is_named entry.scope entry.name) self.old.entries ≡ None }
         requires counted { count ≡ bytes (record self.old { entries = self.old.entries ++ entry ∷ [] }) }
-        requires room { count ≤ 262144 }
+        requires room { count ≤ MAX_IMAGE_BYTES }
         requires few { length (aliases (record self.old { entries = self.old.entries ++ entry ∷ [] })) < 4294967296 }
         ensures ok { OnOk result (self.new ≡ record self.old { entries = self.old.entries ++ entry ∷ [] }) }
         ensures err { OnErr result (self.new ≡ self.old) }
@@ -138,8 +139,8 @@ impl Declared {
         Ok(())
     }
 
-    /// Declares a tag: G1, G2, or G8 where the image would be longer than 262,144 bytes. After a refusal, and for want of
-    /// memory, the declarations are as before.
+    /// Declares a tag: G1, G2, or G8 if the image would be too long. Where it is refused or out of memory, the
+    /// declarations are as before.
     pub(crate) fn declare(
         &mut self,
         scope: Scope,
@@ -150,14 +151,14 @@ impl Declared {
         requires sized { HasSize self.old.types of }
         ensures ok { OnOk result (self.new ≡ declared_as self.old scope name.now (tag of)) }
         ensures faultless { OnOk result (declare_fault self.old scope name.now of ≡ None) }
-        ensures fault { IfErr result (λ e. IsRefusal (declare_fault self.old scope name.now of) e) }
+        ensures fault { IfErr result (λ e. IsFaultOf (declare_fault self.old scope name.now of) (fault_of e)) }
         ensures err { OnErr result (self.new ≡ self.old) }
     {
         if let Some(code) = self.name_fault(scope, name) {
             return Err(TagError::Tag(code));
         }
         let bytes = self.bytes_with(of);
-        if bytes > LONGEST {
+        if bytes > MAX_IMAGE_BYTES {
             return Err(TagError::Tag(TagCode::G8));
         }
         let entry = Entry::tag(self.alloc, scope, name, of)?;
@@ -165,13 +166,13 @@ impl Declared {
         Ok(())
     }
 
-    /// Declares an alias: G1 or G2. After a refusal, and for want of memory, the declarations are as before.
+    /// Declares an alias: G1 or G2. If it is refused or out of memory, the declarations are as before.
     pub(crate) fn alias(&mut self, scope: Scope, name: &[u8], target: &[u8]) -> Result<(), TagError>
         requires scope { IsScopeOf self.old.programs scope }
         requires few { length (aliases self.old) < 4294967295 }
         ensures ok { OnOk result (self.new ≡ declared_as self.old scope name.now (alias target.now)) }
         ensures faultless { OnOk result (alias_fault self.old scope name.now ≡ None) }
-        ensures fault { IfErr result (λ e. IsRefusal (alias_fault self.old scope name.now) e) }
+        ensures fault { IfErr result (λ e. IsFaultOf (alias_fault self.old scope name.now) (fault_of e)) }
         ensures err { OnErr result (self.new ≡ self.old) }
     {
         if let Some(code) = self.name_fault(scope, name) {
@@ -199,7 +200,7 @@ impl Declared {
     /// The entries in order of declaration.
     pub(crate) fn entries(&self) -> &[Entry]
         ensures value { result.now ≡ self.now.entries }
-        ensures let_in { Each (IsLetIn self.now.types self.now.programs) self.now.entries }
+        ensures admitted { Each (IsAdmitted self.now.types self.now.programs) self.now.entries }
         ensures few { length (aliases self.now) < 4294967296 }
     {
         &self.entries
@@ -213,11 +214,14 @@ impl Declared {
         &self.entries[i]
     }
 
-    /// The types, which are sound, as are the declarations.
+    /// The types, and with them what holds of the declarations always.
     pub(crate) fn types(&self) -> &TypeTable
         ensures value { result.now ≡ self.now.types }
         ensures sound { Sound self.now }
+        ensures admitted { Each (IsAdmitted self.now.types self.now.programs) self.now.entries }
+        ensures room { bytes self.now ≤ MAX_IMAGE_BYTES }
     {
+        // the table of types tells here that they are sound
         self.types.structures();
         &self.types
     }
@@ -225,7 +229,7 @@ impl Declared {
     /// The length of the image.
     pub(crate) fn bytes(&self) -> u32
         ensures value { result ≡ bytes self.now }
-        ensures room { result ≤ 262144 }
+        ensures room { result ≤ MAX_IMAGE_BYTES }
     {
         self.bytes
     }
@@ -235,11 +239,13 @@ impl Declared {
     }
 
     /// The tags in the order of the layout, each where it lies.
-    pub(crate) fn laid(&self) -> Result<Vec<Laid>, Memory>
-        ensures { IfOk result (λ laid. laid.items ≡ laid_of self.now) }
+    pub(crate) fn laid(&self) -> Result<Vec<PlacedTag>, Memory>
+        ensures value { IfOk result (λ laid. laid.items ≡ placed_tags self.now) }
+        ensures few { OnOk result (length (placed_tags self.now) ≤ MAX_IMAGE_BYTES) }
+        ensures within { OnOk result (Each (IsOfEntries (length self.now.entries)) (placed_tags self.now)) }
     {
         let rows = by_scope(self.alloc, &self.entries, self.programs)?;
         let order = in_order(self.alloc, &rows)?;
-        lay(self.alloc, &self.types, &order)
+        place_tags(self.alloc, self.types(), &order)
     }
 }

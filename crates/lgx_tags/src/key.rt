@@ -1,18 +1,17 @@
 // Names in their scopes, as they are looked up.
 ghost use Rattle.std.specs.Prelude.{◌≡◌, ◌≤◌, length};
+ghost use Rattle.spec_base.specs.declared.limits.TheConstants.{MAX_TAG_NAME_BYTES};
 ghost use Rattle.lgx_tags.specs.Keys.{key_of, program_of, lowered};
 
+use spec_base::limits::MAX_TAG_NAME_BYTES;
 use spec_language::Scope;
-
-/// The length of the longest tag name, in bytes.
-pub(crate) const ROOM: usize = 80;
 
 /// A name in its scope, in lower case, so that names that differ in case alone have one key. It takes no memory.
 #[derive(Clone, Copy, PartialEq, Eq, Hash)]
 pub(crate) struct Key {
     program: Option<u32>,
     len: usize,
-    bytes: [u8; ROOM],
+    bytes: [u8; MAX_TAG_NAME_BYTES],
 }
 
 fn program_of(scope: Scope) -> Option<u32>
@@ -24,20 +23,20 @@ fn program_of(scope: Scope) -> Option<u32>
     }
 }
 
-fn lowered(name: &[u8]) -> [u8; ROOM]
-    requires { length name.now ≤ 80 }
+fn lowered(name: &[u8]) -> [u8; MAX_TAG_NAME_BYTES]
+    requires { length name.now ≤ MAX_TAG_NAME_BYTES }
     ensures { result ≡ lowered name.now }
 {
-    let mut bytes = [0u8; ROOM];
+    let mut bytes = [0u8; MAX_TAG_NAME_BYTES];
     bytes[..name.len()].copy_from_slice(name);
     bytes.make_ascii_lowercase();
     bytes
 }
 
 impl Key {
-    /// The key of a name of at most 80 bytes.
+    /// The key of a name that isn't too long.
     pub(crate) fn of(scope: Scope, name: &[u8]) -> Key
-        requires { length name.now ≤ 80 }
+        requires { length name.now ≤ MAX_TAG_NAME_BYTES }
         ensures { result ≡ key_of scope name.now }
     {
         Key {

@@ -1,10 +1,11 @@
 // Where the tags lie in the image.
 ghost use Rattle.std.specs.Prelude.{◌≡◌, ◌+◌, ◌*◌, ◌<◌, ◌≤◌, ◌++◌, [], ◌∷◌, length, flat_map, replicate, slice_set, slice_index_or, IfOk, OnOk};
 ghost use Rattle.std.specs.List.{AllByRecursion as Each};
+ghost use Rattle.spec_base.specs.declared.limits.TheConstants.{MAX_IMAGE_BYTES};
 ghost use Rattle.spec_language.specs.Layout.{round_up};
 ghost use Rattle.lgx_types.specs.Tables.{HasSize};
 ghost use Rattle.lgx_tags.specs.Scopes.{IsScopeOf};
-ghost use Rattle.lgx_tags.specs.Layouts.{slot_of, with_entry, rows_of, lay, lay_end, known_from};
+ghost use Rattle.lgx_tags.specs.Layouts.{IsOfEntries, slot_of, with_entry, rows_of, place_tags, place_tags_end, known_from};
 
 use crate::entry::Entry;
 use lgx_num::Memory;
@@ -15,63 +16,63 @@ use std::marker::Model;
 
 /// A tag's number among the entries, and its type.
 #[derive(Clone, Copy)]
-pub(crate) struct Numbered {
+pub(crate) struct NumberedTag {
     pub(crate) entry: usize,
     pub(crate) of: DataType,
 }
 
 /// A tag where it lies: from byte `start` on, up to byte `end`.
 #[derive(Clone, Copy)]
-pub(crate) struct Laid {
+pub(crate) struct PlacedTag {
     pub(crate) entry: usize,
     pub(crate) of: DataType,
     pub(crate) start: u32,
     pub(crate) end: u32,
 }
 
-/// A place that no subscript moves: its first bit, its type, and the byte behind its tag.
+/// A place that no subscript moves: its first bit, its type, and the byte after its tag.
 #[derive(Clone, Copy)]
-pub(crate) struct Spot {
+pub(crate) struct FixedPlace {
     pub(crate) at: u32,
     pub(crate) of: DataType,
     pub(crate) stop: u32,
 }
 
 /// What an entry stands for, as far as it is known: an alias is G7 until its chain is walked.
-pub(crate) type Known = Result<Spot, TagCode>;
+pub(crate) type Resolved = Result<FixedPlace, TagCode>;
 
-// The tags of one scope.
+/// The tags of one scope.
 #[derive(Drop)]
-pub(crate) struct Row {
-    tags: Vec<Numbered>,
+pub(crate) struct ScopeTags {
+    tags: Vec<NumberedTag>,
 }
 
-impl Model for Row {
+impl Model for ScopeTags {
     ghost use Rattle.std.specs.Prelude.{List};
-    ghost use Rattle.lgx_tags.specs.declared.layout.Numbered.{Numbered};
+    ghost use Rattle.lgx_tags.specs.declared.layout.NumberedTag.{NumberedTag};
 
-    ghost Value = { List Numbered };
+    ghost Value = { List NumberedTag };
 
     ghost view = { λ r. r.tags.items };
 }
 
-impl Row {
-    fn new(alloc: Global) -> Row
+impl ScopeTags {
+    fn new(alloc: Global) -> ScopeTags
         ensures { result ≡ [] }
     {
-        Row {
+        ScopeTags {
             tags: Vec::new(alloc),
         }
     }
 
-    fn push(&mut self, tag: Numbered) -> Result<(), Memory>
+    fn push(&mut self, tag: NumberedTag) -> Result<(), Memory>
         ensures { OnOk result (self.new ≡ self.old ++ tag ∷ []) }
     {
         self.tags.push(tag)?;
         Ok(())
     }
 
-    fn as_slice(&self) -> &[Numbered]
+    fn as_slice(&self) -> &[NumberedTag]
         ensures { result.now ≡ self.now }
     {
         &self.tags
@@ -86,7 +87,7 @@ pub(crate) fn round_up(n: u32) -> u32
     (n + 3) / 4 * 4
 }
 
-// The place of a scope in the order of the layout.
+/// The place of a scope in the order of the layout.
 fn slot_of(scope: Scope) -> usize
     ensures { result ≡ slot_of scope }
 {
@@ -96,36 +97,44 @@ fn slot_of(scope: Scope) -> usize
     }
 }
 
-fn empty_rows(alloc: Global, count: usize) -> Result<Vec<Row>, Memory>
+fn empty_rows(alloc: Global, count: usize) -> Result<Vec<ScopeTags>, Memory>
     ensures { IfOk result (λ rows. rows.items ≡ replicate count []) }
 {
     let mut rows = Vec::with_capacity(alloc, count)?;
     for _ in 0..count {
-        rows.push(Row::new(alloc))?;
+        rows.push(ScopeTags::new(alloc))?;
     }
     Ok(rows)
 }
 
-fn put(rows: &mut Vec<Row>, slot: usize, tag: Numbered) -> Result<(), Memory>
+fn put(rows: &mut Vec<ScopeTags>, slot: usize, tag: NumberedTag) -> Result<(), Memory>
     requires { slot < length rows.old.items }
     ensures { OnOk result (rows.new.items ≡ slice_set rows.old.items slot (slice_index_or rows.old.items slot [] ++ tag ∷ [])) }
 {
     rows[slot].push(tag)
 }
 
-// Puts the entry of a number behind the tags of its scope, where it is a tag.
-fn put_entry(rows: &mut Vec<Row>, number: usize, entry: &Entry) -> Result<(), Memory>
+/// Puts the entry of a number after the tags of its scope, if it is a tag.
+fn put_entry(rows: &mut Vec<ScopeTags>, number: usize, entry: &Entry) -> Result<(), Memory>
     requires { slot_of entry.now.scope < length rows.old.items }
     ensures { OnOk result (rows.new.items ≡ with_entry rows.old.items number entry.now.scope entry.now.meaning) }
 {
     match entry.tag_type() {
-        Some(of) => put(rows, slot_of(entry.scope()), Numbered { entry: number, of }),
+        Some(of) => put(
+            rows,
+            slot_of(entry.scope()),
+            NumberedTag { entry: number, of },
+        ),
         None => Ok(()),
     }
 }
 
-// The tags of each scope.
-pub(crate) fn by_scope(alloc: Global, entries: &[Entry], programs: u32) -> Result<Vec<Row>, Memory>
+/// The tags of each scope.
+pub(crate) fn by_scope(
+    alloc: Global,
+    entries: &[Entry],
+    programs: u32,
+) -> Result<Vec<ScopeTags>, Memory>
     requires placed { Each (λ e. IsScopeOf programs e.scope) entries.now }
     ensures rows { IfOk result (λ rows. rows.items ≡ rows_of entries.now programs) }
 {
@@ -136,8 +145,8 @@ pub(crate) fn by_scope(alloc: Global, entries: &[Entry], programs: u32) -> Resul
     Ok(rows)
 }
 
-// The tags of all scopes, one scope behind the other.
-pub(crate) fn in_order(alloc: Global, rows: &[Row]) -> Result<Vec<Numbered>, Memory>
+/// The tags of all scopes, one scope after the other.
+pub(crate) fn in_order(alloc: Global, rows: &[ScopeTags]) -> Result<Vec<NumberedTag>, Memory>
     ensures { IfOk result (λ order. order.items ≡ flat_map (λ row. row) rows.now) }
 {
     let mut order = Vec::new(alloc);
@@ -147,17 +156,21 @@ pub(crate) fn in_order(alloc: Global, rows: &[Row]) -> Result<Vec<Numbered>, Mem
     Ok(order)
 }
 
-// Lays tags one behind the other, each at the next multiple of 4.
-pub(crate) fn lay(alloc: Global, types: &TypeTable, order: &[Numbered]) -> Result<Vec<Laid>, Memory>
+/// Lays tags one after the other, each at the next multiple of 4.
+pub(crate) fn place_tags(
+    alloc: Global,
+    types: &TypeTable,
+    order: &[NumberedTag],
+) -> Result<Vec<PlacedTag>, Memory>
     requires sized { Each (λ t. HasSize types.now t.of) order.now }
-    requires room { lay_end types.now 0 order.now ≤ 262144 }
-    ensures laid { IfOk result (λ laid. laid.items ≡ lay types.now 0 order.now) }
+    requires room { place_tags_end types.now 0 order.now ≤ MAX_IMAGE_BYTES }
+    ensures laid { IfOk result (λ laid. laid.items ≡ place_tags types.now 0 order.now) }
 {
     let mut laid = Vec::with_capacity(alloc, order.len())?;
     let mut at = 0;
     for tag in order {
         let end = at + types.size_of(tag.of);
-        laid.push(Laid {
+        laid.push(PlacedTag {
             entry: tag.entry,
             of: tag.of,
             start: at,
@@ -168,14 +181,18 @@ pub(crate) fn lay(alloc: Global, types: &TypeTable, order: &[Numbered]) -> Resul
     Ok(laid)
 }
 
-// What is known of so many entries when these tags are laid.
-pub(crate) fn known_from(alloc: Global, count: usize, laid: &[Laid]) -> Result<Vec<Known>, Memory>
-    requires within { Each (λ l. (l.entry < count) × (8 * l.start < 4294967296)) laid.now }
+/// What is known of so many entries when these tags are laid.
+pub(crate) fn known_from(
+    alloc: Global,
+    count: usize,
+    laid: &[PlacedTag],
+) -> Result<Vec<Resolved>, Memory>
+    requires within { Each (IsOfEntries count) laid.now }
     ensures { IfOk result (λ known. known.items ≡ known_from count laid.now) }
 {
     let mut known = vec![in alloc; Err(TagCode::G7); count]?;
     for tag in laid {
-        known[tag.entry] = Ok(Spot {
+        known[tag.entry] = Ok(FixedPlace {
             at: 8 * tag.start,
             of: tag.of,
             stop: tag.end,

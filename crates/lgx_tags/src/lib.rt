@@ -2,7 +2,7 @@
 //!
 //! A [`TagTable`] takes the declarations one by one, is sealed, and then resolves texts: a tag stands for itself, an
 //! alias for what its target names in the alias's own scope, and a program's own names hide the controller's. What a
-//! text names is the definition `found` of `lgx_machine`.
+//! text names is the definition `found` of `spec_language`.
 #![tactic(auto)]
 
 mod declared;
@@ -18,8 +18,6 @@ mod span;
 mod subscript;
 mod table;
 mod tag_name;
-#[cfg(test)]
-mod tests;
 
 pub use error::{SealError, TagError};
 pub use span::TagSpan;

@@ -3,30 +3,30 @@ ghost use Rattle.std.specs.Prelude.{◌≡◌, ◌<◌, ◌++◌, ◌∷◌, Som
 ghost use Rattle.std.specs.Char.{is_digit};
 ghost use Rattle.std.specs.List.{list_all};
 ghost use Rattle.spec_language.specs.OperandForm.{tokens, are_digits, dot, opening};
-ghost use Rattle.lgx_tags.specs.Parts.{part_seen, IsFit, first_part, is_mark, begins_marked, before};
+ghost use Rattle.lgx_tags.specs.Parts.{part_of, ElementIsDigits, first_part, is_mark, begins_marked, with_word};
 
-/// A part of an operand behind its tag's name.
+/// A part of an operand after its tag's name.
 #[derive(Clone, Copy)]
-pub(crate) enum Part<'a> {
+pub(crate) enum OperandPart<'a> {
     /// A dot and a word.
     Dotted(&'a [u8]),
     /// Digits in brackets.
     Element(&'a [u8]),
-    /// A bracket and the word behind it, which begins an operand.
+    /// A bracket and the word after it, which begins an operand.
     Opened(&'a [u8]),
     /// The bracket that closes the innermost one.
     Closed,
 }
 
 /// Whether the byte is a decimal digit.
-#[tactic(auto, using(crate::proofs::WalkParts::digit_test))]
+#[tactic(auto, using(crate::proofs::OperandParts::digit_test))]
 fn is_digit(byte: u8) -> bool
     ensures { result ≡ is_digit byte 10 }
 {
     byte.is_ascii_digit()
 }
 
-// Whether no byte of a word is anything but a digit.
+/// Whether no byte of a word is anything but a digit.
 fn all_digits(word: &[u8]) -> bool
     ensures { result ≡ list_all (λ c. is_digit c 10) word.now }
 {
@@ -34,7 +34,7 @@ fn all_digits(word: &[u8]) -> bool
 }
 
 /// Whether a word is decimal digits.
-#[tactic(auto, using(crate::proofs::WalkParts::some_digits))]
+#[tactic(auto, using(crate::proofs::OperandParts::some_digits))]
 pub(crate) fn are_digits(word: &[u8]) -> bool
     ensures { result ≡ are_digits 10 word.now }
 {
@@ -48,11 +48,11 @@ fn is_mark(byte: u8) -> bool
     byte == b'.' || byte == b'[' || byte == b']'
 }
 
-#[tactic(auto, using(crate::proofs::WalkParts::whole_at, crate::proofs::WalkParts::ended_at, crate::proofs::WalkParts::tokens_at, crate::proofs::WalkParts::tokens_whole))]
-/// The word with which a text begins, and what stands behind it. The word may be empty.
+#[tactic(auto, using(crate::proofs::OperandParts::whole_at, crate::proofs::OperandParts::ended_at, crate::proofs::OperandParts::tokens_at, crate::proofs::OperandParts::tokens_whole))]
+/// The word with which a text begins, and what stands after it. The word may be empty.
 pub(crate) fn split_word(text: &[u8]) -> (&[u8], &[u8])
     ensures whole { text.now ≡ result.0.now ++ result.1.now }
-    ensures tokens { tokens text.now ≡ before result.0.now (tokens result.1.now) }
+    ensures tokens { tokens text.now ≡ with_word result.0.now (tokens result.1.now) }
     ensures ended { IsTrue (begins_marked result.1.now) }
 {
     for (i, byte) in text.iter().enumerate() {
@@ -63,51 +63,51 @@ pub(crate) fn split_word(text: &[u8]) -> (&[u8], &[u8])
     (text, &[])
 }
 
-/// The part with which a text begins, and what stands behind it, or none where no part stands there.
-pub(crate) fn first_part(text: &[u8]) -> Option<(Part<'_>, &[u8])>
-    ensures part { IfSome result (λ r. first_part (tokens text.now) ≡ Some (part_seen r.0, tokens r.1.now)) }
+/// The part with which a text begins, and what stands after it, or none if no part stands there.
+pub(crate) fn first_part(text: &[u8]) -> Option<(OperandPart<'_>, &[u8])>
+    ensures part { IfSome result (λ r. first_part (tokens text.now) ≡ Some (part_of r.0, tokens r.1.now)) }
     ensures none { IsNone result → first_part (tokens text.now) ≡ None }
     ensures shorter { IfSome result (λ r. length r.1.now < length text.now) }
-    ensures fit { IfSome result (λ r. IsFit (part_seen r.0)) }
+    ensures fit { IfSome result (λ r. ElementIsDigits (part_of r.0)) }
 {
     match text {
-        [b'.', behind @ ..] => dotted(behind),
-        [b'[', behind @ ..] => bracketed(behind),
-        [b']', behind @ ..] => Some((Part::Closed, behind)),
+        [b'.', after @ ..] => dotted(after),
+        [b'[', after @ ..] => bracketed(after),
+        [b']', after @ ..] => Some((OperandPart::Closed, after)),
         _ => None,
     }
 }
 
-// What a dot before a text begins.
-fn dotted(text: &[u8]) -> Option<(Part<'_>, &[u8])>
-    ensures part { IfSome result (λ r. first_part (dot ∷ tokens text.now) ≡ Some (part_seen r.0, tokens r.1.now)) }
+/// What a dot with_word a text begins.
+fn dotted(text: &[u8]) -> Option<(OperandPart<'_>, &[u8])>
+    ensures part { IfSome result (λ r. first_part (dot ∷ tokens text.now) ≡ Some (part_of r.0, tokens r.1.now)) }
     ensures none { IsNone result → first_part (dot ∷ tokens text.now) ≡ None }
     ensures shorter { IfSome result (λ r. length r.1.now < length text.now) }
-    ensures fit { IfSome result (λ r. IsFit (part_seen r.0)) }
+    ensures fit { IfSome result (λ r. ElementIsDigits (part_of r.0)) }
 {
-    let (word, behind) = split_word(text);
+    let (word, after) = split_word(text);
     if word.is_empty() {
         return None;
     }
-    Some((Part::Dotted(word), behind))
+    Some((OperandPart::Dotted(word), after))
 }
 
-// What an opening bracket before a text begins.
-fn bracketed(text: &[u8]) -> Option<(Part<'_>, &[u8])>
-    ensures part { IfSome result (λ r. first_part (opening ∷ tokens text.now) ≡ Some (part_seen r.0, tokens r.1.now)) }
+/// What an opening bracket with_word a text begins.
+fn bracketed(text: &[u8]) -> Option<(OperandPart<'_>, &[u8])>
+    ensures part { IfSome result (λ r. first_part (opening ∷ tokens text.now) ≡ Some (part_of r.0, tokens r.1.now)) }
     ensures none { IsNone result → first_part (opening ∷ tokens text.now) ≡ None }
     ensures shorter { IfSome result (λ r. length r.1.now < length text.now) }
-    ensures fit { IfSome result (λ r. IsFit (part_seen r.0)) }
+    ensures fit { IfSome result (λ r. ElementIsDigits (part_of r.0)) }
 {
-    let (word, behind) = split_word(text);
+    let (word, after) = split_word(text);
     if word.is_empty() {
         return None;
     }
     if !are_digits(word) {
-        return Some((Part::Opened(word), behind));
+        return Some((OperandPart::Opened(word), after));
     }
-    match behind {
-        [b']', rest @ ..] => Some((Part::Element(word), rest)),
+    match after {
+        [b']', rest @ ..] => Some((OperandPart::Element(word), rest)),
         _ => None,
     }
 }

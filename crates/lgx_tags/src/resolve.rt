@@ -1,24 +1,23 @@
 // What an operand's text names.
-ghost use Rattle.std.specs.Prelude.{◌≡◌, ◌+◌, ◌≤◌, [], IfOk, IsTrue};
+ghost use Rattle.std.specs.Prelude.{◌≡◌, ◌+◌, ◌*◌, ◌≤◌, [], IfOk, IsTrue};
+ghost use Rattle.spec_base.specs.declared.limits.TheConstants.{MAX_IMAGE_BYTES};
 ghost use Rattle.spec_language.specs.Layout.{single};
+ghost use Rattle.spec_language.specs.LayoutLaws.{SoundTypes};
 ghost use Rattle.spec_language.specs.OperandForm.{are_digits};
 ghost use Rattle.spec_language.specs.Resolution.{in_form};
 ghost use Rattle.spec_language.specs.ResolutionLaws.{LiesIn, width};
 ghost use Rattle.lgx_types.specs.Tables.{HasSize};
-ghost use Rattle.lgx_tags.specs.Parts.{part_seen, IsFit};
-ghost use Rattle.lgx_tags.specs.Walk.{subscripts_of, Answers, NamesLie, dotted_at, element_at, open_at, close_at, step, end_behind, AllPlaced, AreSized};
+ghost use Rattle.lgx_tags.specs.Parts.{part_of, ElementIsDigits};
+ghost use Rattle.lgx_tags.specs.TextReading.{subscripts_of, Answers, NamesInBounds, dotted_at, element_at, open_at, close_at, step, end_after, AllInImage, AreSized};
 
 use crate::error::TagError;
 use crate::form::is_form;
-use crate::part::{Part, first_part, split_word};
-use crate::subscript::{find_dotted, find_element, find_indexed, is_array, number_of};
+use crate::part::{OperandPart, first_part, split_word};
+use crate::subscript::{capped_number, find_dotted, find_element, find_indexed, is_array};
 use lgx_types::TypeTable;
 use spec_language::{Found, TagCode};
 use std::alloc::Global;
 use std::marker::Model;
-
-#[cfg(test)]
-mod tests;
 
 /// What may be a subscript.
 #[derive(Clone, Copy)]
@@ -54,7 +53,7 @@ struct Reading {
 
 impl Model for Reading {
     ghost use Rattle.std.specs.Prelude.{reverse};
-    ghost use Rattle.lgx_tags.specs.Walk.{Reading as Read};
+    ghost use Rattle.lgx_tags.specs.TextReading.{Reading as Read};
 
     ghost Value = { Read };
 
@@ -62,7 +61,7 @@ impl Model for Reading {
 }
 
 impl Reading {
-    // The name of the text's tag is read.
+    /// The name of the text's tag is read.
     fn new(alloc: Global, found: Found) -> Self
         ensures { result ≡ record { arrays = []; found = found } }
     {
@@ -72,8 +71,8 @@ impl Reading {
         }
     }
 
-    // A bracket and the name of the tag behind it: G5 where it stands at no array.
-    fn open<N: Names>(
+    /// A bracket and the name of the tag after it: G5 if it stands at no array.
+    fn open_bracket<N: Names>(
         self,
         subscripts: Subscripts,
         names: &N,
@@ -96,9 +95,9 @@ impl Reading {
         })
     }
 
-    // A dot and a word.
-    fn go_in(self, types: &TypeTable, word: &[u8]) -> Result<Self, TagError>
-        requires { self.found.at ≤ 2097152 }
+    /// A dot and a word.
+    fn enter_member(self, types: &TypeTable, word: &[u8]) -> Result<Self, TagError>
+        requires { self.found.at ≤ 8 * MAX_IMAGE_BYTES }
         ensures { Answers (dotted_at types.now word.now self) result }
     {
         let Reading { arrays, found } = self;
@@ -106,20 +105,20 @@ impl Reading {
         Ok(Reading { arrays, found })
     }
 
-    // Digits in brackets.
-    fn pick(self, types: &TypeTable, digits: &[u8]) -> Result<Self, TagError>
+    /// Digits in brackets.
+    fn index_element(self, types: &TypeTable, digits: &[u8]) -> Result<Self, TagError>
         requires digits { IsTrue (are_digits 10 digits.now) }
         requires size { HasSize types.now (single self.found.of.base) }
-        requires room { self.found.at + width types.now self.found.of ≤ 2097152 }
+        requires room { self.found.at + width types.now self.found.of ≤ 8 * MAX_IMAGE_BYTES }
         ensures { Answers (element_at types.now digits.now self) result }
     {
         let Reading { arrays, found } = self;
-        let found = find_element(types, found, number_of(digits))?;
+        let found = find_element(types, found, capped_number(digits))?;
         Ok(Reading { arrays, found })
     }
 
-    // The bracket that closes the innermost one.
-    fn close(self, types: &TypeTable) -> Result<Self, TagError>
+    /// The bracket that closes the innermost one.
+    fn close_bracket(self, types: &TypeTable) -> Result<Self, TagError>
         requires { AreSized types.now self.arrays }
         ensures { Answers (close_at types.now self.arrays self.found) result }
     {
@@ -131,30 +130,30 @@ impl Reading {
         Ok(Reading { arrays, found })
     }
 
-    // One more part of the text.
+    /// One more part of the text.
     fn step<N: Names>(
         self,
-        part: Part,
+        part: OperandPart,
         subscripts: Subscripts,
         types: &TypeTable,
         names: &N,
     ) -> Result<Self, TagError>
-        requires fit { IsFit (part_seen part) }
-        requires placed { AllPlaced types.now (N.bytes names.now) self }
-        requires room { N.bytes names.now ≤ 262144 }
-        ensures { Answers (step (subscripts_of subscripts) types.now (N.named names.now) (part_seen part.entry) self) result }
+        requires fit { ElementIsDigits (part_of part) }
+        requires placed { AllInImage types.now (N.bytes names.now) self }
+        requires room { N.bytes names.now ≤ MAX_IMAGE_BYTES }
+        ensures { Answers (step (subscripts_of subscripts) types.now (N.named names.now) (part_of part.entry) self) result }
     {
         match part {
-            Part::Dotted(word) => self.go_in(types, word),
-            Part::Element(digits) => self.pick(types, digits),
-            Part::Opened(name) => self.open(subscripts, names, name),
-            Part::Closed => self.close(types),
+            OperandPart::Dotted(word) => self.enter_member(types, word),
+            OperandPart::Element(digits) => self.index_element(types, digits),
+            OperandPart::Opened(name) => self.open_bracket(subscripts, names, name),
+            OperandPart::Closed => self.close_bracket(types),
         }
     }
 
-    // The end of the text, behind what no part begins.
+    /// The end of the text: the rest begins with no part.
     fn end(self, rest: &[u8]) -> Result<Found, TagError>
-        ensures { Answers (end_behind rest.now self) result }
+        ensures { Answers (end_after rest.now self) result }
     {
         let Reading { arrays, found } = self;
         if rest.is_empty() && arrays.is_empty() {
@@ -176,8 +175,9 @@ pub(crate) fn resolve_text<N: Names>(
     types: &TypeTable,
     names: &N,
 ) -> Result<Found, TagError>
-    requires lie { NamesLie types.now (N.bytes names.now) (N.named names.now) }
-    requires room { N.bytes names.now ≤ 262144 }
+    requires sound { SoundTypes types.now }
+    requires lie { NamesInBounds types.now (N.bytes names.now) (N.named names.now) }
+    requires room { N.bytes names.now ≤ MAX_IMAGE_BYTES }
     ensures answer { Answers (in_form (subscripts_of subscripts) types.now (N.named names.now) text.now) result }
     ensures lies { IfOk result (λ f. LiesIn types.now (N.bytes names.now) f) }
     ensures fixed { subscripts ≡ Subscripts.NumbersAlone → IfOk result (λ f. f.steps ≡ []) }
@@ -185,13 +185,11 @@ pub(crate) fn resolve_text<N: Names>(
     if !is_form(text) {
         return Err(TagError::Tag(TagCode::G10));
     }
-    // the types are sound, so that no sum below is too great
-    types.structures();
     let (name, mut rest) = split_word(text);
     let mut reading = Reading::new(alloc, names.named(name)?);
-    while let Some((part, behind)) = first_part(rest) {
+    while let Some((part, after)) = first_part(rest) {
         reading = reading.step(part, subscripts, types, names)?;
-        rest = behind;
+        rest = after;
     }
     reading.end(rest)
 }

@@ -1,14 +1,14 @@
-// What the aliases stand for: their chains are walked once, when the table is sealed.
+// What the aliases stand for: their chains are resolved once, when the table is sealed.
 ghost use Rattle.std.specs.Prelude.{◌≡◌, ◌<◌, ◌≤◌, length, slice_index_or, Err, IfOk, IfSome, OnOk};
 ghost use Rattle.std.specs.List.{AllByRecursion as Each};
 ghost use Rattle.spec_language.specs.declared.tag.TagCode.TheVariants.{G7};
 ghost use Rattle.spec_language.specs.Resolution.{numbers_alone, in_form};
-ghost use Rattle.lgx_tags.specs.Chains.{answer, answer_at, named_by, is_open, open_in, bad_from, count_aliases, Partly, Looked, Passed, Walked};
+ghost use Rattle.lgx_tags.specs.Chains.{answer, answer_at, named_by, is_open, open_in, bad_from, count_aliases, PartlyResolved, ResolvesEntry, ResolvesPass, AllResolved};
 
 use crate::declared::Declared;
 use crate::entry::Entry;
 use crate::error::TagError;
-use crate::layout::{Known, Spot};
+use crate::layout::{FixedPlace, Resolved};
 use crate::part::split_word;
 use crate::resolve::{Names, Subscripts, resolve_text};
 use lgx_num::{Memory, Steps};
@@ -16,13 +16,13 @@ use spec_language::{Found, Scope, TagCode};
 
 /// What the names of tags stand for, seen from one scope, by what is known of the entries.
 #[derive(Drop)]
-pub(crate) struct Seen<'a> {
+pub(crate) struct ScopeView<'a> {
     pub(crate) declared: &'a Declared,
-    pub(crate) known: &'a [Known],
+    pub(crate) known: &'a [Resolved],
     pub(crate) scope: Scope,
 }
 
-impl Names for Seen<'_> {
+impl Names for ScopeView<'_> {
     ghost use Rattle.spec_language.specs.Declarations.{bytes as image_bytes};
     ghost use Rattle.lgx_tags.specs.Chains.{named_by as seen_by};
 
@@ -38,8 +38,8 @@ impl Names for Seen<'_> {
     }
 }
 
-// What is known of an entry.
-fn known_at(known: &[Known], i: usize) -> Known
+/// What is known of an entry.
+fn known_at(known: &[Resolved], i: usize) -> Resolved
     ensures { result ≡ slice_index_or known.now i (Err G7) }
 {
     if i < known.len() {
@@ -49,8 +49,8 @@ fn known_at(known: &[Known], i: usize) -> Known
     }
 }
 
-// The answer that it gives.
-fn answer(known: Known) -> Result<Found, TagCode>
+/// The answer that it gives.
+fn answer(known: Resolved) -> Result<Found, TagCode>
     ensures { result ≡ answer known }
 {
     match known {
@@ -64,33 +64,30 @@ fn answer(known: Known) -> Result<Found, TagCode>
     }
 }
 
-// Whether it isn't known yet.
-fn is_open(known: Known) -> bool
+/// Whether it isn't known yet.
+fn is_open(known: Resolved) -> bool
     ensures { result ≡ is_open known }
 {
     matches!(known, Err(TagCode::G7))
 }
 
-fn open_in(known: &[Known]) -> usize
+fn open_in(known: &[Resolved]) -> usize
     ensures { result ≡ open_in known.now }
 {
     known.iter().filter(|known| is_open(**known)).count()
 }
 
-// What a target names, by what is known of the entries.
+/// What a target names, by what is known of the entries.
 fn named_target(
     declared: &Declared,
-    known: &[Known],
+    known: &[Resolved],
     scope: Scope,
     target: &[u8],
-) -> Result<Known, Memory>
-    requires { Partly declared.now known.now }
+) -> Result<Resolved, Memory>
+    requires { PartlyResolved declared.now known.now }
     ensures { IfOk result (λ k. answer k ≡ in_form numbers_alone declared.now.types (named_by declared.now.entries known.now scope) target.now) }
 {
-    // the image is short enough for the walk over the text
-    declared.bytes();
-    declared.entries();
-    let seen = Seen {
+    let seen = ScopeView {
         declared,
         known,
         scope,
@@ -103,7 +100,7 @@ fn named_target(
         types,
         &seen,
     ) {
-        Ok(found) => Ok(Ok(Spot {
+        Ok(found) => Ok(Ok(FixedPlace {
             at: found.at,
             of: found.of,
             stop: found.stop,
@@ -113,11 +110,11 @@ fn named_target(
     }
 }
 
-// Looks at an entry: where it is an alias that isn't known yet, at what its target names.
-fn look(declared: &Declared, known: &mut Vec<Known>, i: usize) -> Result<(), Memory>
-    requires partly { Partly declared.now known.old.items }
+/// Resolves an entry, if it is an alias that isn't known yet, by what its target names.
+fn resolve_entry(declared: &Declared, known: &mut Vec<Resolved>, i: usize) -> Result<(), Memory>
+    requires partly { PartlyResolved declared.now known.old.items }
     requires within { i < length declared.now.entries }
-    ensures looked { OnOk result (Looked declared.now i known.old.items known.new.items) }
+    ensures resolves { OnOk result (ResolvesEntry declared.now i known.old.items known.new.items) }
 {
     let entry = &declared.entries()[i];
     let Some(target) = entry.target() else {
@@ -131,19 +128,19 @@ fn look(declared: &Declared, known: &mut Vec<Known>, i: usize) -> Result<(), Mem
     Ok(())
 }
 
-// Looks at all entries in order.
-fn pass(declared: &Declared, known: &mut Vec<Known>) -> Result<(), Memory>
-    requires partly { Partly declared.now known.old.items }
-    ensures passed { OnOk result (Passed declared.now known.old.items known.new.items) }
+/// Resolves what it can of all entries, in order.
+fn resolve_pass(declared: &Declared, known: &mut Vec<Resolved>) -> Result<(), Memory>
+    requires partly { PartlyResolved declared.now known.old.items }
+    ensures resolves { OnOk result (ResolvesPass declared.now known.old.items known.new.items) }
 {
     for i in 0..declared.entries().len() {
-        look(declared, known, i)?;
+        resolve_entry(declared, known, i)?;
     }
     Ok(())
 }
 
-// The alias with which the target of an entry begins, where that isn't known yet.
-fn next_open(declared: &Declared, known: &[Known], i: usize) -> Option<usize>
+/// The alias with which the target of an entry begins, if that isn't known yet.
+fn next_open(declared: &Declared, known: &[Resolved], i: usize) -> Option<usize>
     requires { i < length declared.now.entries }
     ensures { IfSome result (λ j. j < length declared.now.entries) }
 {
@@ -157,10 +154,10 @@ fn next_open(declared: &Declared, known: &[Known], i: usize) -> Option<usize>
     }
 }
 
-// The chain of an entry, as far as it isn't known and wasn't met before.
-fn chain_from(
+/// The chain of an entry, as far as it isn't known and wasn't met before.
+fn open_chain(
     declared: &Declared,
-    known: &[Known],
+    known: &[Resolved],
     met: &mut Vec<bool>,
     first: usize,
 ) -> Result<Vec<usize>, Memory>
@@ -185,42 +182,46 @@ fn chain_from(
     Ok(chain)
 }
 
-// Looks at the entries of a chain, the last first.
-fn look_back(declared: &Declared, known: &mut Vec<Known>, chain: &[usize]) -> Result<(), Memory>
-    requires partly { Partly declared.now known.old.items }
+/// Resolves the entries of a chain, the last first.
+fn resolve_chain(
+    declared: &Declared,
+    known: &mut Vec<Resolved>,
+    chain: &[usize],
+) -> Result<(), Memory>
+    requires partly { PartlyResolved declared.now known.old.items }
     requires within { Each (λ j. j < length declared.now.entries) chain.now }
-    ensures partly { OnOk result (Partly declared.now known.new.items) }
+    ensures partly { OnOk result (PartlyResolved declared.now known.new.items) }
 {
     for k in 0..chain.len() {
-        look(declared, known, chain[chain.len() - 1 - k])?;
+        resolve_entry(declared, known, chain[chain.len() - 1 - k])?;
     }
     Ok(())
 }
 
-// Looks at each entry behind those that its chain reaches.
-fn look_at_chains(declared: &Declared, known: &mut Vec<Known>) -> Result<(), Memory>
-    requires partly { Partly declared.now known.old.items }
-    ensures partly { OnOk result (Partly declared.now known.new.items) }
+/// Resolves each entry after those that its chain reaches.
+fn resolve_chains(declared: &Declared, known: &mut Vec<Resolved>) -> Result<(), Memory>
+    requires partly { PartlyResolved declared.now known.old.items }
+    ensures partly { OnOk result (PartlyResolved declared.now known.new.items) }
 {
     let count = declared.entries().len();
     let mut met = vec![in declared.alloc(); false; count]?;
     for i in 0..count {
-        let chain = chain_from(declared, known.as_slice(), &mut met, i)?;
-        look_back(declared, known, chain.as_slice())?;
+        let chain = open_chain(declared, known.as_slice(), &mut met, i)?;
+        resolve_chain(declared, known, chain.as_slice())?;
     }
     Ok(())
 }
 
-/// Walks the chains of aliases, as far as they go, in a time that grows with the number of entries: first each entry is
-/// looked at behind those that its chain reaches, and then a pass shows that no more is found.
-pub(crate) fn walk(declared: &Declared, known: &mut Vec<Known>) -> Result<(), Memory>
-    requires partly { Partly declared.now known.old.items }
-    ensures walked { OnOk result (Walked declared.now known.new.items) }
+/// Resolves the aliases, as far as their chains end, in a time that grows with the number of entries: first each entry
+/// after those that its chain reaches, and then a pass shows that no more is found.
+pub(crate) fn resolve_all(declared: &Declared, known: &mut Vec<Resolved>) -> Result<(), Memory>
+    requires partly { PartlyResolved declared.now known.old.items }
+    ensures all_resolved { OnOk result (AllResolved declared.now known.new.items) }
 {
-    look_at_chains(declared, known)?;
+    resolve_chains(declared, known)?;
     let mut open = open_in(known.as_slice());
     loop {
-        pass(declared, known)?;
+        resolve_pass(declared, known)?;
         let left = open_in(known.as_slice());
         if left == open {
             return Ok(());
@@ -230,7 +231,7 @@ pub(crate) fn walk(declared: &Declared, known: &mut Vec<Known>) -> Result<(), Me
 }
 
 /// The first alias of which a fault is known, with its number among the aliases.
-pub(crate) fn first_bad(entries: &[Entry], known: &[Known]) -> Option<(TagCode, u32)>
+pub(crate) fn first_bad(entries: &[Entry], known: &[Resolved]) -> Option<(TagCode, u32)>
     requires long { length known.now ≡ length entries.now }
     requires few { count_aliases entries.now < 4294967296 }
     ensures { result ≡ bad_from known.now 0 0 entries.now }

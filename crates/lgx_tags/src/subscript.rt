@@ -1,12 +1,13 @@
 // Members, elements and bits of what was found.
 ghost use Rattle.std.specs.Prelude.{◌≡◌, ◌+◌, ◌*◌, ◌≤◌, min, IsTrue, Ok};
 ghost use Rattle.std.specs.Char.{is_digit, digit_value};
+ghost use Rattle.spec_base.specs.declared.limits.TheConstants.{MAX_IMAGE_BYTES};
 ghost use Rattle.spec_language.specs.Layout.{single};
 ghost use Rattle.spec_language.specs.OperandForm.{are_digits, digits_number};
 ghost use Rattle.spec_language.specs.Resolution.{is_array, is_integer, integer_bits, kind_of, stride, may_index, index_by, find_member, find_element, find_bit, find_indexed};
 ghost use Rattle.spec_language.specs.ResolutionLaws.{width};
 ghost use Rattle.lgx_types.specs.Tables.{HasSize};
-ghost use Rattle.lgx_tags.specs.Walk.{find_dotted};
+ghost use Rattle.lgx_tags.specs.TextReading.{find_dotted};
 
 use crate::part::are_digits;
 use lgx_num::{Index, Kind, Name, Place};
@@ -20,7 +21,7 @@ pub(crate) fn is_array(of: DataType) -> bool
     of.dim != 0
 }
 
-// The bits that can be picked by number.
+/// The bits that can be picked by number.
 fn integer_bits(base: Base) -> u32
     ensures { result ≡ integer_bits base }
 {
@@ -55,7 +56,7 @@ fn single(base: Base) -> DataType
     DataType { base, dim: 0 }
 }
 
-// The bits from one element of an array to the next: a BOOL's are packed.
+/// The bits from one element of an array to the next: a BOOL's are packed.
 fn stride(types: &TypeTable, base: Base) -> u32
     requires { HasSize types.now (single base) }
     ensures { result ≡ stride types.now base }
@@ -66,7 +67,7 @@ fn stride(types: &TypeTable, base: Base) -> u32
     }
 }
 
-// A number with one more digit, or the greatest number where that is greater.
+/// A number with one more digit, or the greatest number if that is greater.
 fn with_digit(number: u32, digit: u8) -> u32
     requires { IsTrue (is_digit digit 10) }
     ensures { result ≡ min (number * 10 + digit_value digit) 4294967295 }
@@ -76,9 +77,9 @@ fn with_digit(number: u32, digit: u8) -> u32
         .saturating_add(u32::from(digit - b'0'))
 }
 
-#[tactic(auto, using(crate::proofs::WalkNumbers::capped_digits, crate::proofs::WalkNumbers::capped_at, crate::proofs::WalkNumbers::digit_at))]
-/// The number that digits make, or the greatest number where that is greater: no subscript or bit is as great.
-pub(crate) fn number_of(digits: &[u8]) -> u32
+#[tactic(auto, using(crate::proofs::Digits::capped_digits, crate::proofs::Digits::capped_at, crate::proofs::Digits::digit_at))]
+/// The number that digits make, or the greatest number if that is greater: no subscript or bit is as great.
+pub(crate) fn capped_number(digits: &[u8]) -> u32
     requires { IsTrue (are_digits 10 digits.now) }
     ensures { result ≡ min (digits_number 10 digits.now) 4294967295 }
 {
@@ -89,9 +90,9 @@ pub(crate) fn number_of(digits: &[u8]) -> u32
     number
 }
 
-/// The member of this name. G4 where there is none; a whole array has none.
+/// The member of this name. G4 if there is none; a whole array has none.
 pub(crate) fn find_member(types: &TypeTable, found: Found, name: &Name) -> Result<Found, TagCode>
-    requires { found.at ≤ 2097152 }
+    requires { found.at ≤ 8 * MAX_IMAGE_BYTES }
     ensures { result ≡ find_member types.now found name.now }
 {
     if is_array(found.of) {
@@ -107,10 +108,10 @@ pub(crate) fn find_member(types: &TypeTable, found: Found, name: &Name) -> Resul
     }
 }
 
-/// The element of this number. G5 where it is no array's, or out of range.
+/// The element of this number. G5 if it is no array's, or out of range.
 pub(crate) fn find_element(types: &TypeTable, found: Found, number: u32) -> Result<Found, TagCode>
     requires size { HasSize types.now (single found.of.base) }
-    requires room { found.at + width types.now found.of ≤ 2097152 }
+    requires room { found.at + width types.now found.of ≤ 8 * MAX_IMAGE_BYTES }
     ensures { result ≡ find_element types.now found number }
 {
     if !is_array(found.of) || number >= found.of.dim {
@@ -123,9 +124,9 @@ pub(crate) fn find_element(types: &TypeTable, found: Found, number: u32) -> Resu
     })
 }
 
-/// The bit of this number. G5 where it is no integer's, or out of range.
+/// The bit of this number. G5 if it is no integer's, or out of range.
 pub(crate) fn find_bit(found: Found, number: u32) -> Result<Found, TagCode>
-    requires { found.at ≤ 2097152 }
+    requires { found.at ≤ 8 * MAX_IMAGE_BYTES }
     ensures { result ≡ find_bit found number }
 {
     if !is_integer(found.of) || number >= integer_bits(found.of.base) {
@@ -138,14 +139,14 @@ pub(crate) fn find_bit(found: Found, number: u32) -> Result<Found, TagCode>
     })
 }
 
-// Whether it may be a subscript: an integer place that no subscript moves.
+/// Whether it may be a subscript: an integer place that no subscript moves.
 fn may_index(found: &Found) -> bool
     ensures { result ≡ may_index found.now }
 {
     is_integer(found.of) && found.steps.is_empty()
 }
 
-/// What an operand in brackets makes of an array. G6 where it is no subscript, G9 where it is the fifth.
+/// What an operand in brackets makes of an array. G6 if it is no subscript, G9 if it is the fifth.
 pub(crate) fn find_indexed(
     types: &TypeTable,
     array: Found,
@@ -177,14 +178,14 @@ pub(crate) fn find_indexed(
     })
 }
 
-/// What a word behind a dot names: a member, or a bit by its number.
+/// What a word after a dot names: a member, or a bit by its number.
 pub(crate) fn find_dotted(types: &TypeTable, found: Found, word: &[u8]) -> Result<Found, TagCode>
-    requires { found.at ≤ 2097152 }
+    requires { found.at ≤ 8 * MAX_IMAGE_BYTES }
     ensures { result ≡ find_dotted types.now found word.now }
 {
     match Name::read(word) {
         Some(name) => find_member(types, found, &name),
-        None if are_digits(word) => find_bit(found, number_of(word)),
+        None if are_digits(word) => find_bit(found, capped_number(word)),
         None => Err(TagCode::G10),
     }
 }

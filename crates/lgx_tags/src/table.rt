@@ -1,21 +1,23 @@
 // The table of tags.
 ghost use Rattle.std.specs.Prelude.{◌≡◌, ◌<◌, ◌≤◌, [], true, false, length, map, slice_get, option_map, None, Some, IfOk, IfErr, IfSome, OnOk, OnErr};
+ghost use Rattle.spec_base.specs.Causes.{IsFaultOf};
+ghost use Rattle.spec_base.specs.declared.limits.TheConstants.{MAX_IMAGE_BYTES};
 ghost use Rattle.spec_language.specs.Declarations.{tag, alias, bytes, declared_as, declare_fault, alias_fault};
 ghost use Rattle.spec_language.specs.Resolution.{aliases, found, found_fixed, in_form, named, seal_fault};
-ghost use Rattle.spec_language.specs.ResolutionLaws.{LiesIn};
+ghost use Rattle.spec_language.specs.ResolutionLaws.{LiesIn, Sound};
 ghost use Rattle.lgx_types.specs.Tables.{HasSize};
-ghost use Rattle.lgx_tags.specs.Chains.{Walked};
-ghost use Rattle.lgx_tags.specs.Layouts.{laid_of};
+ghost use Rattle.lgx_tags.specs.Chains.{AllResolved};
+ghost use Rattle.lgx_tags.specs.Layouts.{placed_tags};
 ghost use Rattle.lgx_tags.specs.Scopes.{IsScopeOf};
-ghost use Rattle.lgx_tags.specs.Sealing.{IsSeal, IsSealFault, spans_of, tag_names};
-ghost use Rattle.lgx_tags.specs.Tables.{IsRefusal};
-ghost use Rattle.lgx_tags.specs.Walk.{Answers, subscripts_of};
+ghost use Rattle.lgx_tags.specs.Errors.{bad_alias, fault_of};
+ghost use Rattle.lgx_tags.specs.Sealing.{IsSealOf, spans_of, tag_names};
+ghost use Rattle.lgx_tags.specs.TextReading.{Answers, subscripts_of};
 
 use crate::declared::Declared;
 use crate::error::{SealError, TagError};
-use crate::layout::{Known, Laid, known_from};
+use crate::layout::{PlacedTag, Resolved, known_from};
 use crate::resolve::{Subscripts, resolve_text};
-use crate::seal::{Seen, first_bad, walk};
+use crate::seal::{ScopeView, first_bad, resolve_all};
 use crate::span::TagSpan;
 use lgx_num::Memory;
 use lgx_types::TypeTable;
@@ -23,11 +25,11 @@ use spec_language::{DataType, Found, Scope};
 use std::alloc::Global;
 use std::marker::Model;
 
-// What is worked out when a table is sealed: its tags as they are laid, and what each entry stands for.
+/// What is worked out when a table is sealed: its tags as they are laid, and what each entry stands for.
 #[derive(Drop)]
 pub(crate) struct Seal {
-    laid: Vec<Laid>,
-    known: Vec<Known>,
+    laid: Vec<PlacedTag>,
+    known: Vec<Resolved>,
 }
 
 /// The table of tags and aliases: declared first, then sealed, and then resolved from.
@@ -45,25 +47,22 @@ impl Model for TagTable {
 
     ghost Value = { Table };
 
-    ghost use Rattle.lgx_tags.specs.Sealed.{IsSealedAs};
+    ghost use Rattle.lgx_tags.specs.Sealed.{HoldsWhenSealed};
 
     ghost view = { λ t. record { declarations = t.declared; sealed = is_some t.seal } };
 
-    ghost invariant = { λ t. IsSealedAs t.declared t.seal };
+    ghost invariant = { λ t. HoldsWhenSealed t.declared t.seal };
 }
 
-// Lays the tags out and walks the chains, or names the first alias with a fault.
+/// Lays the tags out and walks the chains, or names the first alias with a fault.
 fn sealed(declared: &Declared) -> Result<Seal, SealError>
-    ensures ok { IfOk result (λ s. IsSeal declared.now s.laid.items s.known.items) }
-    ensures fault { IfErr result (λ e. IsSealFault (seal_fault declared.now) e) }
+    ensures ok { IfOk result (λ s. IsSealOf declared.now s.laid.items s.known.items) }
+    ensures fault { IfErr result (λ e. IsFaultOf (seal_fault declared.now) (bad_alias e)) }
 {
-    // there are no more tags than bytes
-    declared.types();
-    declared.bytes();
     let laid = declared.laid()?;
     let entries = declared.entries();
     let mut known = known_from(declared.alloc(), entries.len(), laid.as_slice())?;
-    walk(declared, &mut known)?;
+    resolve_all(declared, &mut known)?;
     match first_bad(entries, known.as_slice()) {
         Some((code, alias)) => Err(SealError::Alias { code, alias }),
         None => Ok(Seal { laid, known }),
@@ -82,28 +81,28 @@ impl TagTable {
     }
 
     /// Declares a tag: G1 it is no name of its scope, G2 its scope has the name already, G8 the image would be longer
-    /// than 262,144 bytes (profile). After a refusal, and for want of memory, the table is as before.
+    /// than 262,144 bytes (profile). If it is refused or out of memory, the table is as before.
     pub fn declare(&mut self, scope: Scope, name: &[u8], of: DataType) -> Result<(), TagError>
         requires unsealed { self.old.sealed ≡ false }
         requires scope { IsScopeOf self.old.declarations.programs scope }
         requires sized { HasSize self.old.declarations.types of }
         ensures ok { OnOk result (self.new ≡ record { declarations = declared_as self.old.declarations scope name.now (tag of); sealed = false }) }
         ensures faultless { OnOk result (declare_fault self.old.declarations scope name.now of ≡ None) }
-        ensures fault { IfErr result (λ e. IsRefusal (declare_fault self.old.declarations scope name.now of) e) }
+        ensures fault { IfErr result (λ e. IsFaultOf (declare_fault self.old.declarations scope name.now of) (fault_of e)) }
         ensures err { OnErr result (self.new ≡ self.old) }
     {
         self.declared.declare(scope, name, of)
     }
 
     /// Declares an alias, another name for what its target names: G1, G2. The target is judged when the table is sealed.
-    /// After a refusal, and for want of memory, the table is as before.
+    /// If it is refused or out of memory, the table is as before.
     pub fn alias(&mut self, scope: Scope, name: &[u8], target: &[u8]) -> Result<(), TagError>
         requires unsealed { self.old.sealed ≡ false }
         requires scope { IsScopeOf self.old.declarations.programs scope }
         requires few { length (aliases self.old.declarations) < 4294967295 }
         ensures ok { OnOk result (self.new ≡ record { declarations = declared_as self.old.declarations scope name.now (alias target.now); sealed = false }) }
         ensures faultless { OnOk result (alias_fault self.old.declarations scope name.now ≡ None) }
-        ensures fault { IfErr result (λ e. IsRefusal (alias_fault self.old.declarations scope name.now) e) }
+        ensures fault { IfErr result (λ e. IsFaultOf (alias_fault self.old.declarations scope name.now) (fault_of e)) }
         ensures err { OnErr result (self.new ≡ self.old) }
     {
         self.declared.alias(scope, name, target)
@@ -111,11 +110,11 @@ impl TagTable {
 
     /// Seals the table: lays the tags out, the controller's first and then each program's, and walks the chains of the
     /// aliases. It is refused at the first alias, in order of declaration, whose chain has a fault: G10, G3 to G6, or G7
-    /// where it doesn't end. After a refusal, and for want of memory, the table is as before.
+    /// if it doesn't end. If it is refused or out of memory, the table is as before.
     pub fn seal(&mut self) -> Result<(), SealError>
         ensures ok { OnOk result (self.new ≡ record { declarations = self.old.declarations; sealed = true }) }
         ensures faultless { OnOk result (seal_fault self.old.declarations ≡ None) }
-        ensures fault { IfErr result (λ e. IsSealFault (seal_fault self.old.declarations) e) }
+        ensures fault { IfErr result (λ e. IsFaultOf (seal_fault self.old.declarations) (bad_alias e)) }
         ensures err { OnErr result (self.new ≡ self.old) }
     {
         let seal = sealed(&self.declared)?;
@@ -123,10 +122,10 @@ impl TagTable {
         Ok(())
     }
 
-    // What was worked out when the table was sealed.
+    /// What was worked out when the table was sealed.
     fn seal_of(&self) -> &Seal
         requires { self.now.sealed ≡ true }
-        ensures { IsSeal self.now.declarations result.now.laid.items result.now.known.items }
+        ensures { IsSealOf self.now.declarations result.now.laid.items result.now.known.items }
     {
         match &self.seal {
             Some(seal) => seal,
@@ -134,7 +133,7 @@ impl TagTable {
         }
     }
 
-    // What an operand's text names, seen from a scope.
+    /// What an operand's text names, seen from a scope.
     fn resolve_with(
         &self,
         alloc: Global,
@@ -148,11 +147,8 @@ impl TagTable {
         ensures fixed { subscripts ≡ Subscripts.NumbersAlone → IfOk result (λ f. f.steps ≡ []) }
     {
         let known = self.seal_of().known.as_slice();
-        // the image is short enough for the walk over the text
-        self.declared.bytes();
-        self.declared.entries();
         let types = self.declared.types();
-        let seen = Seen {
+        let seen = ScopeView {
             declared: &self.declared,
             known,
             scope,
@@ -170,7 +166,7 @@ impl TagTable {
         self.resolve_with(alloc, scope, text, Subscripts::Operands)
     }
 
-    /// The same where numbers alone may be subscripts: any other subscript is G6.
+    /// The same if numbers alone may be subscripts: any other subscript is G6.
     pub fn resolve_fixed(&self, alloc: Global, scope: Scope, text: &[u8]) -> Result<Found, TagError>
         requires { self.now.sealed ≡ true }
         ensures answer { Answers (found_fixed self.now.declarations scope text.now) result }
@@ -183,14 +179,15 @@ impl TagTable {
     /// The length of the image, in bytes.
     pub fn bytes(&self) -> u32
         ensures value { result ≡ bytes self.now.declarations }
-        ensures room { result ≤ 262144 }
+        ensures room { result ≤ MAX_IMAGE_BYTES }
     {
         self.declared.bytes()
     }
 
-    /// The types that `new` took.
+    /// The types that `new` took. With them all that is declared is sound.
     pub fn types(&self) -> &TypeTable
-        ensures { result.now ≡ self.now.declarations.types }
+        ensures value { result.now ≡ self.now.declarations.types }
+        ensures sound { Sound self.now.declarations }
     {
         self.declared.types()
     }
@@ -204,7 +201,7 @@ impl TagTable {
         laid.len() as u32
     }
 
-    /// Tag `i` in the order of the layout; none where there are no more than `i` tags.
+    /// Tag `i` in the order of the layout; none if there are no more than `i` tags.
     pub fn tag_at(&self, i: u32) -> Option<TagSpan>
         requires { self.now.sealed ≡ true }
         ensures { result ≡ slice_get (spans_of self.now.declarations) i }

@@ -1,30 +1,27 @@
 // Which texts are names of tags.
-ghost use Rattle.std.specs.Prelude.{◌≡◌, ◌∷◌, [], IfSome, IsNone};
+ghost use Rattle.std.specs.Prelude.{◌≡◌, ◌-◌, ◌∷◌, [], IfSome, IsNone};
 ghost use Rattle.std.specs.List.{list_all};
 ghost use Rattle.lgx_num.specs.Name.{is_name, is_name_byte};
 ghost use Rattle.spec_base.specs.Pieces.{pieces};
+ghost use Rattle.spec_base.specs.declared.limits.TheConstants.{MAX_TAG_NAME_PARTS};
 ghost use Rattle.spec_language.specs.OperandForm.{is_part, may_lead, is_joined, is_tag_name};
 ghost use Rattle.lgx_tags.specs.TagNames.{are_parts};
 
 use lgx_num::{Name, same};
+use spec_base::limits::{MAX_NAME_BYTES, MAX_TAG_NAME_BYTES, MAX_TAG_NAME_PARTS};
 
-// The bytes that a tag name and a part of it have at most.
-const LONGEST: usize = 80;
-
-const LONGEST_PART: usize = 40;
-
-// The parts that may stand behind the first.
-const MOST_PARTS: u32 = 3;
+/// The parts that may stand after the first.
+const MAX_FURTHER_PARTS: usize = MAX_TAG_NAME_PARTS - 1;
 
 /// Whether a text is a tag name: a name, or 2 to 4 parts joined by colons (profile).
 pub(crate) fn is_tag_name(text: &[u8]) -> bool
     ensures { result ≡ is_tag_name text.now }
 {
-    text.len() <= LONGEST && is_joined(text)
+    text.len() <= MAX_TAG_NAME_BYTES && is_joined(text)
 }
 
-// A tag name but for its length.
-#[tactic(auto, using(crate::proofs::WalkNames::joined_alone, crate::proofs::WalkNames::joined_parts))]
+/// A tag name but for its length.
+#[tactic(auto, using(crate::proofs::TagNames::joined_alone, crate::proofs::TagNames::joined_parts))]
 fn is_joined(text: &[u8]) -> bool
     ensures { result ≡ is_joined (pieces 58 text.now) }
 {
@@ -34,7 +31,7 @@ fn is_joined(text: &[u8]) -> bool
     }
 }
 
-// A name that may stand before a colon: `S` begins flags, and `Program` a text's scope.
+/// A name that may stand before a colon: `S` begins flags, and `Program` a text's scope.
 fn may_lead(part: &[u8]) -> bool
     ensures { result ≡ may_lead part.now }
 {
@@ -51,19 +48,19 @@ pub(crate) fn is_name(text: &[u8]) -> bool
     }
 }
 
-// What stands behind the first colon: one to three parts.
+/// What stands after the first colon: one to three parts.
 fn are_parts(text: &[u8]) -> bool
-    ensures { result ≡ are_parts 3 (pieces 58 text.now) }
+    ensures { result ≡ are_parts (MAX_TAG_NAME_PARTS - 1) (pieces 58 text.now) }
 {
     let mut rest = text;
-    for _ in 0..MOST_PARTS {
-        let Some((part, behind)) = split_colon(rest) else {
+    for _ in 0..MAX_FURTHER_PARTS {
+        let Some((part, after)) = split_colon(rest) else {
             return is_part(rest);
         };
         if !is_part(part) {
             return false;
         }
-        rest = behind;
+        rest = after;
     }
     false
 }
@@ -71,7 +68,7 @@ fn are_parts(text: &[u8]) -> bool
 fn is_part(part: &[u8]) -> bool
     ensures { result ≡ is_part part.now }
 {
-    !part.is_empty() && part.len() <= LONGEST_PART && are_name_bytes(part)
+    !part.is_empty() && part.len() <= MAX_NAME_BYTES && are_name_bytes(part)
 }
 
 fn are_name_bytes(part: &[u8]) -> bool
@@ -86,8 +83,8 @@ fn is_name_byte(byte: u8) -> bool
     byte.is_ascii_alphanumeric() || byte == b'_'
 }
 
-// What stands before the first colon, and behind it.
-#[tactic(auto, using(crate::proofs::WalkNames::pieces_at, crate::proofs::WalkNames::pieces_whole))]
+/// What stands before the first colon, and after it.
+#[tactic(auto, using(crate::proofs::TagNames::pieces_at, crate::proofs::TagNames::pieces_whole))]
 fn split_colon(text: &[u8]) -> Option<(&[u8], &[u8])>
     ensures some { IfSome result (λ r. pieces 58 text.now ≡ r.0.now ∷ pieces 58 r.1.now) }
     ensures none { IsNone result → pieces 58 text.now ≡ text.now ∷ [] }

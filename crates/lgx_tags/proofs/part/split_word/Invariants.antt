@@ -1,4 +1,4 @@
-use Rattle.lgx_tags.proofs.WalkParts.{NoMark}
+use Rattle.lgx_tags.proofs.OperandParts.{NoMark}
 use Rattle.lgx_tags.proofs.part.split_word.Given as goal
 
 abbrev pub invariant-loop-i : goal.invariant-loop-i

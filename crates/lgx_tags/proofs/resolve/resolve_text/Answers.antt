@@ -4,10 +4,10 @@ use Rattle.std.proofs.lemmas.Result.{err_from_is_err_and}
 use Rattle.spec_language.specs.OperandForm.{form, tokens}
 use Rattle.spec_language.specs.Resolution.{in_form}
 use Rattle.lgx_tags.specs.declared.resolve.Subscripts.{Subscripts}
-use Rattle.lgx_tags.specs.Parts.{part_seen}
-use Rattle.lgx_tags.specs.Walk.{subscripts_of, Answers, step, end_behind}
-use Rattle.lgx_tags.proofs.WalkAnswers.{begun, not_begun, went_on, stopped, ended, answered, fixed}
-use Rattle.lgx_tags.proofs.WalkPlaces.{named_placed, step_placed}
+use Rattle.lgx_tags.specs.Parts.{part_of}
+use Rattle.lgx_tags.specs.TextReading.{subscripts_of, Answers, step, found_after, end_after}
+use Rattle.lgx_tags.proofs.ReadingAnswers.{begun, not_begun, went_on, stopped, ended, answered, fixed}
+use Rattle.lgx_tags.proofs.ReadingBounds.{named_placed, step_placed}
 use Rattle.lgx_tags.proofs.resolve.resolve_text.Goals as goal
 
 pub returns-in_err-named-clause-answer : goal.returns-in_err-named-clause-answer
@@ -32,16 +32,16 @@ returns-in_err-reading-clause-answer g c =
     let p = err_from_is_err_and c.from_residual-in_err-reading.result c.from_residual-in_err-reading.ensures.1 in
     let s = subscripts_of c.args.subscripts in
     let named = g.N.Names.named c.args.names.now in
-    answered _ _ c.from_residual-in_err-reading.result c.loop-part.invariant.reads (rw (p.1, p.2) (stopped s c.args.types.now named (tokens c.loop-part.rest.now) (tokens c.in-Some.behind.now) (part_seen c.in-Some.part) c.loop-part.reading _ c.in-Some.ensures.part c.in_err-reading.ensures))
+    answered (in_form s c.args.types.now named c.args.text.now) (found_after s c.args.types.now named (tokens c.loop-part.rest.now) c.loop-part.reading) c.from_residual-in_err-reading.result c.loop-part.invariant.reads (rw (p.1, p.2) (stopped s c.args.types.now named (tokens c.loop-part.rest.now) (tokens c.in-Some.after.now) (part_of c.in-Some.part) c.loop-part.reading _ c.in-Some.ensures.part c.in_err-reading.ensures))
 
 pub loop-part-preserved : goal.loop-part-preserved
 loop-part-preserved g c =
     let s = subscripts_of c.args.subscripts in
     let named = g.N.Names.named c.args.names.now in
-    let made : step s c.args.types.now named (part_seen c.in-Some.part) c.loop-part.reading ≡ Ok c.in_ok-reading.reading = c.in_ok-reading.ensures in
+    let made : step s c.args.types.now named (part_of c.in-Some.part) c.loop-part.reading ≡ Ok c.in_ok-reading.reading = c.in_ok-reading.ensures in
     record {
-      reads = c.loop-part.invariant.reads ∙ went_on s c.args.types.now named (tokens c.loop-part.rest.now) (tokens c.in-Some.behind.now) (part_seen c.in-Some.part) c.loop-part.reading c.in_ok-reading.reading c.in-Some.ensures.part made;
-      placed = step_placed c.args.types.now (g.N.Names.bytes c.args.names.now) s named (part_seen c.in-Some.part) c.loop-part.reading c.in_ok-reading.reading c.structures.ensures.sound c.requires.lie c.loop-part.invariant.placed made;
+      reads = c.loop-part.invariant.reads ∙ went_on s c.args.types.now named (tokens c.loop-part.rest.now) (tokens c.in-Some.after.now) (part_of c.in-Some.part) c.loop-part.reading c.in_ok-reading.reading c.in-Some.ensures.part made;
+      placed = step_placed c.args.types.now (g.N.Names.bytes c.args.names.now) s named (part_of c.in-Some.part) c.loop-part.reading c.in_ok-reading.reading c.requires.sound c.requires.lie c.loop-part.invariant.placed made;
     }
 
 pub returns-clause-fixed : goal.returns-clause-fixed
@@ -52,5 +52,5 @@ returns-clause-fixed g c = λ alone.
     let rest = c.loop-part.rest.now in
     let reading = c.loop-part.reading in
     let s = subscripts_of c.args.subscripts in
-    let answer : Answers (in_form s types named text) c.end.result = answered (in_form s types named text) (end_behind rest reading) c.end.result (c.loop-part.invariant.reads ∙ ended s types named rest reading (c.in_default.ensures.none refl)) c.end.ensures in
-    fixed types (g.N.Names.bytes c.args.names.now) named text c.end.result c.structures.ensures.sound c.requires.lie (subst (λ (x : Subscripts). Answers (in_form (subscripts_of x) types named text) c.end.result) alone answer)
+    let answer : Answers (in_form s types named text) c.end.result = answered (in_form s types named text) (end_after rest reading) c.end.result (c.loop-part.invariant.reads ∙ ended s types named rest reading (c.in_default.ensures.none refl)) c.end.ensures in
+    fixed types (g.N.Names.bytes c.args.names.now) named text c.end.result c.requires.sound c.requires.lie (subst (λ (x : Subscripts). Answers (in_form (subscripts_of x) types named text) c.end.result) alone answer)

@@ -3,7 +3,7 @@ use Rattle.std.specs.Prelude.{◌&&◌}
 use Rattle.spec_base.specs.Pieces.{pieces}
 use Rattle.spec_language.specs.OperandForm.{may_lead, is_joined}
 use Rattle.lgx_tags.specs.TagNames.{are_parts}
-use Rattle.lgx_tags.proofs.WalkNames.{joined_parts}
+use Rattle.lgx_tags.proofs.TagNames.{joined_parts}
 use Rattle.lgx_tags.proofs.tag_name.is_joined.Goals as goal
 
 pub returns-then-may_lead : goal.returns-then-may_lead

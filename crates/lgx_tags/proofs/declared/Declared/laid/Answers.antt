@@ -1,31 +1,52 @@
-use Rattle.std.proofs.Common.{◌≡◌, ◌≤◌, ◌∙◌, ℕ, ap, sym, subst}
-use Rattle.std.specs.Prelude.{List, flat_map, IfOk}
+use Rattle.std.proofs.Common.{◌≡◌, ◌≤◌, ◌∙◌, ℕ, ap, sym, subst, arith, length}
+use Rattle.std.specs.Prelude.{List, flat_map, IfOk, OnOk, Result, Ok, Err}
 use Rattle.std.specs.List.{AllByRecursion as Each}
-use Rattle.spec_language.specs.Declarations.{Entry, Declarations}
+use Rattle.spec_base.specs.declared.limits.TheConstants.{MAX_IMAGE_BYTES}
+use Rattle.spec_language.specs.declared.types.TypeDecl.{TypeDecl}
+use Rattle.spec_language.specs.Declarations.{Entry, Declarations, bytes}
 use Rattle.lgx_types.specs.Tables.{HasSize}
-use Rattle.lgx_tags.specs.Layouts.{rows_of, order_of, lay, lay_end, laid_of}
-use Rattle.lgx_tags.specs.declared.layout.Numbered.{Numbered}
+use Rattle.lgx_tags.specs.Layouts.{rows_of, order_of, place_tags, place_tags_end, placed_tags}
+use Rattle.lgx_tags.specs.declared.layout.NumberedTag.{NumberedTag}
+use Rattle.lgx_tags.specs.declared.layout.PlacedTag.{PlacedTag}
+use Rattle.lgx_tags.proofs.Faults.{tags_few}
 use Rattle.lgx_tags.proofs.Segments.{rows_flat, order_sized, ends_at}
+use Rattle.lgx_tags.proofs.TagSpans.{all_within}
 use Rattle.lgx_tags.proofs.declared.Declared.laid.Goals as goal
 
-rows_same : (rows all : List (List Numbered)) → rows ≡ all → flat_map (λ (row : List Numbered). row) rows ≡ flat_map (λ (row : List Numbered). row) all
-rows_same rows all p = ap (flat_map (λ (row : List Numbered). row)) p
+-- the rows of the entries, one after the other
+in_order_of : (d : Declarations) (es : List Entry) (rows : List (List NumberedTag)) (order : List NumberedTag) → es ≡ d.entries → rows ≡ rows_of es d.programs → order ≡ flat_map (λ (row : List NumberedTag). row) rows → order ≡ order_of d
+in_order_of d es rows order p q r = r ∙ ap (flat_map (λ (row : List NumberedTag). row)) (q ∙ ap (λ (es : List Entry). rows_of es d.programs) p) ∙ rows_flat d.entries d.programs
 
-pub lay-requires-clause-sized : goal.lay-requires-clause-sized
-lay-requires-clause-sized c =
-    let d : Declarations = record { types = c.self.inside.types; programs = c.self.inside.programs; entries = c.self.inside.entries.items } in
-    let order : c.deref-3.result.now ≡ order_of d = c.deref-3.ensures.value ∙ c.in_ok-order.ensures ∙ rows_same c.deref-2.result.now (rows_of d.entries d.programs) (c.deref-2.ensures.value ∙ c.in_ok-rows.ensures.rows ∙ ap (λ (es : List Entry). rows_of es d.programs) c.deref.ensures.value) ∙ rows_flat d.entries d.programs in
-    subst (Each (λ (t : Numbered). HasSize d.types t.of)) (sym order) (order_sized d c.self.invariant.let_in)
+on_ok : {A E : Type 0} (r : Result A E) (P : Type 0) → P → OnOk r P
+on_ok (Ok x) P p = p
+on_ok (Err e) P p = tt
 
-pub lay-requires-clause-room : goal.lay-requires-clause-room
-lay-requires-clause-room c =
-    let d : Declarations = record { types = c.self.inside.types; programs = c.self.inside.programs; entries = c.self.inside.entries.items } in
-    let order : c.deref-3.result.now ≡ order_of d = c.deref-3.ensures.value ∙ c.in_ok-order.ensures ∙ rows_same c.deref-2.result.now (rows_of d.entries d.programs) (c.deref-2.ensures.value ∙ c.in_ok-rows.ensures.rows ∙ ap (λ (es : List Entry). rows_of es d.programs) c.deref.ensures.value) ∙ rows_flat d.entries d.programs in
-    let end : c.self.inside.bytes ≡ lay_end d.types 0 c.deref-3.result.now = c.self.invariant.counted ∙ sym (ends_at d) ∙ ap (lay_end d.types 0) (sym order) in
-    subst (λ (n : ℕ). n ≤ 262144) end c.self.invariant.room
+pub place_tags-requires-clause-sized : goal.place_tags-requires-clause-sized
+place_tags-requires-clause-sized c =
+    let inside : Declarations = record { types = c.self.inside.types; programs = c.self.inside.programs; entries = c.self.inside.entries.items } in
+    let d : Declarations = c.args.self.now in
+    let order : c.deref-3.result.now ≡ order_of d = c.deref-3.ensures.value ∙ in_order_of inside c.deref.result.now c.in_ok-rows.rows.items c.in_ok-order.order.items c.deref.ensures.value c.in_ok-rows.ensures.rows (c.in_ok-order.ensures ∙ ap (flat_map (λ (row : List NumberedTag). row)) c.deref-2.ensures.value) ∙ ap order_of c.self.view_is in
+    subst (λ (ts : List TypeDecl). Each (λ (t : NumberedTag). HasSize ts t.of) c.deref-3.result.now) (sym c.types.ensures.value) (subst (Each (λ (t : NumberedTag). HasSize d.types t.of)) (sym order) (order_sized d c.types.ensures.admitted))
 
-pub returns : goal.returns
-returns c =
-    let d : Declarations = record { types = c.self.inside.types; programs = c.self.inside.programs; entries = c.self.inside.entries.items } in
-    let order : c.deref-3.result.now ≡ order_of d = c.deref-3.ensures.value ∙ c.in_ok-order.ensures ∙ rows_same c.deref-2.result.now (rows_of d.entries d.programs) (c.deref-2.ensures.value ∙ c.in_ok-rows.ensures.rows ∙ ap (λ (es : List Entry). rows_of es d.programs) c.deref.ensures.value) ∙ rows_flat d.entries d.programs in
-    subst (λ (d : Declarations). IfOk c.lay.result (λ laid. laid.items ≡ laid_of d)) c.self.view_is (subst (λ (ts : List Numbered). IfOk c.lay.result (λ laid. laid.items ≡ lay d.types 0 ts)) order c.lay.ensures.laid)
+pub place_tags-requires-clause-room : goal.place_tags-requires-clause-room
+place_tags-requires-clause-room c =
+    let inside : Declarations = record { types = c.self.inside.types; programs = c.self.inside.programs; entries = c.self.inside.entries.items } in
+    let d : Declarations = c.args.self.now in
+    let order : c.deref-3.result.now ≡ order_of d = c.deref-3.ensures.value ∙ in_order_of inside c.deref.result.now c.in_ok-rows.rows.items c.in_ok-order.order.items c.deref.ensures.value c.in_ok-rows.ensures.rows (c.in_ok-order.ensures ∙ ap (flat_map (λ (row : List NumberedTag). row)) c.deref-2.ensures.value) ∙ ap order_of c.self.view_is in
+    let end : bytes d ≡ place_tags_end c.types.result.now 0 c.deref-3.result.now = sym (ends_at d) ∙ ap (place_tags_end d.types 0) (sym order) ∙ ap (λ (ts : List TypeDecl). place_tags_end ts 0 c.deref-3.result.now) (sym c.types.ensures.value) in
+    subst (λ (n : ℕ). n ≤ MAX_IMAGE_BYTES) end c.types.ensures.room
+
+pub returns-clause-value : goal.returns-clause-value
+returns-clause-value c =
+    let inside : Declarations = record { types = c.self.inside.types; programs = c.self.inside.programs; entries = c.self.inside.entries.items } in
+    let d : Declarations = c.args.self.now in
+    let order : c.deref-3.result.now ≡ order_of d = c.deref-3.ensures.value ∙ in_order_of inside c.deref.result.now c.in_ok-rows.rows.items c.in_ok-order.order.items c.deref.ensures.value c.in_ok-rows.ensures.rows (c.in_ok-order.ensures ∙ ap (flat_map (λ (row : List NumberedTag). row)) c.deref-2.ensures.value) ∙ ap order_of c.self.view_is in
+    subst (λ (ls : List PlacedTag). IfOk c.place_tags.result (λ laid. laid.items ≡ ls)) (ap (λ (ts : List TypeDecl). place_tags ts 0 c.deref-3.result.now) c.types.ensures.value ∙ ap (place_tags d.types 0) order) c.place_tags.ensures.laid
+
+pub returns-clause-few : goal.returns-clause-few
+returns-clause-few c =
+    let few : length (placed_tags c.args.self.now) ≤ MAX_IMAGE_BYTES = omega (arith, tags_few c.args.self.now c.types.ensures.sound, c.types.ensures.room) in
+    on_ok c.place_tags.result (length (placed_tags c.args.self.now) ≤ MAX_IMAGE_BYTES) few
+
+pub returns-clause-within : goal.returns-clause-within
+returns-clause-within c = on_ok c.place_tags.result _ (all_within c.args.self.now c.types.ensures.room)

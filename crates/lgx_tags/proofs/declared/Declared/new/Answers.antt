@@ -5,7 +5,7 @@ use Rattle.lgx_tags.proofs.declared.Declared.new.Goals as goal
 
 pub invariant_of-result : goal.invariant_of-result
 invariant_of-result c = record {
-  let_in = rw c.new-2.ensures.items tt;
+  admitted = rw c.new-2.ensures.items tt;
   keyed = c.new.ensures.empty ∙ sym (ap keys_of c.new-2.ensures.items);
   counted = rw c.new-2.ensures.items (sym (none_laid c.args.types c.args.programs));
   room = omega arith;

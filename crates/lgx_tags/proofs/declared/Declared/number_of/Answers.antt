@@ -7,10 +7,10 @@ use Rattle.lgx_tags.specs.declared.key.Key.{Key}
 use Rattle.lgx_tags.proofs.Lookups.{same_key, key_position, long_nowhere}
 use Rattle.lgx_tags.proofs.declared.Declared.number_of.Goals as goal
 
-pub returns-then-name-gt-ROOM-clause-number : goal.returns-then-name-gt-ROOM-clause-number
-returns-then-name-gt-ROOM-clause-number c =
+pub returns-then-name-gt-MAX_TAG_NAME_BYTES-clause-number : goal.returns-then-name-gt-MAX_TAG_NAME_BYTES-clause-number
+returns-then-name-gt-MAX_TAG_NAME_BYTES-clause-number c =
     let view : c.self.inside.entries.items ≡ c.args.self.now.entries = ap (λ (d : Declarations). d.entries) c.self.view_is in
-    sym (ap (position (is_named c.args.scope c.args.name.now)) (sym view) ∙ long_nowhere c.self.inside.types c.self.inside.programs c.args.scope c.args.name.now c.self.inside.entries.items c.self.invariant.let_in c.if-name-gt-ROOM.true)
+    sym (ap (position (is_named c.args.scope c.args.name.now)) (sym view) ∙ long_nowhere c.self.inside.types c.self.inside.programs c.args.scope c.args.name.now c.self.inside.entries.items c.self.invariant.admitted c.if-name-gt-MAX_TAG_NAME_BYTES.true)
 
 pub returns-clause-number : goal.returns-clause-number
 returns-clause-number c =

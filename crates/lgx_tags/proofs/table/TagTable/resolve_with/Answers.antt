@@ -4,28 +4,32 @@ use Rattle.spec_language.specs.declared.types.TypeDecl.{TypeDecl}
 use Rattle.spec_language.specs.Declarations.{Declarations, bytes}
 use Rattle.spec_language.specs.Resolution.{in_form, named}
 use Rattle.spec_language.specs.ResolutionLaws.{LiesIn}
-use Rattle.lgx_tags.specs.Chains.{Answer, named_by, Walked}
+use Rattle.lgx_tags.specs.Chains.{Answer, named_by, AllResolved}
 use Rattle.lgx_tags.specs.Tables.{Table}
-use Rattle.lgx_tags.specs.Walk.{Answers, subscripts_of}
-use Rattle.lgx_tags.proofs.Declares.{ArePlaced, all_placed}
-use Rattle.lgx_tags.proofs.Walked.{walked_named}
-use Rattle.lgx_tags.proofs.Passes.{names_lie}
-use Rattle.lgx_tags.proofs.Told.{form_same}
+use Rattle.lgx_tags.specs.TextReading.{Answers, subscripts_of}
+use Rattle.lgx_tags.proofs.Declares.{AreInScopes, all_placed}
+use Rattle.lgx_tags.proofs.ResolvedChains.{resolved_named}
+use Rattle.lgx_tags.proofs.ResolvePasses.{names_in_bounds}
+use Rattle.lgx_tags.proofs.TagSpans.{form_same}
 use Rattle.lgx_tags.proofs.table.TagTable.resolve_with.Goals as goal
+use Rattle.spec_language.specs.LayoutLaws.{SoundTypes}
 
 pub resolve_text-requires-clause-lie : goal.resolve_text-requires-clause-lie
 resolve_text-requires-clause-lie c name f p =
     let d : Declarations = c.self.inside.declared in
     let view : c.args.self.now.declarations ≡ d = sym (ap (λ (t : Table). t.declarations) c.self.view_is) in
-    let walked : Walked d c.as_slice-known.result.now = subst (λ (d : Declarations). Walked d c.as_slice-known.result.now) view (subst (Walked c.args.self.now.declarations) (sym c.as_slice-known.ensures.value) c.seal_of.ensures.walked) in
-    let lies : LiesIn d.types (bytes d) f × (f.steps ≡ []) = names_lie d c.as_slice-known.result.now c.args.scope (all_placed d.types d.programs d.entries c.entries.ensures.let_in) walked.partly c.types-types.ensures.sound name f p in
+    let all_resolved : AllResolved d c.as_slice-known.result.now = subst (λ (d : Declarations). AllResolved d c.as_slice-known.result.now) view (subst (AllResolved c.args.self.now.declarations) (sym c.as_slice-known.ensures.value) c.seal_of.ensures.all_resolved) in
+    let lies : LiesIn d.types (bytes d) f × (f.steps ≡ []) = names_in_bounds d c.as_slice-known.result.now c.args.scope (all_placed d.types d.programs d.entries c.types-types.ensures.admitted) all_resolved.partly c.types-types.ensures.sound name f p in
     subst (λ (types : List TypeDecl). LiesIn types (bytes d) f × (f.steps ≡ [])) (sym c.types-types.ensures.value) lies
+
+pub resolve_text-requires-clause-sound : goal.resolve_text-requires-clause-sound
+resolve_text-requires-clause-sound c = subst SoundTypes (sym c.types-types.ensures.value) c.types-types.ensures.sound.types
 
 pub returns-clause-answer : goal.returns-clause-answer
 returns-clause-answer c =
     let d : Declarations = c.self.inside.declared in
     let back : d ≡ c.args.self.now.declarations = ap (λ (t : Table). t.declarations) c.self.view_is in
-    let walked : Walked d c.as_slice-known.result.now = subst (λ (d : Declarations). Walked d c.as_slice-known.result.now) (sym back) (subst (Walked c.args.self.now.declarations) (sym c.as_slice-known.ensures.value) c.seal_of.ensures.walked) in
-    let placed : ArePlaced d.programs d.entries = all_placed d.types d.programs d.entries c.entries.ensures.let_in in
-    let same : in_form (subscripts_of c.args.subscripts) c.types-types.result.now (named_by d.entries c.as_slice-known.result.now c.args.scope) c.args.text.now ≡ in_form (subscripts_of c.args.subscripts) d.types (named d c.args.scope) c.args.text.now = ap (λ (types : List TypeDecl). in_form (subscripts_of c.args.subscripts) types (named_by d.entries c.as_slice-known.result.now c.args.scope) c.args.text.now) c.types-types.ensures.value ∙ form_same (subscripts_of c.args.subscripts) d.types (named_by d.entries c.as_slice-known.result.now c.args.scope) (named d c.args.scope) c.args.text.now (λ name. sym (walked_named d c.as_slice-known.result.now placed walked c.args.scope name)) in
+    let all_resolved : AllResolved d c.as_slice-known.result.now = subst (λ (d : Declarations). AllResolved d c.as_slice-known.result.now) (sym back) (subst (AllResolved c.args.self.now.declarations) (sym c.as_slice-known.ensures.value) c.seal_of.ensures.all_resolved) in
+    let placed : AreInScopes d.programs d.entries = all_placed d.types d.programs d.entries c.types-types.ensures.admitted in
+    let same : in_form (subscripts_of c.args.subscripts) c.types-types.result.now (named_by d.entries c.as_slice-known.result.now c.args.scope) c.args.text.now ≡ in_form (subscripts_of c.args.subscripts) d.types (named d c.args.scope) c.args.text.now = ap (λ (types : List TypeDecl). in_form (subscripts_of c.args.subscripts) types (named_by d.entries c.as_slice-known.result.now c.args.scope) c.args.text.now) c.types-types.ensures.value ∙ form_same (subscripts_of c.args.subscripts) d.types (named_by d.entries c.as_slice-known.result.now c.args.scope) (named d c.args.scope) c.args.text.now (λ name. sym (resolved_named d c.as_slice-known.result.now placed all_resolved c.args.scope name)) in
     subst (λ (d : Declarations). Answers (in_form (subscripts_of c.args.subscripts) d.types (named d c.args.scope) c.args.text.now) c.resolve_text.result) back (subst (λ (meant : Answer). Answers meant c.resolve_text.result) same c.resolve_text.ensures.answer)

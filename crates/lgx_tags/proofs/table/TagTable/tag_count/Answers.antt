@@ -1,5 +1,5 @@
 use Rattle.std.proofs.Common.{◌∙◌, ap, length}
-use Rattle.lgx_tags.proofs.Told.{told_count}
+use Rattle.lgx_tags.proofs.TagSpans.{told_count}
 use Rattle.lgx_tags.proofs.table.TagTable.tag_count.Goals as goal
 
 pub returns : goal.returns

@@ -1,6 +1,0 @@
-use Rattle.std.proofs.Common.{◌≡◌, ℕ, ◌<◌, ◌≤◌}
-use Rattle.lgx_tags.specs.Chains.{open_in, Partly, IsStill}
-use Rattle.lgx_tags.proofs.seal.pass.Given as goal
-
-abbrev pub invariant-loop-i : goal.invariant-loop-i
-invariant-loop-i l = Partly l.declared l.known.items × (open_in l.known.items ≤ open_in l.initial.known.items) × (open_in l.known.items ≡ open_in l.initial.known.items → (l.known.items ≡ l.initial.known.items) × ((j : ℕ) → j < l.i → IsStill l.declared l.known.items j))

@@ -1,5 +1,0 @@
-use Rattle.lgx_tags.specs.Fresh.{IsFresh}
-use Rattle.lgx_tags.proofs.tests.filled.Given as goal
-
-abbrev pub invariant-loop-i : goal.invariant-loop-i
-invariant-loop-i l = IsFresh l.table l.i
