@@ -2,7 +2,7 @@
 use Rattle.std.specs.Prelude.{ℕ, ◌+◌, ◌≤◌, List, [], ◌∷◌}
 use Rattle.std.proofs.Common.{arith}
 use denote.Param.Weighed.{most}
-use Rattle.lgx_rung.specs.Tree.{Tree, end, one, fork, Legs, last, leg, legs_of, Source}
+use Rattle.lgx_rung.specs.Tree.{Tree, end, one, fork, Legs, last, leg, legs_of}
 
 abbrev mutual
   pub tree_size : {A : Type 0} → Tree A → ℕ
@@ -17,6 +17,6 @@ abbrev mutual
 abbrev pub list_size : {A : Type 0} → List (Tree A) → ℕ
 list_size ts = legs_size (legs_of ts)
 
-pub legs_fall : (ts : List Source) → most (λ k. tree_size k + 1) ts ≤ list_size ts
+pub legs_fall : {A : Type 0} → (ts : List (Tree A)) → most (λ k. tree_size k + 1) ts ≤ list_size ts
 legs_fall [] = omega arith
 legs_fall (t ∷ ts) = omega (arith, legs_fall ts)
