@@ -4,3 +4,4 @@ pub mod Pieces
 pub mod Spreads
 pub mod Paths
 pub mod Bindings
+pub mod BoundKinds

@@ -1,6 +1,7 @@
 -- Where paths lead.
 use Rattle.std.proofs.Common.{◌≡◌, ℕ, zero, suc, ◌+◌, ◌-◌, ◌*◌, ◌^◌, ◌<◌, ◌≤◌, min, List, [], ◌∷◌, length, get_or, drop, ℤ, Option, Some, None, refl, sym, ap, ◌∙◌, arith, drop-cons}
 use Rattle.std.proofs.lemmas.List.{drop_all}
+use Rattle.spec_base.specs.declared.limits.TheConstants.{MAX_IMAGE_BYTES}
 use Rattle.lgx_num.specs.declared.place.Index.{Index}
 use Rattle.lgx_num.specs.declared.place.Path.{Path}
 use Rattle.lgx_num.specs.Image.{number, step_by, moved, path_offset, bit_of, InBounds}
@@ -69,7 +70,7 @@ continues_stops image is from so_far k d within by so =
     let here : path_offset image (drop k is) from ≡ moved None rest = next_step image is from k d within ∙ ap (λ (o : Option ℕ). moved o rest) none in
     so.2 ∙ ap (moved (Some so.0)) here ∙ moved_none (Some so.0) rest
 
-pub continues_all : (image : List ℕ) (p : Path) (so_far k len : ℕ) → length p.steps ≤ k → len ≤ 262144 → PathInBounds p len (λ to. to ≤ 8 * len) → Continues image p.steps p.at so_far k → Some so_far ≡ bit_of image p
+pub continues_all : (image : List ℕ) (p : Path) (so_far k len : ℕ) → length p.steps ≤ k → len ≤ MAX_IMAGE_BYTES → PathInBounds p len (λ to. to ≤ 8 * len) → Continues image p.steps p.at so_far k → Some so_far ≡ bit_of image p
 continues_all image p so_far k len past room lies so =
     let end : bit_of image p ≡ Some (so.0 + p.at) = so.2 ∙ ap (λ js. moved (Some so.0) (path_offset image js p.at)) (drop_all k p.steps past) in
     let to = lies.1 (so.0 + p.at) (subscripts_stay_in_range image p (so.0 + p.at) end) in

@@ -1,5 +1,6 @@
 // Numbers in the bytes of an image, and where subscripts lead.
 ghost use Rattle.std.specs.Prelude.{◌≡◌, ◌+◌, ◌*◌, ◌≤◌, length, IfSome};
+ghost use Rattle.spec_base.specs.declared.limits.TheConstants.{MAX_IMAGE_BYTES};
 ghost use Rattle.lgx_num.specs.Image.{number, write, piece, splice, InBounds, step_by, bit_of};
 ghost use Rattle.lgx_num.specs.Paths.{PathInBounds};
 ghost use Rattle.lgx_image.specs.Words.{cut_step};
@@ -67,7 +68,7 @@ pub(crate) fn copy_piece(bytes: &mut [u8], source: u32, target: u32, size: u32)
 ///
 /// A sum that doesn't fit is cut off: it comes only where a later subscript is out of range.
 pub(crate) fn first_bit(bytes: &[u8], path: &Path) -> Option<u32>
-    requires room { length bytes.now ≤ 262144 }
+    requires room { length bytes.now ≤ MAX_IMAGE_BYTES }
     requires lies { PathInBounds path.now (length bytes.now) (λ to. to ≤ 8 * length bytes.now) }
     ensures value { result ≡ bit_of bytes.now path.now }
 {

@@ -1,18 +1,21 @@
 // Grains of an image, and the words that keep their marks.
 ghost use Rattle.std.specs.Prelude.{◌≡◌, ℕ, ◌+◌, ◌/◌, ◌<◌, ◌≤◌, ◌≢◌, true, false, length, replicate};
+ghost use Rattle.spec_base.specs.declared.limits.TheConstants.{MAX_IMAGE_BYTES};
 ghost use Rattle.lgx_image.specs.Grains.{grain_of, grains_in, mark_range};
 ghost use Rattle.lgx_image.specs.Words.{bit_of_words, marks_of, NextBit, LeastBit};
+
+use spec_base::limits::MAX_IMAGE_BYTES;
 
 /// The bytes of a grain, by which an image marks what was written.
 pub const GRAIN: u32 = 64;
 
-/// The words that keep the marks of an image of 262,144 bytes, 64 grains each.
-pub(crate) const WORDS: usize = 64;
+/// The words that keep the marks of the largest image, a bit for each grain.
+pub(crate) const WORDS: usize = (MAX_IMAGE_BYTES / GRAIN / u64::BITS) as usize;
 
 /// The words of an image without a mark.
 pub(crate) fn no_marks() -> [u64; WORDS]
     ensures marks { (grains : ℕ) → marks_of result grains ≡ replicate grains false }
-    ensures words { length result ≡ 64 }
+    ensures words { length result ≡ WORDS }
 {
     [0; WORDS]
 }
@@ -33,8 +36,8 @@ pub(crate) fn grains_in(bytes: u32) -> u32
 
 /// Sets the marks of the grains that hold bytes of a piece.
 pub(crate) fn mark_range(words: &mut [u64], at: u32, size: u32)
-    requires room { at + size ≤ 262144 }
-    requires words { length words.old ≡ 64 }
+    requires room { at + size ≤ MAX_IMAGE_BYTES }
+    requires words { length words.old ≡ WORDS }
     ensures marks { (grains : ℕ) → marks_of words.new grains ≡ mark_range (marks_of words.old grains) at size }
     ensures len { length words.new ≡ length words.old }
 {
@@ -59,7 +62,7 @@ fn set_mark(words: &mut [u64], grain: u32)
 
 /// The least bit of the words that is set and not below `from`.
 pub(crate) fn next_bit(words: &[u64], from: u32) -> Option<u32>
-    requires { length words.now ≡ 64 }
+    requires { length words.now ≡ WORDS }
     ensures { NextBit words.now from result }
 {
     let first = (from / 64) as usize;

@@ -1,8 +1,12 @@
 // The image: the bytes of all tags, with the marks of what was written.
-ghost use Rattle.std.specs.Prelude.{◌≡◌, ◌+◌, ◌/◌, ◌≤◌, length, replicate, false, IfOk, IfSome, option_map};
+ghost use Rattle.std.specs.Prelude.{◌≡◌, ℕ, ◌+◌, ◌/◌, ◌≤◌, length, replicate, false, IfOk, IfSome, option_map};
+ghost use Rattle.std.specs.List.{All};
 ghost use Rattle.spec_base.specs.declared.limits.TheConstants.{MAX_IMAGE_BYTES, MAX_OPERANDS};
 ghost use Rattle.lgx_num.specs.Image.{number, write, piece, splice, InBounds, bit_of};
 ghost use Rattle.spec_scan.specs.Arguments.{bind, value_of, is_one, bit_number};
+ghost use Rattle.spec_scan.specs.Executable.{EndsIn, ArgsEndIn};
+ghost use Rattle.spec_scan.specs.Fits.{OperandsFit, ArgsFit};
+ghost use Rattle.lgx_rung.specs.declared.op.Op.{Op};
 ghost use Rattle.lgx_image.specs.Grains.{grains_in, bytes_in, mark_range, NextMarked, ChangesOnlyMarked};
 ghost use Rattle.lgx_image.specs.Args.{place_at, CellInBounds, OperandsInBounds, ArgInBounds, ArgsInBounds};
 
@@ -14,7 +18,7 @@ use spec_scan::{Arg, Bound};
 use std::alloc::Global;
 use std::marker::Model;
 
-/// The bytes of all tags, at most 262,144, and a mark for each grain of them that was written.
+/// The bytes of all tags, and a mark for each grain of them that was written.
 ///
 /// A grain is a run of `GRAIN` bytes, counted from 0; the last may be shorter.
 #[derive(Drop)]
@@ -133,13 +137,15 @@ impl Image {
         })
     }
 
-    /// The operands of an instruction, at most three, with their places worked out; None where a subscript is negative or
-    /// not below its length.
+    /// The operands of an instruction with their places worked out; None where a subscript is negative or not below its
+    /// length.
     pub fn bind(&self, args: &[Operand]) -> Option<Bound>
         requires room { length args.now ≤ MAX_OPERANDS }
         requires lie { OperandsInBounds args.now (length self.now.bytes) }
         ensures value { result ≡ bind self.now.bytes args.now }
         ensures lie { IfSome result (λ bound. ArgsInBounds bound (length self.now.bytes)) }
+        ensures fit { (op : Op) → OperandsFit op args.now → IfSome result (λ bound. ArgsFit op bound) }
+        ensures ends { (len : ℕ) → All (EndsIn len) args.now → IfSome result (λ bound. ArgsEndIn len bound) }
     {
         bind_all(&self.bytes, args)
     }

@@ -2,7 +2,7 @@
 //!
 //! Contracts see an [`Image`] as its bytes and its marks, one truth value per grain of `GRAIN` bytes. What stands at a
 //! place and what a write makes of the bytes are `number` and `write` of `lgx_num`; where operands lie is `bind` of
-//! `lgx_machine`. `ChangesOnlyMarked` says what every change of an image keeps.
+//! `spec_scan`. `ChangesOnlyMarked` says what every change of an image keeps.
 #![tactic(auto)]
 
 mod bytes;
@@ -15,6 +15,3 @@ pub use grain::{GRAIN, grain_of};
 pub use image::Image;
 pub use laws::{law_of_changes, law_of_marks};
 pub use spec_scan::{Arg, Bound};
-
-#[cfg(test)]
-mod tests;
