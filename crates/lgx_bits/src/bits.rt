@@ -3,11 +3,11 @@ ghost use Rattle.std.specs.Prelude.{◌≡◌, ◌&&◌, not, false, true, if◌
 ghost use Rattle.lgx_num.specs.Image.{number, write, InBounds};
 ghost use Rattle.spec_scan.specs.Arguments.{is_one, bit_number};
 ghost use Rattle.spec_scan.specs.Bits.{bits};
+ghost use Rattle.spec_scan.specs.Fits.{ArgsFit};
 ghost use Rattle.lgx_image.specs.Args.{ArgsInBounds};
 ghost use Rattle.lgx_image.specs.Grains.{ChangesOnlyMarked};
-ghost use Rattle.lgx_bits.specs.Written.{WritesPlaces};
 
-use crate::operand::{is_on, is_set, place_at, put_bit};
+use crate::operand::is_on;
 use lgx_image::Image;
 use lgx_num::{Flags, Place};
 use lgx_rung::Op;
@@ -17,6 +17,7 @@ use spec_scan::Bound;
 ///
 /// `on` is the condition before it, `first` the flag `S:FS`, and `flags` are the task's. Any other instruction does
 /// nothing here, and the condition goes on as it is.
+#[tactic(auto, using(lgx_image::proofs::BoundKinds::place_lies))]
 pub fn run_bits(
     op: Op,
     args: &Bound,
@@ -25,7 +26,7 @@ pub fn run_bits(
     flags: Flags,
     image: &mut Image,
 ) -> bool
-    requires places { WritesPlaces op args.now }
+    requires fit { ArgsFit op args.now }
     requires lie { ArgsInBounds args.now (length image.old.bytes) }
     ensures goes_on { result ≡ (bits op args.now on first flags image.old.bytes).on }
     ensures bytes { image.new.bytes ≡ (bits op args.now on first flags image.old.bytes).image }
@@ -34,12 +35,12 @@ pub fn run_bits(
     match op {
         Op::Xic => on && is_on(args.at(0), first, flags, image),
         Op::Xio => on && !is_on(args.at(0), first, flags, image),
-        Op::Ote => ote(place_at(args, 0), on, image),
-        Op::Otl => otl(place_at(args, 0), on, image),
-        Op::Otu => otu(place_at(args, 0), on, image),
-        Op::Ons => ons(place_at(args, 0), on, image),
-        Op::Osr => osr(place_at(args, 0), place_at(args, 1), on, image),
-        Op::Osf => osf(place_at(args, 0), place_at(args, 1), on, image),
+        Op::Ote => ote(args.at(0).place(), on, image),
+        Op::Otl => otl(args.at(0).place(), on, image),
+        Op::Otu => otu(args.at(0).place(), on, image),
+        Op::Ons => ons(args.at(0).place(), on, image),
+        Op::Osr => osr(args.at(0).place(), args.at(1).place(), on, image),
+        Op::Osf => osf(args.at(0).place(), args.at(1).place(), on, image),
         Op::Afi => false,
         _ => on,
     }
@@ -52,7 +53,7 @@ fn ote(bit: Place, on: bool, image: &mut Image) -> bool
     ensures bytes { image.new.bytes ≡ write image.old.bytes bit (bit_number on) }
     ensures only_marked { ChangesOnlyMarked image.old image.new }
 {
-    put_bit(bit, on, image);
+    image.put_bit(bit, on);
     on
 }
 
@@ -64,7 +65,7 @@ fn otl(bit: Place, on: bool, image: &mut Image) -> bool
     ensures only_marked { ChangesOnlyMarked image.old image.new }
 {
     if on {
-        put_bit(bit, true, image);
+        image.put_bit(bit, true);
     }
     on
 }
@@ -77,7 +78,7 @@ fn otu(bit: Place, on: bool, image: &mut Image) -> bool
     ensures only_marked { ChangesOnlyMarked image.old image.new }
 {
     if on {
-        put_bit(bit, false, image);
+        image.put_bit(bit, false);
     }
     on
 }
@@ -89,12 +90,13 @@ fn ons(storage: Place, on: bool, image: &mut Image) -> bool
     ensures bytes { image.new.bytes ≡ write image.old.bytes storage (bit_number on) }
     ensures only_marked { ChangesOnlyMarked image.old image.new }
 {
-    let was_on = is_set(storage, image);
-    put_bit(storage, on, image);
+    let was_on = image.bit(storage);
+    image.put_bit(storage, on);
     on && !was_on
 }
 
 /// OSR: the output is 1 in the scan in which the condition becomes true. The output is written before the storage bit.
+#[tactic(auto, using(lgx_image::proofs::Changes::changes_follow_one_another))]
 fn osr(storage: Place, output: Place, on: bool, image: &mut Image) -> bool
     requires storage { InBounds storage (length image.old.bytes) }
     requires output { InBounds output (length image.old.bytes) }
@@ -102,14 +104,15 @@ fn osr(storage: Place, output: Place, on: bool, image: &mut Image) -> bool
     ensures bytes { image.new.bytes ≡ write (write image.old.bytes output (bit_number (on && not (is_one (number image.old.bytes storage))))) storage (bit_number on) }
     ensures only_marked { ChangesOnlyMarked image.old image.new }
 {
-    let was_on = is_set(storage, image);
-    put_bit(output, on && !was_on, image);
-    put_bit(storage, on, image);
+    let was_on = image.bit(storage);
+    image.put_bit(output, on && !was_on);
+    image.put_bit(storage, on);
     on
 }
 
 /// OSF: the output is 1 in the scan in which the condition becomes false. With a true condition the storage bit is written
-/// before the output, and with a false one behind it.
+/// before the output, and with a false one after it.
+#[tactic(auto, using(lgx_image::proofs::Changes::changes_follow_one_another))]
 fn osf(storage: Place, output: Place, on: bool, image: &mut Image) -> bool
     requires storage { InBounds storage (length image.old.bytes) }
     requires output { InBounds output (length image.old.bytes) }
@@ -119,12 +122,12 @@ fn osf(storage: Place, output: Place, on: bool, image: &mut Image) -> bool
     ensures only_marked { ChangesOnlyMarked image.old image.new }
 {
     if on {
-        put_bit(storage, true, image);
-        put_bit(output, false, image);
+        image.put_bit(storage, true);
+        image.put_bit(output, false);
     } else {
-        let was_on = is_set(storage, image);
-        put_bit(output, was_on, image);
-        put_bit(storage, false, image);
+        let was_on = image.bit(storage);
+        image.put_bit(output, was_on);
+        image.put_bit(storage, false);
     }
     on
 }

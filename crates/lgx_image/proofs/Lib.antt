@@ -1,7 +1,7 @@
 pub mod Marks
 pub mod Words
 pub mod Pieces
-pub mod Spreads
+pub mod Changes
 pub mod Paths
 pub mod Bindings
 pub mod BoundKinds

@@ -39,6 +39,6 @@ copied_piece old new source target size n same len room copied below from =
                 copied k 0 on (omega arith)
                 ∙ sym (splice-at old target (piece old source size) (k - target) k (omega arith) (omega arith) (omega arith)
                 ∙ piece-at old source size (k - target) (source + (k - target)) (omega arith) refl)
-            | inr behind ↦ from k 0 (omega arith) ∙ sym (splice_behind old target (piece old source size) k (omega arith))
+            | inr after ↦ from k 0 (omega arith) ∙ sym (splice_behind old target (piece old source size) k (omega arith))
           ]
         ]

@@ -85,7 +85,7 @@ marks_of-piece old new at size n some covered others =
         elim (cases_lt g (grain_of at)) [
           | inl before ↦ outside g within (inl before) (λ h. absurd (omega (arith, h.1, h.2, h.3, grain_of-is h.0)))
           | inr above ↦ elim (cases_lt (grain_of (at + size - 1)) g) [
-            | inl behind ↦ outside g within (inr behind) (λ h. absurd (omega (arith, h.1, h.2, h.3, grain_of-is h.0)))
+            | inl after ↦ outside g within (inr after) (λ h. absurd (omega (arith, h.1, h.2, h.3, grain_of-is h.0)))
             | inr below ↦
                 covered g above below
                 ∙ sym (piece_is_marked (marks_of old n) at size g (omega (arith, length-marks_of old n)) (holds_byte at size g some (omega arith) (omega arith)))

@@ -4,7 +4,7 @@ use Rattle.lgx_num.specs.declared.place.Place.{Place}
 use Rattle.lgx_num.specs.Image.{number}
 use Rattle.lgx_image.specs.Grains.{ImageView, ChangesOnlyMarked, grain_of, bytes_in, is_marked, mark_range}
 
--- no change is spread, and one change after another is
+-- no change keeps what every change keeps, and so do two, one after another
 abbrev pub NoChangeNeedsMarks : Type 0
 NoChangeNeedsMarks = (image : ImageView) → ChangesOnlyMarked image image
 

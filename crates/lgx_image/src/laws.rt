@@ -1,8 +1,8 @@
 // Laws of marks. Each is the contract of a function that does nothing.
 ghost use Rattle.lgx_image.specs.Laws.{NoChangeNeedsMarks, ChangesFollowOneAnother, UnmarkedPlacesStay, PieceIsMarked, OtherMarksStay, AlignedPlaceInOneGrain};
 
-/// Changes that are spread compose: no change is one, and so is one after another. A place in grains without a mark has
-/// the number that it had before.
+/// What every change keeps is kept by no change, and by one change after another. A place in grains without a mark has the
+/// number that it had before.
 pub fn law_of_changes()
     ensures none { NoChangeNeedsMarks }
     ensures chain { ChangesFollowOneAnother }

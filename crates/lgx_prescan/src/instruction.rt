@@ -71,7 +71,7 @@ fn ton(at: u32, image: &mut Image)
 }
 
 /// TOF: its bits are off, and it has come to its preset.
-#[tactic(auto, using(lgx_image::proofs::Spreads::changes_are_spread))]
+#[tactic(auto, using(lgx_image::proofs::Changes::changes_follow_one_another))]
 fn tof(at: u32, image: &mut Image)
     requires { at + 16 ≤ length image.old.bytes }
     ensures bytes { image.new.bytes ≡ put_acc at (pre image.old.bytes at) (timer_bits_off at image.old.bytes) }

@@ -1,8 +1,8 @@
 //! What stands in a timer or a counter: bits of its status word, and its numbers. `at` is the first byte of either.
-ghost use Rattle.std.specs.Prelude.{◌≡◌, ◌+◌, ◌*◌, ◌<◌, ◌≤◌, length};
+ghost use Rattle.std.specs.Prelude.{◌≡◌, ◌+◌, ◌*◌, ◌<◌, ◌≤◌, if◌then◌else◌, length};
+ghost use Rattle.spec_base.specs.declared.limits.TheConstants.{TIMER_BYTES, COUNTER_BYTES};
 ghost use Rattle.spec_scan.specs.StatusWords.{status, put_status, dint, put_dint, pre, acc, put_acc, last_tick, put_last_tick, is_reached, reset};
 ghost use Rattle.lgx_image.specs.Grains.{ChangesOnlyMarked};
-ghost use Rattle.lgx_time.specs.Families.{size_of};
 
 use lgx_image::Image;
 use lgx_num::{Kind, Place};
@@ -28,7 +28,7 @@ pub(crate) const OV: u32 = 28;
 pub(crate) const UN: u32 = 27;
 
 // bytes from the first one to the status word and the numbers
-const STATUS: u32 = 0;
+const STATUS_WORD: u32 = 0;
 
 const PRE: u32 = 4;
 
@@ -39,9 +39,10 @@ const LAST_TICK: u32 = 12;
 /// The place of a kind at a bit of a timer or counter, counted from its first one.
 fn place(kind: Kind, at: u32, bit: u32, image: &Image) -> Place
     requires byte { at < length image.now.bytes }
-    requires bit { bit < 128 }
+    requires bit { bit < 8 * TIMER_BYTES }
     ensures { result ≡ record { kind = kind; at = 8 * at + bit } }
 {
+    // The bytes of an image are few, so the sum fits.
     prove!(at < image.len());
     Place {
         kind,
@@ -50,38 +51,38 @@ fn place(kind: Kind, at: u32, bit: u32, image: &Image) -> Place
 }
 
 /// A bit of the status word.
-pub(crate) fn bit(at: u32, number: u32, image: &Image) -> bool
+pub(crate) fn status(at: u32, number: u32, image: &Image) -> bool
     requires lies { at + 4 ≤ length image.now.bytes }
     requires number { number < 32 }
     ensures { result ≡ status image.now.bytes at number }
 {
-    image.get(place(Kind::Bool, at, number, image)) > 0
+    image.bit(place(Kind::Bool, at, number, image))
 }
 
 /// Sets or clears a bit of the status word, by its number from 0 to 31.
-pub fn put_bit(at: u32, number: u32, on: bool, image: &mut Image)
+pub fn put_status(at: u32, number: u32, on: bool, image: &mut Image)
     requires lies { at + 4 ≤ length image.old.bytes }
     requires number { number < 32 }
     ensures bytes { image.new.bytes ≡ put_status at number on image.old.bytes }
     ensures only_marked { ChangesOnlyMarked image.old image.new }
 {
     let place = place(Kind::Bool, at, number, image);
-    image.put(place, i32::from(on));
+    image.put_bit(place, on);
 }
 
-/// The number that begins so many bytes behind the first one.
+/// The number that begins so many bytes after the first one.
 fn number(at: u32, offset: u32, image: &Image) -> i32
     requires lies { at + offset + 4 ≤ length image.now.bytes }
-    requires offset { offset < 16 }
+    requires offset { offset < TIMER_BYTES }
     ensures { result ≡ dint image.now.bytes (at + offset) }
 {
     image.get(place(Kind::Dint, at, 8 * offset, image))
 }
 
-/// Stores a number so many bytes behind the first one.
+/// Stores a number so many bytes after the first one.
 fn put_number(at: u32, offset: u32, value: i32, image: &mut Image)
     requires lies { at + offset + 4 ≤ length image.old.bytes }
-    requires offset { offset < 16 }
+    requires offset { offset < TIMER_BYTES }
     ensures bytes { image.new.bytes ≡ put_dint (at + offset) value image.old.bytes }
     ensures only_marked { ChangesOnlyMarked image.old image.new }
 {
@@ -91,7 +92,7 @@ fn put_number(at: u32, offset: u32, value: i32, image: &mut Image)
 
 /// The preset: at how much the timer or counter is done, a timer in ticks.
 pub fn preset(at: u32, image: &Image) -> i32
-    requires lies { at + 12 ≤ length image.now.bytes }
+    requires lies { at + COUNTER_BYTES ≤ length image.now.bytes }
     ensures { result ≡ pre image.now.bytes at }
 {
     number(at, PRE, image)
@@ -99,7 +100,7 @@ pub fn preset(at: u32, image: &Image) -> i32
 
 /// The accumulator: how far the timer or counter has come.
 pub(crate) fn accumulator(at: u32, image: &Image) -> i32
-    requires lies { at + 12 ≤ length image.now.bytes }
+    requires lies { at + COUNTER_BYTES ≤ length image.now.bytes }
     ensures { result ≡ acc image.now.bytes at }
 {
     number(at, ACC, image)
@@ -107,7 +108,7 @@ pub(crate) fn accumulator(at: u32, image: &Image) -> i32
 
 /// Stores the accumulator: how far the timer or counter has come, a timer in ticks.
 pub fn put_accumulator(at: u32, value: i32, image: &mut Image)
-    requires lies { at + 12 ≤ length image.old.bytes }
+    requires lies { at + COUNTER_BYTES ≤ length image.old.bytes }
     ensures bytes { image.new.bytes ≡ put_acc at value image.old.bytes }
     ensures only_marked { ChangesOnlyMarked image.old image.new }
 {
@@ -116,7 +117,7 @@ pub fn put_accumulator(at: u32, value: i32, image: &mut Image)
 
 /// The tick at which a timer last counted, read as a signed number.
 pub(crate) fn last_tick(at: u32, image: &Image) -> i32
-    requires lies { at + 16 ≤ length image.now.bytes }
+    requires lies { at + TIMER_BYTES ≤ length image.now.bytes }
     ensures { result ≡ last_tick image.now.bytes at }
 {
     number(at, LAST_TICK, image)
@@ -124,7 +125,7 @@ pub(crate) fn last_tick(at: u32, image: &Image) -> i32
 
 /// Keeps the tick of a count by its low 32 bits.
 pub(crate) fn put_last_tick(at: u32, now: u32, image: &mut Image)
-    requires lies { at + 16 ≤ length image.old.bytes }
+    requires lies { at + TIMER_BYTES ≤ length image.old.bytes }
     ensures bytes { image.new.bytes ≡ put_last_tick at now image.old.bytes }
     ensures only_marked { ChangesOnlyMarked image.old image.new }
 {
@@ -133,21 +134,21 @@ pub(crate) fn put_last_tick(at: u32, now: u32, image: &mut Image)
 
 /// Whether the accumulator has come up to the preset.
 pub(crate) fn is_reached(at: u32, image: &Image) -> bool
-    requires lies { at + 12 ≤ length image.now.bytes }
+    requires lies { at + COUNTER_BYTES ≤ length image.now.bytes }
     ensures { result ≡ is_reached image.now.bytes at }
 {
     preset(at, image) <= accumulator(at, image)
 }
 
-/// RES on a timer or a counter: with a true condition its accumulator and its whole status word become 0, with a false
-/// one nothing happens. `at` is its first byte.
+/// RES on a timer or a counter, whose first byte is `at`: with a true condition its accumulator and its whole status word
+/// become 0, and with a false one nothing happens.
 pub fn reset(timer: bool, at: u32, on: bool, image: &mut Image)
-    requires lies { at + size_of timer ≤ length image.old.bytes }
+    requires lies { at + (if timer then TIMER_BYTES else COUNTER_BYTES) ≤ length image.old.bytes }
     ensures bytes { image.new.bytes ≡ reset at on image.old.bytes }
     ensures only_marked { ChangesOnlyMarked image.old image.new }
 {
     if on {
         put_accumulator(at, 0, image);
-        put_number(at, STATUS, 0, image);
+        put_number(at, STATUS_WORD, 0, image);
     }
 }

@@ -17,4 +17,4 @@ returns-clause-marks c = λ grains.
     let ends = grain_of-is (c.args.at + c.args.size - 1) in
     marks_of-piece c.args.words.now c.loop-grain.words c.args.at c.args.size grains (omega arith)
     (λ g above below. c.loop-grain.invariant.marked g above (omega arith))
-    (λ g apart. c.loop-grain.invariant.others g (elim apart [ inl before ↦ inl before | inr behind ↦ inr (omega arith) ]))
+    (λ g apart. c.loop-grain.invariant.others g (elim apart [ inl before ↦ inl before | inr after ↦ inr (omega arith) ]))

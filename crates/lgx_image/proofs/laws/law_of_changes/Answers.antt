@@ -1,5 +1,5 @@
-use Rattle.lgx_image.proofs.Spreads.{no_change_is_spread, changes_are_spread, unmarked_place_stays}
+use Rattle.lgx_image.proofs.Changes.{no_change_needs_marks, changes_follow_one_another, unmarked_place_stays}
 use Rattle.lgx_image.proofs.laws.law_of_changes.Goals as goal
 
 pub returns : goal.returns
-returns c = record { none = no_change_is_spread; chain = changes_are_spread; places = unmarked_place_stays }
+returns c = record { none = no_change_needs_marks; chain = changes_follow_one_another; places = unmarked_place_stays }

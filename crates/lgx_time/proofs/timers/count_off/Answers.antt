@@ -1,6 +1,6 @@
-use Rattle.lgx_image.proofs.Spreads.{changes_are_spread}
+use Rattle.lgx_image.proofs.Changes.{changes_follow_one_another}
 use Rattle.lgx_time.proofs.timers.count_off.Goals as goal
 
 pub returns-clause-only_marked : goal.returns-clause-only_marked
 returns-clause-only_marked c =
-    changes_are_spread _ _ _ (changes_are_spread _ _ _ c.advance_off.ensures.only_marked c.put_last_tick.ensures.only_marked) c.judge_off.ensures.only_marked
+    changes_follow_one_another _ _ _ (changes_follow_one_another _ _ _ c.advance_off.ensures.only_marked c.put_last_tick.ensures.only_marked) c.update_done_off.ensures.only_marked

@@ -1,4 +1,4 @@
--- Changes that are spread.
+-- What every change of an image keeps.
 use Rattle.std.proofs.Common.{◌≡◌, ℕ, ◌+◌, ◌/◌, ◌%◌, ◌<◌, ◌≤◌, ◌⊎◌, inl, inr, Bool, true, false, List, length, ℤ, pos, get_or, refl, sym, ap, ◌∙◌, arith, get_or-set_other}
 use Rattle.std.specs.Int.{w8, w16, w32, bit_at}
 use Rattle.std.proofs.lemmas.Bool.{cases_lt, false≢true}
@@ -15,11 +15,11 @@ use Rattle.lgx_image.proofs.Pieces.{length-piece}
 
 -- ---- how they compose
 
-pub no_change_is_spread : NoChangeNeedsMarks
-no_change_is_spread image = record { stays_marked = λ g is. is; same_bytes = λ b unmarked. refl; same_length = refl }
+pub no_change_needs_marks : NoChangeNeedsMarks
+no_change_needs_marks image = record { stays_marked = λ g is. is; same_bytes = λ b unmarked. refl; same_length = refl }
 
-pub changes_are_spread : ChangesFollowOneAnother
-changes_are_spread first second third one two = record {
+pub changes_follow_one_another : ChangesFollowOneAnother
+changes_follow_one_another first second third one two = record {
   stays_marked = λ g is. two.stays_marked g (one.stays_marked g is);
   same_bytes = λ b unmarked. two.same_bytes b unmarked ∙ one.same_bytes b (unmarked_before second.marks third.marks two.stays_marked (grain_of b) unmarked);
   same_length = two.same_length ∙ one.same_length;
@@ -47,13 +47,13 @@ unmarked_place_stays old new p only_marked unmarked = same p.kind p.at unmarked
 -- ---- writes and copies
 
 -- a change of a piece whose grains are marked
-pub spread_piece : (old new : ImageView) (at size : ℕ) → length old.marks ≡ grains_in (length old.bytes) → length new.bytes ≡ length old.bytes → at + size ≤ length old.bytes → new.marks ≡ mark_range old.marks at size → ((b : ℕ) → (b < at) ⊎ (at + size ≤ b) → get_or new.bytes b 0 ≡ get_or old.bytes b 0) → ChangesOnlyMarked old new
-spread_piece old new at size grains len room marks outside = record {
+pub piece_changes_only_marked : (old new : ImageView) (at size : ℕ) → length old.marks ≡ grains_in (length old.bytes) → length new.bytes ≡ length old.bytes → at + size ≤ length old.bytes → new.marks ≡ mark_range old.marks at size → ((b : ℕ) → (b < at) ⊎ (at + size ≤ b) → get_or new.bytes b 0 ≡ get_or old.bytes b 0) → ChangesOnlyMarked old new
+piece_changes_only_marked old new at size grains len room marks outside = record {
   stays_marked = λ g is. rw marks (mark_range-stays old.marks at size g is);
   same_bytes = λ b unmarked. elim (cases_lt b at) [
     | inl before ↦ outside b (inl before)
     | inr on ↦ elim (cases_lt b (at + size)) [
-      | inr behind ↦ outside b (inr behind)
+      | inr after ↦ outside b (inr after)
       | inl inside ↦
           let there = grain_of-below b (length old.bytes) (omega arith) in
           let is = piece_is_marked old.marks at size (grain_of b) (omega arith) (b, on, inside, λ i. grain_of b) in
@@ -66,13 +66,13 @@ spread_piece old new at size grains len room marks outside = record {
 -- a write leaves the bytes beside the place
 outside_write : (k : Kind) (image : List ℕ) (at : ℕ) (v : ℤ) (b : ℕ) → (b < at / 8) ⊎ (at / 8 + bytes_in k ≤ b) → get_or (write_of k image at v) b 0 ≡ get_or image b 0
 outside_write KBool image at v b (inl before) = get_or-set_other image (at / 8) b _ 0 (omega arith)
-outside_write KBool image at v b (inr behind) = get_or-set_other image (at / 8) b _ 0 (omega arith)
+outside_write KBool image at v b (inr after) = get_or-set_other image (at / 8) b _ 0 (omega arith)
 outside_write Sint image at v b (inl before) = splice_before image (at / 8) (signed_bytes w8 v) b before
-outside_write Sint image at v b (inr behind) = splice_behind image (at / 8) (signed_bytes w8 v) b behind
+outside_write Sint image at v b (inr after) = splice_behind image (at / 8) (signed_bytes w8 v) b after
 outside_write Int image at v b (inl before) = splice_before image (at / 8) (signed_bytes w16 v) b before
-outside_write Int image at v b (inr behind) = splice_behind image (at / 8) (signed_bytes w16 v) b behind
+outside_write Int image at v b (inr after) = splice_behind image (at / 8) (signed_bytes w16 v) b after
 outside_write Dint image at v b (inl before) = splice_before image (at / 8) (signed_bytes w32 v) b before
-outside_write Dint image at v b (inr behind) = splice_behind image (at / 8) (signed_bytes w32 v) b behind
+outside_write Dint image at v b (inr after) = splice_behind image (at / 8) (signed_bytes w32 v) b after
 
 -- the bytes of a place are in the image
 pub bytes_lie : (k : Kind) (at len : ℕ) → InBoundsAt k at len → at / 8 + bytes_in k ≤ len
@@ -81,17 +81,17 @@ bytes_lie Sint at len lies = omega (arith, lies.0, lies.1)
 bytes_lie Int at len lies = omega (arith, lies.0, lies.1)
 bytes_lie Dint at len lies = omega (arith, lies.0, lies.1)
 
-pub spread_write : (old new : ImageView) (p : Place) (v : ℤ) → length old.marks ≡ grains_in (length old.bytes) → InBounds p (length old.bytes) → new.bytes ≡ write old.bytes p v → new.marks ≡ mark_range old.marks (p.at / 8) (bytes_in p.kind) → ChangesOnlyMarked old new
-spread_write old new p v grains lies bytes marks =
-    spread_piece old new (p.at / 8) (bytes_in p.kind) grains
+pub write_changes_only_marked : (old new : ImageView) (p : Place) (v : ℤ) → length old.marks ≡ grains_in (length old.bytes) → InBounds p (length old.bytes) → new.bytes ≡ write old.bytes p v → new.marks ≡ mark_range old.marks (p.at / 8) (bytes_in p.kind) → ChangesOnlyMarked old new
+write_changes_only_marked old new p v grains lies bytes marks =
+    piece_changes_only_marked old new (p.at / 8) (bytes_in p.kind) grains
     (ap length bytes ∙ write_keeps_length old.bytes p v)
     (bytes_lie p.kind p.at (length old.bytes) lies)
     marks
     (λ b apart. ap (λ m. get_or m b 0) bytes ∙ outside_write p.kind old.bytes p.at v b apart)
 
-pub spread_copy : (old new : ImageView) (source target size : ℕ) → length old.marks ≡ grains_in (length old.bytes) → target + size ≤ length old.bytes → new.bytes ≡ splice old.bytes target (piece old.bytes source size) → new.marks ≡ mark_range old.marks target size → ChangesOnlyMarked old new
-spread_copy old new source target size grains room bytes marks =
-    spread_piece old new target size grains
+pub copy_changes_only_marked : (old new : ImageView) (source target size : ℕ) → length old.marks ≡ grains_in (length old.bytes) → target + size ≤ length old.bytes → new.bytes ≡ splice old.bytes target (piece old.bytes source size) → new.marks ≡ mark_range old.marks target size → ChangesOnlyMarked old new
+copy_changes_only_marked old new source target size grains room bytes marks =
+    piece_changes_only_marked old new target size grains
     (ap length bytes ∙ length-splice old.bytes target (piece old.bytes source size))
     room
     marks
@@ -99,4 +99,4 @@ spread_copy old new source target size grains room bytes marks =
   where
     beside : (b : ℕ) → (b < target) ⊎ (target + size ≤ b) → get_or (splice old.bytes target (piece old.bytes source size)) b 0 ≡ get_or old.bytes b 0
     beside b (inl before) = splice_before old.bytes target (piece old.bytes source size) b before
-    beside b (inr behind) = splice_behind old.bytes target (piece old.bytes source size) b (omega (arith, length-piece old.bytes source size))
+    beside b (inr after) = splice_behind old.bytes target (piece old.bytes source size) b (omega (arith, length-piece old.bytes source size))

@@ -1,10 +1,10 @@
 use Rattle.std.proofs.Common.{◌≡◌, ℤ, pos, negsuc, ◌+ℤ◌, ◌-ℤ◌, ◌≤ℤ◌, arith, ap, ◌∙◌, w32, w64, to_z, of_z}
 use Rattle.std.specs.Int.{int_min, int_max}
 use Rattle.std.proofs.lemmas.Int.{ints, clamps, to_z-of_z}
-use Rattle.lgx_time.proofs.timers.grown.Goals as goal
+use Rattle.lgx_time.proofs.timers.accumulated.Goals as goal
 
-pub overflow_add-grown : goal.overflow_add-grown
-overflow_add-grown c = omega (arith, ints, clamps)
+pub overflow_add-accumulated : goal.overflow_add-accumulated
+overflow_add-accumulated c = omega (arith, ints, clamps)
 
 pub overflow_cast-result : goal.overflow_cast-result
 overflow_cast-result c =
