@@ -2,7 +2,7 @@ use Rattle.std.proofs.Common.{take}
 use Rattle.std.specs.List.{All}
 use Rattle.lgx_num.specs.Paths.{OperandInBounds}
 use Rattle.spec_scan.specs.Executable.{EndsIn}
-use Rattle.test_bench.proofs.ready.all_lie.Given as goal
+use Rattle.test_bench.proofs.executable.are_in_bounds.Given as goal
 
 abbrev pub invariant-loop-operand : goal.invariant-loop-operand
 invariant-loop-operand l = record {
