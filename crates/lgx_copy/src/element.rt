@@ -1,11 +1,13 @@
 // A step of a copy: one element.
 ghost use Rattle.std.specs.Prelude.{◌≡◌, ◌+◌, ◌*◌, ◌^◌, ◌<◌, ◌≤◌, nat_lt, length, take};
 ghost use Rattle.std.specs.Int.{w32, to_le_bytes};
+ghost use Rattle.spec_base.specs.declared.limits.TheConstants.{MAX_IMAGE_BYTES};
 ghost use Rattle.lgx_num.specs.Number.{low_bits};
 ghost use Rattle.lgx_num.specs.Image.{splice};
 ghost use Rattle.spec_scan.specs.Copies.{copy_element, after_element};
+ghost use Rattle.spec_scan.specs.Fits.{IsFillSize};
 ghost use Rattle.lgx_image.specs.Grains.{ChangesOnlyMarked};
-ghost use Rattle.lgx_copy.specs.CopyBounds.{IsFillSize, CopyInBounds};
+ghost use Rattle.lgx_copy.specs.CopyBounds.{CopyInBounds};
 
 use lgx_image::Image;
 use lgx_num::{Kind, Place};
@@ -23,13 +25,14 @@ pub fn next(copying: &mut Copying, image: &mut Image) -> bool
     ensures only_marked { ChangesOnlyMarked image.old image.new }
     ensures lies { CopyInBounds copying.new (length image.new.bytes) }
 {
+    // The bytes of an image are few, so the sums in `advance` fit.
     prove!(copying.target <= image.len());
     copy_element(*copying, image);
     advance(copying);
     copying.left > 0
 }
 
-/// Goes on behind an element.
+/// Goes on after an element.
 fn advance(copying: &mut Copying)
     requires left { 0 < copying.old.left }
     requires source { copying.old.source + copying.old.size < 2 ^ 32 }
@@ -61,17 +64,19 @@ fn fill(value: i32, target: u32, size: u32, image: &mut Image)
     ensures bytes { image.new.bytes ≡ splice image.old.bytes target (take size (to_le_bytes w32 (low_bits 32 value))) }
     ensures only_marked { ChangesOnlyMarked image.old image.new }
 {
+    // The bytes of an image are few, so the number of a bit fits.
     prove!(target <= image.len());
     match size {
         1 => image.put(place_at(Kind::Sint, target), value),
         2 => image.put(place_at(Kind::Int, target), value),
-        _ => image.put(place_at(Kind::Dint, target), value),
+        4 => image.put(place_at(Kind::Dint, target), value),
+        _ => unreachable!(),
     }
 }
 
 /// The place of a kind that begins at a byte.
 fn place_at(kind: Kind, byte: u32) -> Place
-    requires { byte ≤ 262144 }
+    requires { byte ≤ MAX_IMAGE_BYTES }
     ensures { result ≡ record { kind = kind; at = 8 * byte } }
 {
     Place { kind, at: 8 * byte }

@@ -5,9 +5,9 @@ ghost use Rattle.spec_scan.specs.Copies.{positive, asked, elements, fill_of, is_
 ghost use Rattle.lgx_image.specs.Args.{ArgsInBounds};
 ghost use Rattle.lgx_copy.specs.CopyBounds.{CopyInBounds, BlocksInBounds};
 
-use crate::operand::{byte_of, room_of, size_of, value_of};
 use lgx_image::Image;
 use lgx_rung::Op;
+use spec_base::limits::MAX_IMAGE_BYTES;
 use spec_scan::{Arg, Bound, Copying};
 
 /// The copy or fill that begins; None exactly where it has no element.
@@ -20,8 +20,8 @@ pub fn start_copy(op: Op, args: &Bound, image: &Image) -> Option<Copying>
     ensures left { IfSome result (λ copying. 0 < copying.left) }
     ensures lies { BlocksInBounds op args.now (length image.now.bytes) → IfSome result (λ copying. CopyInBounds copying (length image.now.bytes)) }
 {
-    // The numbers of two bytes of an image have a sum of 32 bits.
-    prove!(image.len() <= 262_144);
+    // The bytes of an image are few, so two of their numbers have a sum of 32 bits.
+    prove!(image.len() <= MAX_IMAGE_BYTES);
     let left = elements(op, args, image);
     if left == 0 {
         return None;
@@ -29,9 +29,9 @@ pub fn start_copy(op: Op, args: &Bound, image: &Image) -> Option<Copying>
     Some(Copying {
         sync: is_sync(op),
         fill: fill_of(op, args, image),
-        source: byte_of(args.at(0)),
-        target: byte_of(args.at(1)),
-        size: size_of(args.at(1)),
+        source: args.at(0).byte(),
+        target: args.at(1).byte(),
+        size: args.at(1).size(),
         left,
     })
 }
@@ -52,7 +52,7 @@ fn fill_of(op: Op, args: &Bound, image: &Image) -> Option<i32>
     ensures { result ≡ fill_of op args.now image.now.bytes }
 {
     match op {
-        Op::Fll => Some(value_of(args.at(0), image)),
+        Op::Fll => Some(image.value(args.at(0))),
         _ => None,
     }
 }
@@ -74,7 +74,7 @@ fn asked(args: &Bound, image: &Image) -> u32
     requires { ArgsInBounds args.now (length image.now.bytes) }
     ensures { result ≡ asked args.now image.now.bytes }
 {
-    let length = positive(value_of(args.at(2), image));
+    let length = positive(image.value(args.at(2)));
     length.min(elements_in(args, args.at(1)))
 }
 
@@ -94,5 +94,5 @@ fn elements_in(args: &Bound, arg: Arg) -> u32
     requires { 1 ≤ size_of (operand args.now 1) }
     ensures { result ≡ elements_in args.now arg }
 {
-    room_of(arg) / size_of(args.at(1))
+    arg.room() / args.at(1).size()
 }

@@ -1,31 +1,32 @@
 // The comparisons.
-ghost use Rattle.std.specs.Prelude.{◌≡◌, length, IsTrue};
+ghost use Rattle.std.specs.Prelude.{◌≡◌, length};
+ghost use Rattle.lgx_rung.specs.declared.operands.Family.TheVariants.{Comparison};
+ghost use Rattle.lgx_rung.specs.OperandTable.{family_of};
 ghost use Rattle.spec_scan.specs.Comparisons.{compare, holds, is_within, is_equal_under};
 ghost use Rattle.lgx_image.specs.Args.{ArgsInBounds};
-ghost use Rattle.lgx_math.specs.Families.{compares};
 
-use crate::operands::value_of;
-use lgx_image::{Bound, Image};
+use lgx_image::Image;
 use lgx_rung::Op;
+use spec_scan::Bound;
 
 /// Whether a comparison holds of its operands: EQU, NEQ, LES, LEQ, GRT, GEQ, LIM or MEQ (1756-RM003).
 ///
 /// LIM has the low limit first, then the number to test, then the high limit; MEQ the source, the mask and the number to
 /// compare with.
 pub fn compare(op: Op, args: &Bound, image: &Image) -> bool
-    requires family { IsTrue (compares op) }
+    requires family { family_of op ≡ Comparison }
     requires lie { ArgsInBounds args.now (length image.now.bytes) }
     ensures { result ≡ compare op args.now image.now.bytes }
 {
-    let a = value_of(args.at(0), image);
-    let b = value_of(args.at(1), image);
-    let c = value_of(args.at(2), image);
+    let a = image.value(args.at(0));
+    let b = image.value(args.at(1));
+    let c = image.value(args.at(2));
     holds(op, a, b, c)
 }
 
 /// Whether a comparison holds of its values.
 fn holds(op: Op, a: i32, b: i32, c: i32) -> bool
-    requires { IsTrue (compares op) }
+    requires { family_of op ≡ Comparison }
     ensures { result ≡ holds op a b c }
 {
     match op {

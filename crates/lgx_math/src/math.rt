@@ -1,33 +1,36 @@
 // Arithmetic, moves and operations bit by bit.
-ghost use Rattle.std.specs.Prelude.{◌≡◌, length, IsTrue, pos, int_lt};
-ghost use Rattle.spec_scan.specs.Arguments.{arg};
+ghost use Rattle.std.specs.Prelude.{◌≡◌, ℕ, length, pos, int_lt};
+ghost use Rattle.lgx_num.specs.Image.{InBounds};
+ghost use Rattle.lgx_rung.specs.declared.operands.Family.TheVariants.{Arithmetic};
+ghost use Rattle.lgx_rung.specs.OperandTable.{family_of};
+ghost use Rattle.spec_scan.specs.Arguments.{arg, place_of};
 ghost use Rattle.spec_scan.specs.Arithmetic.{math, dest, is_zero};
+ghost use Rattle.spec_scan.specs.Fits.{ArgsFit};
 ghost use Rattle.lgx_image.specs.Args.{ArgsInBounds};
 ghost use Rattle.lgx_image.specs.Grains.{ChangesOnlyMarked};
-ghost use Rattle.lgx_math.specs.Families.{computes, is_place};
 
-use crate::operands::{place_of, value_of};
 use crate::results::{overflows, result_of};
-use lgx_image::{Bound, Image};
-use lgx_num::{Flags, store_low};
+use lgx_image::Image;
+use lgx_num::{Flags, Place, store_low};
 use lgx_rung::Op;
+use spec_scan::Bound;
 
 /// Stores the low bits of an instruction's result at its destination, the last operand, and sets the task's flags (profile:
-/// a task has its own, and no other instruction changes them). True where a minor fault of type 4 and code 4 is due.
+/// a task has its own, and no other instruction changes them). True if a minor fault of type 4 and code 4 is due.
 ///
 /// The instructions are ADD, SUB, MUL, DIV, MOD, NEG, ABS, MOV, AND, OR, XOR, NOT, MVM and CLR (1756-RM003).
 pub fn run_math(op: Op, args: &Bound, flags: &mut Flags, image: &mut Image) -> bool
-    requires family { IsTrue (computes op) }
+    requires family { family_of op ≡ Arithmetic }
+    requires fit { ArgsFit op args.now }
     requires lie { ArgsInBounds args.now (length image.old.bytes) }
-    requires destination { IsTrue (is_place (arg args.now (dest op))) }
     ensures due { result ≡ (math op args.now image.old.bytes).flags.v }
     ensures flags { flags.new ≡ (math op args.now image.old.bytes).flags }
     ensures bytes { image.new.bytes ≡ (math op args.now image.old.bytes).image }
     ensures only_marked { ChangesOnlyMarked image.old image.new }
 {
-    let place = place_of(args.at(dest(op)));
-    let a = value_of(args.at(0), image);
-    let b = value_of(args.at(1), image);
+    let place = destination(op, args);
+    let a = image.value(args.at(0));
+    let b = image.value(args.at(1));
     let exact = result_of(op, a, b, image.get(place));
     let stored = store_low(place.kind, exact);
     let overflow = overflows(op, place.kind, b, exact);
@@ -47,14 +50,13 @@ fn flags_of(overflow: bool, stored: i32) -> Flags
     }
 }
 
-/// The number of the operand that is the destination.
-fn dest(op: Op) -> usize
-    requires { IsTrue (computes op) }
-    ensures { result ≡ dest op }
+/// The place of the last operand, to which the result goes.
+fn destination(op: Op, args: &Bound) -> Place
+    requires family { family_of op ≡ Arithmetic }
+    requires fit { ArgsFit op args.now }
+    ensures value { result ≡ place_of (arg args.now (dest op)) }
+    ensures lies { (len : ℕ) → ArgsInBounds args.now len → InBounds result len }
 {
-    match op {
-        Op::Clr => 0,
-        Op::Neg | Op::Abs | Op::Mov | Op::Not => 1,
-        _ => 2,
-    }
+    let last = op.operand_kinds().len() - 1;
+    args.at(last).place()
 }

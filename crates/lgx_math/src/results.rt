@@ -1,14 +1,15 @@
 // The exact results of arithmetic, and whether they overflow.
-ghost use Rattle.std.specs.Prelude.{◌≡◌, IsTrue};
+ghost use Rattle.std.specs.Prelude.{◌≡◌};
+ghost use Rattle.lgx_rung.specs.declared.operands.Family.TheVariants.{Arithmetic};
+ghost use Rattle.lgx_rung.specs.OperandTable.{family_of};
 ghost use Rattle.spec_scan.specs.Arithmetic.{result_of, quotient, remainder, masked_move, is_exact, divides, overflows};
-ghost use Rattle.lgx_math.specs.Families.{computes};
 
 use lgx_num::{Kind, fits};
 use lgx_rung::Op;
 
 /// The exact result of a first and a second source and of what stands at the destination.
 pub(crate) fn result_of(op: Op, a: i32, b: i32, dest: i32) -> i64
-    requires { IsTrue (computes op) }
+    requires { family_of op ≡ Arithmetic }
     ensures { result ≡ result_of op a b dest }
 {
     match op {
