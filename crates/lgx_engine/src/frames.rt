@@ -16,7 +16,7 @@ use lgx_prog::{Code, FlatProgram};
 use lgx_rung::Ins;
 use spec_base::limits::MAX_FRAMES;
 
-/// The instruction before which the innermost routine stands; None where it is at its end, or where there is none.
+/// The instruction before which the innermost routine stands; None if it is at its end, or if there is none.
 pub(crate) fn next_ins<'a>(
     program: &'a FlatProgram,
     frames: &ArrayVec<Frame, MAX_FRAMES>,
@@ -27,7 +27,7 @@ pub(crate) fn next_ins<'a>(
     ins_at(program, frames.last()?)
 }
 
-/// The instruction before which a routine in progress stands; None where it is at its end.
+/// The instruction before which a routine in progress stands; None if it is at its end.
 fn ins_at<'a>(program: &'a FlatProgram, frame: &Frame) -> Option<&'a Ins>
     ensures next { (f : MachineFrame) → RepresentsIn program.now frame.now f → NextFor f (option_map (λ i. i.now) result) }
     ensures room { IsSome result → frame.now.pc + 1 < 2 ^ 64 }
@@ -38,7 +38,7 @@ fn ins_at<'a>(program: &'a FlatProgram, frame: &Frame) -> Option<&'a Ins>
     }
 }
 
-/// The condition of the innermost routine; false where there is none.
+/// The condition of the innermost routine; false if there is none.
 pub(crate) fn condition(frames: &ArrayVec<Frame, MAX_FRAMES>) -> bool
     ensures { (f : MachineFrame) (outer : List MachineFrame) (program : Program) → RepresentsFrames program (reverse frames.now.items) (f ∷ outer) → result ≡ f.on }
 {
