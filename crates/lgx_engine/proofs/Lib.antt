@@ -5,4 +5,4 @@ pub mod Tops
 pub mod Follows
 pub mod Stepping
 pub mod FamilyRows
-pub mod Bound
+pub mod Operands

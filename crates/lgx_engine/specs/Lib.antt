@@ -1,6 +1,5 @@
 pub mod Views
 pub mod Represents
 pub mod Settling
-pub mod Families
 pub mod Rows
 pub mod Steps

@@ -1,13 +1,8 @@
 // Where a program scan stands in flat code.
 use arrayvec::ArrayVec;
+use spec_base::limits::{MAX_FORKS, MAX_FRAMES};
 use spec_scan::Copying;
 use std::marker::Model;
-
-/// How many branches may be open in a routine.
-pub(crate) const FORKS: usize = 16;
-
-/// How many routines may be in progress, the main routine among them (profile).
-pub(crate) const FRAMES: usize = 25;
 
 /// An open branch: the condition at its start, and whether a leg that is done, or one without instructions, gave true.
 #[derive(Clone, Copy, Default)]
@@ -33,7 +28,7 @@ pub(crate) struct Frame {
     pub(crate) pc: usize,
     pub(crate) on: bool,
     pub(crate) zone: Zone,
-    pub(crate) marks: ArrayVec<OpenBranch, FORKS>,
+    pub(crate) branches: ArrayVec<OpenBranch, MAX_FORKS>,
 }
 
 impl Model for Frame {
@@ -42,13 +37,20 @@ impl Model for Frame {
 
     ghost Value = { FrameView };
 
-    ghost view = { λ f. record { routine = f.routine; pc = f.pc; on = f.on; zone = zone_of f.zone; marks = reverse f.marks.items } };
+    ghost view = { λ f. record { routine = f.routine; pc = f.pc; on = f.on; zone = zone_of f.zone; branches = reverse f.branches.items } };
+}
+
+/// What a scan tells its instructions: the tick, and whether it is the first scan, which is the flag `S:FS`.
+#[derive(Clone, Copy)]
+pub(crate) struct ScanContext {
+    pub(crate) now: u32,
+    pub(crate) first: bool,
 }
 
 /// Where a program scan stands: the routines in progress, and the copy in progress. It takes no memory.
 #[derive(Drop)]
 pub struct Position {
-    pub(crate) frames: ArrayVec<Frame, FRAMES>,
+    pub(crate) frames: ArrayVec<Frame, MAX_FRAMES>,
     pub(crate) copying: Option<Copying>,
 }
 

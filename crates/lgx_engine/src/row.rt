@@ -1,30 +1,31 @@
 // One instruction: what it does to the image and the flags, and what else it does.
-ghost use Rattle.std.specs.Prelude.{◌≡◌, ℕ, ◌+◌, ◌≤◌, true, ◌||◌, List, length, nat_lt, if◌then◌else◌, IsTrue, IfSome, Some, None};
+ghost use Rattle.std.specs.Prelude.{◌≡◌, ℕ, ◌+◌, ◌≤◌, true, ◌||◌, List, length, nat_lt, if◌then◌else◌, IfSome, Some, None};
+ghost use Rattle.spec_base.specs.declared.limits.TheConstants.{MAX_FRAMES, TIMER_BYTES};
+ghost use Rattle.lgx_rung.specs.OperandTable.{family_of};
+ghost use Rattle.lgx_rung.specs.declared.operands.OperandKind.{OperandKind};
 ghost use Rattle.spec_scan.specs.Arguments.{arg, bind, byte_of};
 ghost use Rattle.spec_scan.specs.Timers.{timer};
 ghost use Rattle.spec_scan.specs.StatusWords.{reset};
-ghost use Rattle.spec_scan.specs.Arithmetic.{dest, math};
+ghost use Rattle.spec_scan.specs.Arithmetic.{math};
 ghost use Rattle.spec_scan.specs.Copies.{start_copy};
 ghost use Rattle.spec_scan.specs.Position.{Frame};
-ghost use Rattle.spec_scan.specs.Instructions.{row, acts_when_false, target, bad_timer, too_deep, frame_room};
+ghost use Rattle.spec_scan.specs.Instructions.{row, acts_when_false, target, bad_timer, too_deep};
 ghost use Rattle.lgx_image.specs.Args.{ArgInBounds, ArgsInBounds};
 ghost use Rattle.lgx_image.specs.Grains.{ChangesOnlyMarked};
-ghost use Rattle.lgx_time.specs.Families.{is_timer};
-ghost use Rattle.lgx_math.specs.Families.{computes, is_place};
-ghost use Rattle.lgx_copy.specs.CopyBounds.{BlocksInBounds};
-ghost use Rattle.spec_scan.specs.Executable.{IsExecutable, IsRoutine, KindsFit, operand_at};
-ghost use Rattle.lgx_engine.specs.Families.{family_of, CanBeReset};
+ghost use Rattle.spec_scan.specs.Executable.{IsExecutable, ArgsEndIn};
+ghost use Rattle.spec_scan.specs.Fits.{IsRoutine, OperandsFit, ArgFits, ArgsFit, operand_at};
 ghost use Rattle.lgx_engine.specs.Rows.{row_of, ControlInRows, CanFollow};
 
-use crate::family::{Family, acts_when_false, byte_of, family_of, routine_of, target, task_of};
-use crate::frame::FRAMES;
+use crate::frame::ScanContext;
+use crate::operand::{routine_of, target, task_of};
 use lgx_bits::run_bits;
 use lgx_copy::start_copy;
 use lgx_image::Image;
 use lgx_math::{compare, run_math};
 use lgx_num::Flags;
-use lgx_rung::{Ins, Op};
+use lgx_rung::{Family, Ins, Op};
 use lgx_time::{reset, run_counter, run_timer};
+use spec_base::limits::MAX_FRAMES;
 use spec_scan::{Arg, Bound, Copying};
 
 // codes of type 4: a subscript out of range, a timer with a negative number, and a call with all frames taken
@@ -59,46 +60,49 @@ pub(crate) struct RowStep {
     pub(crate) control: Control,
 }
 
-/// What a scan tells an instruction: the condition before it, the tick, the flag `S:FS`, and the number of routines in
-/// progress.
+/// What an instruction is told: the condition before it, the number of routines in progress, and what the scan tells.
 #[derive(Clone, Copy)]
-struct Scan {
+struct RowInput {
     on: bool,
-    now: u32,
-    first: bool,
     depth: usize,
+    scan: ScanContext,
 }
 
 /// Executes an instruction (1756-RM003), with the condition before it.
 ///
-/// `depth` is the number of routines in progress, `now` the tick, and `first` the flag `S:FS`. With a major fault the
-/// image and the flags are as before.
+/// `depth` is the number of routines in progress. With a major fault the image and the flags are as before.
 pub(crate) fn run_row(
     ins: &Ins,
     on: bool,
-    now: u32,
-    first: bool,
+    scan: ScanContext,
     depth: usize,
     flags: &mut Flags,
     image: &mut Image,
 ) -> RowStep
-    requires ready { IsExecutable (length image.old.bytes) ins.now }
-    ensures row { (frames : List Frame) → length frames ≡ depth → row ins.now.op ins.now.args on now first frames flags.old image.old.bytes ≡ row_of result flags.new image.new.bytes }
+    requires executable { IsExecutable (length image.old.bytes) ins.now }
+    ensures row { (frames : List Frame) → length frames ≡ depth → row ins.now.op ins.now.args on scan.now scan.first frames flags.old image.old.bytes ≡ row_of result flags.new image.new.bytes }
     ensures can_follow { CanFollow result.control depth (length image.new.bytes) }
     ensures only_marked { ChangesOnlyMarked image.old image.new }
 {
     if !on && !acts_when_false(ins.op) {
         return pass_on(on, Control::Nothing);
     }
-    let scan = Scan {
-        on,
-        now,
-        first,
-        depth,
-    };
+    let input = RowInput { on, depth, scan };
     match image.bind(ins.args.as_slice()) {
-        Some(bound) => execute(ins, &bound, scan, flags, image),
+        Some(bound) => execute(ins, &bound, input, flags, image),
         None => pass_on(on, Control::MajorFault(BAD_SUBSCRIPT)),
+    }
+}
+
+/// Whether an instruction does something if its condition is false. Of all others nothing is read or written then.
+fn acts_when_false(op: Op) -> bool
+    ensures { result ≡ acts_when_false op }
+{
+    match op {
+        Op::Ote | Op::Ons | Op::Osr | Op::Osf => true,
+        Op::Ton | Op::Rto | Op::Tof | Op::Ctu | Op::Ctd => true,
+        Op::Mcr => true,
+        _ => false,
     }
 }
 
@@ -110,25 +114,33 @@ fn pass_on(on: bool, control: Control) -> RowStep
 }
 
 /// Executes an instruction that acts, with its operands' places worked out.
-fn execute(ins: &Ins, bound: &Bound, scan: Scan, flags: &mut Flags, image: &mut Image) -> RowStep
-    requires ready { IsExecutable (length image.old.bytes) ins.now }
-    requires acts { (scan.on || acts_when_false ins.now.op) ≡ true }
+fn execute(
+    ins: &Ins,
+    bound: &Bound,
+    input: RowInput,
+    flags: &mut Flags,
+    image: &mut Image,
+) -> RowStep
+    requires acts { (input.on || acts_when_false ins.now.op) ≡ true }
     requires bound { bind image.old.bytes ins.now.args ≡ Some bound.now }
+    requires operands { OperandsFit ins.now.op ins.now.args }
+    requires fit { ArgsFit ins.now.op bound.now }
     requires lie { ArgsInBounds bound.now (length image.old.bytes) }
-    ensures row { (frames : List Frame) → length frames ≡ scan.depth → row ins.now.op ins.now.args scan.on scan.now scan.first frames flags.old image.old.bytes ≡ row_of result flags.new image.new.bytes }
-    ensures can_follow { CanFollow result.control scan.depth (length image.new.bytes) }
+    requires ends { ArgsEndIn (length image.old.bytes) bound.now }
+    ensures row { (frames : List Frame) → length frames ≡ input.depth → row ins.now.op ins.now.args input.on input.scan.now input.scan.first frames flags.old image.old.bytes ≡ row_of result flags.new image.new.bytes }
+    ensures can_follow { CanFollow result.control input.depth (length image.new.bytes) }
     ensures only_marked { ChangesOnlyMarked image.old image.new }
 {
     let op = ins.op;
-    let on = scan.on;
-    match family_of(op) {
+    let on = input.on;
+    match op.family() {
         Family::Bit => {
-            let on = run_bits(op, bound, on, scan.first, *flags, image);
+            let on = run_bits(op, bound, on, input.scan.first, *flags, image);
             pass_on(on, Control::Nothing)
         }
-        Family::Timer => pass_on(on, count_time(op, bound.at(0), on, scan.now, image)),
+        Family::Timer => pass_on(on, count_time(op, bound.at(0), on, input.scan.now, image)),
         Family::Counter => {
-            run_counter(op, byte_of(bound.at(0)), on, image);
+            run_counter(op, bound.at(0).byte(), on, image);
             pass_on(on, Control::Nothing)
         }
         Family::Reset => {
@@ -138,19 +150,19 @@ fn execute(ins: &Ins, bound: &Bound, scan: Scan, flags: &mut Flags, image: &mut 
         Family::Comparison => pass_on(compare(op, bound, image), Control::Nothing),
         Family::Arithmetic => pass_on(on, compute(op, bound, flags, image)),
         Family::Copy => pass_on(on, begin_copy(op, bound, image)),
-        Family::ProgramControl => pass_on(on, program_control(ins, scan.depth)),
+        Family::ProgramControl => pass_on(on, program_control(ins, input.depth)),
     }
 }
 
 /// TON, RTO or TOF: a timer with a negative number is a major fault.
 fn count_time(op: Op, arg: Arg, on: bool, now: u32, image: &mut Image) -> Control
-    requires family { IsTrue (is_timer op) }
-    requires lies { byte_of arg + 16 ≤ length image.old.bytes }
+    requires family { family_of op ≡ Family.Timer }
+    requires lies { byte_of arg + TIMER_BYTES ≤ length image.old.bytes }
     ensures counted { IfSome (timer op (byte_of arg) on now image.old.bytes) (λ after. (result ≡ Control.Nothing) × (image.new.bytes ≡ after)) }
     ensures fault { timer op (byte_of arg) on now image.old.bytes ≡ None → (result ≡ Control.MajorFault bad_timer) × (image.new ≡ image.old) }
     ensures only_marked { ChangesOnlyMarked image.old image.new }
 {
-    match run_timer(op, byte_of(arg), on, now, image) {
+    match run_timer(op, arg.byte(), on, now, image) {
         Ok(()) => Control::Nothing,
         Err(_) => Control::MajorFault(BAD_TIMER),
     }
@@ -158,7 +170,7 @@ fn count_time(op: Op, arg: Arg, on: bool, now: u32, image: &mut Image) -> Contro
 
 /// RES, on a timer or a counter.
 fn clear(arg: Arg, on: bool, image: &mut Image)
-    requires kind { CanBeReset arg }
+    requires kind { ArgFits OperandKind.TimerOrCounter arg }
     requires lies { ArgInBounds arg (length image.old.bytes) }
     ensures bytes { image.new.bytes ≡ reset (byte_of arg) on image.old.bytes }
     ensures only_marked { ChangesOnlyMarked image.old image.new }
@@ -172,9 +184,9 @@ fn clear(arg: Arg, on: bool, image: &mut Image)
 
 /// Arithmetic: an overflow is a minor fault.
 fn compute(op: Op, bound: &Bound, flags: &mut Flags, image: &mut Image) -> Control
-    requires family { IsTrue (computes op) }
+    requires family { family_of op ≡ Family.Arithmetic }
+    requires fit { ArgsFit op bound.now }
     requires lie { ArgsInBounds bound.now (length image.old.bytes) }
-    requires destination { IsTrue (is_place (arg bound.now (dest op))) }
     ensures due { result ≡ (if (math op bound.now image.old.bytes).flags.v then Control.MinorFault else Control.Nothing) }
     ensures flags { flags.new ≡ (math op bound.now image.old.bytes).flags }
     ensures bytes { image.new.bytes ≡ (math op bound.now image.old.bytes).image }
@@ -190,8 +202,9 @@ fn compute(op: Op, bound: &Bound, flags: &mut Flags, image: &mut Image) -> Contr
 
 /// COP, CPS or FLL: a copy without an element doesn't start.
 fn begin_copy(op: Op, bound: &Bound, image: &Image) -> Control
+    requires fit { ArgsFit op bound.now }
     requires lie { ArgsInBounds bound.now (length image.now.bytes) }
-    requires blocks { BlocksInBounds op bound.now (length image.now.bytes) }
+    requires ends { ArgsEndIn (length image.now.bytes) bound.now }
     ensures starts { IfSome (start_copy op bound.now image.now.bytes) (λ copying. result ≡ Control.StartCopy copying) }
     ensures nothing { start_copy op bound.now image.now.bytes ≡ None → result ≡ Control.Nothing }
     ensures can_follow { (depth : ℕ) → CanFollow result depth (length image.now.bytes) }
@@ -205,7 +218,7 @@ fn begin_copy(op: Op, bound: &Bound, image: &Image) -> Control
 /// Calls, jumps, zones, regions and triggers, and what does nothing.
 fn program_control(ins: &Ins, depth: usize) -> Control
     requires family { family_of ins.now.op ≡ Family.ProgramControl }
-    requires kinds { KindsFit ins.now.op ins.now.args }
+    requires operands { OperandsFit ins.now.op ins.now.args }
     ensures rows { ControlInRows ins.now.op ins.now.args depth result }
     ensures can_follow { (len : ℕ) → CanFollow result depth len }
 {
@@ -225,10 +238,10 @@ fn program_control(ins: &Ins, depth: usize) -> Control
 /// JSR: with all frames taken it is a major fault.
 fn call(ins: &Ins, depth: usize) -> Control
     requires { IsRoutine (operand_at ins.now.args 0) }
-    ensures call { result ≡ (if nat_lt depth frame_room then Control.Call (target ins.now.args) else Control.MajorFault too_deep) }
+    ensures call { result ≡ (if nat_lt depth MAX_FRAMES then Control.Call (target ins.now.args) else Control.MajorFault too_deep) }
     ensures can_follow { (len : ℕ) → CanFollow result depth len }
 {
-    if depth < FRAMES {
+    if depth < MAX_FRAMES {
         Control::Call(routine_of(ins.args.as_slice()))
     } else {
         Control::MajorFault(TOO_DEEP)

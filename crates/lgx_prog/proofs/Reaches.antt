@@ -1,15 +1,15 @@
 -- The search for called routines finds what the definition reaches.
-use Rattle.std.specs.Prelude.{◌≡◌, ℕ, zero, suc, ◌+◌, ◌<◌, ◌≤◌, ◌≢◌, ◌⊎◌, Bool, true, false, cond, not, ◌&&◌, ◌||◌, nat_eq, nat_lt, List, [], ◌∷◌, ◌++◌, length, filter, fold, replicate, slice_index_or, slice_set, refl}
+use Rattle.std.specs.Prelude.{◌≡◌, ℕ, zero, suc, ◌+◌, ◌<◌, ◌≤◌, ◌⊎◌, Bool, true, false, cond, not, ◌&&◌, ◌||◌, nat_eq, nat_lt, List, [], ◌∷◌, ◌++◌, length, filter, fold, replicate, slice_index_or, slice_set, refl}
 use Rattle.std.specs.List.{list_any, range_with_len, sum_by}
 use Rattle.std.proofs.Common.{sym, ap, subst, ◌∙◌, arith, eqb-true, eq-eqb, ltb-true, inl, inr, get_or, length-set}
-use Rattle.std.proofs.lemmas.List.{length-replicate}
-use Rattle.std.proofs.lemmas.List.{get_or-set_same, get_or-set_other}
+use Rattle.std.proofs.lemmas.Bool.{or_left, or_right, or_cases, and_parts, not-true, eqb-false, lt-ltb}
+use Rattle.std.proofs.lemmas.List.{length-replicate, length_push, get_or_push, get_or_append_left, get_or-set_same, get_or-set_other}
 use Rattle.std.proofs.lemmas.List.Sums.{sum_by-set, sum_by-cons}
+use Rattle.spec_base.proofs.Lists.{same_truth}
 use Rattle.spec_scan.specs.Position.{Rungs, ProgramRungs, routine_rungs}
 use Rattle.spec_scan.specs.Prescan.{calls, is_called, reached_by, reached}
-use Rattle.lgx_prog.specs.Search.{Found, noted}
-use Rattle.lgx_prog.proofs.Executes.{both}
-use Rattle.lgx_prog.proofs.Searching.{or_first, or_second, or_either, same_truth, Has, any_at, any_from, into_filter, from_filter, into_range, from_range, filter_same, has_end, has_before, place_of, at_end, at_before}
+use Rattle.lgx_prog.specs.Search.{Found, with_found}
+use Rattle.lgx_prog.proofs.Searching.{Has, any_at, any_from, into_filter, from_filter, into_range, from_range, filter_same, has_end, has_before, place_of}
 
 -- ---- marks
 
@@ -63,10 +63,10 @@ module _ (program : ProgramRungs) where
   from_level k n h = (from_filter (λ m. list_any (nat_eq m) (reached_by k program) || is_called program (reached_by k program) m) (range_with_len 0 number) n h).1
 
   pub level_next : (k n : ℕ) → n < number → Has n (reached_by k program) → Has n (reached_by (suc k) program)
-  level_next k n h r = into_level k n h (or_first (list_any (nat_eq n) (reached_by k program)) _ r)
+  level_next k n h r = into_level k n h (or_left (list_any (nat_eq n) (reached_by k program)) _ r)
 
   pub level_call : (k r n : ℕ) → n < number → Has r (reached_by k program) → Has n (callees r) → Has n (reached_by (suc k) program)
-  level_call k r n h p c = into_level k n h (or_second (list_any (nat_eq n) (reached_by k program)) _ (any_at (λ m. list_any (nat_eq n) (callees m)) (reached_by k program) r p c))
+  level_call k r n h p c = into_level k n h (or_right (list_any (nat_eq n) (reached_by k program)) _ (any_at (λ m. list_any (nat_eq n) (callees m)) (reached_by k program) r p c))
 
   le_cases : (m k : ℕ) → m ≤ suc k → (m ≤ k) ⊎ (m ≡ suc k)
   le_cases m k h = grind arith
@@ -94,7 +94,7 @@ module _ (program : ProgramRungs) where
     pub closed : (j n : ℕ) → j < i → j < length s.found → n < number → Has n (callees (get_or s.found j 0)) → Mark s.marks n
 
   -- what one more call keeps, where routine r, the one found as number i, calls n
-  pub record Noted (i r n : ℕ) (old new : Found) : Type 0 where
+  pub record OneFound (i r n : ℕ) (old new : Found) : Type 0 where
     searched : Searched i new
     examined : get_or new.found i 0 ≡ r
     there : i < length new.found
@@ -104,50 +104,36 @@ module _ (program : ProgramRungs) where
   set_mark : (marks : List Bool) (n m : ℕ) → n < length marks → Mark marks m → Mark (slice_set marks n true) m
   set_mark marks n m h p = go (nat_eq m n) refl
     where
-      apart : (x y : ℕ) → nat_eq x y ≡ false → x ≢ y
-      apart x y f q = absurd (cc (f, eq-eqb x y q))
-
       go : (b : Bool) → nat_eq m n ≡ b → Mark (slice_set marks n true) m
       go true e = subst (λ (k : ℕ). Mark (slice_set marks n true) k) (sym (eqb-true m n e)) (get_or-set_same marks n true false h)
-      go false e = get_or-set_other marks n m true false (apart m n e) ∙ p
+      go false e = get_or-set_other marks n m true false (eqb-false m n e) ∙ p
 
   mark_either : (marks : List Bool) (n m : ℕ) → Mark (slice_set marks n true) m → (m ≡ n) ⊎ Mark marks m
   mark_either marks n m p = go (nat_eq m n) refl
     where
-      apart : (x y : ℕ) → nat_eq x y ≡ false → x ≢ y
-      apart x y f q = absurd (cc (f, eq-eqb x y q))
-
       go : (b : Bool) → nat_eq m n ≡ b → (m ≡ n) ⊎ Mark marks m
       go true e = inl (eqb-true m n e)
-      go false e = inr (sym (get_or-set_other marks n m true false (apart m n e)) ∙ p)
+      go false e = inr (sym (get_or-set_other marks n m true false (eqb-false m n e)) ∙ p)
 
   abbrev found_now : Found → ℕ → Found
   found_now s n = record { marks = slice_set s.marks n true; found = s.found ++ n ∷ [] }
-
-  is_false : (b : Bool) → not b ≡ true → b ≡ false
-  is_false true p = absurd (cc p)
-  is_false false p = refl
-
-  length_end : (xs : List ℕ) (n : ℕ) → length (xs ++ n ∷ []) ≡ length xs + 1
-  length_end [] n = refl
-  length_end (x ∷ xs) n = omega (arith, length_end xs n)
 
   last_or_before : (j k : ℕ) → j < k + 1 → (j < k) ⊎ (j ≡ k)
   last_or_before j k h = grind arith
 
   module _ (i r n : ℕ) (s : Found) (known : Searched i s) (there : i < length s.found) (here : get_or s.found i 0 ≡ r) (call : Has n (callees r)) where
-    new_one : n < length s.marks → slice_index_or s.marks n false ≡ false → Noted i r n s (found_now s n)
+    new_one : n < length s.marks → slice_index_or s.marks n false ≡ false → OneFound i r n s (found_now s n)
     new_one b free = record {
       searched = record {
         size = length-set s.marks n true ∙ known.size;
         count = counted;
         main = set_mark s.marks n program.main b known.main;
         has = λ m p. go_has m (mark_either s.marks n m p);
-        level = λ j p. go_level j (last_or_before j (length s.found) (subst (λ (k : ℕ). j < k) (length_end s.found n) p));
-        closed = λ j m p q c d. set_mark s.marks n m b (known.closed j m p (omega arith) c (subst (λ (k : ℕ). Has m (callees k)) (at_before s.found n j (omega arith)) d));
+        level = λ j p. go_level j (last_or_before j (length s.found) (subst (λ (k : ℕ). j < k) (length_push s.found n) p));
+        closed = λ j m p q c d. set_mark s.marks n m b (known.closed j m p (omega arith) c (subst (λ (k : ℕ). Has m (callees k)) (get_or_append_left s.found (n ∷ []) 0 j (omega arith)) d));
       };
-      examined = at_before s.found n i there ∙ here;
-      there = omega (arith, length_end s.found n);
+      examined = get_or_append_left s.found (n ∷ []) 0 i there ∙ here;
+      there = omega (arith, length_push s.found n);
       marked = λ p. get_or-set_same s.marks n true false b;
       stays = λ m p. set_mark s.marks n m b p;
     }
@@ -159,7 +145,7 @@ module _ (program : ProgramRungs) where
         counted =
             let sum = sum_by-set bit s.marks n true false b in
             let none : bit (get_or s.marks n false) ≡ 0 = ap bit free in
-            omega (arith, sum, none, known.count, length_end s.found n)
+            omega (arith, sum, none, known.count, length_push s.found n)
 
         go_has : (m : ℕ) → (m ≡ n) ⊎ Mark s.marks m → Has m (s.found ++ n ∷ [])
         go_has m (inl e) = subst (λ (k : ℕ). Has k (s.found ++ n ∷ [])) (sym e) (has_end s.found n)
@@ -169,61 +155,55 @@ module _ (program : ProgramRungs) where
         reach = level_call i r n below (subst (λ (k : ℕ). Has k (reached_by i program)) here (known.level i there)) call
 
         go_level : (j : ℕ) → (j < length s.found) ⊎ (j ≡ length s.found) → Has (get_or (s.found ++ n ∷ []) j 0) (reached_by j program)
-        go_level j (inl q) = subst (λ (k : ℕ). Has k (reached_by j program)) (sym (at_before s.found n j q)) (known.level j q)
-        go_level j (inr q) = subst (λ (k : ℕ). Has (get_or (s.found ++ n ∷ []) k 0) (reached_by k program)) (sym q) (subst (λ (k : ℕ). Has k (reached_by (length s.found) program)) (sym (at_end s.found n)) (level_later (length s.found) (suc i) n (omega arith) below reach))
+        go_level j (inl q) = subst (λ (k : ℕ). Has k (reached_by j program)) (sym (get_or_append_left s.found (n ∷ []) 0 j q)) (known.level j q)
+        go_level j (inr q) = subst (λ (k : ℕ). Has (get_or (s.found ++ n ∷ []) k 0) (reached_by k program)) (sym q) (subst (λ (k : ℕ). Has k (reached_by (length s.found) program)) (sym (get_or_push s.found n 0 (length s.found) refl)) (level_later (length s.found) (suc i) n (omega arith) below reach))
 
-    old_one : (nat_lt n (length s.marks) && not (slice_index_or s.marks n false)) ≡ false → Noted i r n s s
+    old_one : (nat_lt n (length s.marks) && not (slice_index_or s.marks n false)) ≡ false → OneFound i r n s s
     old_one t = record { searched = known; examined = here; there = there; marked = λ p. is_marked (nat_lt n (length s.marks)) (slice_index_or s.marks n false) refl t (subst (λ (k : ℕ). n < k) (sym known.size) p); stays = λ m p. p }
       where
         is_marked : (a b : Bool) → nat_lt n (length s.marks) ≡ a → (a && not b) ≡ false → n < length s.marks → b ≡ true
         is_marked true true e q h = refl
         is_marked true false e q h = absurd (cc q)
-        is_marked false b e q h = absurd (not_below e)
-          where
-            not_below : nat_lt n (length s.marks) ≡ false → ⊥
-            not_below f = absurd (cc (f, lt_true h))
-              where
-                lt_true : n < length s.marks → nat_lt n (length s.marks) ≡ true
-                lt_true g = grind arith
+        is_marked false b e q h = absurd (cc (e, lt-ltb n (length s.marks) h))
 
-    pub noted_keeps : Noted i r n s (noted s n)
-    noted_keeps = go (nat_lt n (length s.marks) && not (slice_index_or s.marks n false)) refl
+    pub found_keeps : OneFound i r n s (with_found s n)
+    found_keeps = go (nat_lt n (length s.marks) && not (slice_index_or s.marks n false)) refl
       where
-        go : (b : Bool) → (nat_lt n (length s.marks) && not (slice_index_or s.marks n false)) ≡ b → Noted i r n s (cond b (found_now s n) s)
-        go true t = let parts = both (nat_lt n (length s.marks)) (not (slice_index_or s.marks n false)) t in new_one (ltb-true n (length s.marks) parts.0) (is_false (slice_index_or s.marks n false) parts.1)
+        go : (b : Bool) → (nat_lt n (length s.marks) && not (slice_index_or s.marks n false)) ≡ b → OneFound i r n s (cond b (found_now s n) s)
+        go true t = let parts = and_parts (nat_lt n (length s.marks)) (not (slice_index_or s.marks n false)) t in new_one (ltb-true n (length s.marks) parts.0) (not-true (slice_index_or s.marks n false) parts.1)
         go false t = old_one t
 
   -- ---- all the calls of a routine
 
-  pub record AllNoted (i r : ℕ) (ns : List ℕ) (old new : Found) : Type 0 where
+  pub record AllFound (i r : ℕ) (ns : List ℕ) (old new : Found) : Type 0 where
     searched : Searched i new
     marked : (n : ℕ) → Has n ns → n < number → Mark new.marks n
     stays : (m : ℕ) → Mark old.marks m → Mark new.marks m
     examined : get_or new.found i 0 ≡ r
     there : i < length new.found
 
-  all_noted : (i r : ℕ) (ns : List ℕ) (s : Found) → Searched i s → i < length s.found → get_or s.found i 0 ≡ r → ((n : ℕ) → Has n ns → Has n (callees r)) → AllNoted i r ns s (fold noted s ns)
-  all_noted i r [] s known there here sub = record { searched = known; marked = λ n h. absurd (cc h); stays = λ m p. p; examined = here; there = there }
-  all_noted i r (n ∷ ns) s known there here sub =
-      let one = noted_keeps i r n s known there here (sub n (or_first (nat_eq n n) _ (eq-eqb n n refl))) in
-      let more = all_noted i r ns (noted s n) one.searched one.there one.examined (λ m h. sub m (or_second (nat_eq m n) _ h)) in
+  all_found : (i r : ℕ) (ns : List ℕ) (s : Found) → Searched i s → i < length s.found → get_or s.found i 0 ≡ r → ((n : ℕ) → Has n ns → Has n (callees r)) → AllFound i r ns s (fold with_found s ns)
+  all_found i r [] s known there here sub = record { searched = known; marked = λ n h. absurd (cc h); stays = λ m p. p; examined = here; there = there }
+  all_found i r (n ∷ ns) s known there here sub =
+      let one = found_keeps i r n s known there here (sub n (or_left (nat_eq n n) _ (eq-eqb n n refl))) in
+      let more = all_found i r ns (with_found s n) one.searched one.there one.examined (λ m h. sub m (or_right (nat_eq m n) _ h)) in
       record {
         searched = more.searched;
-        marked = λ m h b. go m b one.marked more.marked more.stays (or_either (nat_eq m n) _ h);
+        marked = λ m h b. go m b one.marked more.marked more.stays (or_cases (nat_eq m n) _ h);
         stays = λ m p. more.stays m (one.stays m p);
         examined = more.examined;
         there = more.there;
       }
     where
-      go : (m : ℕ) → m < number → (n < number → Mark (noted s n).marks n) → ((k : ℕ) → Has k ns → k < number → Mark (fold noted (noted s n) ns).marks k) → ((k : ℕ) → Mark (noted s n).marks k → Mark (fold noted (noted s n) ns).marks k) → (nat_eq m n ≡ true) ⊎ Has m ns → Mark (fold noted (noted s n) ns).marks m
+      go : (m : ℕ) → m < number → (n < number → Mark (with_found s n).marks n) → ((k : ℕ) → Has k ns → k < number → Mark (fold with_found (with_found s n) ns).marks k) → ((k : ℕ) → Mark (with_found s n).marks k → Mark (fold with_found (with_found s n) ns).marks k) → (nat_eq m n ≡ true) ⊎ Has m ns → Mark (fold with_found (with_found s n) ns).marks m
       go m b first others stays (inl e) =
           let same : m ≡ n = eqb-true m n e in
-          stays m (subst (λ (k : ℕ). Mark (noted s n).marks k) (sym same) (first (subst (λ (k : ℕ). k < number) same b)))
+          stays m (subst (λ (k : ℕ). Mark (with_found s n).marks k) (sym same) (first (subst (λ (k : ℕ). k < number) same b)))
       go m b first others stays (inr h) = others m h b
 
-  pub examined_one : (i r : ℕ) (s : Found) → Searched i s → i < length s.found → get_or s.found i 0 ≡ r → Searched (i + 1) (fold noted s (callees r))
+  pub examined_one : (i r : ℕ) (s : Found) → Searched i s → i < length s.found → get_or s.found i 0 ≡ r → Searched (i + 1) (fold with_found s (callees r))
   examined_one i r s known there here =
-      let all = all_noted i r (callees r) s known there here (λ n h. h) in
+      let all = all_found i r (callees r) s known there here (λ n h. h) in
       record {
         size = all.searched.size;
         count = all.searched.count;
@@ -233,10 +213,10 @@ module _ (program : ProgramRungs) where
         closed = λ j n p q b c. go all j n q b c (last_or_before j i p);
       }
     where
-      go : AllNoted i r (callees r) s (fold noted s (callees r)) → (j n : ℕ) → j < length (fold noted s (callees r)).found → n < number → Has n (callees (get_or (fold noted s (callees r)).found j 0)) → (j < i) ⊎ (j ≡ i) → Mark (fold noted s (callees r)).marks n
+      go : AllFound i r (callees r) s (fold with_found s (callees r)) → (j n : ℕ) → j < length (fold with_found s (callees r)).found → n < number → Has n (callees (get_or (fold with_found s (callees r)).found j 0)) → (j < i) ⊎ (j ≡ i) → Mark (fold with_found s (callees r)).marks n
       go all j n q b c (inl p) = all.searched.closed j n p q b c
       go all j n q b c (inr e) =
-          let same : get_or (fold noted s (callees r)).found j 0 ≡ r = ap (λ (k : ℕ). get_or (fold noted s (callees r)).found k 0) e ∙ all.examined in
+          let same : get_or (fold with_found s (callees r)).found j 0 ≡ r = ap (λ (k : ℕ). get_or (fold with_found s (callees r)).found k 0) e ∙ all.examined in
           all.marked n (subst (λ (k : ℕ). Has n (callees k)) same c) b
 
   pub examined_none : (i : ℕ) (s : Found) → Searched i s → length s.found ≤ i → Searched (i + 1) s
@@ -254,20 +234,17 @@ module _ (program : ProgramRungs) where
   abbrev pub unsearched : Found
   unsearched = record { marks = replicate number false; found = [] }
 
-  pub begins : program.main < number → Searched 0 (noted unsearched program.main)
+  pub begins : program.main < number → Searched 0 (with_found unsearched program.main)
   begins h = go (nat_lt program.main (length (replicate number false)) && not (slice_index_or (replicate number false) program.main false)) (test h)
     where
       below : program.main < length (replicate number false)
       below = subst (λ (k : ℕ). program.main < k) (sym (length-replicate number false)) h
 
       test : program.main < number → (nat_lt program.main (length (replicate number false)) && not (slice_index_or (replicate number false) program.main false)) ≡ true
-      test b = ap (λ t. t && not (slice_index_or (replicate number false) program.main false)) (lt_true program.main (length (replicate number false)) below) ∙ ap not (no_marks number program.main)
-        where
-          lt_true : (a b : ℕ) → a < b → nat_lt a b ≡ true
-          lt_true a b g = grind arith
+      test b = ap (λ t. t && not (slice_index_or (replicate number false) program.main false)) (lt-ltb program.main (length (replicate number false)) below) ∙ ap not (no_marks number program.main)
 
       only : (n : ℕ) → (n ≡ program.main) ⊎ Mark (replicate number false) n → Has n (program.main ∷ [])
-      only n (inl e) = or_first (nat_eq n program.main) _ (eq-eqb n program.main e)
+      only n (inl e) = or_left (nat_eq n program.main) _ (eq-eqb n program.main e)
       only n (inr p) = absurd (cc (p, no_marks number n))
 
       go : (b : Bool) → b ≡ true → Searched 0 (cond b (found_now unsearched program.main) unsearched)
@@ -288,7 +265,7 @@ module _ (program : ProgramRungs) where
               omega (arith, sum, none, no_bits number)
 
           go_level : (j : ℕ) → j < 1 → Has (get_or (program.main ∷ []) j 0) (reached_by j program)
-          go_level zero p = or_first (nat_eq program.main program.main) _ (eq-eqb program.main program.main refl)
+          go_level zero p = or_left (nat_eq program.main program.main) _ (eq-eqb program.main program.main refl)
           go_level (suc j) p = absurd (omega arith)
 
   module _ (i : ℕ) (s : Found) (known : Searched i s) (done : length s.found ≤ i) where
@@ -298,12 +275,12 @@ module _ (program : ProgramRungs) where
         known.closed at.0 n (omega (arith, at.1)) at.1 b (subst (λ (k : ℕ). Has n (callees k)) (sym at.2) c)
 
     complete : (k n : ℕ) → n < number → Has n (reached_by k program) → Mark s.marks n
-    complete zero n b h = go (or_either (nat_eq n program.main) _ h)
+    complete zero n b h = go (or_cases (nat_eq n program.main) _ h)
       where
         go : (nat_eq n program.main ≡ true) ⊎ Has n [] → Mark s.marks n
         go (inl e) = subst (λ (m : ℕ). Mark s.marks m) (sym (eqb-true n program.main e)) known.main
         go (inr e) = absurd (cc e)
-    complete (suc k) n b h = go (or_either (list_any (nat_eq n) (reached_by k program)) _ (from_level k n h)) (λ m c q. complete k m c q)
+    complete (suc k) n b h = go (or_cases (list_any (nat_eq n) (reached_by k program)) _ (from_level k n h)) (λ m c q. complete k m c q)
       where
         go : (list_any (nat_eq n) (reached_by k program) ≡ true) ⊎ (is_called program (reached_by k program) n ≡ true) → ((m : ℕ) → m < number → Has m (reached_by k program) → Mark s.marks m) → Mark s.marks n
         go (inl q) more = more n b q

@@ -1,5 +1,4 @@
 pub mod Nodes
-pub mod LegsFall
 pub mod NodesFall
 pub mod Flat
 pub mod Depth

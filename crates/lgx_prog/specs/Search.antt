@@ -11,8 +11,8 @@ pub record Found : Type 0 where
   pub found : List ℕ
 
 -- a routine that wasn't found yet is found now
-abbrev pub noted : Found → ℕ → Found
-noted s n = if nat_lt n (length s.marks) && not (slice_index_or s.marks n false) then record { marks = slice_set s.marks n true; found = s.found ++ n ∷ [] } else s
+abbrev pub with_found : Found → ℕ → Found
+with_found s n = if nat_lt n (length s.marks) && not (slice_index_or s.marks n false) then record { marks = slice_set s.marks n true; found = s.found ++ n ∷ [] } else s
 
 -- the calls of the routine that was found as number i are found, where so many were found
 abbrev pub examined : List Flat → Found → ℕ → Found
@@ -20,11 +20,11 @@ examined routines s i = go (slice_get s.found i)
   where
     go : Option ℕ → Found
     go None = s
-    go (Some n) = fold noted s (called_in (slice_index_or routines n no_code).code)
+    go (Some n) = fold with_found s (called_in (slice_index_or routines n no_code).code)
 
-abbrev pub kept_number : Bool → ℕ → List ℕ
-kept_number true n = n ∷ []
-kept_number false n = []
+abbrev pub number_if : Bool → ℕ → List ℕ
+number_if true n = n ∷ []
+number_if false n = []
 
 -- these are the codes of these routines
 abbrev pub AreFlat : List Flat → List Rungs → Type 0

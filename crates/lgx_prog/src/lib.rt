@@ -16,6 +16,3 @@ pub use emit::flatten;
 pub use lgx_rung::Ins;
 pub use program::FlatProgram;
 pub use rung::{Legs, Node, Rung, Rungs};
-
-#[cfg(test)]
-mod tests;

@@ -4,7 +4,7 @@ ghost use Rattle.std.specs.List.{range_with_len};
 ghost use Rattle.spec_scan.specs.Position.{ProgramRungs};
 ghost use Rattle.spec_scan.specs.Prescan.{reached, called_by};
 ghost use Rattle.lgx_prog.specs.Executes.{called_in};
-ghost use Rattle.lgx_prog.specs.Search.{noted, examined, kept_number, AreFlat, option_list};
+ghost use Rattle.lgx_prog.specs.Search.{with_found, examined, number_if, AreFlat, option_list};
 
 use crate::code::{Code, FlatRoutine};
 use lgx_num::{Memory, Operand};
@@ -49,8 +49,8 @@ fn called(ins: &Ins) -> Option<u32>
 }
 
 /// A routine is called: it is found, unless it is there already or isn't a routine.
-fn note(search: &mut Search, routine: usize) -> Result<(), Memory>
-    ensures { OnOk result (search.new ≡ noted search.old routine) }
+fn mark_found(search: &mut Search, routine: usize) -> Result<(), Memory>
+    ensures { OnOk result (search.new ≡ with_found search.old routine) }
 {
     if search.marks.get(routine) == Some(&false) {
         search.found.push(routine)?;
@@ -59,43 +59,43 @@ fn note(search: &mut Search, routine: usize) -> Result<(), Memory>
     Ok(())
 }
 
-/// The call of a piece of code, if it is one, is noted.
-fn note_call(search: &mut Search, piece: &Code) -> Result<(), Memory>
-    ensures { OnOk result (search.new ≡ fold noted search.old (called_in (piece.now ∷ []))) }
+/// The call of a piece of code, if it is one, is marked as found.
+fn mark_call(search: &mut Search, piece: &Code) -> Result<(), Memory>
+    ensures { OnOk result (search.new ≡ fold with_found search.old (called_in (piece.now ∷ []))) }
 {
     if let Code::Execute(ins) = piece {
         if let Some(number) = called(ins) {
-            note(search, number as usize)?;
+            mark_found(search, number as usize)?;
         }
     }
     Ok(())
 }
 
-/// The calls in a routine's code are noted.
-fn note_calls(search: &mut Search, code: &[Code]) -> Result<(), Memory>
-    ensures { OnOk result (search.new ≡ fold noted search.old (called_in code.now)) }
+/// The calls in a routine's code are marked as found.
+fn mark_calls(search: &mut Search, code: &[Code]) -> Result<(), Memory>
+    ensures { OnOk result (search.new ≡ fold with_found search.old (called_in code.now)) }
 {
     for piece in code {
-        note_call(search, piece)?;
+        mark_call(search, piece)?;
     }
     Ok(())
 }
 
-/// The calls of the routine that was found as number i are noted, where so many were found.
+/// The calls of the routine that was found as number i, if so many were found, are marked as found.
 fn examine(search: &mut Search, routines: &[FlatRoutine], i: usize) -> Result<(), Memory>
     ensures { OnOk result (search.new ≡ examined routines.now search.old i) }
 {
     if let Some(number) = search.found.get(i).copied() {
         if let Some(routine) = routines.get(number) {
-            note_calls(search, routine.code())?;
+            mark_calls(search, routine.code())?;
         }
     }
     Ok(())
 }
 
 /// A number is kept where it is marked.
-fn keep(numbers: &mut Vec<usize>, number: usize, is_marked: bool) -> Result<(), Memory>
-    ensures { OnOk result (numbers.new.items ≡ numbers.old.items ++ kept_number is_marked number) }
+fn push_if(numbers: &mut Vec<usize>, number: usize, is_marked: bool) -> Result<(), Memory>
+    ensures { OnOk result (numbers.new.items ≡ numbers.old.items ++ number_if is_marked number) }
 {
     if is_marked {
         numbers.push(number)?;
@@ -110,7 +110,7 @@ fn marked(alloc: Global, marks: &[bool]) -> Result<Vec<usize>, Memory>
 {
     let mut numbers = Vec::new(alloc);
     for (number, is_marked) in marks.iter().enumerate() {
-        keep(&mut numbers, number, *is_marked)?;
+        push_if(&mut numbers, number, *is_marked)?;
     }
     Ok(numbers)
 }
@@ -125,7 +125,7 @@ pub(crate) fn reached(
     ensures { IfOk result (λ numbers. (program : ProgramRungs) → program.main ≡ main → AreFlat routines.now program.routines → numbers.items ≡ reached program) }
 {
     let mut search = begin(alloc, routines.len())?;
-    note(&mut search, main)?;
+    mark_found(&mut search, main)?;
     for i in 0..routines.len() {
         examine(&mut search, routines, i)?;
     }

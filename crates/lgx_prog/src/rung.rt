@@ -18,7 +18,7 @@ pub struct Legs {
     pub(crate) legs: Vec<Rung>,
 }
 
-/// A checked rung, or a leg of one, with at most 16 forks nested.
+/// A checked rung, or a leg of one, in which at most `MAX_FORKS` forks nest.
 #[cycle(rung)]
 #[derive(Drop)]
 pub struct Rung {
@@ -34,8 +34,7 @@ impl Model for Legs {
     ghost use Rattle.lgx_rung.specs.Tree.{Tree};
     ghost use Rattle.lgx_rung.specs.Coding.{coded_tree};
     ghost use Rattle.lgx_rung.specs.declared.ins.Ins.{Ins};
-    ghost use Rattle.lgx_rung.specs.Sizes.{list_size};
-    ghost use Rattle.lgx_prog.specs.LegsFall.{legs_fall};
+    ghost use Rattle.lgx_rung.specs.Sizes.{list_size, legs_fall};
 
     ghost Value = { List (Tree Ins) };
 
@@ -55,6 +54,7 @@ impl Model for Legs {
 impl Model for Rung {
     ghost use Rattle.std.specs.Prelude.{◌≤◌};
     ghost use Rattle.std.specs.Coded.{codes};
+    ghost use Rattle.spec_base.specs.declared.limits.TheConstants.{MAX_FORKS};
     ghost use Rattle.lgx_rung.specs.Tree.{Tree, depth};
     ghost use Rattle.lgx_rung.specs.Coding.{coded_tree};
     ghost use Rattle.lgx_rung.specs.Sizes.{tree_size};
@@ -68,7 +68,7 @@ impl Model for Rung {
 
     ghost view = { λ r. tree_of r.nodes.items };
 
-    ghost invariant = { λ r. depth (tree_of r.nodes.items) ≤ 16 };
+    ghost invariant = { λ r. depth (tree_of r.nodes.items) ≤ MAX_FORKS };
 
     ghost use Rattle.std.proofs.Common.{arith};
 
@@ -101,12 +101,13 @@ impl Legs {
 
 impl Rung {
     ghost use Rattle.std.specs.Prelude.{◌≡◌, ◌≤◌};
+    ghost use Rattle.spec_base.specs.declared.limits.TheConstants.{MAX_FORKS};
     ghost use Rattle.lgx_rung.specs.Tree.{depth};
     ghost use Rattle.lgx_prog.specs.Nodes.{tree_of};
 
-    /// The rung of these elements, in the order of the text. At most 16 forks may be nested.
+    /// The rung of these elements, in the order of the text. At most `MAX_FORKS` forks may nest.
     pub fn of(nodes: Vec<Node>) -> Rung
-        requires { depth (tree_of nodes.items) ≤ 16 }
+        requires { depth (tree_of nodes.items) ≤ MAX_FORKS }
         ensures { result ≡ tree_of nodes.items }
     {
         Rung { nodes }
@@ -115,7 +116,7 @@ impl Rung {
     /// Its elements in the order of the text.
     pub fn nodes(&self) -> &[Node]
         ensures nodes { tree_of result.now ≡ self.now }
-        ensures nested { depth self.now ≤ 16 }
+        ensures nested { depth self.now ≤ MAX_FORKS }
     {
         &self.nodes
     }

@@ -8,7 +8,7 @@ ghost use Rattle.lgx_engine.specs.Represents.{IsRunOf, Represents};
 ghost use Rattle.lgx_engine.specs.Steps.{MatchesStep};
 
 use crate::errors::Refusal;
-use crate::ready::program_is_ready;
+use crate::executable::is_executable_program;
 use crate::rungs::read_program;
 use crate::tags::{LEN, bit, dint, name_of, place_of};
 use lgx_engine::{Effect, Position, advance};
@@ -20,7 +20,7 @@ use std::marker::Model;
 
 /// A program that runs over the tests' tags, and where its scan stands.
 ///
-/// That it runs is its invariant: it was made of rungs that are ready, and every step keeps it.
+/// That it runs is its invariant: it was made of rungs that can be executed, and every step keeps it.
 #[derive(Drop)]
 pub struct Bench {
     program: FlatProgram,
@@ -31,13 +31,14 @@ pub struct Bench {
 
 impl Model for Bench {
     ghost use Rattle.std.specs.Prelude.{◌≡◌, length};
+    ghost use Rattle.test_bench.specs.declared.tags.TheConstants.{LEN};
     ghost use Rattle.test_bench.specs.Running.{Running, IsRunning};
 
     ghost Value = { Running };
 
     ghost view = { λ b. record { program = b.program; place = b.position; image = b.image; flags = b.flags } };
 
-    ghost invariant = { λ b. IsRunning b.program b.position (length b.image.bytes) × (length b.image.bytes ≡ 132) };
+    ghost invariant = { λ b. IsRunning b.program b.position (length b.image.bytes) × (length b.image.bytes ≡ LEN) };
 }
 
 impl Bench {
@@ -52,12 +53,12 @@ impl Bench {
         ensures { IfOk result (λ bench. IsFlatProgram bench.program (record { routines = routines.now; main = 0 })) }
     {
         if routines.is_empty() {
-            return Err(Refusal::NotReady);
+            return Err(Refusal::NotExecutable);
         }
         let program = FlatProgram::build(alloc, routines, 0)?;
         let image = Image::new(alloc, LEN)?;
-        if !program_is_ready(&program, routines.len(), image.len()) {
-            return Err(Refusal::NotReady);
+        if !is_executable_program(&program, routines.len(), image.len()) {
+            return Err(Refusal::NotExecutable);
         }
         let position = Position::start(&program);
         let flags = Flags {
@@ -78,13 +79,15 @@ impl Bench {
         ensures position { (rungs : ProgramRungs) → IsFlatProgram self.old.program rungs → Represents self.new.program self.new.place (first_position rungs) }
         ensures same_image { self.new.image ≡ self.old.image }
         ensures same_flags { self.new.flags ≡ self.old.flags }
+        ensures same_program { self.new.program ≡ self.old.program }
     {
         self.position = Position::start(&self.program);
     }
 
     /// Makes a step of the scan, at a tick, in a first scan or not.
     pub fn step(&mut self, now: u32, first: bool) -> Effect
-        ensures { (rungs : ProgramRungs) (p : MachinePosition) → IsRunOf self.old.program self.old.place rungs p (length self.old.image.bytes) → MatchesStep self.old.program rungs (machine_advance rungs p self.old.image.bytes now first self.old.flags) self.new.place self.new.image.bytes self.new.flags result }
+        ensures step { (rungs : ProgramRungs) (p : MachinePosition) → IsRunOf self.old.program self.old.place rungs p (length self.old.image.bytes) → MatchesStep self.old.program rungs (machine_advance rungs p self.old.image.bytes now first self.old.flags) self.new.place self.new.image.bytes self.new.flags result }
+        ensures same_program { self.new.program ≡ self.old.program }
     {
         advance(
             &self.program,
@@ -122,8 +125,8 @@ impl Bench {
         Ok(())
     }
 
-    /// The tags that aren't 0: the letters of the BOOLs, and behind them a word such as `d3=-5` for each DINT; `-` where all
-    /// are 0.
+    /// The tags that aren't 0: the letters of the BOOLs, and after them a word such as `d3=-5` for each DINT; `-` if all are
+    /// 0.
     pub fn shown(&self, alloc: Global) -> Result<String, AllocError> {
         let mut text = String::new(alloc);
         for number in 0..26u8 {
@@ -155,7 +158,7 @@ impl Bench {
         write!(text, "{letter}{number}={value}")
     }
 
-    /// The DINT at the place of this number; behind those of the arrays are the words of t0, t1, c0 and c1.
+    /// The DINT at the place of this number; after those of the arrays are the words of t0, t1, c0 and c1.
     pub fn number(&self, place: u8) -> i32
         requires { place < 32 }
         ensures { result ≡ number self.now.image.bytes (record { kind = Kind.Dint; at = 32 + 32 * place }) }
@@ -168,6 +171,8 @@ impl Bench {
         requires { place < 32 }
         ensures bytes { self.new.image.bytes ≡ write self.old.image.bytes (record { kind = Kind.Dint; at = 32 + 32 * place }) value }
         ensures same_place { self.new.place ≡ self.old.place }
+        ensures same_flags { self.new.flags ≡ self.old.flags }
+        ensures same_program { self.new.program ≡ self.old.program }
     {
         self.image.put(dint(place), value);
     }

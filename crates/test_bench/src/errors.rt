@@ -12,8 +12,8 @@ pub enum Refusal {
     Text(TextFault),
     /// An operand isn't one that tests have.
     Operand,
-    /// An instruction isn't ready for the image of the tests' tags.
-    NotReady,
+    /// There is no routine, or an instruction can't be executed over the image of the tests' tags.
+    NotExecutable,
 }
 
 impl From<Memory> for Refusal {

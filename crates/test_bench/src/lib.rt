@@ -2,12 +2,12 @@
 //!
 //! A test is a row of a table: a program as neutral text, the tags that are set before, what each step must do, and the tags
 //! that are set at the end, see [`judge_row`]. [`Bench`] runs such a program, over tags that are the same in all tests, see
-//! [`operand`]. That its rungs are ready for the engine is tested when it is loaded.
+//! [`operand`]. That its rungs can be executed is tested when it is loaded.
 #![tactic(auto)]
 
 mod bench;
 mod errors;
-mod ready;
+mod executable;
 mod row;
 mod rungs;
 mod tags;
@@ -15,11 +15,8 @@ mod words;
 
 pub use bench::Bench;
 pub use errors::Refusal;
-pub use ready::{is_ready, program_is_ready};
+pub use executable::{is_executable, is_executable_program};
 pub use row::judge_row;
 pub use rungs::read_program;
 pub use tags::{LEN, bit, dint, operand};
 pub use words::run_scan;
-
-#[cfg(test)]
-mod tests;

@@ -5,7 +5,7 @@ use crate::words::run_scan;
 use std::alloc::Global;
 
 /// More steps than any scan of a table takes that ends.
-const LIMIT: u32 = 120;
+const MAX_STEPS: u32 = 120;
 
 /// Judges a row, `PROGRAM / BEFORE / STEPS / AFTER`: one scan of the program with the tags that are set before, what its steps
 /// do, and the tags that aren't 0 after it. Answers what comes out in place of `STEPS / AFTER`, where that differs.
@@ -28,7 +28,7 @@ pub fn judge_row(alloc: Global, row: &str) -> Result<Option<String>, Refusal> {
 fn run_row(alloc: Global, program: &str, before: &str) -> Result<String, Refusal> {
     let mut bench = Bench::load(alloc, program)?;
     bench.set(before)?;
-    let steps = run_scan(alloc, &mut bench, 0, false, LIMIT)?;
+    let steps = run_scan(alloc, &mut bench, 0, false, MAX_STEPS)?;
     let after = bench.shown(alloc)?;
     Ok(format!(in alloc; "{steps} / {after}")?)
 }

@@ -12,7 +12,10 @@ use lgx_prog::{Ins, Legs, Node, Rung, Rungs};
 use lgx_rung::{Element, Legs as SourceLegs, Op, SourceRung, Texts};
 use std::alloc::Global;
 
-/// The routines of a program, with `|` between them: each is the neutral text of its rungs, one behind another.
+/// The bytes of a rung's text.
+const MAX_RUNG_BYTES: usize = 1000;
+
+/// The routines of a program, with `|` between them: each is the neutral text of its rungs, one after another.
 pub fn read_program(alloc: Global, text: &str) -> Result<Vec<Rungs>, Refusal> {
     let mut routines = Vec::new(alloc);
     for routine in text.split('|') {
@@ -34,7 +37,7 @@ fn read_routine(alloc: Global, text: &str) -> Result<Rungs, Refusal> {
 
 /// A rung by its text.
 fn read_one(alloc: Global, text: &[u8]) -> Result<Rung, Refusal> {
-    if text.len() > 1000 {
+    if text.len() > MAX_RUNG_BYTES {
         return Err(Refusal::Memory);
     }
     let source = read_rung(alloc, text)?;

@@ -5,7 +5,7 @@
 ghost use Rattle.std.specs.Prelude.{◌≡◌, ◌+◌, ◌*◌, ◌<◌, IfSome};
 
 use lgx_num::{Block, Flag, Kind, Operand, Path, Place, Steps};
-use lgx_rung::Op;
+use lgx_rung::{Op, OperandKind};
 
 /// The number of bytes of the tests' tags.
 pub const LEN: u32 = 132;
@@ -63,10 +63,9 @@ pub(crate) fn place_of(name: &[u8]) -> Option<u8>
     }
 }
 
-/// The operand of this number, counted from 0, that a text names to an instruction. None where tests have nothing of that
-/// name.
+/// The operand of this number, counted from 0, that a text names to an instruction. None if tests have nothing of that name.
 ///
-/// An array's element is named as u0; where an instruction copies, u0 is the array from that element on. Behind S, L and T
+/// An array's element is named as u0; if an instruction copies, u0 is the array from that element on. After S, L and T
 /// stand the number of a routine, of the rung in which a label stands, and of a task.
 pub fn operand(op: Op, number: usize, text: &[u8]) -> Option<Operand> {
     match text {
@@ -103,7 +102,7 @@ pub fn operand(op: Op, number: usize, text: &[u8]) -> Option<Operand> {
     }
 }
 
-/// The DINT at this bit, or, where the instruction copies, the block of DINTs from there to bit `end`.
+/// The DINT at this bit, or, if the instruction copies, the block of DINTs from there to bit `end`.
 fn integer(op: Op, number: usize, at: u32, end: u32) -> Operand {
     let path = path(Kind::Dint, at);
     if is_copied(op, number) {
@@ -119,11 +118,10 @@ fn integer(op: Op, number: usize, at: u32, end: u32) -> Operand {
 
 /// Whether an instruction copies from or to the operand of this number.
 fn is_copied(op: Op, number: usize) -> bool {
-    match op {
-        Op::Cop | Op::Cps => number < 2,
-        Op::Fll => number == 1,
-        _ => false,
-    }
+    matches!(
+        op.operand_kinds().get(number),
+        Some(OperandKind::CopySource | OperandKind::CopyTarget | OperandKind::FillTarget)
+    )
 }
 
 /// A path without subscripts.

@@ -7,7 +7,7 @@ use Rattle.lgx_prog.proofs.Examined.{begins_as, examined_keeps, ends_as}
 use Rattle.lgx_prog.proofs.reach.reached.Goals as goal
 
 pub loop-i-init : goal.loop-i-init
-loop-i-init c = λ program m are. begins_as program c.args.routines.now c.args.main c.in_ok-search.search c.note.new.search m are c.requires c.in_ok-search.ensures c.in_ok-note.ensures
+loop-i-init c = λ program m are. begins_as program c.args.routines.now c.args.main c.in_ok-search.search c.mark_found.new.search m are c.requires c.in_ok-search.ensures c.in_ok-mark_found.ensures
 
 pub loop-i-preserved : goal.loop-i-preserved
 loop-i-preserved c = λ program m are. subst (λ s. Searched program (c.loop-i.i + 1) s) (sym c.in_ok-examine.ensures) (examined_keeps program c.args.routines.now c.loop-i.i c.loop-i.search are (c.loop-i.invariant program m are))

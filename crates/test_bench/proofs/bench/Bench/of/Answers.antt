@@ -3,20 +3,20 @@ use Rattle.std.proofs.lemmas.List.{length-replicate}
 use Rattle.spec_scan.specs.Position.{ProgramRungs, first_position}
 use Rattle.lgx_prog.specs.FlatProgram.{IsFlatProgram}
 use Rattle.spec_scan.specs.Executable.{IsExecutableProgram}
-use Rattle.test_bench.proofs.Readiness.{program_ready}
+use Rattle.test_bench.proofs.Executing.{program_executable}
 use Rattle.test_bench.proofs.bench.Bench.of.Goals as goal
 
 pub invariant_of-result : goal.invariant_of-result
 invariant_of-result c =
     let rungs : ProgramRungs = record { routines = c.args.routines.now; main = 0 } in
     let flat : IsFlatProgram c.in_ok-program.program rungs = c.in_ok-program.ensures in
-    let ready : IsExecutableProgram c.len.result rungs = program_ready c.len.result c.in_ok-program.program rungs flat (c.if-not-program_is_ready.ensures refl) in (
+    let executable : IsExecutableProgram c.len.result rungs = program_executable c.len.result c.in_ok-program.program rungs flat (c.if-not-is_executable_program.ensures refl) in (
       (
         rungs,
         first_position rungs,
         record {
           program = flat;
-          ready = subst (λ (n : ℕ). IsExecutableProgram n rungs) c.len.ensures.value ready;
+          executable = subst (λ (n : ℕ). IsExecutableProgram n rungs) c.len.ensures.value executable;
           position = c.start-position.ensures rungs flat;
           copy = tt;
         },
