@@ -9,7 +9,7 @@ use Rattle.lgx_core.specs.declared.answer.Mode.TheVariants.{Run}
 use Rattle.lgx_core.specs.Position.{Position, settled}
 use Rattle.lgx_core.specs.Table.{row}
 use Rattle.lgx_core.specs.Machine.{State, Answer, run, trace}
-use Rattle.lgx_core.specs.WholeScan.{behind, scanned, between_scans, told_of, step_told, StepsMakeScan}
+use Rattle.lgx_core.specs.WholeScan.{after_row, scanned, between_scans, told_of, step_told, StepsMakeScan}
 
 abbrev in_scan : List (List Ins) → Position → List Bool → State
 in_scan all p bits = record { rungs = all; mode = Run; scan = Some p; bits = bits }
@@ -23,7 +23,7 @@ told_in rest later = map (λ (i : Ins). Ran 0 0) rest ++ later
 -- through the rest of a rung
 run-rest : (all rungs : List (List Ins)) (rest : List Ins) (on : Bool) (bits : List Bool) (later : List What) →
     run (in_scan all (settled rungs rest on) bits) (steps_of (told_in rest later))
-    ≡ run (in_scan all (settled rungs [] (behind (on, bits) rest).0) (behind (on, bits) rest).1) (steps_of later)
+    ≡ run (in_scan all (settled rungs [] (after_row (on, bits) rest).0) (after_row (on, bits) rest).1) (steps_of later)
 run-rest all rungs [] on bits later = refl
 run-rest all rungs (i ∷ rest) on bits later = run-rest all rungs rest (row i.op i.tag on bits).0 (row i.op i.tag on bits).1 later
 
@@ -34,7 +34,7 @@ run-rungs all [] on bits = refl
 run-rungs all (rung ∷ rungs) on bits = run-rest all rungs rung true bits (told_of rungs) ∙ run-rungs all rungs _ _
 
 trace-rest : (all rungs : List (List Ins)) (rest : List Ins) (on : Bool) (bits : List Bool) (later : List What) →
-    trace (in_scan all (settled rungs [] (behind (on, bits) rest).0) (behind (on, bits) rest).1) (steps_of later) ≡ map step_told later →
+    trace (in_scan all (settled rungs [] (after_row (on, bits) rest).0) (after_row (on, bits) rest).1) (steps_of later) ≡ map step_told later →
     trace (in_scan all (settled rungs rest on) bits) (steps_of (told_in rest later)) ≡ map step_told (told_in rest later)
 trace-rest all rungs [] on bits later then' = then'
 trace-rest all rungs (i ∷ rest) on bits later then' =

@@ -42,7 +42,7 @@ begin s = stepped (record s { scan = Some (enter s.rungs) }) (Began 0 0 0)
 abbrev pub leave : State → Answered
 leave s = stepped (record s { scan = None }) (Left 0 0 true)
 
--- else the next instruction is executed, and the scan goes on behind it with the condition that it gives
+-- else the next instruction is executed, and the scan goes on after it with the condition that it gives
 abbrev pub execute : State → Ins → Position → Answered
 execute s i after = go (row i.op i.tag after.on s.bits)
   where

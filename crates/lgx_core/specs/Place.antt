@@ -11,7 +11,7 @@ position_of rungs scan = record {
   on = scan.on;
 }
 
--- the rung is one of the routine's, or the place behind the last
+-- the rung is one of the routine's, or the place after the last
 abbrev pub IsWithin : List (List Ins) → Scan → Type 0
 IsWithin rungs scan = (scan.rung ≤ length rungs)
 

@@ -9,14 +9,14 @@ use Rattle.lgx_core.specs.declared.answer.Mode.TheVariants.{Run}
 use Rattle.lgx_core.specs.Table.{row}
 use Rattle.lgx_core.specs.Machine.{State, Answer, Stepped, run, trace}
 
--- the condition and the bits behind some instructions, taken from left to right
-abbrev pub behind : Bool × List Bool → List Ins → Bool × List Bool
-behind before rest = fold (λ (x : Bool × List Bool) (i : Ins). row i.op i.tag x.0 x.1) before rest
+-- the condition and the bits after some instructions, taken from left to right
+abbrev pub after_row : Bool × List Bool → List Ins → Bool × List Bool
+after_row before rest = fold (λ (x : Bool × List Bool) (i : Ins). row i.op i.tag x.0 x.1) before rest
 
--- the bits behind the rungs, taken from top to bottom, each with a true condition at its start
+-- the bits after the rungs, taken from top to bottom, each with a true condition at its start
 abbrev pub scanned : List (List Ins) → List Bool → List Bool
 scanned [] bits = bits
-scanned (rung ∷ rungs) bits = scanned rungs (behind (true, bits) rung).1
+scanned (rung ∷ rungs) bits = scanned rungs (after_row (true, bits) rung).1
 
 -- a controller in Run that is not in the midst of a scan
 abbrev pub between_scans : List (List Ins) → List Bool → State

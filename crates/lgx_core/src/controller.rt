@@ -10,7 +10,7 @@ use lgx_num::{Items, Memory};
 use std::alloc::Global;
 use std::marker::Model;
 
-// Where the scan is: the rung's condition, its number, and that of its next instruction.
+/// Where the scan is: the rung's condition, its number, and that of its next instruction.
 #[derive(Clone, Copy)]
 pub(crate) struct Scan {
     on: bool,
@@ -18,7 +18,7 @@ pub(crate) struct Scan {
     at: usize,
 }
 
-/// A controller in a mode, with the scan of its one program where it is in the midst of one, and one bit for each tag.
+/// A controller in a mode, with the scan of its one program if it is in the midst of one, and one bit for each tag.
 #[derive(Drop)]
 pub struct Controller {
     rungs: Items<Items<Ins>>,
@@ -55,7 +55,7 @@ impl Scan {
     ghost use Rattle.lgx_core.specs.Position.{settle, enter};
     ghost use Rattle.lgx_core.specs.Place.{position_of, before, IsWithin};
 
-    // At a rung's first place, with a true condition.
+    /// At a rung's first place, with a true condition.
     fn at_rung(rung: usize) -> Scan
         ensures { result ≡ record { on = true; rung = rung; at = 0 } }
     {
@@ -66,7 +66,7 @@ impl Scan {
         }
     }
 
-    // At a routine's first instruction.
+    /// At a routine's first instruction.
     fn enter(rungs: &[Items<Ins>]) -> Scan
         ensures place { position_of rungs.now result ≡ enter rungs.now }
         ensures within { IsWithin rungs.now result }
@@ -74,7 +74,7 @@ impl Scan {
         Scan::at_rung(0).settled(rungs)
     }
 
-    // Past ends of rungs and rungs without instructions.
+    /// Past ends of rungs and rungs without instructions.
     fn settled(self, rungs: &[Items<Ins>]) -> Scan
         requires { IsWithin rungs.now self }
         ensures place { position_of rungs.now result ≡ settle (position_of rungs.now self) }
@@ -87,7 +87,7 @@ impl Scan {
         scan
     }
 
-    // The next instruction and the scan behind it; none at the routine's end.
+    /// The next instruction and the scan after it; none at the routine's end.
     fn next(self, rungs: &[Items<Ins>]) -> Option<(Ins, Scan)>
         requires { IsWithin rungs.now self }
         ensures ended { IfNone result ((position_of rungs.now self).rest ≡ []) }
@@ -96,16 +96,16 @@ impl Scan {
         ensures within { IfSome result (λ n. IsWithin rungs.now n.1) }
     {
         let ins = *rungs.get(self.rung)?.as_slice().get(self.at)?;
-        let behind = Scan {
+        let after = Scan {
             on: self.on,
             rung: self.rung,
             at: self.at + 1,
         };
-        Some((ins, behind))
+        Some((ins, after))
     }
 }
 
-// What an instruction does with the condition: the answer is the condition that goes on.
+/// What an instruction does with the condition: the answer is the condition that goes on.
 fn execute(ins: Ins, on: bool, bits: &mut [bool]) -> bool
     requires { ins.tag < length bits.old }
     ensures { (result, bits.new) ≡ row ins.op ins.tag on bits.old }
@@ -121,6 +121,7 @@ fn execute(ins: Ins, on: bool, bits: &mut [bool]) -> bool
     }
 }
 
+/// The bits after a rung's prescan.
 fn prescan_rung(bits: &mut [bool], rung: &[Ins])
     requires { IsTrue (rung_fits (length bits.old) rung.now) }
     ensures { bits.new ≡ prescan_rung bits.old rung.now }
@@ -133,6 +134,7 @@ fn prescan_rung(bits: &mut [bool], rung: &[Ins])
     }
 }
 
+/// The bits after the prescan of all rungs.
 fn prescan(bits: &mut [bool], rungs: &[Items<Ins>])
     requires { IsTrue (rungs_fit (length bits.old) rungs.now) }
     ensures { bits.new ≡ prescan bits.old rungs.now }
@@ -142,6 +144,7 @@ fn prescan(bits: &mut [bool], rungs: &[Items<Ins>])
     }
 }
 
+/// Gives the tags their values at the start.
 fn put_initial(bits: &mut [bool], values: &[Initial])
     requires { IsTrue (initial_fits (length bits.old) values.now) }
     ensures { bits.new ≡ fold put_initial bits.old values.now }
@@ -156,6 +159,7 @@ impl Controller {
     ghost use Rattle.lgx_core.specs.declared.event.Event.TheVariants.{Cpu, ModeRun};
     ghost use Rattle.lgx_core.specs.Machine.{start, step, run_step, stepped, Stepped, Replied};
     ghost use Rattle.lgx_core.specs.Table.{bit};
+    ghost use Rattle.spec_base.specs.declared.limits.TheConstants.{MAX_EVENTS};
 
     /// The project's controller, in Program.
     pub fn new(alloc: Global, project: Project) -> Result<Controller, Memory>
@@ -177,7 +181,7 @@ impl Controller {
 
     /// One processor step (1756-PM005, program scan). It takes no memory.
     pub fn cpu(&mut self) -> Moment
-        requires { self.old.spent < 1000000000 }
+        requires { self.old.spent < MAX_EVENTS }
         ensures step { step self.old.state Cpu ≡ (self.new.state, Stepped result) }
         ensures spent { self.new.spent ≡ self.old.spent + 1 }
         ensures size { length self.new.state.bits ≡ length self.old.state.bits }
@@ -190,7 +194,7 @@ impl Controller {
         Moment { what }
     }
 
-    // A step in Run.
+    /// A step in Run.
     fn run_step(&mut self) -> What
         ensures step { run_step self.old.state ≡ stepped self.new.state result }
         ensures spent { self.new.spent ≡ self.old.spent }
@@ -205,7 +209,7 @@ impl Controller {
                 version: 0,
             };
         };
-        let Some((ins, behind)) = scan.next(rungs) else {
+        let Some((ins, after)) = scan.next(rungs) else {
             self.scan = None;
             return What::Left {
                 task: 0,
@@ -214,7 +218,7 @@ impl Controller {
             };
         };
         let on = execute(ins, scan.on, &mut self.bits);
-        self.scan = Some(Scan { on, ..behind }.settled(rungs));
+        self.scan = Some(Scan { on, ..after }.settled(rungs));
         What::Ran {
             task: 0,
             program: 0,
@@ -223,7 +227,7 @@ impl Controller {
 
     /// The change to Run: the rungs are prescanned (1756-PM005, prescan). Refused with `M1` in Run.
     pub fn mode_run(&mut self) -> Reply
-        requires { self.old.spent < 1000000000 }
+        requires { self.old.spent < MAX_EVENTS }
         ensures step { step self.old.state ModeRun ≡ (self.new.state, Replied result) }
         ensures spent { self.new.spent ≡ self.old.spent + 1 }
         ensures size { length self.new.state.bits ≡ length self.old.state.bits }
@@ -268,6 +272,3 @@ impl Controller {
         self.spent
     }
 }
-
-#[cfg(test)]
-mod tests;

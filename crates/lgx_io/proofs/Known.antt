@@ -17,7 +17,7 @@ pub IsWritten-more : (a b c : Option (List ℕ)) (all rest : List ℕ) (n : ℕ)
 IsWritten-more a b c all rest n (done, split, held) more =
     (done ++ take n rest, split ∙ ap (λ l. done ++ l) (sym (take-append-drop n rest)) ∙ sym (append_assoc done (take n rest) (drop n rest)) ∙ ap (λ l. (done ++ take n rest) ++ l) (sym (take_rest rest n)), Appends-trans a b c done (take n rest) held more)
 
--- where a write failed, nothing is added
+-- if a write failed, nothing is added
 pub IsWritten-kept : (a b c : Option (List ℕ)) (all rest : List ℕ) → IsWritten a b all rest → Keeps b c → IsWritten a c all rest
 IsWritten-kept a b c all rest (done, split, held) kept = (done, split, Appends-kept a b c done held kept)
 

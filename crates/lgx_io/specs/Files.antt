@@ -5,10 +5,7 @@ use Rattle.lgx_io.specs.declared.files.FileFault.{FileFault}
 use Rattle.lgx_io.specs.declared.files.FileFault.TheVariants.{Failed, TooLong, Memory}
 use Rattle.lgx_io.specs.declared.files.ReadCause.{ReadCause}
 use Rattle.lgx_io.specs.declared.files.ReadCause.TheVariants as cause
-
--- the number of bytes of the longest file that is read
-abbrev pub max_bytes : ℕ
-max_bytes = 16777216
+use Rattle.spec_base.specs.declared.limits.TheConstants.{MAX_FILE_BYTES}
 
 -- what an answer adds to the list of failures: this name with `Failed` or `TooLong`, and else nothing
 abbrev pub added : List ℕ → Result (Vec ℕ Global) FileFault → List (List ℕ × ReadCause)
@@ -17,9 +14,9 @@ added name (Err Failed) = (name, cause.Failed) ∷ []
 added name (Err (TooLong taken)) = (name, cause.TooLong) ∷ []
 added name (Err Memory) = []
 
--- what a fault says of the file: more bytes came than a file may have, and where its contents are told, they
+-- what a fault says of the file: more bytes came than a file may have, and if its contents are told, they
 -- have all those that came
 abbrev pub IsCause : Option (List ℕ) → FileFault → Type 0
 IsCause told Failed = Unit {0}
-IsCause told (TooLong taken) = (max_bytes < taken) × IfSome told (λ contents. taken ≤ length contents)
+IsCause told (TooLong taken) = (MAX_FILE_BYTES < taken) × IfSome told (λ contents. taken ≤ length contents)
 IsCause told Memory = Unit {0}

@@ -8,8 +8,8 @@ use Rattle.lgx_io.specs.declared.files.FileFault.TheVariants.{Failed, TooLong, M
 use Rattle.lgx_io.specs.declared.files.ReadCause.{ReadCause}
 use Rattle.lgx_io.specs.declared.files.ReadCause.TheVariants as cause
 use Rattle.lgx_io.specs.declared.files.FailedRead.{FailedRead}
-use Rattle.lgx_io.specs.Files.{max_bytes}
 use Rattle.lgx_io.specs.Sink.{next_count}
+use Rattle.spec_base.specs.declared.limits.TheConstants.{MAX_FILE_BYTES}
 
 -- ---- files
 
@@ -25,20 +25,20 @@ failed_reads reads = map (λ r. (string_bytes r.name, r.cause)) reads
 abbrev pub contents_at : List (List ℕ × List ℕ) → List ℕ → Option (List ℕ)
 contents_at files name = option_map (λ f. f.1) (find (λ f. bytes_eq f.0 name) files)
 
--- the contents of a name, and none where it is unknown
+-- the contents of a name, and none if it is unknown
 abbrev pub contents_or_empty : List (List ℕ × List ℕ) → List ℕ → List ℕ
 contents_or_empty files name = unwrap_or (contents_at files name) []
 
 -- what a file of these contents answers: all of them, or that they are too long
 abbrev pub whole_or_too_long : List ℕ → Result (List ℕ) FileFault
-whole_or_too_long contents = if nat_le (length contents) max_bytes then Ok contents else Err (TooLong (length contents))
+whole_or_too_long contents = if nat_le (length contents) MAX_FILE_BYTES then Ok contents else Err (TooLong (length contents))
 
 -- a file that isn't there fails
 abbrev pub whole_or_failed : Option (List ℕ) → Result (List ℕ) FileFault
 whole_or_failed None = Err Failed
 whole_or_failed (Some contents) = whole_or_too_long contents
 
--- the result is this answer, or want of memory
+-- the result is this answer, or out of memory
 abbrev pub Answers : Result (Vec ℕ Global) FileFault → Result (List ℕ) FileFault → Type 0
 Answers (Ok bytes) answer = answer ≡ Ok bytes.items
 Answers (Err Failed) answer = answer ≡ Err Failed
@@ -56,11 +56,11 @@ pub record MemFilesState : Type 0 where
 abbrev pub fails_next : MemFilesState → Bool
 fails_next m = list_any (λ number. number == next_count m.calls) m.failing
 
--- what a read answers, where there is memory
+-- what a read answers, if there is memory
 abbrev pub read_answer : MemFilesState → List ℕ → Result (List ℕ) FileFault
 read_answer m name = if fails_next m then Err Failed else whole_or_failed (contents_at m.files name)
 
--- the number of calls after a read, which doesn't count where memory was wanted
+-- the number of calls after a read, which doesn't count if it was out of memory
 abbrev pub calls_after : ℕ → Result (Vec ℕ Global) FileFault → ℕ
 calls_after calls (Ok bytes) = next_count calls
 calls_after calls (Err Failed) = next_count calls

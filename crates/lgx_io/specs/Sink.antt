@@ -10,6 +10,6 @@ next_count count = min (count + 1) (2 ^ 64 - 1)
 abbrev pub FaultsRose : ℕ → ℕ → Type 0
 FaultsRose before now = min (before + 1) (2 ^ 64 - 1) ≤ now
 
--- where it is told what is held, that grew by a first part of the bytes
+-- if it is told what is held, that grew by a first part of the bytes
 abbrev pub AppendsPart : Option (List ℕ) → Option (List ℕ) → List ℕ → Type 0
 AppendsPart old new bytes = (n : ℕ) × Appends old new (take n bytes)

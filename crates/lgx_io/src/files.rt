@@ -2,12 +2,10 @@
 ghost use Rattle.std.specs.Prelude.{◌≡◌, ◌≤◌, ◌++◌, List, ℕ, Option, length, IfOk, IfErr, IfSome};
 ghost use Rattle.lgx_io.specs.declared.files.FileFault.TheVariants.{Memory};
 ghost use Rattle.lgx_io.specs.declared.files.ReadCause.{ReadCause};
-ghost use Rattle.lgx_io.specs.Files.{max_bytes, added, IsCause};
+ghost use Rattle.lgx_io.specs.Files.{added, IsCause};
+ghost use Rattle.spec_base.specs.declared.limits.TheConstants.{MAX_FILE_BYTES};
 
 use std::alloc::{AllocError, AllocFailed};
-
-/// The length in bytes of the longest file that is read.
-pub const MAX_BYTES: usize = 16_777_216;
 
 /// Why a read gave no contents.
 #[derive(Clone, Copy, Debug, PartialEq, Eq)]
@@ -15,11 +13,11 @@ pub enum FileFault {
     /// The file isn't there or couldn't be read.
     Failed,
 
-    /// The file is longer than [`MAX_BYTES`]. `taken` is the number of bytes that came before the read was
+    /// The file is longer than `MAX_FILE_BYTES`. `taken` is the number of bytes that came before the read was
     /// given up.
     TooLong { taken: u64 },
 
-    /// Want of memory. The object is as before.
+    /// Out of memory. The object is as before.
     Memory,
 }
 
@@ -48,19 +46,19 @@ impl<T: Drop> From<AllocFailed<T>> for FileFault {
 
 /// Files by name.
 pub trait Files {
-    /// The contents of the file of a name, where they are told.
+    /// The contents of the file of a name, if they are told.
     ghost told: { Self → List ℕ → Option (List ℕ) };
 
     /// The reads that failed or found too long a file, the oldest first: each by its name and its cause.
     ghost failures: { Self → List (List ℕ × ReadCause) };
 
-    /// The whole file of this name, at most [`MAX_BYTES`] bytes.
+    /// The whole file of this name, at most `MAX_FILE_BYTES` bytes.
     ///
-    /// `Failed` and `TooLong` come only where this read was added to the list of failures, and nothing else is
-    /// ever added to it. Where the contents are told and are longer than the limit, the answer is `TooLong`,
+    /// `Failed` and `TooLong` come only if this read was added to the list of failures, and nothing else is
+    /// ever added to it. If the contents are told and are longer than the limit, the answer is `TooLong`,
     /// `Failed` or `Memory`.
     fn read(&mut self, name: &str) -> Result<Vec<u8>, FileFault>
-        ensures ok { IfOk result (λ bytes. length bytes.items ≤ max_bytes) }
+        ensures ok { IfOk result (λ bytes. length bytes.items ≤ MAX_FILE_BYTES) }
         ensures whole { IfOk result (λ bytes.
             IfSome (told self.old name.now) (λ contents. bytes.items ≡ contents)) }
         ensures cause { IfErr result (IsCause (told self.old name.now)) }

@@ -3,11 +3,13 @@ ghost use Rattle.std.specs.Prelude.{◌≡◌, ◌≤◌, ◌<◌, [], take, len
 ghost use Rattle.std.specs.Bool.{OnTrue, OnFalse};
 ghost use Rattle.std.specs.Io.{ReadsAtMost, WritesAtMost};
 ghost use Rattle.std.specs.Io.KnownBytes.{Appends, Consumes, IsAtEnd, Keeps};
-ghost use Rattle.lgx_io.specs.Files.{max_bytes, IsCause};
+ghost use Rattle.lgx_io.specs.Files.{IsCause};
 ghost use Rattle.lgx_io.specs.Sink.{next_count, FaultsRose, AppendsPart};
+ghost use Rattle.spec_base.specs.declared.limits.TheConstants.{MAX_FILE_BYTES};
 
-use crate::files::{FailedRead, FileFault, Files, MAX_BYTES, ReadCause};
+use crate::files::{FailedRead, FileFault, Files, ReadCause};
 use crate::sink::{Sink, SinkFault};
+use spec_base::limits::MAX_FILE_BYTES;
 use std::alloc::Global;
 use std::fs::File;
 use std::io::{self, ErrorKind, Print, Read, Write};
@@ -17,8 +19,8 @@ use std::rt::Files as FileAccess;
 /// How many bytes are asked for at once.
 const PIECE: usize = 16_384;
 
-/// Reads once, and again where that was interrupted. `None` is a failure, also where each of 2^64 - 1 tries
-/// was interrupted.
+/// Reads once, and again after an interruption. `None` is a failure, also if each of 2^64 - 1 tries was
+/// interrupted.
 fn read_some<R: Read>(file: &mut R, piece: &mut [u8]) -> Option<usize>
     ensures bound { IfSome result (λ count. count ≤ length piece.new) }
     ensures bytes { IfSome result (λ count.
@@ -41,7 +43,7 @@ fn read_some<R: Read>(file: &mut R, piece: &mut [u8]) -> Option<usize>
 /// All that a reader has left, in as many reads as it takes. A reader that has more than a file may is given
 /// up at the read that shows it.
 pub(crate) fn read_to_end<R: Read>(alloc: Global, file: &mut R) -> Result<Vec<u8>, FileFault>
-    ensures ok { IfOk result (λ bytes. length bytes.items ≤ max_bytes) }
+    ensures ok { IfOk result (λ bytes. length bytes.items ≤ MAX_FILE_BYTES) }
     ensures whole { IfOk result (λ bytes.
         IfSome (R.remaining file.old) (λ contents. bytes.items ≡ contents)) }
     ensures cause { IfErr result (IsCause (R.remaining file.old)) }
@@ -56,7 +58,7 @@ pub(crate) fn read_to_end<R: Read>(alloc: Global, file: &mut R) -> Result<Vec<u8
             return Ok(bytes);
         }
         let taken = bytes.len() + count;
-        if taken > MAX_BYTES {
+        if taken > MAX_FILE_BYTES {
             return Err(FileFault::TooLong {
                 taken: taken as u64,
             });
@@ -123,7 +125,7 @@ impl<'a, R: FileAccess> HostFiles<'a, R> {
 }
 
 fn read_file<R: FileAccess>(rt: &R, alloc: Global, name: &str) -> Result<Vec<u8>, FileFault>
-    ensures ok { IfOk result (λ bytes. length bytes.items ≤ max_bytes) }
+    ensures ok { IfOk result (λ bytes. length bytes.items ≤ MAX_FILE_BYTES) }
     ensures cause { IfErr result (IsCause None) }
 {
     match File::open(rt, name) {
@@ -190,7 +192,7 @@ impl<'a, P: Print> Sink for HostSink<'a, P> {
         ensures no_fault { IsErrOf result SinkFault.Memory → self.new ≡ self.old }
         ensures later { self.old ≤ self.new }
 
-        // Beside what each `Sink` says: the count rises at a fault alone, and memory is never wanted.
+        // Beside what each `Sink` says: the count rises at a fault alone, and it is never out of memory.
         ensures counted { self.new ≡ (if is_ok result then self.old else next_count self.old) }
         ensures no_memory { ¬ IsErrOf result SinkFault.Memory }
     {

@@ -2,14 +2,14 @@
 //! memory, and over the system.
 //!
 //! Code that is generic over [`Files`] and [`Sink`] can make neither a failed read nor a fault of a put by
-//! itself. So its contract can say that it answers such a failure only where the object that was handed in
-//! recorded one. What the objects hold is optional in the traits: clauses on bytes hold where it is told.
+//! itself. So its contract can say that it answers such a failure only if the object that was handed in
+//! recorded one. What the objects hold is optional in the traits: clauses on bytes hold if it is told.
 //!
 //! | type | its contents | fails |
 //! |---|---|---|
 //! | [`MemFiles`], [`MemSink`] | told | at the calls that it was given |
 //! | [`SureFiles`], [`SureSink`] | told | never |
-//! | [`HostFiles`], [`HostSink`] | not told | where the system fails |
+//! | [`HostFiles`], [`HostSink`] | not told | when the system fails |
 //!
 //! **The trusted edge.** No contract can say what a real file has or where the bytes of standard output go, so
 //! `HostFiles` and `HostSink` tell nothing of contents. Their causes and counts are proved, and so are the
@@ -23,10 +23,8 @@ mod host;
 mod memory;
 mod sink;
 mod sure;
-#[cfg(test)]
-mod tests;
 
-pub use files::{FileFault, Files, MAX_BYTES, ReadCause};
+pub use files::{FileFault, Files, ReadCause};
 pub use host::{HostFiles, HostSink};
 pub use memory::{MemFiles, MemSink};
 pub use sink::{Sink, SinkFault};

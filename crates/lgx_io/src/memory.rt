@@ -3,12 +3,14 @@ ghost use Rattle.std.specs.Prelude.{◌≡◌, ◌≤◌, ◌++◌, [], ◌∷�
 ghost use Rattle.std.specs.Str.{bytes_eq};
 ghost use Rattle.std.specs.Io.KnownBytes.{Appends};
 ghost use Rattle.lgx_io.specs.declared.files.ReadCause.TheVariants as cause;
-ghost use Rattle.lgx_io.specs.Files.{max_bytes, added, IsCause};
+ghost use Rattle.lgx_io.specs.Files.{added, IsCause};
 ghost use Rattle.lgx_io.specs.Sink.{next_count, FaultsRose, AppendsPart};
 ghost use Rattle.lgx_io.specs.Memory.{stored, failed_reads, contents_at, Answers, whole_or_too_long, fails_next, read_answer, calls_after, kept_next};
+ghost use Rattle.spec_base.specs.declared.limits.TheConstants.{MAX_FILE_BYTES};
 
-use crate::files::{FailedRead, FileFault, Files, MAX_BYTES, ReadCause};
+use crate::files::{FailedRead, FileFault, Files, ReadCause};
 use crate::sink::{Sink, SinkFault};
+use spec_base::limits::MAX_FILE_BYTES;
 use std::alloc::{AllocError, Global};
 use std::marker::Model;
 
@@ -34,7 +36,7 @@ pub(crate) fn whole_or_too_long(alloc: Global, contents: &[u8]) -> Result<Vec<u8
     ensures { Answers result (whole_or_too_long contents.now) }
 {
     let taken = contents.len();
-    if taken > MAX_BYTES {
+    if taken > MAX_FILE_BYTES {
         return Err(FileFault::TooLong {
             taken: taken as u64,
         });
@@ -125,7 +127,7 @@ impl Files for MemFiles {
     ghost failures = { λ m. m.failures };
 
     fn read(&mut self, name: &str) -> Result<Vec<u8>, FileFault>
-        ensures ok { IfOk result (λ bytes. length bytes.items ≤ max_bytes) }
+        ensures ok { IfOk result (λ bytes. length bytes.items ≤ MAX_FILE_BYTES) }
         ensures whole { IfOk result (λ bytes.
             IfSome (contents_at self.old.files name.now) (λ contents. bytes.items ≡ contents)) }
         ensures cause { IfErr result (IsCause (contents_at self.old.files name.now)) }

@@ -12,7 +12,7 @@ pub enum SinkFault {
     /// The sink failed; a first part of the piece may have been taken.
     Failed,
 
-    /// Want of memory. The object is as before.
+    /// Out of memory. The object is as before.
     Memory,
 }
 
@@ -32,9 +32,9 @@ impl<T: Drop> From<AllocFailed<T>> for SinkFault {
     }
 }
 
-/// What takes pieces of bytes, one behind the other.
+/// What takes pieces of bytes, one after another.
 pub trait Sink {
-    /// The bytes that it holds, where they are told.
+    /// The bytes that it holds, if they are told.
     ghost held: { Self → Option (List ℕ) };
 
     /// How often a put failed; the count stands still at 18,446,744,073,709,551,615.
@@ -42,7 +42,7 @@ pub trait Sink {
 
     /// Adds the whole piece.
     ///
-    /// `Failed` comes only where the count of faults rose in this call, and then a first part of the piece was
+    /// `Failed` comes only if the count of faults rose in this call, and then a first part of the piece was
     /// added, maybe none of it or all.
     fn put(&mut self, bytes: &[u8]) -> Result<(), SinkFault>
         ensures ok { OnOk result (Appends (held self.old) (held self.new) bytes.now) }

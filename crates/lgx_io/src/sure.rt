@@ -1,9 +1,10 @@
 // Files and a sink in memory that never fail.
 ghost use Rattle.std.specs.Prelude.{◌≡◌, ◌≤◌, ◌++◌, [], List, ℕ, Some, length, OnOk, IfOk, IfErr, IfSome, IsErrOf};
 ghost use Rattle.std.specs.Io.KnownBytes.{Appends};
-ghost use Rattle.lgx_io.specs.Files.{max_bytes, added, IsCause};
+ghost use Rattle.lgx_io.specs.Files.{added, IsCause};
 ghost use Rattle.lgx_io.specs.Sink.{FaultsRose, AppendsPart};
 ghost use Rattle.lgx_io.specs.Memory.{stored, contents_or_empty, whole_or_too_long, too_long_reads, Answers};
+ghost use Rattle.spec_base.specs.declared.limits.TheConstants.{MAX_FILE_BYTES};
 
 use crate::files::{FileFault, Files};
 use crate::memory::{find_contents, whole_or_too_long};
@@ -47,7 +48,7 @@ impl Files for SureFiles {
     ghost failures = { λ m. too_long_reads m.too_long };
 
     fn read(&mut self, name: &str) -> Result<Vec<u8>, FileFault>
-        ensures ok { IfOk result (λ bytes. length bytes.items ≤ max_bytes) }
+        ensures ok { IfOk result (λ bytes. length bytes.items ≤ MAX_FILE_BYTES) }
         ensures whole { IfOk result (λ bytes.
             IfSome (Some (contents_or_empty self.old.files name.now)) (λ contents. bytes.items ≡ contents)) }
         ensures cause { IfErr result (IsCause (Some (contents_or_empty self.old.files name.now))) }

@@ -3,8 +3,7 @@ use Rattle.std.proofs.Common.{◌≡◌, ◌⊎◌, inl, inr, ℕ, ◌<◌, ◌�
 use Rattle.std.specs.Bool.{⊤}
 use Rattle.std.specs.Io.KnownBytes.{Appends}
 use Rattle.lgx_io.specs.declared.files.ReadCause.TheVariants as cause
-use Rattle.lgx_io.specs.Files.{max_bytes}
-use Rattle.lgx_io.specs.Sink.{FaultsRose}
+use Rattle.spec_base.specs.declared.limits.TheConstants.{MAX_FILE_BYTES}
 use Rattle.lgx_core.specs.Project.{Plan}
 use Rattle.lgx_core.specs.declared.event.Event.{Event}
 use Rattle.logix_run.specs.declared.status.Status.{Status}
@@ -12,12 +11,12 @@ use Rattle.logix_run.specs.declared.status.Status.TheVariants as status
 use Rattle.logix_run.specs.Project.{project_of}
 use Rattle.logix_run.specs.Journal.{journal_of}
 use Rattle.logix_run.specs.Words.{replay_of}
-use Rattle.logix_run.specs.Output.{Contents, journal_output, replay_output, command_output, judged}
-use Rattle.logix_run.specs.Outside.{Told, Failures, AreToldOf, CameWhole, AreRead, Adds, AddsFailure, Gains, NotFailed, Calm, OfRead, IsAccepted, IsTooLong}
-use Rattle.logix_run.specs.Judging.{IsStopped, Writes, Ended}
-use Rattle.logix_run.specs.Where.{IsOrMemory}
+use Rattle.logix_run.specs.Output.{Contents, journal_output, replay_output, command_output, output}
+use Rattle.logix_run.specs.Call.{Call, AreToldOf, CameWhole, AreRead, Adds, AddsFailure, Gains, PutFailed, NoPutFailed, OfRead, IsAccepted, IsTooLong}
+use Rattle.logix_run.specs.Request.{IsStopped, Writes, Ended}
+use Rattle.logix_run.specs.Causes.{IsOrMemory}
 use Rattle.logix_run.proofs.Puts.{appends_none}
-use Rattle.logix_run.proofs.Judged.{told_contents}
+use Rattle.logix_run.proofs.Requests.{told_contents}
 
 -- the statuses of a whole output
 abbrev IsWhole : Status → Type 0
@@ -42,28 +41,28 @@ whole_output : (contents : Contents) (names : Option (List ℕ × List ℕ)) →
 whole_output contents None = tt
 whole_output contents (Some names) = replay_whole (project_of contents.project) contents.journal
 
-module _ (told : Told) (before after : Failures) (held now : Option (List ℕ)) (faults count : ℕ) (words : List (List ℕ)) where
-  adds_whole : (s : Status) (contents : Contents) → AreRead told words contents → s ≡ (judged contents words).0 → Appends held now (judged contents words).1 → Adds told held now words s
+module _ (call : Call) where
+  adds_whole : (s : Status) (contents : Contents) → AreRead call.told call.words contents → s ≡ (output contents call.words).0 → Appends call.held.old call.held.new (output contents call.words).1 → Adds (record call { answer = s })
   adds_whole status.Ok contents read is all = (contents, read, is, all)
   adds_whole status.Usage contents read is all = (contents, read, is, all)
   adds_whole status.Project contents read is all = (contents, read, is, all)
   adds_whole status.Script contents read is all = (contents, read, is, all)
-  adds_whole status.ReadFault contents read is all = absurd (subst IsWhole (sym is) (whole_output contents (replay_of words)))
-  adds_whole status.WriteFault contents read is all = absurd (subst IsWhole (sym is) (whole_output contents (replay_of words)))
-  adds_whole status.Memory contents read is all = absurd (subst IsWhole (sym is) (whole_output contents (replay_of words)))
-  adds_whole status.TooLong contents read is all = absurd (subst IsWhole (sym is) (whole_output contents (replay_of words)))
+  adds_whole status.ReadFault contents read is all = absurd (subst IsWhole (sym is) (whole_output contents (replay_of call.words)))
+  adds_whole status.WriteFault contents read is all = absurd (subst IsWhole (sym is) (whole_output contents (replay_of call.words)))
+  adds_whole status.Memory contents read is all = absurd (subst IsWhole (sym is) (whole_output contents (replay_of call.words)))
+  adds_whole status.TooLong contents read is all = absurd (subst IsWhole (sym is) (whole_output contents (replay_of call.words)))
 
-  adds_written : (s : Status) (contents : Contents) → AreRead told words contents → Writes held now faults count (judged contents words) s → Adds told held now words s
+  adds_written : (s : Status) (contents : Contents) → AreRead call.told call.words contents → Writes call.held call.faults (output contents call.words) s → Adds (record call { answer = s })
   adds_written s contents read (inl w) = adds_whole s contents read w.0 w.1
   adds_written s contents read (inr (inl w)) =
-      let P : Status → Type 0 = λ s. Adds told held now words s in
+      let P : Status → Type 0 = λ s. Adds (record call { answer = s }) in
       subst P (sym w.0) (contents, read, w.1)
   adds_written s contents read (inr (inr w)) =
-      let P : Status → Type 0 = λ s. Adds told held now words s in
+      let P : Status → Type 0 = λ s. Adds (record call { answer = s }) in
       subst P (sym w.0) (contents, read.0, w.1)
 
   -- a stop adds nothing
-  adds_nothing : (s : Status) → IsStopped told before after (replay_of words) s → Adds told held held words s
+  adds_nothing : (s : Status) → IsStopped call.told call.failures (replay_of call.words) s → Adds (record call { held = record { old = call.held.old; new = call.held.old }; answer = s })
   adds_nothing status.Ok h = absurd h
   adds_nothing status.Usage h = absurd h
   adds_nothing status.Project h = absurd h
@@ -71,17 +70,17 @@ module _ (told : Told) (before after : Failures) (held now : Option (List ℕ)) 
   adds_nothing status.ReadFault h = refl
   adds_nothing status.WriteFault h = absurd h
   adds_nothing status.Memory h =
-      let c = told_contents told (replay_of words) in
-      (c.0, c.1, (0, appends_none held))
+      let agree = told_contents call.told (replay_of call.words) in
+      (agree.0, agree.1, (0, appends_none call.held.old))
   adds_nothing status.TooLong h = refl
 
-  pub ended_adds : (s : Status) → Ended told before after held now faults count (replay_of words) s → Adds told held now words s
+  pub ended_adds : (s : Status) → Ended (record call { answer = s }) → Adds (record call { answer = s })
   ended_adds s (inl e) = adds_written s e.0 e.1 e.3
   ended_adds s (inr e) =
-      let P : Option (List ℕ) → Type 0 = λ h. Adds told held h words s in
+      let P : Option (List ℕ) → Type 0 = λ h. Adds (record call { held = record { old = call.held.old; new = h }; answer = s }) in
       subst P (sym e.1) (adds_nothing s e.0)
 
-  failures_whole : (s : Status) → IsWhole s → after ≡ before → AddsFailure told before after words s
+  failures_whole : (s : Status) → IsWhole s → call.failures.new ≡ call.failures.old → AddsFailure (record call { answer = s })
   failures_whole status.Ok whole same = same
   failures_whole status.Usage whole same = same
   failures_whole status.Project whole same = same
@@ -91,15 +90,15 @@ module _ (told : Told) (before after : Failures) (held now : Option (List ℕ)) 
   failures_whole status.Memory whole same = absurd whole
   failures_whole status.TooLong whole same = absurd whole
 
-  failures_written : (s : Status) (contents : Contents) → Writes held now faults count (judged contents words) s → after ≡ before → AddsFailure told before after words s
+  failures_written : (s : Status) (contents : Contents) → Writes call.held call.faults (output contents call.words) s → call.failures.new ≡ call.failures.old → AddsFailure (record call { answer = s })
   failures_written s contents (inl w) same =
-      failures_whole s (subst IsWhole (sym w.0) (whole_output contents (replay_of words))) same
+      failures_whole s (subst IsWhole (sym w.0) (whole_output contents (replay_of call.words))) same
   failures_written s contents (inr (inl w)) same =
-      let P : Status → Type 0 = λ s. AddsFailure told before after words s in subst P (sym w.0) same
+      let P : Status → Type 0 = λ s. AddsFailure (record call { answer = s }) in subst P (sym w.0) same
   failures_written s contents (inr (inr w)) same =
-      let P : Status → Type 0 = λ s. AddsFailure told before after words s in subst P (sym w.0) same
+      let P : Status → Type 0 = λ s. AddsFailure (record call { answer = s }) in subst P (sym w.0) same
 
-  failures_stopped : (s : Status) → IsStopped told before after (replay_of words) s → AddsFailure told before after words s
+  failures_stopped : (s : Status) → IsStopped call.told call.failures (replay_of call.words) s → AddsFailure (record call { answer = s })
   failures_stopped status.Ok h = absurd h
   failures_stopped status.Usage h = absurd h
   failures_stopped status.Project h = absurd h
@@ -109,35 +108,35 @@ module _ (told : Told) (before after : Failures) (held now : Option (List ℕ)) 
   failures_stopped status.Memory h = h
   failures_stopped status.TooLong h = h
 
-  pub ended_failures : (s : Status) → Ended told before after held now faults count (replay_of words) s → AddsFailure told before after words s
+  pub ended_failures : (s : Status) → Ended (record call { answer = s }) → AddsFailure (record call { answer = s })
   ended_failures s (inl e) = failures_written s e.0 e.3 e.2
   ended_failures s (inr e) = failures_stopped s e.0
 
-  rose_written : (s : Status) (contents : Contents) → Writes held now faults count (judged contents words) s → s ≡ status.WriteFault → FaultsRose faults count
+  rose_written : (s : Status) (contents : Contents) → Writes call.held call.faults (output contents call.words) s → s ≡ status.WriteFault → PutFailed call.faults
   rose_written s contents (inl w) is =
-      absurd (subst IsWhole (sym w.0 ∙ is) (whole_output contents (replay_of words)))
+      absurd (subst IsWhole (sym w.0 ∙ is) (whole_output contents (replay_of call.words)))
   rose_written s contents (inr (inl w)) is = w.2
   rose_written s contents (inr (inr w)) is = absurd (cc (w.0, is))
 
-  pub ended_rose : (s : Status) → Ended told before after held now faults count (replay_of words) s → s ≡ status.WriteFault → FaultsRose faults count
+  pub ended_rose : (s : Status) → Ended (record call { answer = s }) → s ≡ status.WriteFault → PutFailed call.faults
   ended_rose s (inl e) is = rose_written s e.0 e.3 is
   ended_rose s (inr e) is =
-      let P : Status → Type 0 = λ s. IsStopped told before after (replay_of words) s in
+      let P : Status → Type 0 = λ s. IsStopped call.told call.failures (replay_of call.words) s in
       absurd (subst P is e.0)
 
   -- the status that what is told calls for, where nothing outside fails
-  pub expected : (wanted s : Status) → Adds told held now words s → AddsFailure told before after words s → (s ≡ status.WriteFault → FaultsRose faults count) → ((contents : Contents) → AreRead told words contents → (judged contents words).0 ≡ wanted) → (AddsFailure told before after words status.ReadFault → ⊥) → (AddsFailure told before after words status.TooLong → ⊥) → Calm faults count → IsOrMemory wanted s
-  expected wanted status.Ok adds failures rose is_wanted reads short calm = inl (adds.2 ∙ is_wanted adds.0 adds.1)
-  expected wanted status.Usage adds failures rose is_wanted reads short calm = inl (adds.2 ∙ is_wanted adds.0 adds.1)
-  expected wanted status.Project adds failures rose is_wanted reads short calm = inl (adds.2 ∙ is_wanted adds.0 adds.1)
-  expected wanted status.Script adds failures rose is_wanted reads short calm = inl (adds.2 ∙ is_wanted adds.0 adds.1)
-  expected wanted status.ReadFault adds failures rose is_wanted reads short calm = absurd (reads failures)
-  expected wanted status.WriteFault adds failures rose is_wanted reads short calm = absurd (calm (rose refl))
-  expected wanted status.Memory adds failures rose is_wanted reads short calm = inr refl
-  expected wanted status.TooLong adds failures rose is_wanted reads short calm = absurd (short failures)
+  pub expected : (wanted s : Status) → Adds (record call { answer = s }) → AddsFailure (record call { answer = s }) → (s ≡ status.WriteFault → PutFailed call.faults) → ((contents : Contents) → AreRead call.told call.words contents → (output contents call.words).0 ≡ wanted) → (AddsFailure (record call { answer = status.ReadFault }) → ⊥) → (AddsFailure (record call { answer = status.TooLong }) → ⊥) → NoPutFailed call.faults → IsOrMemory wanted s
+  expected wanted status.Ok adds failures rose is_wanted reads short no_put = inl (adds.2 ∙ is_wanted adds.0 adds.1)
+  expected wanted status.Usage adds failures rose is_wanted reads short no_put = inl (adds.2 ∙ is_wanted adds.0 adds.1)
+  expected wanted status.Project adds failures rose is_wanted reads short no_put = inl (adds.2 ∙ is_wanted adds.0 adds.1)
+  expected wanted status.Script adds failures rose is_wanted reads short no_put = inl (adds.2 ∙ is_wanted adds.0 adds.1)
+  expected wanted status.ReadFault adds failures rose is_wanted reads short no_put = absurd (reads failures)
+  expected wanted status.WriteFault adds failures rose is_wanted reads short no_put = absurd (no_put (rose refl))
+  expected wanted status.Memory adds failures rose is_wanted reads short no_put = inr refl
+  expected wanted status.TooLong adds failures rose is_wanted reads short no_put = absurd (short failures)
 
   -- contents that are told didn't come whole
-  pub stops : (s : Status) → Adds told held now words s → AddsFailure told before after words s → ((contents : Contents) → AreRead told words contents → ⊥) → (AddsFailure told before after words status.ReadFault → ⊥) → IsOrMemory status.TooLong s
+  pub stops : (s : Status) → Adds (record call { answer = s }) → AddsFailure (record call { answer = s }) → ((contents : Contents) → AreRead call.told call.words contents → ⊥) → (AddsFailure (record call { answer = status.ReadFault }) → ⊥) → IsOrMemory status.TooLong s
   stops status.Ok adds failures none reads = absurd (none adds.0 adds.1)
   stops status.Usage adds failures none reads = absurd (none adds.0 adds.1)
   stops status.Project adds failures none reads = absurd (none adds.0 adds.1)

@@ -1,8 +1,7 @@
 -- Where each status comes, from what was written, what failed and what is told.
 use Rattle.std.proofs.Common.{◌≡◌, ◌⊎◌, inl, inr, ℕ, ◌<◌, ◌≤◌, length, List, Option, Some, None, IsSome, IfSome, refl, sym, ap, ◌∙◌, subst, arith}
 use Rattle.lgx_io.specs.declared.files.ReadCause.TheVariants as cause
-use Rattle.lgx_io.specs.Files.{max_bytes}
-use Rattle.lgx_io.specs.Sink.{FaultsRose}
+use Rattle.spec_base.specs.declared.limits.TheConstants.{MAX_FILE_BYTES}
 use Rattle.lgx_core.specs.Project.{Plan}
 use Rattle.lgx_core.specs.declared.event.Event.{Event}
 use Rattle.logix_run.specs.declared.status.Status.{Status}
@@ -10,9 +9,9 @@ use Rattle.logix_run.specs.declared.status.Status.TheVariants as status
 use Rattle.logix_run.specs.Project.{project_of}
 use Rattle.logix_run.specs.Journal.{journal_of}
 use Rattle.logix_run.specs.Words.{replay_of}
-use Rattle.logix_run.specs.Output.{Contents, journal_output, replay_output, command_output, judged}
-use Rattle.logix_run.specs.Outside.{Told, Failures, AreToldOf, CameWhole, AreRead, Adds, AddsFailure, Gains, NotFailed, Calm, OfRead, IsAccepted, IsTooLong}
-use Rattle.logix_run.specs.Where.{IsOrMemory, IsNoList, IsNoProject, IsNoJournal, IsJournal, OfNames, IsReadAs, OnlyUsage, IsUsage, OnlyProject, IsProject, OnlyScript, IsScript, OnlyOk, IsOk, IsProjectTooLong, IsJournalTooLong}
+use Rattle.logix_run.specs.Output.{Contents, journal_output, replay_output, command_output, output}
+use Rattle.logix_run.specs.Call.{Call, AreToldOf, CameWhole, AreRead, Adds, AddsFailure, Gains, PutFailed, NoPutFailed, OfRead, IsAccepted, IsTooLong}
+use Rattle.logix_run.specs.Causes.{IsOrMemory, IsNoList, IsNoProject, IsNoJournal, IsJournal, OfNames, IsReadAs, OnlyUsage, IsUsage, OnlyProject, IsProject, OnlyScript, IsScript, OnlyOk, IsOk, IsProjectTooLong, IsJournalTooLong}
 use Rattle.logix_run.proofs.Endings.{expected, stops}
 
 -- ---- what a status says of the contents
@@ -84,142 +83,142 @@ told_here P o bytes is h = let Q : Option (List ℕ) → Type 0 = λ o. IfSome o
 no_some : (bytes : List ℕ) → IsSome (project_of bytes) → project_of bytes ≡ None → ⊥
 no_some bytes some none = let P : Option Plan → Type 0 = λ o. IsSome o in let h : IsSome {T = Plan} None = subst P none some in cc
 
-module _ (told : Told) (before after : Failures) (held now : Option (List ℕ)) (faults count : ℕ) (words : List (List ℕ)) (s : Status) (adds : Adds told held now words s) (failures : AddsFailure told before after words s) (rose : s ≡ status.WriteFault → FaultsRose faults count) where
-  pub only_usage : OnlyUsage words s
+module _ (call : Call) (adds : Adds call) (failures : AddsFailure call) (rose : call.answer ≡ status.WriteFault → PutFailed call.faults) where
+  pub only_usage : OnlyUsage call
   only_usage is =
-      let P : Status → Type 0 = λ s. Adds told held now words s in
+      let P : Status → Type 0 = λ s. Adds (record call { answer = s }) in
       let a = subst P is adds in
-      usage_of (replay_of words) a.0 a.2
+      usage_of (replay_of call.words) a.0 a.2
 
-  pub only_project : OnlyProject told words s
+  pub only_project : OnlyProject call
   only_project is =
-      let P : Status → Type 0 = λ s. Adds told held now words s in
+      let P : Status → Type 0 = λ s. Adds (record call { answer = s }) in
       let a = subst P is adds in
-      by_names (replay_of words) refl a.0 a.1.0 a.1.1 a.2
+      by_names (replay_of call.words) refl a.0 a.1.0 a.1.1 a.2
     where
-      by_names : (names : Option (List ℕ × List ℕ)) → replay_of words ≡ names → (contents : Contents) → AreToldOf told names contents → CameWhole names contents → status.Project ≡ (command_output contents names).0 → OfNames words (λ p j. IfSome (told p) IsNoProject)
+      by_names : (names : Option (List ℕ × List ℕ)) → replay_of call.words ≡ names → (contents : Contents) → AreToldOf call.told names contents → CameWhole names contents → status.Project ≡ (command_output contents names).0 → OfNames call.words (λ p j. IfSome (call.told p) IsNoProject)
       by_names None are contents agree whole is = absurd (cc)
       by_names (Some names) are contents agree whole is =
-          (names.0, names.1, are, told_has IsNoProject (told names.0) contents.project agree.0 (whole.0, project_of_status (project_of contents.project) contents.journal is))
+          (names.0, names.1, are, told_has IsNoProject (call.told names.0) contents.project agree.0 (whole.0, project_of_status (project_of contents.project) contents.journal is))
 
-  pub only_script : OnlyScript told words s
+  pub only_script : OnlyScript call
   only_script is =
-      let P : Status → Type 0 = λ s. Adds told held now words s in
+      let P : Status → Type 0 = λ s. Adds (record call { answer = s }) in
       let a = subst P is adds in
-      by_names (replay_of words) refl a.0 a.1.0 a.1.1 a.2
+      by_names (replay_of call.words) refl a.0 a.1.0 a.1.1 a.2
     where
-      by_names : (names : Option (List ℕ × List ℕ)) → replay_of words ≡ names → (contents : Contents) → AreToldOf told names contents → CameWhole names contents → status.Script ≡ (command_output contents names).0 → OfNames words (λ p j. IfSome (told p) IsAccepted × IfSome (told j) IsNoJournal)
+      by_names : (names : Option (List ℕ × List ℕ)) → replay_of call.words ≡ names → (contents : Contents) → AreToldOf call.told names contents → CameWhole names contents → status.Script ≡ (command_output contents names).0 → OfNames call.words (λ p j. IfSome (call.told p) IsAccepted × IfSome (call.told j) IsNoJournal)
       by_names None are contents agree whole is = absurd (cc)
       by_names (Some names) are contents agree whole is =
           let parts = script_of_status (project_of contents.project) contents.journal is in
-          (names.0, names.1, are, (told_has IsAccepted (told names.0) contents.project agree.0 (whole.0, parts.0), told_has IsNoJournal (told names.1) contents.journal agree.1 (whole.1 parts.0, parts.1)))
+          (names.0, names.1, are, (told_has IsAccepted (call.told names.0) contents.project agree.0 (whole.0, parts.0), told_has IsNoJournal (call.told names.1) contents.journal agree.1 (whole.1 parts.0, parts.1)))
 
-  pub only_ok : OnlyOk told words s
+  pub only_ok : OnlyOk call
   only_ok is =
-      let P : Status → Type 0 = λ s. Adds told held now words s in
+      let P : Status → Type 0 = λ s. Adds (record call { answer = s }) in
       let a = subst P is adds in
-      by_names (replay_of words) refl a.0 a.1.0 a.1.1 a.2
+      by_names (replay_of call.words) refl a.0 a.1.0 a.1.1 a.2
     where
-      by_names : (names : Option (List ℕ × List ℕ)) → replay_of words ≡ names → (contents : Contents) → AreToldOf told names contents → CameWhole names contents → status.Ok ≡ (command_output contents names).0 → OfNames words (λ p j. IfSome (told p) IsAccepted × IfSome (told j) IsJournal)
+      by_names : (names : Option (List ℕ × List ℕ)) → replay_of call.words ≡ names → (contents : Contents) → AreToldOf call.told names contents → CameWhole names contents → status.Ok ≡ (command_output contents names).0 → OfNames call.words (λ p j. IfSome (call.told p) IsAccepted × IfSome (call.told j) IsJournal)
       by_names None are contents agree whole is = absurd (cc)
       by_names (Some names) are contents agree whole is =
           let parts = ok_of_status (project_of contents.project) contents.journal is in
-          (names.0, names.1, are, (told_has IsAccepted (told names.0) contents.project agree.0 (whole.0, parts.0), told_has IsJournal (told names.1) contents.journal agree.1 (whole.1 parts.0, parts.1)))
+          (names.0, names.1, are, (told_has IsAccepted (call.told names.0) contents.project agree.0 (whole.0, parts.0), told_has IsJournal (call.told names.1) contents.journal agree.1 (whole.1 parts.0, parts.1)))
 
-  pub is_usage : IsUsage faults count words s
-  is_usage none calm =
-      let P : Option (List ℕ × List ℕ) → Type 0 = λ names. OfRead told names (λ name. Gains before after name cause.Failed) in
-      let Q : Option (List ℕ × List ℕ) → Type 0 = λ names. OfRead told names (λ name. Gains before after name cause.TooLong × IfSome (told name) IsTooLong) in
-      expected told before after held now faults count words status.Usage s adds failures rose (λ contents read. rw none refl) (λ h. subst P none h) (λ h. subst Q none h) calm
+  pub is_usage : IsUsage call
+  is_usage none no_put =
+      let P : Option (List ℕ × List ℕ) → Type 0 = λ names. OfRead call.told names (λ name. Gains call.failures name cause.Failed) in
+      let Q : Option (List ℕ × List ℕ) → Type 0 = λ names. OfRead call.told names (λ name. Gains call.failures name cause.TooLong × IfSome (call.told name) IsTooLong) in
+      expected call status.Usage call.answer adds failures rose (λ contents read. rw none refl) (λ h. subst P none h) (λ h. subst Q none h) no_put
 
   -- the failures of the two files
-  no_failure : (p j : List ℕ) → replay_of words ≡ Some (p, j) → (Gains before after p cause.Failed → ⊥) → (IfSome (told p) IsAccepted → Gains before after j cause.Failed → ⊥) → AddsFailure told before after words status.ReadFault → ⊥
+  no_failure : (p j : List ℕ) → replay_of call.words ≡ Some (p, j) → (Gains call.failures p cause.Failed → ⊥) → (IfSome (call.told p) IsAccepted → Gains call.failures j cause.Failed → ⊥) → AddsFailure (record call { answer = status.ReadFault }) → ⊥
   no_failure p j are first second h =
-      let P : Option (List ℕ × List ℕ) → Type 0 = λ names. OfRead told names (λ name. Gains before after name cause.Failed) in
+      let P : Option (List ℕ × List ℕ) → Type 0 = λ names. OfRead call.told names (λ name. Gains call.failures name cause.Failed) in
       by_file (subst P are h)
     where
-      by_file : Gains before after p cause.Failed ⊎ (IfSome (told p) IsAccepted × Gains before after j cause.Failed) → ⊥
+      by_file : Gains call.failures p cause.Failed ⊎ (IfSome (call.told p) IsAccepted × Gains call.failures j cause.Failed) → ⊥
       by_file (inl h) = first h
       by_file (inr h) = second h.0 h.1
 
-  no_long_file : (p j : List ℕ) → replay_of words ≡ Some (p, j) → (IfSome (told p) IsTooLong → ⊥) → (IfSome (told p) IsAccepted → IfSome (told j) IsTooLong → ⊥) → AddsFailure told before after words status.TooLong → ⊥
+  no_long_file : (p j : List ℕ) → replay_of call.words ≡ Some (p, j) → (IfSome (call.told p) IsTooLong → ⊥) → (IfSome (call.told p) IsAccepted → IfSome (call.told j) IsTooLong → ⊥) → AddsFailure (record call { answer = status.TooLong }) → ⊥
   no_long_file p j are first second h =
-      let P : Option (List ℕ × List ℕ) → Type 0 = λ names. OfRead told names (λ name. Gains before after name cause.TooLong × IfSome (told name) IsTooLong) in
+      let P : Option (List ℕ × List ℕ) → Type 0 = λ names. OfRead call.told names (λ name. Gains call.failures name cause.TooLong × IfSome (call.told name) IsTooLong) in
       by_file (subst P are h)
     where
-      by_file : (Gains before after p cause.TooLong × IfSome (told p) IsTooLong) ⊎ (IfSome (told p) IsAccepted × (Gains before after j cause.TooLong × IfSome (told j) IsTooLong)) → ⊥
+      by_file : (Gains call.failures p cause.TooLong × IfSome (call.told p) IsTooLong) ⊎ (IfSome (call.told p) IsAccepted × (Gains call.failures j cause.TooLong × IfSome (call.told j) IsTooLong)) → ⊥
       by_file (inl h) = first h.1
       by_file (inr h) = second h.0 h.1.1
 
-  short_told : (name bytes : List ℕ) → told name ≡ Some bytes → length bytes ≤ max_bytes → IfSome (told name) IsTooLong → ⊥
-  short_told name bytes is short h = let long : max_bytes < length bytes = told_here IsTooLong (told name) bytes is h in omega arith
+  short_told : (name bytes : List ℕ) → call.told name ≡ Some bytes → length bytes ≤ MAX_FILE_BYTES → IfSome (call.told name) IsTooLong → ⊥
+  short_told name bytes is short h = let long : MAX_FILE_BYTES < length bytes = told_here IsTooLong (call.told name) bytes is h in omega arith
 
   -- contents that were read are those told
-  read_project : (p j bytes : List ℕ) (contents : Contents) → replay_of words ≡ Some (p, j) → told p ≡ Some bytes → AreRead told words contents → contents.project ≡ bytes
+  read_project : (p j bytes : List ℕ) (contents : Contents) → replay_of call.words ≡ Some (p, j) → call.told p ≡ Some bytes → AreRead call.told call.words contents → contents.project ≡ bytes
   read_project p j bytes contents are is read =
-      let P : Option (List ℕ × List ℕ) → Type 0 = λ names. AreToldOf told names contents in
+      let P : Option (List ℕ × List ℕ) → Type 0 = λ names. AreToldOf call.told names contents in
       let Q : List ℕ → Type 0 = λ b. contents.project ≡ b in
-      told_here Q (told p) bytes is (subst P are read.0).0
+      told_here Q (call.told p) bytes is (subst P are read.0).0
 
-  read_journal : (p j bytes : List ℕ) (contents : Contents) → replay_of words ≡ Some (p, j) → told j ≡ Some bytes → AreRead told words contents → contents.journal ≡ bytes
+  read_journal : (p j bytes : List ℕ) (contents : Contents) → replay_of call.words ≡ Some (p, j) → call.told j ≡ Some bytes → AreRead call.told call.words contents → contents.journal ≡ bytes
   read_journal p j bytes contents are is read =
-      let P : Option (List ℕ × List ℕ) → Type 0 = λ names. AreToldOf told names contents in
+      let P : Option (List ℕ × List ℕ) → Type 0 = λ names. AreToldOf call.told names contents in
       let Q : List ℕ → Type 0 = λ b. contents.journal ≡ b in
-      told_here Q (told j) bytes is (subst P are read.0).1
+      told_here Q (call.told j) bytes is (subst P are read.0).1
 
-  came_whole : (p j : List ℕ) (contents : Contents) → replay_of words ≡ Some (p, j) → AreRead told words contents → CameWhole (Some (p, j)) contents
+  came_whole : (p j : List ℕ) (contents : Contents) → replay_of call.words ≡ Some (p, j) → AreRead call.told call.words contents → CameWhole (Some (p, j)) contents
   came_whole p j contents are read =
       let P : Option (List ℕ × List ℕ) → Type 0 = λ names. CameWhole names contents in
       subst P are read.1
 
   -- the status of a replay of these contents
-  replay_status : (p j : List ℕ) (contents : Contents) (wanted : Status) → replay_of words ≡ Some (p, j) → (replay_output (project_of contents.project) contents.journal).0 ≡ wanted → (judged contents words).0 ≡ wanted
+  replay_status : (p j : List ℕ) (contents : Contents) (wanted : Status) → replay_of call.words ≡ Some (p, j) → (replay_output (project_of contents.project) contents.journal).0 ≡ wanted → (output contents call.words).0 ≡ wanted
   replay_status p j contents wanted are is = rw are is
 
-  pub is_project_status : IsProject told before after faults count words s
-  is_project_status h calm =
+  pub is_project_status : IsProject call
+  is_project_status h no_put =
       let p = h.0 in let j = h.1 in let are = h.2 in let first = h.3 in
-      let refused : IfSome (told p) IsAccepted → ⊥ = λ a. no_some first.0 (told_here IsAccepted (told p) first.0 first.1 a).1 first.2.1 in
-      expected told before after held now faults count words status.Project s adds failures rose
+      let refused : IfSome (call.told p) IsAccepted → ⊥ = λ a. no_some first.0 (told_here IsAccepted (call.told p) first.0 first.1 a).1 first.2.1 in
+      expected call status.Project call.answer adds failures rose
       (λ contents read. replay_status p j contents status.Project are (is_project (project_of contents.project) contents.journal (ap project_of (read_project p j first.0 contents are first.1 read) ∙ first.2.1)))
       (no_failure p j are first.3 (λ a. absurd (refused a)))
       (no_long_file p j are (short_told p first.0 first.1 first.2.0) (λ a. absurd (refused a)))
-      calm
+      no_put
 
-  pub is_script_status : IsScript told before after faults count words s
-  is_script_status h calm =
+  pub is_script_status : IsScript call
+  is_script_status h no_put =
       let p = h.0 in let j = h.1 in let are = h.2 in let first = h.3.0 in let second = h.3.1 in
       let S : List ℕ → Type 0 = λ b. IsSome (project_of b) in
-      expected told before after held now faults count words status.Script s adds failures rose
+      expected call status.Script call.answer adds failures rose
       (λ contents read. replay_status p j contents status.Script are (is_script (project_of contents.project) contents.journal (subst S (sym (read_project p j first.0 contents are first.1 read)) first.2.1) (ap journal_of (read_journal p j second.0 contents are second.1 read) ∙ second.2.1)))
       (no_failure p j are first.3 (λ a. second.3))
       (no_long_file p j are (short_told p first.0 first.1 first.2.0) (λ a. short_told j second.0 second.1 second.2.0))
-      calm
+      no_put
 
-  pub is_ok_status : IsOk told before after faults count words s
-  is_ok_status h calm =
+  pub is_ok_status : IsOk call
+  is_ok_status h no_put =
       let p = h.0 in let j = h.1 in let are = h.2 in let first = h.3.0 in let second = h.3.1 in
       let S : List ℕ → Type 0 = λ b. IsSome (project_of b) in
       let J : List ℕ → Type 0 = λ b. IsSome (journal_of b) in
-      expected told before after held now faults count words status.Ok s adds failures rose
+      expected call status.Ok call.answer adds failures rose
       (λ contents read. replay_status p j contents status.Ok are (is_ok (project_of contents.project) contents.journal (subst S (sym (read_project p j first.0 contents are first.1 read)) first.2.1) (subst J (sym (read_journal p j second.0 contents are second.1 read)) second.2.1)))
       (no_failure p j are first.3 (λ a. second.3))
       (no_long_file p j are (short_told p first.0 first.1 first.2.0) (λ a. short_told j second.0 second.1 second.2.0))
-      calm
+      no_put
 
-  pub is_project_too_long : IsProjectTooLong told before after words s
+  pub is_project_too_long : IsProjectTooLong call
   is_project_too_long h =
       let p = h.0 in let j = h.1 in let are = h.2 in let first = h.3 in
-      let long : max_bytes < length first.0 = first.2 in
-      stops told before after held now faults count words s adds failures
+      let long : MAX_FILE_BYTES < length first.0 = first.2 in
+      stops call call.answer adds failures
       (λ contents read. let short = (came_whole p j contents are read).0 in let is = ap length (read_project p j first.0 contents are first.1 read) in omega arith)
-      (no_failure p j are first.3 (λ a. let short = (told_here IsAccepted (told p) first.0 first.1 a).0 in omega arith))
+      (no_failure p j are first.3 (λ a. let short = (told_here IsAccepted (call.told p) first.0 first.1 a).0 in omega arith))
 
-  pub is_journal_too_long : IsJournalTooLong told before after words s
+  pub is_journal_too_long : IsJournalTooLong call
   is_journal_too_long h =
       let p = h.0 in let j = h.1 in let are = h.2 in let first = h.3.0 in let second = h.3.1 in
       let S : List ℕ → Type 0 = λ b. IsSome (project_of b) in
-      let long : max_bytes < length second.0 = second.2 in
-      stops told before after held now faults count words s adds failures
+      let long : MAX_FILE_BYTES < length second.0 = second.2 in
+      stops call call.answer adds failures
       (λ contents read. let short = (came_whole p j contents are read).1 (subst S (sym (read_project p j first.0 contents are first.1 read)) first.2.1) in let is = ap length (read_journal p j second.0 contents are second.1 read) in omega arith)
       (no_failure p j are first.3 (λ a. second.3))

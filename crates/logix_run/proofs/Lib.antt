@@ -9,7 +9,6 @@ pub mod Bounds
 pub mod Reports
 pub mod Values
 pub mod Puts
-pub mod Judged
+pub mod Requests
 pub mod Endings
 pub mod Exactly
-pub mod TagNames

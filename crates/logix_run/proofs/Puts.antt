@@ -7,7 +7,7 @@ use Rattle.lgx_io.specs.Sink.{FaultsRose, AppendsPart}
 use Rattle.std.specs.List.{flat_map}
 use Rattle.logix_run.specs.declared.status.Status.{Status}
 use Rattle.logix_run.specs.Status.{status_after}
-use Rattle.logix_run.specs.Judging.{Writes}
+use Rattle.logix_run.specs.Request.{Writes}
 
 pub appends_none : (held : Option (List ℕ)) → Appends held held []
 appends_none None = tt
@@ -30,18 +30,18 @@ take_part [] ys zs n = take_front ys zs n
 take_part (x ∷ xs) ys zs n = let r = take_part xs ys zs n in (suc r.0, ap (λ t. x ∷ t) r.1)
 
 -- all of a text, and then a first part of the next
-pub part_behind : (a b c : Option (List ℕ)) (xs ys zs : List ℕ) → Appends a b xs → AppendsPart b c ys → AppendsPart a c (xs ++ (ys ++ zs))
-part_behind a b c xs ys zs h k =
+pub part_after : (a b c : Option (List ℕ)) (xs ys zs : List ℕ) → Appends a b xs → AppendsPart b c ys → AppendsPart a c (xs ++ (ys ++ zs))
+part_after a b c xs ys zs h k =
     let r = take_part xs ys zs k.0 in
     let P : List ℕ → Type 0 = λ t. Appends a c t in
     (r.0, subst P (sym r.1) (appends_both a b c xs (take k.0 ys) h k.1))
 
--- a first part of the text that comes next, behind what was added
+-- a first part of the text that comes next, after what was added
 pub part_goes_on : (r : Result (Unit {0}) SinkFault) (a b c : Option (List ℕ)) (xs ys zs whole : List ℕ) → Appends a b xs → AppendsPart b c ys → whole ≡ xs ++ (ys ++ zs) → OnErr r (AppendsPart a c whole)
 part_goes_on (Ok x) a b c xs ys zs whole done part all = tt
 part_goes_on (Err e) a b c xs ys zs whole done part all =
     let P : List ℕ → Type 0 = λ t. AppendsPart a c t in
-    subst P (sym all) (part_behind a b c xs ys zs done part)
+    subst P (sym all) (part_after a b c xs ys zs done part)
 
 -- a first part of the next text, and of both
 pub part_of_both : (r : Result (Unit {0}) SinkFault) (a b c : Option (List ℕ)) (xs ys whole : List ℕ) → Appends a b xs → OnErr r (AppendsPart b c ys) → whole ≡ xs ++ ys → OnErr r (AppendsPart a c whole)
@@ -81,7 +81,7 @@ flat_map_around text (x ∷ xs) (suc i) d h =
     (r.0, ap (λ t. text x ++ t) r.1 ∙ sym (append_assoc (text x) (flat_map text (take i xs)) (text (get_or xs i d) ++ r.0)))
 
 -- the status after puts
-pub writes_done : (done : Result (Unit {0}) SinkFault) (a b : Option (List ℕ)) (f g : ℕ) (text : List ℕ) (whole s : Status) → OnOk done (Appends a b text) → OnErr done (AppendsPart a b text) → (IsErrOf done Failed → FaultsRose f g) → s ≡ status_after done whole → Writes a b f g (whole, text) s
+pub writes_done : (done : Result (Unit {0}) SinkFault) (a b : Option (List ℕ)) (f g : ℕ) (text : List ℕ) (whole s : Status) → OnOk done (Appends a b text) → OnErr done (AppendsPart a b text) → (IsErrOf done Failed → FaultsRose f g) → s ≡ status_after done whole → Writes (record { old = a; new = b }) (record { old = f; new = g }) (whole, text) s
 writes_done (Ok x) a b f g text whole s all part failed is = inl (is, all)
 writes_done (Err Failed) a b f g text whole s all part failed is = inr (inl (is, part, failed refl))
 writes_done (Err Memory) a b f g text whole s all part failed is = inr (inr (is, part))

@@ -3,6 +3,7 @@ use Rattle.std.specs.Prelude.{ℕ, ◌+◌, List, [], ◌∷◌, ◌++◌, take,
 use Rattle.std.specs.Str.{bytes_eq}
 use Rattle.lgx_core.specs.declared.event.Event.{Event}
 use Rattle.lgx_core.specs.declared.event.Event.TheVariants as event
+use Rattle.logix_run.specs.declared.limits.TheConstants.{MAX_STEPS, MAX_CHANGES}
 use Rattle.logix_run.specs.declared.journal.Entry.{Entry}
 use Rattle.logix_run.specs.declared.journal.Entry.TheVariants.{ModeRun, Cpu}
 use Rattle.logix_run.specs.Pieces.{pieces, number_of}
@@ -12,7 +13,7 @@ unfoldable pub entry_of : List ℕ → Option Entry
 entry_of line =
     if bytes_eq line (codes "mode run") then Some ModeRun else (if bytes_eq (take 4 line) (codes "cpu ") then option_map (λ n. Cpu n) (number_of (drop 4 line)) else None)
 
--- Nothing stands behind the last LF.
+-- Nothing stands after the last LF.
 abbrev pub is_last : List (List ℕ) → Bool
 is_last [] = false
 is_last (rest ∷ []) = bytes_eq rest []
@@ -36,7 +37,7 @@ changes_in (ModeRun ∷ es) = 1 + changes_in es
 changes_in (Cpu n ∷ es) = changes_in es
 
 abbrev pub is_within_limits : List Entry → Bool
-is_within_limits es = nat_le (steps_in es) 4000000 && nat_le (changes_in es) 100000
+is_within_limits es = nat_le (steps_in es) MAX_STEPS && nat_le (changes_in es) MAX_CHANGES
 
 -- `cpu N` is N events
 abbrev pub entry_events : Entry → List Event

@@ -3,12 +3,12 @@ pub mod Pieces
 pub mod Rung
 pub mod Project
 pub mod Journal
-pub mod Kept
+pub mod BoundedLog
 pub mod Lines
 pub mod Recording
 pub mod Report
 pub mod Words
 pub mod Output
-pub mod Outside
-pub mod Where
-pub mod Judging
+pub mod Call
+pub mod Causes
+pub mod Request

@@ -29,7 +29,7 @@ abbrev pub journal_output : Plan → Option (List Event) → Status × List ℕ
 journal_output plan None = no_journal
 journal_output plan (Some events) = (status.Ok, report plan events)
 
--- `replay`: the journal is judged only where the project is one
+-- `replay`: the journal is output only where the project is one
 abbrev pub replay_output : Option Plan → List ℕ → Status × List ℕ
 replay_output None journal = no_project
 replay_output (Some plan) journal = journal_output plan (journal_of journal)
@@ -43,5 +43,5 @@ abbrev pub command_output : Contents → Option (List ℕ × List ℕ) → Statu
 command_output contents None = usage
 command_output contents (Some names) = replay_output (project_of contents.project) contents.journal
 
-abbrev pub judged : Contents → List (List ℕ) → Status × List ℕ
-judged contents words = command_output contents (replay_of words)
+abbrev pub output : Contents → List (List ℕ) → Status × List ℕ
+output contents words = command_output contents (replay_of words)

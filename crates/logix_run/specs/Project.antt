@@ -5,11 +5,13 @@ use Rattle.serde_json.specs.Data.{Data, Items, no_items, item, Members, no_membe
 use Rattle.serde_json.specs.Find.{get, as_number, as_u64, as_str, as_array, as_object}
 use Rattle.serde_json.specs.Events.{items_len}
 use Rattle.serde_json.specs.Read.{read}
+use Rattle.spec_base.specs.declared.limits.TheConstants.{MAX_ROUTINE_INSTRUCTIONS}
 use Rattle.lgx_num.specs.Name.{is_name, same}
 use Rattle.lgx_core.specs.declared.project.Ins.{Ins}
 use Rattle.lgx_core.specs.declared.project.Initial.{Initial}
 use Rattle.lgx_core.specs.declared.project.Watch.{Watch}
 use Rattle.lgx_core.specs.Project.{Plan}
+use Rattle.logix_run.specs.declared.limits.TheConstants.{MAX_TAGS, MAX_RUNGS, MAX_INITIALS, MAX_WATCHES}
 use Rattle.logix_run.specs.declared.fields.Object.{Object}
 use Rattle.logix_run.specs.declared.fields.Object.TheVariants as object
 use Rattle.logix_run.specs.Rung.{tag_at, rung_of}
@@ -84,7 +86,7 @@ names_from names no_items = Some names
 names_from names (item d ds) = tag_name d >>= λ name. guard (not (is_some (tag_at names name))) >>= λ _. names_from (names ++ name ∷ []) ds
 
 unfoldable pub names_of : Items → Option (List (List ℕ))
-names_of ds = guard (nat_le (items_len ds) 4096) >>= λ _. names_from [] ds
+names_of ds = guard (nat_le (items_len ds) MAX_TAGS) >>= λ _. names_from [] ds
 
 -- rungs; so many instructions are left
 abbrev pub rungs_from : List (List ℕ) → ℕ → List (List Ins) → Items → Option (List (List Ins))
@@ -93,7 +95,7 @@ rungs_from names left rungs (item d ds) =
     as_str d >>= λ text. rung_of names text >>= λ rung. guard (nat_le (length rung) left) >>= λ _. rungs_from names (left - length rung) (rungs ++ rung ∷ []) ds
 
 unfoldable pub rungs_of : List (List ℕ) → Items → Option (List (List Ins))
-rungs_of names ds = guard (nat_le (items_len ds) 10000) >>= λ _. rungs_from names 65536 [] ds
+rungs_of names ds = guard (nat_le (items_len ds) MAX_RUNGS) >>= λ _. rungs_from names MAX_ROUTINE_INSTRUCTIONS [] ds
 
 unfoldable pub routine_of : List (List ℕ) → List ℕ → Data → Option (List (List Ins))
 routine_of names main d = do
@@ -141,7 +143,7 @@ initial_from names done no_items = Some done
 initial_from names done (item d ds) = initial_of names d >>= λ x. initial_from names (done ++ x ∷ []) ds
 
 unfoldable pub initials_of : List (List ℕ) → Items → Option (List Initial)
-initials_of names ds = guard (nat_le (items_len ds) 10000) >>= λ _. initial_from names [] ds
+initials_of names ds = guard (nat_le (items_len ds) MAX_INITIALS) >>= λ _. initial_from names [] ds
 
 unfoldable pub watch_of : List (List ℕ) → Data → Option Watch
 watch_of names d = do
@@ -155,7 +157,7 @@ watches_from names done no_items = Some done
 watches_from names done (item d ds) = watch_of names d >>= λ x. watches_from names (done ++ x ∷ []) ds
 
 unfoldable pub watches_of : List (List ℕ) → Items → Option (List Watch)
-watches_of names ds = guard (nat_le (items_len ds) 256) >>= λ _. watches_from names [] ds
+watches_of names ds = guard (nat_le (items_len ds) MAX_WATCHES) >>= λ _. watches_from names [] ds
 
 -- the whole
 unfoldable pub tags_of : Data → Option (List (List ℕ))
@@ -194,7 +196,7 @@ plan_of d = do
   watches ← the_watches names d
   Some (record { task = task; program = program.0; tags = length names; rungs = program.1; initial = initial; watches = watches })
 
--- the value that the bytes are, where they are UTF-8: by the reading of the crate `serde_json`
+-- the value that the bytes are, if they are UTF-8: by the reading of the crate `serde_json`
 unfoldable pub value_of : List ℕ → Option Data
 value_of bytes = if is_utf8 bytes then read bytes else None
 

@@ -5,7 +5,7 @@ use Rattle.lgx_core.specs.declared.event.Event.{Event}
 use Rattle.lgx_core.specs.Project.{Plan}
 use Rattle.lgx_core.specs.Machine.{State, start, step}
 use Rattle.logix_run.specs.Lines.{event_lines, steps_after}
-use Rattle.logix_run.specs.Kept.{Kept, with_lines}
+use Rattle.logix_run.specs.BoundedLog.{BoundedLog, with_lines}
 
 pub record Recording : Type 0 where
   pub task : List ℕ
@@ -14,7 +14,7 @@ pub record Recording : Type 0 where
   pub state : State
   pub steps : ℕ
   pub spent : ℕ
-  pub kept : Kept
+  pub log : BoundedLog
 
 abbrev pub opening : Plan → Recording
 opening plan = record {
@@ -24,7 +24,7 @@ opening plan = record {
   state = start plan;
   steps = 0;
   spent = 0;
-  kept = record { lines = []; lost = 0 };
+  log = record { lines = []; lost = 0 };
 }
 
 -- one event further on
@@ -33,7 +33,7 @@ recorded r e = record r {
   state = (step r.state e).0;
   steps = steps_after r.steps e;
   spent = r.spent + 1;
-  kept = with_lines r.kept (event_lines r.watches r.steps r.state e);
+  log = with_lines r.log (event_lines r.watches r.steps r.state e);
 }
 
 abbrev pub recorded_all : Recording → List Event → Recording

@@ -15,7 +15,7 @@ use Rattle.logix_run.specs.declared.line.Line.{Line}
 use Rattle.logix_run.specs.declared.line.Note.{Note}
 use Rattle.logix_run.specs.declared.line.Note.TheVariants.{Begin, Reply as Replied, Set}
 use Rattle.logix_run.specs.Lines.{lines_of, steps_of}
-use Rattle.logix_run.specs.Kept.{max_lines}
+use Rattle.spec_base.specs.declared.limits.TheConstants.{MAX_REPORT_LINES}
 use Rattle.logix_run.specs.Recording.{Recording}
 
 abbrev pub reply_text : Reply → List ℕ
@@ -60,10 +60,10 @@ end_text steps mode lost = codes "end 0 " ++ decimal steps ++ mode_text mode ++ 
 -- a run so far, as if it ended here
 abbrev pub recording_text : Recording → List ℕ
 recording_text r =
-    flat_map (line_text (names_of r.task r.program r.watches)) r.kept.lines ++ end_text r.steps r.state.mode r.kept.lost
+    flat_map (line_text (names_of r.task r.program r.watches)) r.log.lines ++ end_text r.steps r.state.mode r.log.lost
 
 -- the first lines of the run, and the end line with the number of the others
 unfoldable pub report : Plan → List Event → List ℕ
 report plan events =
     let lines = lines_of plan.watches 0 (start plan) events in
-    flat_map (line_text (names_of plan.task plan.program plan.watches)) (take max_lines lines) ++ end_text (steps_of 0 events) (run (start plan) events).mode (length lines - max_lines)
+    flat_map (line_text (names_of plan.task plan.program plan.watches)) (take MAX_REPORT_LINES lines) ++ end_text (steps_of 0 events) (run (start plan) events).mode (length lines - MAX_REPORT_LINES)

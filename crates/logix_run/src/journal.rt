@@ -1,8 +1,10 @@
 // Reads a journal.
-ghost use Rattle.std.specs.Prelude.{◌≡◌, ◌≤◌, length, option_map, IfOk, IfSome};
+ghost use Rattle.std.specs.Prelude.{◌≡◌, ◌≤◌, ◌+◌, length, option_map, IfOk, IfSome};
+ghost use Rattle.logix_run.specs.declared.limits.TheConstants.{MAX_STEPS, MAX_CHANGES};
 ghost use Rattle.logix_run.specs.Journal.{entry_of, entries_of, is_within_limits, journal_entries, events_of};
 ghost use Rattle.logix_run.specs.Pieces.{pieces};
 
+use crate::limits::{MAX_CHANGES, MAX_STEPS};
 use crate::pieces::{number_of, split_first};
 use lgx_num::{Items, Memory};
 use std::alloc::Global;
@@ -14,11 +16,7 @@ pub(crate) enum Entry {
     Cpu(u32),
 }
 
-/// The most processor steps of a journal, and the most changes to Run.
-const MAX_STEPS: u32 = 4_000_000;
-
-const MAX_CHANGES: u32 = 100_000;
-
+/// The entry that a line is.
 #[tactic(auto, unfolding(crate::specs::Journal::entry_of))]
 fn entry_of(line: &[u8]) -> Option<Entry>
     ensures { result ≡ entry_of line.now }
@@ -33,6 +31,7 @@ fn entry_of(line: &[u8]) -> Option<Entry>
     Some(Entry::Cpu(number_of(digits)?))
 }
 
+/// The entries of the lines down to `end`.
 fn read_entries(alloc: Global, bytes: &[u8]) -> Result<Option<Vec<Entry>>, Memory>
     ensures { IfOk result (λ o. option_map (λ v. v.items) o ≡ entries_of (pieces 10 bytes.now)) }
 {
@@ -54,6 +53,7 @@ fn read_entries(alloc: Global, bytes: &[u8]) -> Result<Option<Vec<Entry>>, Memor
     Ok(None)
 }
 
+/// Whether the journal asks for no more than a journal may.
 fn is_within_limits(entries: &[Entry]) -> bool
     ensures { result ≡ is_within_limits entries.now }
 {
@@ -82,7 +82,7 @@ fn is_within_limits(entries: &[Entry]) -> bool
 #[tactic(auto, unfolding(crate::specs::Journal::journal_entries), using(crate::proofs::Bounds::journal_entries_length))]
 pub(crate) fn read_journal(alloc: Global, bytes: &[u8]) -> Result<Option<Items<Entry>>, Memory>
     ensures entries { IfOk result (λ o. o ≡ journal_entries bytes.now) }
-    ensures short { IfOk result (λ o. IfSome o (λ es. length (events_of es) ≤ 4100000)) }
+    ensures short { IfOk result (λ o. IfSome o (λ es. length (events_of es) ≤ MAX_STEPS + MAX_CHANGES)) }
 {
     let Some(entries) = read_entries(alloc, bytes)? else {
         return Ok(None);

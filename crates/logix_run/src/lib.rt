@@ -4,7 +4,7 @@
 
 mod fields;
 mod journal;
-mod judge;
+mod limits;
 mod line;
 mod log;
 mod output;
@@ -14,9 +14,9 @@ mod project;
 mod put;
 mod recorder;
 mod report;
+mod request;
 mod rung;
 mod status;
-mod tags;
 mod words;
 
 pub use program::logix_plain;

@@ -1,17 +1,18 @@
-// Writes what was judged. No file is read here.
-ghost use Rattle.std.specs.Prelude.{◌≡◌, ◌≤◌, length, OnOk, OnErr, IsErrOf};
+// Writes what the words ask for. No file is read here.
+ghost use Rattle.std.specs.Prelude.{◌≡◌, ◌≤◌, ◌+◌, length, OnOk, OnErr, IsErrOf};
+ghost use Rattle.logix_run.specs.declared.limits.TheConstants.{MAX_WATCHES, MAX_STEPS, MAX_CHANGES};
 ghost use Rattle.logix_run.specs.Status.{status_after};
 ghost use Rattle.logix_run.specs.Journal.{events_of};
 ghost use Rattle.logix_run.specs.Report.{report};
 ghost use Rattle.std.specs.Io.KnownBytes.{Appends};
 ghost use Rattle.lgx_io.specs.Sink.{FaultsRose, AppendsPart};
-ghost use Rattle.logix_run.specs.Judging.{output, IsShort, Writes};
+ghost use Rattle.logix_run.specs.Request.{request_output, IsShort, Writes};
 
 use crate::journal::Entry;
-use crate::judge::Verdict;
 use crate::put::put_line;
 use crate::recorder::Recorder;
 use crate::report::write_report;
+use crate::request::Request;
 use crate::status::Status;
 use lgx_core::Project;
 use lgx_io::{Sink, SinkFault};
@@ -27,8 +28,8 @@ fn write_run<K: Sink>(
     journal: &[Entry],
     sink: &mut K,
 ) -> Result<(), SinkFault>
-    requires few { length project.watches ≤ 256 }
-    requires short { length (events_of journal.now) ≤ 4100000 }
+    requires few { length project.watches ≤ MAX_WATCHES }
+    requires short { length (events_of journal.now) ≤ MAX_STEPS + MAX_CHANGES }
     ensures whole { OnOk result (Appends (K.held sink.old) (K.held sink.new) (report project (events_of journal.now))) }
     ensures part { OnErr result (AppendsPart (K.held sink.old) (K.held sink.new) (report project (events_of journal.now))) }
     ensures failed { IsErrOf result SinkFault.Failed → FaultsRose (K.faults sink.old) (K.faults sink.new) }
@@ -51,17 +52,18 @@ fn status_after(done: Result<(), SinkFault>, whole: Status) -> Status
     }
 }
 
-/// Writes the verdict's text, and answers its status, or that of the fault that cut it off.
-pub(crate) fn write_output<K: Sink>(alloc: Global, verdict: Verdict, sink: &mut K) -> Status
-    requires { IsShort verdict }
-    ensures { Writes (K.held sink.old) (K.held sink.new) (K.faults sink.old) (K.faults sink.new)
-        (output verdict) result }
+/// Writes the request's text, and answers its status, or that of the fault that cut it off.
+pub(crate) fn write_output<K: Sink>(alloc: Global, request: Request, sink: &mut K) -> Status
+    requires { IsShort request }
+    ensures { Writes (record { old = K.held sink.old; new = K.held sink.new })
+        (record { old = K.faults sink.old; new = K.faults sink.new })
+        (request_output request) result }
 {
-    match verdict {
-        Verdict::Usage => status_after(put_line(USAGE, sink), Status::Usage),
-        Verdict::NoProject => status_after(put_line(b"project P0\n", sink), Status::Project),
-        Verdict::NoJournal => status_after(put_line(b"journal J0\n", sink), Status::Script),
-        Verdict::Report(project, journal) => {
+    match request {
+        Request::Usage => status_after(put_line(USAGE, sink), Status::Usage),
+        Request::NoProject => status_after(put_line(b"project P0\n", sink), Status::Project),
+        Request::NoJournal => status_after(put_line(b"journal J0\n", sink), Status::Script),
+        Request::Report(project, journal) => {
             let done = write_run(alloc, project, journal.as_slice(), sink);
             status_after(done, Status::Ok)
         }

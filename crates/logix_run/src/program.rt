@@ -1,29 +1,32 @@
 // The program, over any files and any sink.
-ghost use Rattle.std.specs.Prelude.{◌≡◌, map, string_bytes};
-ghost use Rattle.lgx_io.specs.Sink.{FaultsRose};
-ghost use Rattle.logix_run.specs.Words.{replay_of};
-ghost use Rattle.logix_run.specs.Judging.{Ended};
-ghost use Rattle.logix_run.specs.Outside.{Adds, AddsFailure};
-ghost use Rattle.logix_run.specs.Where.{OnlyUsage, IsUsage, OnlyProject, IsProject, OnlyScript, IsScript, OnlyOk, IsOk, IsProjectTooLong, IsJournalTooLong};
+ghost use Rattle.std.specs.Prelude.{map, string_bytes};
+ghost use Rattle.logix_run.specs.Request.{Ended};
+ghost use Rattle.logix_run.specs.Causes.{IsAnswered};
 
-use crate::judge::judge;
 use crate::output::write_output;
+use crate::request::read_request;
 use crate::status::Status;
 use lgx_io::{Files, Sink};
 use std::alloc::Global;
 
-fn judge_and_write<F: Files, K: Sink>(
+/// Reads what the words ask for, and writes its output.
+fn read_and_write<F: Files, K: Sink>(
     alloc: Global,
     words: &[String],
     files: &mut F,
     sink: &mut K,
 ) -> Status
-    ensures { Ended (F.told files.old) (F.failures files.old) (F.failures files.new)
-        (K.held sink.old) (K.held sink.new) (K.faults sink.old) (K.faults sink.new)
-        (replay_of (map string_bytes words.now)) result }
+    ensures { Ended (record {
+      told = F.told files.old;
+      failures = record { old = F.failures files.old; new = F.failures files.new };
+      held = record { old = K.held sink.old; new = K.held sink.new };
+      faults = record { old = K.faults sink.old; new = K.faults sink.new };
+      words = map string_bytes words.now;
+      answer = result;
+    }) }
 {
-    match judge(alloc, words, files) {
-        Ok(verdict) => write_output(alloc, verdict, sink),
+    match read_request(alloc, words, files) {
+        Ok(request) => write_output(alloc, request, sink),
         Err(status) => status,
     }
 }
@@ -38,28 +41,14 @@ pub fn logix_plain<F: Files, K: Sink>(
     files: &mut F,
     sink: &mut K,
 ) -> Status
-    // what was written: at `Ok`, `Usage`, `Project` and `Script` all of the text that the words and the files call
-    // for, at `WriteFault` and `Memory` a first part of it, at `ReadFault` and `TooLong` nothing
-    ensures adds { Adds (F.told files.old) (K.held sink.old) (K.held sink.new) (map string_bytes words.now) result }
-    // the list of failures gains the file that failed or is too long, and nothing at any other status
-    ensures failures { AddsFailure (F.told files.old) (F.failures files.old) (F.failures files.new)
-        (map string_bytes words.now) result }
-    ensures write_fault { result ≡ Status.WriteFault → FaultsRose (K.faults sink.old) (K.faults sink.new) }
-    ensures only_usage { OnlyUsage (map string_bytes words.now) result }
-    ensures usage { IsUsage (K.faults sink.old) (K.faults sink.new) (map string_bytes words.now) result }
-    ensures only_project { OnlyProject (F.told files.old) (map string_bytes words.now) result }
-    ensures project { IsProject (F.told files.old) (F.failures files.old) (F.failures files.new)
-        (K.faults sink.old) (K.faults sink.new) (map string_bytes words.now) result }
-    ensures only_script { OnlyScript (F.told files.old) (map string_bytes words.now) result }
-    ensures script { IsScript (F.told files.old) (F.failures files.old) (F.failures files.new)
-        (K.faults sink.old) (K.faults sink.new) (map string_bytes words.now) result }
-    ensures only_ok { OnlyOk (F.told files.old) (map string_bytes words.now) result }
-    ensures ok { IsOk (F.told files.old) (F.failures files.old) (F.failures files.new)
-        (K.faults sink.old) (K.faults sink.new) (map string_bytes words.now) result }
-    ensures project_too_long { IsProjectTooLong (F.told files.old) (F.failures files.old) (F.failures files.new)
-        (map string_bytes words.now) result }
-    ensures journal_too_long { IsJournalTooLong (F.told files.old) (F.failures files.old) (F.failures files.new)
-        (map string_bytes words.now) result }
+    ensures { IsAnswered (record {
+      told = F.told files.old;
+      failures = record { old = F.failures files.old; new = F.failures files.new };
+      held = record { old = K.held sink.old; new = K.held sink.new };
+      faults = record { old = K.faults sink.old; new = K.faults sink.new };
+      words = map string_bytes words.now;
+      answer = result;
+    }) }
 {
-    judge_and_write(alloc, words, files, sink)
+    read_and_write(alloc, words, files, sink)
 }

@@ -3,20 +3,24 @@ ghost use Rattle.std.specs.Prelude.{◌≡◌, ◌<◌, ◌≤◌, length, optio
 ghost use Rattle.std.specs.Str.{IsUtf8};
 ghost use Rattle.serde_json.specs.View.{view, items_view};
 ghost use Rattle.lgx_core.specs.Project.{rungs_fit, initial_fits, watches_fit};
+ghost use Rattle.logix_run.specs.declared.limits.TheConstants.{MAX_TAGS, MAX_WATCHES};
 ghost use Rattle.logix_run.specs.Project.{tag_name, names_of, rungs_of, routine_of, program_of, task_of, initial_of, initials_of, watch_of, watches_of, tags_of, the_program, the_task, the_initials, the_watches, plan_of, value_of, project_of};
 
 use crate::fields::{
     Object, is_object_of, list_at, name_at, number_at, only_item, optional_list_at, text_at,
 };
-use crate::rung::rung_of;
-use crate::tags::Tags;
+use crate::limits::{MAX_INITIALS, MAX_RUNGS, MAX_TAGS, MAX_WATCHES};
+use crate::rung::{rung_of, tag_at};
 use lgx_core::{Initial, Ins, Project, Watch};
+use lgx_names::NameIndex;
 use lgx_num::{Items, Memory, Name, same};
 use serde_json::Value;
+use spec_base::limits::MAX_ROUTINE_INSTRUCTIONS;
 use std::alloc::Global;
 
 type Rungs = Vec<Items<Ins>>;
 
+/// The name of a tag.
 #[tactic(auto, unfolding(crate::specs::Project::tag_name))]
 fn tag_name(value: &Value) -> Option<Name>
     ensures { result ≡ tag_name (view value.now) }
@@ -32,37 +36,39 @@ fn tag_name(value: &Value) -> Option<Name>
     Some(name)
 }
 
+/// The names of the tags, each once.
 #[tactic(auto, using(crate::proofs::Items::item_counts), unfolding(crate::specs::Project::names_of))]
-fn names_of(alloc: Global, tags: &[Value]) -> Result<Option<Tags>, Memory>
+fn names_of(alloc: Global, tags: &[Value]) -> Result<Option<NameIndex>, Memory>
     ensures names { IfOk result (λ o. o ≡ names_of (items_view tags.now)) }
-    ensures few { IfOk result (λ o. IfSome o (λ names. length names ≤ 4096)) }
+    ensures few { IfOk result (λ o. IfSome o (λ names. length names ≤ MAX_TAGS)) }
 {
-    if tags.len() > 4096 {
+    if tags.len() > MAX_TAGS {
         return Ok(None);
     }
-    let mut names = Tags::new(alloc);
+    let mut names = NameIndex::new(alloc);
     for tag in tags {
         let Some(name) = tag_name(tag) else {
             return Ok(None);
         };
-        if !names.add(alloc, name)? {
+        if tag_at(&names, name.bytes()).is_some() {
             return Ok(None);
         }
+        names.push(&name)?;
     }
     Ok(Some(names))
 }
 
+/// The rungs of a routine.
 #[tactic(auto, using(crate::proofs::Items::item_counts), unfolding(crate::specs::Project::rungs_of))]
-fn rungs_of(alloc: Global, names: &Tags, texts: &[Value]) -> Result<Option<Rungs>, Memory>
-    requires { length names.now ≤ 4096 }
+fn rungs_of(alloc: Global, names: &NameIndex, texts: &[Value]) -> Result<Option<Rungs>, Memory>
     ensures rungs { IfOk result (λ o. option_map (λ v. v.items) o ≡ rungs_of names.now (items_view texts.now)) }
     ensures fit { IfOk result (λ o. IfSome o (λ v. IsTrue (rungs_fit (length names.now) v.items))) }
 {
-    if texts.len() > 10_000 {
+    if texts.len() > MAX_RUNGS {
         return Ok(None);
     }
     let mut rungs = Vec::new(alloc);
-    let mut left = 65_536;
+    let mut left = MAX_ROUTINE_INSTRUCTIONS;
     for text in texts {
         let Some(text) = text.as_str() else {
             return Ok(None);
@@ -79,14 +85,14 @@ fn rungs_of(alloc: Global, names: &Tags, texts: &[Value]) -> Result<Option<Rungs
     Ok(Some(rungs))
 }
 
+/// The rungs of the one routine, which is the main routine.
 #[tactic(auto, unfolding(crate::specs::Project::routine_of))]
 fn routine_of(
     alloc: Global,
-    names: &Tags,
+    names: &NameIndex,
     main: &Name,
     value: &Value,
 ) -> Result<Option<Rungs>, Memory>
-    requires { length names.now ≤ 4096 }
     ensures rungs { IfOk result (λ o. option_map (λ v. v.items) o ≡ routine_of names.now main.now (view value.now)) }
     ensures fit { IfOk result (λ o. IfSome o (λ v. IsTrue (rungs_fit (length names.now) v.items))) }
 {
@@ -105,13 +111,13 @@ fn routine_of(
     rungs_of(alloc, names, texts)
 }
 
+/// The name of a program and the rungs of its one routine.
 #[tactic(auto, unfolding(crate::specs::Project::program_of))]
 fn program_of(
     alloc: Global,
-    names: &Tags,
+    names: &NameIndex,
     value: &Value,
 ) -> Result<Option<(Name, Items<Items<Ins>>)>, Memory>
-    requires { length names.now ≤ 4096 }
     ensures program { IfOk result (λ o. o ≡ program_of names.now (view value.now)) }
     ensures fit { IfOk result (λ o. IfSome o (λ p. IsTrue (rungs_fit (length names.now) p.1))) }
 {
@@ -136,6 +142,7 @@ fn program_of(
     Ok(Some((name, Items::of(rungs))))
 }
 
+/// The name of the continuous task that has that program.
 #[tactic(auto, unfolding(crate::specs::Project::task_of))]
 fn task_of(program: &Name, value: &Value) -> Option<Name>
     ensures { result ≡ task_of program.now (view value.now) }
@@ -156,49 +163,43 @@ fn task_of(program: &Name, value: &Value) -> Option<Name>
     Some(name)
 }
 
+/// A value at the start.
 #[tactic(auto, unfolding(crate::specs::Project::initial_of))]
-fn initial_of(alloc: Global, names: &Tags, value: &Value) -> Result<Option<Initial>, Memory>
-    requires { length names.now ≤ 4096 }
-    ensures initial { IfOk result (λ o. o ≡ initial_of names.now (view value.now)) }
-    ensures below { IfOk result (λ o. IfSome o (λ x. x.tag < length names.now)) }
+fn initial_of(names: &NameIndex, value: &Value) -> Option<Initial>
+    ensures initial { result ≡ initial_of names.now (view value.now) }
+    ensures below { IfSome result (λ x. x.tag < length names.now) }
 {
     if !is_object_of(Object::Initial, value) {
-        return Ok(None);
+        return None;
     }
-    let Some(text) = text_at("tag", value) else {
-        return Ok(None);
-    };
-    let Some(tag) = names.find(alloc, text.as_bytes())? else {
-        return Ok(None);
-    };
-    let Some(number) = number_at("value", value) else {
-        return Ok(None);
-    };
+    let text = text_at("tag", value)?;
+    let tag = tag_at(names, text.as_bytes())?;
+    let number = number_at("value", value)?;
     if number > 1 {
-        return Ok(None);
+        return None;
     }
-    Ok(Some(Initial {
+    Some(Initial {
         tag,
         value: number == 1,
-    }))
+    })
 }
 
+/// The values at the start.
 #[tactic(auto, using(crate::proofs::Items::item_counts), unfolding(crate::specs::Project::initials_of))]
 fn initials_of(
     alloc: Global,
-    names: &Tags,
+    names: &NameIndex,
     values: &[Value],
 ) -> Result<Option<Vec<Initial>>, Memory>
-    requires { length names.now ≤ 4096 }
     ensures initials { IfOk result (λ o. option_map (λ v. v.items) o ≡ initials_of names.now (items_view values.now)) }
     ensures fit { IfOk result (λ o. IfSome o (λ v. IsTrue (initial_fits (length names.now) v.items))) }
 {
-    if values.len() > 10_000 {
+    if values.len() > MAX_INITIALS {
         return Ok(None);
     }
     let mut done = Vec::new(alloc);
     for value in values {
-        let Some(x) = initial_of(alloc, names, value)? else {
+        let Some(x) = initial_of(names, value) else {
             return Ok(None);
         };
         done.push(x)?;
@@ -206,37 +207,35 @@ fn initials_of(
     Ok(Some(done))
 }
 
+/// A watch.
 #[tactic(auto, unfolding(crate::specs::Project::watch_of))]
-fn watch_of(alloc: Global, names: &Tags, value: &Value) -> Result<Option<Watch>, Memory>
-    requires { length names.now ≤ 4096 }
-    ensures watch { IfOk result (λ o. o ≡ watch_of names.now (view value.now)) }
-    ensures below { IfOk result (λ o. IfSome o (λ w. w.tag < length names.now)) }
+fn watch_of(names: &NameIndex, value: &Value) -> Option<Watch>
+    ensures watch { result ≡ watch_of names.now (view value.now) }
+    ensures below { IfSome result (λ w. w.tag < length names.now) }
 {
-    let Some(text) = value.as_str() else {
-        return Ok(None);
-    };
-    let Some(text) = Name::read(text.as_bytes()) else {
-        return Ok(None);
-    };
-    let Some(tag) = names.find(alloc, text.bytes())? else {
-        return Ok(None);
-    };
-    Ok(Some(Watch { text, tag }))
+    let text = value.as_str()?;
+    let text = Name::read(text.as_bytes())?;
+    let tag = tag_at(names, text.bytes())?;
+    Some(Watch { text, tag })
 }
 
+/// The watch list.
 #[tactic(auto, using(crate::proofs::Items::item_counts), unfolding(crate::specs::Project::watches_of))]
-fn watches_of(alloc: Global, names: &Tags, values: &[Value]) -> Result<Option<Vec<Watch>>, Memory>
-    requires { length names.now ≤ 4096 }
+fn watches_of(
+    alloc: Global,
+    names: &NameIndex,
+    values: &[Value],
+) -> Result<Option<Vec<Watch>>, Memory>
     ensures watches { IfOk result (λ o. option_map (λ v. v.items) o ≡ watches_of names.now (items_view values.now)) }
     ensures fit { IfOk result (λ o. IfSome o (λ v. IsTrue (watches_fit (length names.now) v.items))) }
-    ensures few { IfOk result (λ o. IfSome o (λ v. length v.items ≤ 256)) }
+    ensures few { IfOk result (λ o. IfSome o (λ v. length v.items ≤ MAX_WATCHES)) }
 {
-    if values.len() > 256 {
+    if values.len() > MAX_WATCHES {
         return Ok(None);
     }
     let mut done = Vec::new(alloc);
     for value in values {
-        let Some(x) = watch_of(alloc, names, value)? else {
+        let Some(x) = watch_of(names, value) else {
             return Ok(None);
         };
         done.push(x)?;
@@ -244,10 +243,11 @@ fn watches_of(alloc: Global, names: &Tags, values: &[Value]) -> Result<Option<Ve
     Ok(Some(done))
 }
 
+/// The names of the tags of a project.
 #[tactic(auto, unfolding(crate::specs::Project::tags_of))]
-fn tags_of(alloc: Global, value: &Value) -> Result<Option<Tags>, Memory>
+fn tags_of(alloc: Global, value: &Value) -> Result<Option<NameIndex>, Memory>
     ensures names { IfOk result (λ o. o ≡ tags_of (view value.now)) }
-    ensures few { IfOk result (λ o. IfSome o (λ names. length names ≤ 4096)) }
+    ensures few { IfOk result (λ o. IfSome o (λ names. length names ≤ MAX_TAGS)) }
 {
     if !is_object_of(Object::Top, value) || number_at("schema", value) != Some(1) {
         return Ok(None);
@@ -261,13 +261,13 @@ fn tags_of(alloc: Global, value: &Value) -> Result<Option<Tags>, Memory>
     names_of(alloc, tags)
 }
 
+/// The one program of a project.
 #[tactic(auto, unfolding(crate::specs::Project::the_program))]
 fn the_program(
     alloc: Global,
-    names: &Tags,
+    names: &NameIndex,
     value: &Value,
 ) -> Result<Option<(Name, Items<Items<Ins>>)>, Memory>
-    requires { length names.now ≤ 4096 }
     ensures program { IfOk result (λ o. o ≡ the_program names.now (view value.now)) }
     ensures fit { IfOk result (λ o. IfSome o (λ p. IsTrue (rungs_fit (length names.now) p.1))) }
 {
@@ -280,6 +280,7 @@ fn the_program(
     program_of(alloc, names, one)
 }
 
+/// The one task of a project.
 #[tactic(auto, unfolding(crate::specs::Project::the_task))]
 fn the_task(program: &Name, value: &Value) -> Option<Name>
     ensures { result ≡ the_task program.now (view value.now) }
@@ -289,9 +290,13 @@ fn the_task(program: &Name, value: &Value) -> Option<Name>
     task_of(program, one)
 }
 
+/// The values at the start of a project.
 #[tactic(auto, unfolding(crate::specs::Project::the_initials))]
-fn the_initials(alloc: Global, names: &Tags, value: &Value) -> Result<Option<Vec<Initial>>, Memory>
-    requires { length names.now ≤ 4096 }
+fn the_initials(
+    alloc: Global,
+    names: &NameIndex,
+    value: &Value,
+) -> Result<Option<Vec<Initial>>, Memory>
     ensures initials { IfOk result (λ o. option_map (λ v. v.items) o ≡ the_initials names.now (view value.now)) }
     ensures fit { IfOk result (λ o. IfSome o (λ v. IsTrue (initial_fits (length names.now) v.items))) }
 {
@@ -301,12 +306,16 @@ fn the_initials(alloc: Global, names: &Tags, value: &Value) -> Result<Option<Vec
     initials_of(alloc, names, list)
 }
 
+/// The watch list of a project.
 #[tactic(auto, unfolding(crate::specs::Project::the_watches))]
-fn the_watches(alloc: Global, names: &Tags, value: &Value) -> Result<Option<Vec<Watch>>, Memory>
-    requires { length names.now ≤ 4096 }
+fn the_watches(
+    alloc: Global,
+    names: &NameIndex,
+    value: &Value,
+) -> Result<Option<Vec<Watch>>, Memory>
     ensures watches { IfOk result (λ o. option_map (λ v. v.items) o ≡ the_watches names.now (view value.now)) }
     ensures fit { IfOk result (λ o. IfSome o (λ v. IsTrue (watches_fit (length names.now) v.items))) }
-    ensures few { IfOk result (λ o. IfSome o (λ v. length v.items ≤ 256)) }
+    ensures few { IfOk result (λ o. IfSome o (λ v. length v.items ≤ MAX_WATCHES)) }
 {
     let Some(list) = optional_list_at("watch", value) else {
         return Ok(None);
@@ -314,10 +323,11 @@ fn the_watches(alloc: Global, names: &Tags, value: &Value) -> Result<Option<Vec<
     watches_of(alloc, names, list)
 }
 
+/// The project that a JSON value is.
 #[tactic(auto, unfolding(crate::specs::Project::plan_of))]
 fn plan_of(alloc: Global, value: &Value) -> Result<Option<Project>, Memory>
     ensures plan { IfOk result (λ o. o ≡ plan_of (view value.now)) }
-    ensures few { IfOk result (λ o. IfSome o (λ p. length p.watches ≤ 256)) }
+    ensures few { IfOk result (λ o. IfSome o (λ p. length p.watches ≤ MAX_WATCHES)) }
 {
     let Some(names) = tags_of(alloc, value)? else {
         return Ok(None);
@@ -344,7 +354,7 @@ fn plan_of(alloc: Global, value: &Value) -> Result<Option<Project>, Memory>
     }))
 }
 
-// The value that the bytes are.
+/// The value that the bytes are.
 fn read_value(alloc: Global, bytes: &[u8]) -> Result<Option<Value>, Memory>
     ensures { IfOk result (λ o. option_map view o ≡ value_of bytes.now) }
 {
@@ -363,7 +373,7 @@ fn read_value(alloc: Global, bytes: &[u8]) -> Result<Option<Value>, Memory>
 #[tactic(auto, unfolding(crate::specs::Project::project_of))]
 pub(crate) fn read_project(alloc: Global, bytes: &[u8]) -> Result<Option<Project>, Memory>
     ensures plan { IfOk result (λ o. o ≡ project_of bytes.now) }
-    ensures few { IfOk result (λ o. IfSome o (λ p. length p.watches ≤ 256)) }
+    ensures few { IfOk result (λ o. IfSome o (λ p. length p.watches ≤ MAX_WATCHES)) }
 {
     let Some(value) = read_value(alloc, bytes)? else {
         return Ok(None);

@@ -1,7 +1,8 @@
 // Runs a journal and keeps the lines of its report.
 ghost use Rattle.std.specs.Prelude.{◌≡◌, ◌≤◌, ◌<◌, ◌+◌, ◌^◌, length, IfOk, IsTrue};
 ghost use Rattle.lgx_core.specs.Project.{watches_fit};
-ghost use Rattle.logix_run.specs.Kept.{with_lines};
+ghost use Rattle.logix_run.specs.declared.limits.TheConstants.{MAX_WATCHES};
+ghost use Rattle.logix_run.specs.BoundedLog.{with_lines};
 ghost use Rattle.logix_run.specs.Lines.{watched, change, changes, step_lines};
 
 use crate::journal::Entry;
@@ -24,7 +25,8 @@ pub(crate) struct Recorder {
 }
 
 impl Model for Recorder {
-    ghost use Rattle.std.specs.Prelude.{◌≡◌, ◌≤◌, ◌*◌, length, IsTrue};
+    ghost use Rattle.std.specs.Prelude.{◌≡◌, ◌≤◌, ◌+◌, ◌*◌, length, IsTrue};
+    ghost use Rattle.logix_run.specs.declared.limits.TheConstants.{MAX_WATCHES};
     ghost use Rattle.lgx_core.specs.Project.{watches_fit};
     ghost use Rattle.logix_run.specs.Lines.{watched};
     ghost use Rattle.logix_run.specs.Recording.{Recording};
@@ -38,17 +40,17 @@ impl Model for Recorder {
       state = r.controller.state;
       steps = r.steps;
       spent = r.controller.spent;
-      kept = r.log;
+      log = r.log;
     } };
 
     ghost invariant = { λ r. IsTrue (watches_fit (length r.controller.state.bits) r.watches)
-        × (length r.watches ≤ 256)
+        × (length r.watches ≤ MAX_WATCHES)
         × (r.seen.items ≡ watched r.watches r.controller.state.bits)
-        × (r.log.lost ≤ 257 * r.controller.spent)
+        × (r.log.lost ≤ (MAX_WATCHES + 1) * r.controller.spent)
         × (r.steps ≤ r.controller.spent) };
 }
 
-// Keeps a line where a watched bit has changed.
+/// Keeps a line if a watched bit has changed.
 fn note_change(log: &mut Log, seen: &mut bool, bit: bool, steps: u32, watch: u32)
     requires { log.old.lost < 2 ^ 63 }
     ensures log { log.new ≡ with_lines log.old (change steps watch seen.old bit) }
@@ -64,6 +66,7 @@ fn note_change(log: &mut Log, seen: &mut bool, bit: bool, steps: u32, watch: u32
     }
 }
 
+/// Keeps a line for each watched bit that has changed.
 fn note_changes(
     log: &mut Log,
     seen: &mut [bool],
@@ -73,11 +76,11 @@ fn note_changes(
 )
     requires fit { IsTrue (watches_fit (length controller.now.state.bits) watches.now) }
     requires seen { length seen.old ≡ length watches.now }
-    requires few { length watches.now ≤ 256 }
-    requires room { log.old.lost + 256 < 2 ^ 63 }
+    requires few { length watches.now ≤ MAX_WATCHES }
+    requires room { log.old.lost + MAX_WATCHES < 2 ^ 63 }
     ensures log { log.new ≡ with_lines log.old (changes steps 0 seen.old (watched watches.now controller.now.state.bits)) }
     ensures seen { seen.new ≡ watched watches.now controller.now.state.bits }
-    ensures lost { log.new.lost ≤ log.old.lost + 256 }
+    ensures lost { log.new.lost ≤ log.old.lost + MAX_WATCHES }
 {
     for (i, watch) in watches.iter().enumerate() {
         let bit = controller.read(watch.tag);
@@ -85,6 +88,7 @@ fn note_changes(
     }
 }
 
+/// Keeps a line if the step began a scan.
 fn note_step(log: &mut Log, steps: u32, what: What)
     requires { log.old.lost < 2 ^ 63 }
     ensures log { log.new ≡ with_lines log.old (step_lines steps what) }
@@ -98,7 +102,7 @@ fn note_step(log: &mut Log, steps: u32, what: What)
     }
 }
 
-// The watched bits.
+/// The watched bits.
 fn look(alloc: Global, watches: &[Watch], controller: &Controller) -> Result<Vec<bool>, Memory>
     requires { IsTrue (watches_fit (length controller.now.state.bits) watches.now) }
     ensures { IfOk result (λ seen. seen.items ≡ watched watches.now controller.now.state.bits) }
@@ -112,12 +116,14 @@ fn look(alloc: Global, watches: &[Watch], controller: &Controller) -> Result<Vec
 
 impl Recorder {
     ghost use Rattle.std.specs.Prelude.{◌≡◌, ◌≤◌, ◌<◌, ◌+◌, length, replicate, IfOk};
+    ghost use Rattle.spec_base.specs.declared.limits.TheConstants.{MAX_EVENTS};
+    ghost use Rattle.logix_run.specs.declared.limits.TheConstants.{MAX_WATCHES};
     ghost use Rattle.lgx_core.specs.declared.event.Event.TheVariants as event;
     ghost use Rattle.logix_run.specs.Journal.{entry_events, events_of};
     ghost use Rattle.logix_run.specs.Recording.{opening, recorded, recorded_all};
 
     pub fn new(alloc: Global, project: Project) -> Result<Recorder, Memory>
-        requires { length project.watches ≤ 256 }
+        requires { length project.watches ≤ MAX_WATCHES }
         ensures { IfOk result (λ r. r ≡ opening project) }
     {
         let Project {
@@ -151,7 +157,7 @@ impl Recorder {
     }
 
     fn cpu(&mut self)
-        requires { self.old.spent < 1000000000 }
+        requires { self.old.spent < MAX_EVENTS }
         ensures recorded { self.new ≡ recorded self.old event.Cpu }
         ensures spent { self.new.spent ≡ self.old.spent + 1 }
     {
@@ -168,7 +174,7 @@ impl Recorder {
     }
 
     fn mode_run(&mut self)
-        requires { self.old.spent < 1000000000 }
+        requires { self.old.spent < MAX_EVENTS }
         ensures recorded { self.new ≡ recorded self.old event.ModeRun }
         ensures spent { self.new.spent ≡ self.old.spent + 1 }
     {
@@ -187,7 +193,7 @@ impl Recorder {
     }
 
     fn cpus(&mut self, count: u32)
-        requires { self.old.spent + count ≤ 1000000000 }
+        requires { self.old.spent + count ≤ MAX_EVENTS }
         ensures recorded { self.new ≡ recorded_all self.old (replicate count event.Cpu) }
         ensures spent { self.new.spent ≡ self.old.spent + count }
     {
@@ -197,7 +203,7 @@ impl Recorder {
     }
 
     fn entry(&mut self, entry: Entry)
-        requires { self.old.spent + length (entry_events entry) ≤ 1000000000 }
+        requires { self.old.spent + length (entry_events entry) ≤ MAX_EVENTS }
         ensures recorded { self.new ≡ recorded_all self.old (entry_events entry) }
         ensures spent { self.new.spent ≡ self.old.spent + length (entry_events entry) }
     {
@@ -208,7 +214,7 @@ impl Recorder {
     }
 
     pub fn run(&mut self, journal: &[Entry])
-        requires { self.old.spent + length (events_of journal.now) ≤ 1000000000 }
+        requires { self.old.spent + length (events_of journal.now) ≤ MAX_EVENTS }
         ensures { self.new ≡ recorded_all self.old (events_of journal.now) }
     {
         for entry in journal {
@@ -235,13 +241,13 @@ impl Recorder {
     }
 
     pub fn lines(&self) -> &[Line]
-        ensures { result.now ≡ self.now.kept.lines }
+        ensures { result.now ≡ self.now.log.lines }
     {
         self.log.lines()
     }
 
     pub fn lost(&self) -> u64
-        ensures { result ≡ self.now.kept.lost }
+        ensures { result ≡ self.now.log.lost }
     {
         self.log.lost()
     }

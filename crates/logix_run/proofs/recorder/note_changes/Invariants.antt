@@ -1,5 +1,5 @@
 use Rattle.std.proofs.Common.{◌≡◌, ◌≤◌, ◌+◌, take, drop, length}
-use Rattle.logix_run.specs.Kept.{with_lines}
+use Rattle.logix_run.specs.BoundedLog.{with_lines}
 use Rattle.logix_run.specs.Lines.{watched, changes}
 use Rattle.logix_run.proofs.recorder.note_changes.Given as goal
 

@@ -7,7 +7,7 @@ use Rattle.logix_run.proofs.report.write_report.Goals as goal
 pub returns-in_err-write_lines-clause-part : goal.returns-in_err-write_lines-clause-part
 returns-in_err-write_lines-clause-part g c =
     let r = c.args.recorder.now in
-    part_of_first c.from_residual.result _ _ _ (end_text r.steps r.state.mode r.kept.lost) _ c.in_err-write_lines.ensures.part (rw (c.task.ensures, c.program.ensures, c.watches.ensures, c.lines.ensures))
+    part_of_first c.from_residual.result _ _ _ (end_text r.steps r.state.mode r.log.lost) _ c.in_err-write_lines.ensures.part (rw (c.task.ensures, c.program.ensures, c.watches.ensures, c.lines.ensures))
 
 pub returns-clause-whole : goal.returns-clause-whole
 returns-clause-whole g c =

@@ -1,7 +1,7 @@
-// Reads the files that the words name and judges them. Nothing is written here.
+// Reads the files that the words name. Nothing is written here.
 ghost use Rattle.std.specs.Prelude.{◌≡◌, map, string_bytes, Some, IfOk};
 ghost use Rattle.logix_run.specs.Words.{replay_of};
-ghost use Rattle.logix_run.specs.Judging.{Ends, IsShort};
+ghost use Rattle.logix_run.specs.Request.{Ends, IsShort};
 
 use crate::journal::{Entry, read_journal};
 use crate::project::read_project;
@@ -12,49 +12,49 @@ use lgx_io::Files;
 use lgx_num::Items;
 use std::alloc::Global;
 
-/// What the words and the files turned out to be.
+/// What the words ask for, by the files that they name.
 #[derive(Drop)]
-pub(crate) enum Verdict {
+pub(crate) enum Request {
     Usage,
     NoProject,
     NoJournal,
     Report(Project, Items<Entry>),
 }
 
-// The journal is read only where the project is one.
-fn judge_files<F: Files>(
+/// The journal is read only if the project is one.
+fn read_files<F: Files>(
     alloc: Global,
     project: &str,
     journal: &str,
     files: &mut F,
-) -> Result<Verdict, Status>
-    ensures ends { Ends (F.told files.old) (F.failures files.old) (F.failures files.new)
+) -> Result<Request, Status>
+    ensures ends { Ends (F.told files.old) (record { old = F.failures files.old; new = F.failures files.new })
         (Some (project.now, journal.now)) result }
     ensures short { IfOk result IsShort }
 {
     let bytes = files.read(project)?;
     let Some(project) = read_project(alloc, &bytes)? else {
-        return Ok(Verdict::NoProject);
+        return Ok(Request::NoProject);
     };
     let bytes = files.read(journal)?;
     let Some(journal) = read_journal(alloc, &bytes)? else {
-        return Ok(Verdict::NoJournal);
+        return Ok(Request::NoJournal);
     };
-    Ok(Verdict::Report(project, journal))
+    Ok(Request::Report(project, journal))
 }
 
-/// What the words and the files that they name are.
-pub(crate) fn judge<F: Files>(
+/// What the words ask for.
+pub(crate) fn read_request<F: Files>(
     alloc: Global,
     words: &[String],
     files: &mut F,
-) -> Result<Verdict, Status>
-    ensures ends { Ends (F.told files.old) (F.failures files.old) (F.failures files.new)
+) -> Result<Request, Status>
+    ensures ends { Ends (F.told files.old) (record { old = F.failures files.old; new = F.failures files.new })
         (replay_of (map string_bytes words.now)) result }
     ensures short { IfOk result IsShort }
 {
     match replay_of(words) {
-        Some(Replay { project, journal }) => judge_files(alloc, project, journal, files),
-        None => Ok(Verdict::Usage),
+        Some(Replay { project, journal }) => read_files(alloc, project, journal, files),
+        None => Ok(Request::Usage),
     }
 }

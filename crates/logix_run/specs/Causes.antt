@@ -1,0 +1,95 @@
+-- The cause of each status, and all that is said of a call. Out of memory may come at any time, and each 'exactly if' yields
+-- to it.
+use Rattle.std.specs.Prelude.{◌≡◌, ◌⊎◌, ◌≤◌, ℕ, List, length, Option, Some, None, IsSome, IfSome}
+use Rattle.spec_base.specs.declared.limits.TheConstants.{MAX_FILE_BYTES}
+use Rattle.logix_run.specs.declared.status.Status.{Status}
+use Rattle.logix_run.specs.declared.status.Status.TheVariants as status
+use Rattle.logix_run.specs.Project.{project_of}
+use Rattle.logix_run.specs.Journal.{journal_of}
+use Rattle.logix_run.specs.Words.{replay_of}
+use Rattle.logix_run.specs.Call.{Call, Adds, AddsFailure, NotFailed, PutFailed, NoPutFailed, IsAccepted, IsTooLong}
+
+-- this status, or out of memory
+abbrev pub IsOrMemory : Status → Status → Type 0
+IsOrMemory wanted result = (result ≡ wanted) ⊎ (result ≡ status.Memory)
+
+-- the words are none of the lists
+abbrev pub IsNoList : List (List ℕ) → Type 0
+IsNoList words = replay_of words ≡ None
+
+-- the bytes are short enough to be read, and no project
+abbrev pub IsNoProject : List ℕ → Type 0
+IsNoProject bytes = (length bytes ≤ MAX_FILE_BYTES) × (project_of bytes ≡ None)
+
+abbrev pub IsNoJournal : List ℕ → Type 0
+IsNoJournal bytes = (length bytes ≤ MAX_FILE_BYTES) × (journal_of bytes ≡ None)
+
+abbrev pub IsJournal : List ℕ → Type 0
+IsJournal bytes = (length bytes ≤ MAX_FILE_BYTES) × IsSome (journal_of bytes)
+
+-- the words are `replay` and two names, of which this holds
+abbrev pub OfNames : List (List ℕ) → (List ℕ → List ℕ → Type 0) → Type 0
+OfNames words P = (p j : List ℕ) × (replay_of words ≡ Some (p, j)) × P p j
+
+-- what is told of a file that didn't fail
+abbrev pub IsReadAs : Call → List ℕ → (List ℕ → Type 0) → Type 0
+IsReadAs call name P = (bytes : List ℕ) × (call.told name ≡ Some bytes) × P bytes × NotFailed call.failures name
+
+-- usage: exactly if the words are none of the lists and no put failed
+abbrev pub OnlyUsage : Call → Type 0
+OnlyUsage call = call.answer ≡ status.Usage → IsNoList call.words
+
+abbrev pub IsUsage : Call → Type 0
+IsUsage call = IsNoList call.words → NoPutFailed call.faults → IsOrMemory status.Usage call.answer
+
+-- project: exactly if the project came whole, is none, and no put failed
+abbrev pub OnlyProject : Call → Type 0
+OnlyProject call = call.answer ≡ status.Project → OfNames call.words (λ p j. IfSome (call.told p) IsNoProject)
+
+abbrev pub IsProject : Call → Type 0
+IsProject call =
+    OfNames call.words (λ p j. IsReadAs call p IsNoProject) → NoPutFailed call.faults → IsOrMemory status.Project call.answer
+
+-- script: exactly if the project was accepted, the journal came whole, is none, and no put failed
+abbrev pub OnlyScript : Call → Type 0
+OnlyScript call =
+    call.answer ≡ status.Script → OfNames call.words (λ p j. IfSome (call.told p) IsAccepted × IfSome (call.told j) IsNoJournal)
+
+abbrev pub IsScript : Call → Type 0
+IsScript call =
+    OfNames call.words (λ p j. IsReadAs call p IsAccepted × IsReadAs call j IsNoJournal) → NoPutFailed call.faults → IsOrMemory status.Script call.answer
+
+-- a whole report: exactly if both were accepted and no put failed
+abbrev pub OnlyOk : Call → Type 0
+OnlyOk call =
+    call.answer ≡ status.Ok → OfNames call.words (λ p j. IfSome (call.told p) IsAccepted × IfSome (call.told j) IsJournal)
+
+abbrev pub IsOk : Call → Type 0
+IsOk call =
+    OfNames call.words (λ p j. IsReadAs call p IsAccepted × IsReadAs call j IsJournal) → NoPutFailed call.faults → IsOrMemory status.Ok call.answer
+
+-- too long: if a file that is read didn't fail and is longer than may be
+abbrev pub IsProjectTooLong : Call → Type 0
+IsProjectTooLong call = OfNames call.words (λ p j. IsReadAs call p IsTooLong) → IsOrMemory status.TooLong call.answer
+
+abbrev pub IsJournalTooLong : Call → Type 0
+IsJournalTooLong call =
+    OfNames call.words (λ p j. IsReadAs call p IsAccepted × IsReadAs call j IsTooLong) → IsOrMemory status.TooLong call.answer
+
+pub record IsAnswered (call : Call) : Type 0 where
+  -- What was written: at `Ok`, `Usage`, `Project` and `Script` all of the text that the words and the files call for, at
+  -- `WriteFault` and `Memory` a first part of it, at `ReadFault` and `TooLong` nothing.
+  pub adds : Adds call
+  -- The list of failures gains the file that failed or is too long, and nothing at any other status.
+  pub failures : AddsFailure call
+  pub write_fault : call.answer ≡ status.WriteFault → PutFailed call.faults
+  pub only_usage : OnlyUsage call
+  pub usage : IsUsage call
+  pub only_project : OnlyProject call
+  pub project : IsProject call
+  pub only_script : OnlyScript call
+  pub script : IsScript call
+  pub only_ok : OnlyOk call
+  pub ok : IsOk call
+  pub project_too_long : IsProjectTooLong call
+  pub journal_too_long : IsJournalTooLong call
