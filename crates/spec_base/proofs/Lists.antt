@@ -16,6 +16,10 @@ pub each_append : {A : Type 0} (P : A → Type 0) (xs ys : List A) → Each P xs
 each_append P [] ys p q = q
 each_append P (x ∷ xs) ys p q = (p.0, each_append P xs ys p.1 q)
 
+pub each_parts : {A : Type 0} (P : A → Type 0) (xs ys : List A) → Each P (xs ++ ys) → Each P xs × Each P ys
+each_parts P [] ys p = (tt, p)
+each_parts P (x ∷ xs) ys p = let r = each_parts P xs ys p.1 in ((p.0, r.0), r.1)
+
 pub each_filter : {A : Type 0} (P : A → Type 0) (test : A → Bool) (xs : List A) → Each P xs → Each P (filter test xs)
 each_filter P test [] p = p
 each_filter P test (x ∷ xs) p = go (test x) (each_filter P test xs p.1)

@@ -11,10 +11,6 @@ use Rattle.spec_schedule.specs.Legal.{each_from}
 
 -- ---- each element of a part
 
-pub each_parts : {A : Type 0} (P : A → Type 0) (xs ys : List A) → Each P (xs ++ ys) → Each P xs × Each P ys
-each_parts P [] ys h = (tt, h)
-each_parts P (x ∷ xs) ys h = let r = each_parts P xs ys h.1 in ((h.0, r.0), r.1)
-
 pub each_at : {A : Type 0} (test : A → List A → Bool) (before : List A) (x : A) (after : List A) → each_from test (before ++ x ∷ after) ≡ true → test x after ≡ true
 each_at test [] x after h = (and_parts (test x after) (each_from test after) h).0
 each_at test (b ∷ before) x after h = each_at test before x after (and_parts (test b (before ++ x ∷ after)) (each_from test (before ++ x ∷ after)) h).1

@@ -10,7 +10,8 @@ use Rattle.spec_schedule.specs.declared.trace.Table.{Table}
 use Rattle.spec_schedule.specs.Counting.{CountedEvent, stepping}
 use Rattle.spec_schedule.specs.Legal.{priority_of, is_tick, before_tick, stays_up, of_priority, who_steps, keeps_on, each_from, turn_kept, keeps_turn}
 use Rattle.spec_schedule.specs.TurnLaws.{IsSameTurn, StepsBetween, KeepsTurns, TurnsAreDecided}
-use Rattle.spec_schedule.proofs.Places.{each_parts, each_at, cut_while, two_cut, two_pass, kept_at, filter_cut, is_number, number_cut, number_there}
+use Rattle.spec_base.proofs.Lists.{each_parts}
+use Rattle.spec_schedule.proofs.Places.{each_at, cut_while, two_cut, two_pass, kept_at, filter_cut, is_number, number_cut, number_there}
 
 -- ---- a number after another one
 

@@ -11,7 +11,8 @@ use Rattle.spec_schedule.specs.declared.trace.Table.{Table}
 use Rattle.spec_schedule.specs.Counting.{CountedEvent, CountedTask, counted_tasks, stepping, is_task}
 use Rattle.spec_schedule.specs.Legal.{priority_of, stays_up, is_tick, before_tick, is_action, after_actions, is_turn, is_other_up, others_went, gives_turn, after_tick, each_from, way_given, gives_way}
 use Rattle.spec_schedule.specs.TurnLaws.{StepsOverTick, HasGoneDown, GivesWay, WaysAreDecided}
-use Rattle.spec_schedule.proofs.Places.{each_parts, each_at, cut_while, pass_while, drop_while}
+use Rattle.spec_base.proofs.Lists.{each_parts}
+use Rattle.spec_schedule.proofs.Places.{each_at, cut_while, pass_while, drop_while}
 
 -- ---- tests
 

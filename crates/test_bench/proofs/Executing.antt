@@ -1,4 +1,5 @@
 -- If the instructions in the code of a program's routines can be executed, the program can.
+use Rattle.spec_base.proofs.Lists.{each_parts}
 use Rattle.std.proofs.Common.{◌≡◌, ℕ, suc, ◌+◌, ◌<◌, List, [], ◌∷◌, ◌++◌, length, get_or, drop, flat_map, sym, ap, ◌∙◌, subst, arith}
 use Rattle.std.proofs.lemmas.List.{drop_more}
 use Rattle.std.specs.List.{AllByRecursion as Each}
@@ -31,13 +32,9 @@ code_step P cs i c is_in_bounds is here rest =
 
 -- ---- from the code to the rungs
 
-each_split : {A : Type 0} (P : A → Type 0) (xs ys : List A) → Each P (xs ++ ys) → Each P xs × Each P ys
-each_split P [] ys p = (tt, p)
-each_split P (x ∷ xs) ys p = let r = each_split P xs ys p.1 in ((p.0, r.0), r.1)
-
 each_of_flat : {A B : Type 0} (P : B → Type 0) (f : A → List B) (xs : List A) → Each P (flat_map f xs) → Each (λ x. Each P (f x)) xs
 each_of_flat P f [] p = tt
-each_of_flat P f (x ∷ xs) p = let r = each_split P (f x) (flat_map f xs) p in (r.0, each_of_flat P f xs r.1)
+each_of_flat P f (x ∷ xs) p = let r = each_parts P (f x) (flat_map f xs) p in (r.0, each_of_flat P f xs r.1)
 
 routine_executable : (len : ℕ) (flat : Flat) (rungs : Rungs) → IsFlat flat rungs → Each (IsExecutable len) (executes flat.code) → AreExecutable len rungs
 routine_executable len flat rungs is all =

@@ -3,7 +3,8 @@ use Rattle.std.proofs.Common.{sym, ap, ◌∙◌}
 use Rattle.std.proofs.lemmas.List.{drop_all}
 use Rattle.spec_scan.specs.Prescan.{prescan_ins}
 use Rattle.lgx_image.proofs.Changes.{no_change_needs_marks}
-use Rattle.lgx_prescan.proofs.Folds.{code_instructions, reached_code, code_executable}
+use Rattle.lgx_prescan.proofs.Folds.{code_instructions, reached_code}
+use Rattle.lgx_prog.proofs.Executes.{code_executable}
 use Rattle.lgx_prescan.proofs.program.prescan.Goals as goal
 
 pub loop-routine-init : goal.loop-routine-init
