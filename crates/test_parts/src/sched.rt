@@ -25,7 +25,13 @@ pub fn tasks_row(alloc: Global, text: &str) -> Result<String, Trouble> {
     let (defs, calls) = text.split_once('?').ok_or(Trouble::Form)?;
     let mut words = defs.split_whitespace();
     let words = &mut words;
-    let mut tasks = table(alloc, task(words)?, task(words)?, task(words)?, task(words)?)?;
+    let mut tasks = table(
+        alloc,
+        task(words)?,
+        task(words)?,
+        task(words)?,
+        task(words)?,
+    )?;
     let mut said = Said::new(alloc);
     for call in calls.split(';') {
         let mut words = call.split_whitespace();
@@ -196,7 +202,13 @@ pub fn calls_row(alloc: Global, text: &str) -> Result<String, Trouble> {
     let count = number(&mut text.split_whitespace())?;
     let mut words = "E3 E3 E5 C".split_whitespace();
     let words = &mut words;
-    let mut tasks = table(alloc, task(words)?, task(words)?, task(words)?, task(words)?)?;
+    let mut tasks = table(
+        alloc,
+        task(words)?,
+        task(words)?,
+        task(words)?,
+        task(words)?,
+    )?;
     let mut slow = Slow::new([3, 3, 5, 16]);
     let mut said = Said::new(alloc);
     let mut seed: u32 = 1;

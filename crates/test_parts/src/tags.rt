@@ -182,7 +182,11 @@ fn run(alloc: Global, said: &mut Said, sealed: &Sealed, call: &str) -> Result<()
         }
         "fixed" => {
             let (text, scope) = scoped(word(&mut words)?)?;
-            say_bit(alloc, said, resolved_fixed(alloc, sealed, scope, text.as_bytes()))?;
+            say_bit(
+                alloc,
+                said,
+                resolved_fixed(alloc, sealed, scope, text.as_bytes()),
+            )?;
         }
         "bytes" => said.number(i64::from(sealed.table.bytes()))?,
         "count" => said.number(i64::from(tag_count(sealed)))?,
@@ -248,13 +252,19 @@ const TAGS: &str = "0; n DINT; a DINT 4; b BOOL 32; t TIMER; ts TIMER 3; d Sixte
 /// cause why it names nothing. The tags are `TAGS`.
 pub fn operand_row(alloc: Global, text: &str) -> Result<String, Trouble> {
     let sealed = tags(alloc)?;
-    said_found(alloc, resolved(alloc, &sealed, Scope::Controller, text.as_bytes()))
+    said_found(
+        alloc,
+        resolved(alloc, &sealed, Scope::Controller, text.as_bytes()),
+    )
 }
 
 /// `fixed | TEXT | ..`: the same where numbers alone may be subscripts.
 pub fn fixed_row(alloc: Global, text: &str) -> Result<String, Trouble> {
     let sealed = tags(alloc)?;
-    said_found(alloc, resolved_fixed(alloc, &sealed, Scope::Controller, text.as_bytes()))
+    said_found(
+        alloc,
+        resolved_fixed(alloc, &sealed, Scope::Controller, text.as_bytes()),
+    )
 }
 
 /// `long | BEFORE MIDDLE AFTER LAST | ..`: the same of a long text: before and after the middle stand a hundred copies. `-` stands for no
@@ -313,7 +323,9 @@ pub fn many_row(alloc: Global, text: &str) -> Result<String, Trouble> {
     let mut words = counts.split_whitespace();
     let tags = number(&mut words)?;
     let programs = number(&mut words)?;
-    let sealed = seal(many(alloc, tags, programs)?).ok().ok_or(Trouble::Form)?;
+    let sealed = seal(many(alloc, tags, programs)?)
+        .ok()
+        .ok_or(Trouble::Form)?;
     let mut said = Said::new(alloc);
     for call in calls.split(';') {
         run(alloc, &mut said, &sealed, call)?;

@@ -150,16 +150,10 @@ pub fn chain_row(alloc: Global, text: &str) -> Result<String, Trouble> {
     let mut decls = Vec::new(alloc);
     for i in 0..length.saturating_sub(1) {
         let next = i.saturating_add(1);
-        decls.push(structure_of(
-            alloc,
-            format!(in alloc; "S{i}: x S{next}")?.as_str(),
-        )?)?;
+        decls.push(structure_of(alloc, format!(in alloc; "S{i}: x S{next}")?.as_str())?)?;
     }
     let last = length.saturating_sub(1);
-    decls.push(structure_of(
-        alloc,
-        format!(in alloc; "S{last}: x DINT")?.as_str(),
-    )?)?;
+    decls.push(structure_of(alloc, format!(in alloc; "S{last}: x DINT")?.as_str())?)?;
     let table = build(alloc, &decls).ok().ok_or(Trouble::Form)?;
     let mut said = Said::new(alloc);
     said.number(table.structures().len() as i64)?;
