@@ -1,5 +1,5 @@
 // Numbers in the bytes of an image, and where subscripts lead.
-ghost use Rattle.std.specs.Prelude.{◌≡◌, ◌+◌, ◌*◌, ◌≤◌, length, IfSome};
+ghost use Rattle.std.specs.Prelude.{◌≡◌, ◌+◌, ◌*◌, ◌≤◌, length};
 ghost use Rattle.spec_base.specs.declared.limits.TheConstants.{MAX_IMAGE_BYTES};
 ghost use Rattle.lgx_num.specs.Image.{number, write, piece, splice, InBounds, step_by, bit_of};
 ghost use Rattle.lgx_num.specs.Paths.{PathInBounds};
