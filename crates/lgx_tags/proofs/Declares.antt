@@ -1,5 +1,5 @@
 -- What one more entry changes.
-use Rattle.std.specs.Prelude.{◌≡◌, ℕ, ◌+◌, ◌<◌, ◌≤◌, Bool, true, false, ◌||◌, nat_le, if◌then◌else◌, List, [], ◌∷◌, ◌++◌, length, position, Some, None, is_some, option_map, refl}
+use Rattle.std.specs.Prelude.{◌≡◌, ℕ, ◌+◌, ◌<◌, ◌≤◌, Bool, true, false, nat_le, if◌then◌else◌, List, [], ◌∷◌, ◌++◌, length, position, Some, None, is_some, option_map, refl}
 use Rattle.std.specs.List.{AllByRecursion as Each, list_any, filter_map}
 use Rattle.std.proofs.Common.{sym, ap, ◌∙◌, arith, leb-true, length-append}
 use Rattle.std.proofs.lemmas.Iterator.Adapters.{position_from-zero}

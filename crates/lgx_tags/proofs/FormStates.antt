@@ -1,7 +1,7 @@
 -- Whether a text is an operand form, part by part.
 use Rattle.std.specs.Prelude.{◌≡◌, ℕ, zero, suc, ◌+◌, ◌-◌, ◌<◌, ◌≤◌, Bool, true, false, not, ◌||◌, ◌==◌, List, [], ◌∷◌, length, Some, None, option_and_then, if◌then◌else◌, refl}
 use Rattle.std.specs.Option.{is_some}
-use Rattle.std.proofs.Common.{sym, ap, subst, ◌∙◌, arith, add-one}
+use Rattle.std.proofs.Common.{sym, ap, subst, arith, add-one}
 use Rattle.std.proofs.lemmas.Bool.Decides.{nat_tests}
 use Rattle.lgx_num.specs.Name.{is_name}
 use Rattle.spec_language.specs.OperandForm.{is_tag_name, are_digits, digits_number, Form, tag, member, element, indexed, bit, is_bit, Token, word, dot, opening, closing, put_byte, tokens, dotted, bracketed, begun, form_from, form_of, form}

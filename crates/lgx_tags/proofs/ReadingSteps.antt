@@ -1,5 +1,5 @@
 -- A text that is read from left to right names what its form names.
-use Rattle.std.specs.Prelude.{◌≡◌, ℕ, Bool, true, false, not, ◌||◌, ◌==◌, List, [], ◌∷◌, Some, None, Result, Ok, Err, option_and_then, if◌then◌else◌, refl}
+use Rattle.std.specs.Prelude.{◌≡◌, ℕ, Bool, true, false, not, ◌||◌, List, [], ◌∷◌, Some, None, Result, Ok, Err, option_and_then, if◌then◌else◌, refl}
 use Rattle.std.proofs.Common.{ap, subst, ◌∙◌}
 use Rattle.lgx_num.specs.Name.{is_name}
 use Rattle.spec_language.specs.declared.types.TypeDecl.{TypeDecl}

@@ -13,7 +13,7 @@ ghost use Rattle.lgx_tags.specs.TextReading.{subscripts_of, Answers, NamesInBoun
 use crate::error::TagError;
 use crate::form::is_form;
 use crate::part::{OperandPart, first_part, split_word};
-use crate::subscript::{capped_number, find_dotted, find_element, find_indexed, is_array};
+use crate::subscript::{find_dotted, find_indexed, find_numbered, is_array};
 use lgx_types::TypeTable;
 use spec_language::{Found, TagCode};
 use std::alloc::Global;
@@ -113,7 +113,7 @@ impl Reading {
         ensures { Answers (element_at types.now digits.now self) result }
     {
         let Reading { arrays, found } = self;
-        let found = find_element(types, found, capped_number(digits))?;
+        let found = find_numbered(types, found, digits)?;
         Ok(Reading { arrays, found })
     }
 

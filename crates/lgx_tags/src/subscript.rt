@@ -79,7 +79,7 @@ fn with_digit(number: u32, digit: u8) -> u32
 
 #[tactic(auto, using(crate::proofs::Digits::capped_digits, crate::proofs::Digits::capped_at, crate::proofs::Digits::digit_at))]
 /// The number that digits make, or the greatest number if that is greater: no subscript or bit is as great.
-pub(crate) fn capped_number(digits: &[u8]) -> u32
+fn capped_number(digits: &[u8]) -> u32
     requires { IsTrue (are_digits 10 digits.now) }
     ensures { result ≡ min (digits_number 10 digits.now) 4294967295 }
 {
@@ -91,7 +91,7 @@ pub(crate) fn capped_number(digits: &[u8]) -> u32
 }
 
 /// The member of this name. G4 if there is none; a whole array has none.
-pub(crate) fn find_member(types: &TypeTable, found: Found, name: &Name) -> Result<Found, TagCode>
+fn find_member(types: &TypeTable, found: Found, name: &Name) -> Result<Found, TagCode>
     requires { found.at ≤ 8 * MAX_IMAGE_BYTES }
     ensures { result ≡ find_member types.now found name.now }
 {
@@ -109,7 +109,7 @@ pub(crate) fn find_member(types: &TypeTable, found: Found, name: &Name) -> Resul
 }
 
 /// The element of this number. G5 if it is no array's, or out of range.
-pub(crate) fn find_element(types: &TypeTable, found: Found, number: u32) -> Result<Found, TagCode>
+fn find_element(types: &TypeTable, found: Found, number: u32) -> Result<Found, TagCode>
     requires size { HasSize types.now (single found.of.base) }
     requires room { found.at + width types.now found.of ≤ 8 * MAX_IMAGE_BYTES }
     ensures { result ≡ find_element types.now found number }
@@ -124,8 +124,23 @@ pub(crate) fn find_element(types: &TypeTable, found: Found, number: u32) -> Resu
     })
 }
 
+/// The element of the number that digits make.
+#[tactic(auto, using(crate::proofs::Digits::capped_element))]
+pub(crate) fn find_numbered(
+    types: &TypeTable,
+    found: Found,
+    digits: &[u8],
+) -> Result<Found, TagCode>
+    requires digits { IsTrue (are_digits 10 digits.now) }
+    requires size { HasSize types.now (single found.of.base) }
+    requires room { found.at + width types.now found.of ≤ 8 * MAX_IMAGE_BYTES }
+    ensures { result ≡ find_element types.now found (digits_number 10 digits.now) }
+{
+    find_element(types, found, capped_number(digits))
+}
+
 /// The bit of this number. G5 if it is no integer's, or out of range.
-pub(crate) fn find_bit(found: Found, number: u32) -> Result<Found, TagCode>
+fn find_bit(found: Found, number: u32) -> Result<Found, TagCode>
     requires { found.at ≤ 8 * MAX_IMAGE_BYTES }
     ensures { result ≡ find_bit found number }
 {
