@@ -1,2 +1,3 @@
 pub mod FirstCause
 pub mod Pieces
+pub mod Causes
