@@ -1,8 +1,7 @@
-pub mod Indexes
 pub mod Found
-pub mod Rings
-pub mod Sizing
-pub mod Walks
+pub mod Cycles
+pub mod MemberSizes
+pub mod SizingStack
 pub mod Placed
 pub mod Verdicts
 pub mod Seen

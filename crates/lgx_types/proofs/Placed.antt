@@ -1,7 +1,10 @@
 -- Where members lie.
-use Rattle.std.specs.Prelude.{map, ◌≡◌, ℕ, zero, suc, ◌+◌, ◌*◌, ◌<◌, ◌≤◌, Bool, true, false, cond, List, [], ◌∷◌, ◌++◌, length, take, drop, slice_get, slice_index, slice_index_or, find as first_with, Option, Some, None, IfSome, option_map, option_and_then, unwrap_or, refl}
+use Rattle.std.specs.Prelude.{map, ◌≡◌, ℕ, zero, suc, ◌+◌, ◌*◌, ◌<◌, ◌≤◌, Bool, true, false, cond, List, [], ◌∷◌, ◌++◌, length, take, drop, slice_get, slice_index, slice_index_or, find as first_with, Option, Some, None, IfSome, option_map, option_and_then, unwrap_or, position, refl}
 use Rattle.std.specs.List.{AllByRecursion as Each, position_from}
 use Rattle.std.proofs.Common.{ap, sym, subst, arith, ◌∙◌, get_or, drop-cons, append_assoc}
+use Rattle.std.proofs.lemmas.Iterator.Adapters.{position_from-zero}
+use Rattle.std.proofs.lemmas.List.{take_all}
+use Rattle.std.proofs.lemmas.Option.{get_or_from_slice_get}
 use Rattle.std.proofs.Math.Nat.{mul-le-mul_right}
 use Rattle.lgx_num.specs.Name.{same}
 use Rattle.spec_language.specs.declared.types.Base.{Base}
@@ -10,6 +13,7 @@ use Rattle.spec_language.specs.declared.types.DataType.{DataType}
 use Rattle.spec_language.specs.declared.types.TypeDecl.{TypeDecl}
 use Rattle.spec_language.specs.declared.types.MemberDecl.{MemberDecl}
 use Rattle.spec_language.specs.declared.types.Member.{Member}
+use Rattle.spec_base.specs.declared.limits.TheConstants.{MAX_ELEMENTS, MAX_STRUCTURE_BYTES}
 use Rattle.spec_language.specs.Layout.{looked_up, type_of, begin_after, element_in, sized_in, size_in, structure_in, placed_from, sizes, members_of, member}
 use Rattle.spec_language.specs.LayoutLaws.{SoundTypes}
 use Rattle.spec_language.specs.TypeFaults.{type_fault}
@@ -17,10 +21,10 @@ use Rattle.spec_language.proofs.SizesSettle.{faultless, get_there}
 use Rattle.spec_language.proofs.TypesFit.{members_within, looked_up_has, rounded}
 use Rattle.spec_base.proofs.Lists.{each_map, get_mapped}
 use Rattle.lgx_types.specs.Outlines.{outline, member_names}
-use Rattle.lgx_types.specs.Walk.{end_of, types_at}
+use Rattle.lgx_types.specs.Sizing.{end_of, types_at}
 use Rattle.lgx_types.specs.Tables.{IsSmall, IsTable, HasMembers, HasSize, places_from, places_of}
-use Rattle.lgx_types.proofs.Sizing.{end_is}
-use Rattle.lgx_types.proofs.Found.{get_at, take_map_more}
+use Rattle.lgx_types.proofs.MemberSizes.{end_is}
+use Rattle.lgx_types.proofs.Found.{take_map_more}
 
 -- ---- member by member
 
@@ -75,14 +79,14 @@ index_mapped f g [] i h = refl
 index_mapped f g (x ∷ xs) zero h = sym (h x)
 index_mapped f g (x ∷ xs) (suc i) h = index_mapped f g xs i h
 
-pub laid_member : (types : List TypeDecl) (i : ℕ) (name : List ℕ) → option_and_then (λ k. slice_get (slice_index_or (places_of types) i []) k) (position_from (λ n. same n name) 0 (member_names (members_of types i))) ≡ member types (User i) name
+pub laid_member : (types : List TypeDecl) (i : ℕ) (name : List ℕ) → option_and_then (λ k. slice_get (slice_index_or (places_of types) i []) k) (position (λ n. same n name) (member_names (members_of types i))) ≡ member types (User i) name
 laid_member types i name =
     let at : slice_index_or (places_of types) i [] ≡ places_from (sizes types) 0 (outline types (members_of types i)) = index_mapped (λ d. places_from (sizes types) 0 (outline types d.members)) (λ o. places_from (sizes types) 0 (outline types (unwrap_or (option_map (λ d. d.members) o) []))) types i (λ x. refl) in
-    ap (λ (l : List Member). option_and_then (λ k. slice_get l k) (position_from (λ n. same n name) 0 (member_names (members_of types i)))) at ∙ place_found types (sizes types) 0 (members_of types i) name
+    rw (at, position_from-zero (λ n. same n name) (member_names (members_of types i))) (place_found types (sizes types) 0 (members_of types i) name)
 
 -- ---- what a table keeps
 
-pub small_index : (xs : List ℕ) (i : ℕ) → Each IsSmall xs → slice_index xs i ≤ 4096
+pub small_index : (xs : List ℕ) (i : ℕ) → Each IsSmall xs → slice_index xs i ≤ MAX_STRUCTURE_BYTES
 small_index [] i h = omega arith
 small_index (x ∷ xs) zero h = h.0
 small_index (x ∷ xs) (suc i) h = small_index xs i h.1
@@ -94,17 +98,17 @@ pub sound : (types : List TypeDecl) (bytes : List ℕ) (places : List (List Memb
 sound types bytes places t = sound_of types t.members t.faultless
 
 -- a member begins within its structure
-pub member_low : (types : List TypeDecl) (bytes : List ℕ) (places : List (List Member)) → IsTable types bytes places → (i : ℕ) (name : List ℕ) (o : Option Member) → o ≡ member types (User i) name → IfSome o (λ m. m.at ≤ 32768)
+pub member_low : (types : List TypeDecl) (bytes : List ℕ) (places : List (List Member)) → IsTable types bytes places → (i : ℕ) (name : List ℕ) (o : Option Member) → o ≡ member types (User i) name → IfSome o (λ m. m.at ≤ 8 * MAX_STRUCTURE_BYTES)
 member_low types bytes places t i name None p = tt
 member_low types bytes places t i name (Some m) p =
     let w = looked_up_has _ name _ m (members_within types (User i) (sound types bytes places t)) (sym p) in
-    let small : slice_index (sizes types) i ≤ 4096 = subst (λ (xs : List ℕ). slice_index xs i ≤ 4096) t.sized (small_index bytes i t.small) in
+    let small : slice_index (sizes types) i ≤ MAX_STRUCTURE_BYTES = subst (λ (xs : List ℕ). slice_index xs i ≤ MAX_STRUCTURE_BYTES) t.sized (small_index bytes i t.small) in
     omega (arith, w.0, small)
 
-many_fit : (n e : ℕ) → suc n ≤ 65536 → e ≤ 4096 → suc n * e ≤ 268435456
-many_fit n e h k = omega (arith, mul-le-mul_right {m = suc n} {n = 65536} e h, k)
+many_fit : (n e : ℕ) → suc n ≤ MAX_ELEMENTS → e ≤ MAX_STRUCTURE_BYTES → suc n * e ≤ MAX_STRUCTURE_BYTES * MAX_ELEMENTS
+many_fit n e h k = omega (arith, mul-le-mul_right {m = suc n} {n = MAX_ELEMENTS} e h, k)
 
-sized_fits : (ss : List ℕ) (base : Base) (dim : ℕ) → dim ≤ 65536 → element_in ss base ≤ 4096 → sized_in ss base dim ≤ 268435456
+sized_fits : (ss : List ℕ) (base : Base) (dim : ℕ) → dim ≤ MAX_ELEMENTS → element_in ss base ≤ MAX_STRUCTURE_BYTES → sized_in ss base dim ≤ MAX_STRUCTURE_BYTES * MAX_ELEMENTS
 sized_fits ss base zero h k = omega (arith, k)
 sized_fits ss OneBit (suc n) h k = omega (arith, h)
 sized_fits ss Sint (suc n) h k = many_fit n 1 h k
@@ -114,7 +118,7 @@ sized_fits ss Timer (suc n) h k = many_fit n 16 h k
 sized_fits ss Counter (suc n) h k = many_fit n 12 h k
 sized_fits ss (User i) (suc n) h k = many_fit n (slice_index ss i) h k
 
-element_small : (ss : List ℕ) (base : Base) → Each IsSmall ss → element_in ss base ≤ 4096
+element_small : (ss : List ℕ) (base : Base) → Each IsSmall ss → element_in ss base ≤ MAX_STRUCTURE_BYTES
 element_small ss OneBit h = omega arith
 element_small ss Sint h = omega arith
 element_small ss Int h = omega arith
@@ -123,14 +127,14 @@ element_small ss Timer h = omega arith
 element_small ss Counter h = omega arith
 element_small ss (User i) h = small_index ss i h
 
-pub size_fits : (types : List TypeDecl) (bytes : List ℕ) (places : List (List Member)) (t : DataType) → IsTable types bytes places → HasSize types t → size_in bytes t ≤ 268435456
+pub size_fits : (types : List TypeDecl) (bytes : List ℕ) (places : List (List Member)) (t : DataType) → IsTable types bytes places → HasSize types t → size_in bytes t ≤ MAX_STRUCTURE_BYTES * MAX_ELEMENTS
 size_fits types bytes places t h k = sized_fits bytes t.base t.dim k.short (element_small bytes t.base h.small)
 
 -- a structure's members end within its size
-pub ends_small : (types : List TypeDecl) (bytes : List ℕ) (i : ℕ) → bytes ≡ sizes types → Each IsSmall bytes → SoundTypes types → end_of bytes 0 (outline types (members_of types i)) ≤ 4096
+pub ends_small : (types : List TypeDecl) (bytes : List ℕ) (i : ℕ) → bytes ≡ sizes types → Each IsSmall bytes → SoundTypes types → end_of bytes 0 (outline types (members_of types i)) ≤ MAX_STRUCTURE_BYTES
 ends_small types bytes i p h s = go (slice_get types i) refl
   where
-    go : (o : Option TypeDecl) → slice_get types i ≡ o → end_of bytes 0 (outline types (unwrap_or (option_map (λ d. d.members) o) [])) ≤ 4096
+    go : (o : Option TypeDecl) → slice_get types i ≡ o → end_of bytes 0 (outline types (unwrap_or (option_map (λ d. d.members) o) [])) ≤ MAX_STRUCTURE_BYTES
     go None q = omega arith
     go (Some d) q =
         let total : slice_index (sizes types) i ≡ structure_in types (sizes types) d = subst (λ (ss : List ℕ). slice_index ss i ≡ structure_in types (sizes types) d) s.settled (get_mapped (structure_in types (sizes types)) types i d q) in
@@ -140,21 +144,15 @@ ends_small types bytes i p h s = go (slice_get types i) refl
 
 -- ---- structure by structure
 
-take_all : {A : Type 0} (xs : List A) (i : ℕ) → length xs ≤ i → take i xs ≡ xs
-take_all [] zero h = refl
-take_all [] (suc i) h = refl
-take_all (x ∷ xs) zero h = absurd (omega (arith, h))
-take_all (x ∷ xs) (suc i) h = ap (λ l. x ∷ l) (take_all xs i (omega (arith, h)))
-
 abbrev pub placed_by : List ℕ → List TypeDecl → TypeDecl → List Member
 placed_by bytes types d = places_from bytes 0 (outline types d.members)
 
 pub all_next : (bytes : List ℕ) (types : List TypeDecl) (i : ℕ) → i < length types → map (placed_by bytes types) (take i types) ++ places_from bytes 0 (types_at types i) ∷ [] ≡ map (placed_by bytes types) (take (i + 1) types)
 all_next bytes types i h =
     let (d, got) = get_there types i h in
-    let here : d ≡ get_or types i d = sym (get_at types i d d got) in
+    let here : d ≡ get_or types i d = sym (get_or_from_slice_get types i d d got) in
     let of : types_at types i ≡ outline types d.members = ap (λ (o : Option TypeDecl). outline types (unwrap_or (option_map (λ d. d.members) o) [])) got in
     ap (λ (l : List DataType). map (placed_by bytes types) (take i types) ++ places_from bytes 0 l ∷ []) of ∙ sym (take_map_more (placed_by bytes types) types i d h here)
 
 pub all_end : (bytes : List ℕ) (types : List TypeDecl) (i : ℕ) → length types ≤ i → bytes ≡ sizes types → map (placed_by bytes types) (take i types) ≡ places_of types
-all_end bytes types i h p = ap (λ (l : List TypeDecl). map (placed_by bytes types) l) (take_all types i h) ∙ ap (λ (b : List ℕ). map (placed_by b types) types) p
+all_end bytes types i h p = ap (λ (l : List TypeDecl). map (placed_by bytes types) l) (take_all i types h) ∙ ap (λ (b : List ℕ). map (placed_by b types) types) p

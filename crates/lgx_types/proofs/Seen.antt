@@ -4,23 +4,25 @@ use Rattle.std.proofs.Common.{ap, sym, subst, arith, ◌∙◌, inl, inr, get_or
 use Rattle.std.proofs.lemmas.Bool.{or_left}
 use Rattle.std.proofs.lemmas.List.Sums.{sum_by-set}
 use Rattle.std.proofs.Math.ListN.{length-replicate}
+use Rattle.std.proofs.Math.Seq.{take-suc}
+use Rattle.std.proofs.lemmas.List.{get_or_default, length-set, take_all}
+use Rattle.std.proofs.lemmas.Option.{get_or_from_slice_get, slice_get-get_or, slice_get_within}
 use Rattle.spec_language.specs.declared.types.Base.{Base}
 use Rattle.spec_language.specs.declared.types.Base.TheVariants.{Bool as OneBit, Sint, Int, Dint, Timer, Counter, User}
 use Rattle.spec_language.specs.declared.types.DataType.{DataType}
 use Rattle.spec_language.specs.declared.types.TypeDecl.{TypeDecl}
 use Rattle.spec_language.specs.TypeFaults.{among, parts, reached_to, reaches_itself}
 use Rattle.spec_language.proofs.Reaching.{parts_there, reach_more}
-use Rattle.lgx_types.specs.Walk.{number_of, users, types_at}
-use Rattle.lgx_types.specs.Rings.{Reaches, AllSeen, Keeps, IsSearch, left}
-use Rattle.lgx_types.proofs.Rings.{reach_bounded, reach_back}
-use Rattle.lgx_types.proofs.Sizing.{parts_are, among_both, among_at, get_default}
+use Rattle.lgx_types.specs.Sizing.{number_of, users, types_at}
+use Rattle.lgx_types.specs.Cycles.{Reaches, AllSeen, Keeps, IsSearch, to_see}
+use Rattle.lgx_types.proofs.Cycles.{reach_bounded, reach_back}
+use Rattle.lgx_types.proofs.MemberSizes.{parts_are, among_both, among_at}
 use Rattle.lgx_types.specs.Tables.{IsNumbered}
-use Rattle.lgx_types.proofs.Found.{get_at}
-use Rattle.lgx_types.proofs.Walks.{get_split, get_early, get_last, get_low, get_set, length_set, get_is}
+use Rattle.lgx_types.proofs.SizingStack.{get_split, get_early, get_last, get_set}
 
 -- ---- one structure more
 
-get_set_same : {A : Type 0} (xs : List A) (i : ℕ) (y : A) → i < length xs → slice_get (slice_set xs i y) i ≡ Some y
+pub get_set_same : {A : Type 0} (xs : List A) (i : ℕ) (y : A) → i < length xs → slice_get (slice_set xs i y) i ≡ Some y
 get_set_same [] i y h = absurd (omega (arith, h))
 get_set_same (x ∷ xs) zero y h = refl
 get_set_same (x ∷ xs) (suc i) y h = get_set_same xs i y (omega (arith, h))
@@ -46,14 +48,14 @@ keeps_set seen x h y p = go (same_or_not x y)
     go (inl e) = subst (λ (n : ℕ). slice_get (slice_set seen x true) n ≡ Some true) e (get_set_same seen x true h)
     go (inr n) = get_set_other seen x y true true n p
 
-pub less_set : (seen : List Bool) (waiting : List ℕ) (x : ℕ) → x < length seen → get_or seen x false ≡ false → left (slice_set seen x true) (waiting ++ x ∷ []) ≤ left seen waiting
+pub less_set : (seen : List Bool) (waiting : List ℕ) (x : ℕ) → x < length seen → get_or seen x false ≡ false → to_see (slice_set seen x true) (waiting ++ x ∷ []) ≤ to_see seen waiting
 less_set seen waiting x h p =
     let weight : cond {A = ℕ} (get_or seen x false) 0 2 ≡ 2 = rw p refl in
     omega (arith, weight, sum_by-set (λ (b : Bool). cond b 0 2) seen x true false h, length-append waiting (x ∷ []))
 
 pub search_set : (types : List TypeDecl) (i j : ℕ) (seen : List Bool) (waiting : List ℕ) (x : ℕ) → x < length seen → IsSearch types i j seen waiting → Reaches types i x → IsSearch types i j (slice_set seen x true) (waiting ++ x ∷ [])
 search_set types i j seen waiting x h s r = record {
-  many = length_set seen x true ∙ s.many;
+  many = length-set seen x true ∙ s.many;
   reached = λ y p. reached y (get_set seen x y true true p);
   waits = λ p y q. waits p y (get_split waiting x p y q);
   gone = λ y p. gone y (get_set seen x y true true p);
@@ -93,13 +95,13 @@ see_old seen x h y p = subst (λ (n : ℕ). slice_get seen n ≡ Some true) (own
 
 -- ---- the end of the search
 
--- where all parts of structure i are seen and all that is seen is closed, what it reaches is seen
+-- if all parts of structure i are seen and all that is seen is closed, what it reaches is seen
 pub reached_seen : (types : List TypeDecl) (i : ℕ) (seen : List Bool) → IsSearch types i (length types) seen [] → AllSeen types seen i → (k x : ℕ) → among (reached_to k types i) x ≡ true → slice_get seen x ≡ Some true
 reached_seen types i seen s own zero x p = own x p
 reached_seen types i seen s own (suc k) x p = go (reached_seen types i seen s own k) (reach_back types k i x p)
   where
     closed : (y : ℕ) → slice_get seen y ≡ Some true → among (parts types y) x ≡ true → (y ≡ length types) ⊎ (((p : ℕ) × (slice_get {X = ℕ} [] p ≡ Some y)) ⊎ AllSeen types seen y) → slice_get seen x ≡ Some true
-    closed y q r (inl e) = absurd (omega (arith, e, get_low seen y true q, s.many))
+    closed y q r (inl e) = absurd (omega (arith, e, slice_get_within seen y true q, s.many))
     closed y q r (inr (inl (p, e))) = absurd (cc e)
     closed y q r (inr (inr e)) = e x r
 
@@ -114,10 +116,10 @@ seen_is types i seen h s own = go (get_or seen i false) refl (reaches_itself typ
     go true p true q = p ∙ sym q
     go false p false q = p ∙ sym q
     go true p false q =
-        let there : slice_get seen i ≡ Some true = get_is seen i false true (omega (arith, h, s.many)) p in
+        let there : slice_get seen i ≡ Some true = slice_get-get_or seen i false (omega (arith, h, s.many)) ∙ ap Some p in
         let (m, r) = s.reached i there in
         absurd (cc (q, reach_bounded types m i i r))
-    go false p true q = absurd (cc (p, get_at seen i true false (reached_seen types i seen s own (length types) i q)))
+    go false p true q = absurd (cc (p, get_or_from_slice_get seen i true false (reached_seen types i seen s own (length types) i q)))
 
 -- nothing is seen
 pub none_seen : (types : List TypeDecl) (i j : ℕ) (seen : List Bool) → seen ≡ replicate (length types) false → IsSearch types i j seen []
@@ -143,7 +145,7 @@ search_pop types i j seen waiting s = record {
 }
   where
     go : (x : ℕ) → (x ≡ length types) ⊎ (((p : ℕ) × (slice_get (waiting ++ j ∷ []) p ≡ Some x)) ⊎ AllSeen types seen x) → slice_get seen x ≡ Some true → (x ≡ j) ⊎ (((p : ℕ) × (slice_get waiting p ≡ Some x)) ⊎ AllSeen types seen x)
-    go x (inl e) p = absurd (omega (arith, e, get_low seen x true p, s.many))
+    go x (inl e) p = absurd (omega (arith, e, slice_get_within seen x true p, s.many))
     go x (inr (inr q)) p = inr (inr q)
     go x (inr (inl (k, q))) p = at (get_split waiting j k x q)
       where
@@ -164,11 +166,8 @@ pub part_reached : (types : List TypeDecl) (i j y : ℕ) → (i ≡ j) ⊎ Reach
 part_reached types i j y (inl e) p = (0, subst (λ (n : ℕ). among (parts types n) y ≡ true) (sym e) p)
 part_reached types i j y (inr (m, r)) p = (suc m, reach_more types m i j y r p)
 
-pub own_set : (seen : List Bool) (x : ℕ) → x < length seen → slice_get (slice_set seen x true) x ≡ Some true
-own_set seen x h = get_set_same seen x true h
-
 base_part : (types : List TypeDecl) (j k : ℕ) (d : DataType) (us : List DataType) (y : ℕ) → us ≡ types_at types j → k < length us → among (number_of (get_or us k d).base) y ≡ true → among (parts types j) y ≡ true
-base_part types j k d us y is long p = subst (λ (l : List ℕ). among l y ≡ true) (sym (parts_are types j)) (subst (λ (l : List DataType). among (users l) y ≡ true) is (among_at us k (get_or us k d) y long (get_default us k d (get_or us k d) long) p))
+base_part types j k d us y is long p = subst (λ (l : List ℕ). among l y ≡ true) (sym (parts_are types j)) (subst (λ (l : List DataType). among (users l) y ≡ true) is (among_at us k (get_or us k d) y long (get_or_default us k d (get_or us k d) long) p))
 
 pub own_there : (x : ℕ) → among (number_of (User x)) x ≡ true
 own_there x = or_left (x == x) false (eq-eqb x x refl)
@@ -206,26 +205,15 @@ users_more : (xs ys : List DataType) → users (xs ++ ys) ≡ users xs ++ users 
 users_more [] ys = refl
 users_more (x ∷ xs) ys = ap (λ (l : List ℕ). number_of x.base ++ l) (users_more xs ys) ∙ sym (append_assoc (number_of x.base) (users xs) (users ys))
 
-take_more : {A : Type 0} (xs : List A) (k : ℕ) (d : A) → k < length xs → take (suc k) xs ≡ take k xs ++ get_or xs k d ∷ []
-take_more [] k d h = absurd (omega (arith, h))
-take_more (x ∷ xs) zero d h = refl
-take_more (x ∷ xs) (suc k) d h = ap (λ l. x ∷ l) (take_more xs k d (omega (arith, h)))
-
 pub seen_next : (us : List DataType) (old new : List Bool) (k : ℕ) (d : DataType) → k < length us → SeenTo us old k → Keeps old new → ((y : ℕ) → among (number_of (get_or us k d).base) y ≡ true → slice_get new y ≡ Some true) → SeenTo us new (k + 1)
 seen_next us old new k d h before keeps own =
     let one : suc k ≡ k + 1 = omega arith in
     let t : DataType = get_or us k d in
-    let of : users (take (suc k) us) ≡ users (take k us) ++ (number_of t.base ++ []) = ap users (take_more us k d h) ∙ users_more (take k us) (t ∷ []) in
+    let of : users (take (suc k) us) ≡ users (take k us) ++ (number_of t.base ++ []) = ap users (take-suc us k d h) ∙ users_more (take k us) (t ∷ []) in
     subst (λ (n : ℕ). SeenTo us new n) one (subst (λ (l : List ℕ). (y : ℕ) → among l y ≡ true → slice_get new y ≡ Some true) (sym of) (among_both (users (take k us)) (number_of t.base ++ []) (λ y. slice_get new y ≡ Some true) (λ y p. keeps y (before y p)) (among_both (number_of t.base) [] (λ y. slice_get new y ≡ Some true) own (λ y p. absurd (cc p)))))
 
-take_all : {A : Type 0} (xs : List A) (i : ℕ) → length xs ≤ i → take i xs ≡ xs
-take_all [] zero h = refl
-take_all [] (suc i) h = refl
-take_all (x ∷ xs) zero h = absurd (omega (arith, h))
-take_all (x ∷ xs) (suc i) h = ap (λ l. x ∷ l) (take_all xs i (omega (arith, h)))
-
 pub seen_all : (types : List TypeDecl) (j k : ℕ) (us : List DataType) (seen : List Bool) → us ≡ types_at types j → length us ≤ k → SeenTo us seen k → AllSeen types seen j
-seen_all types j k us seen is long h = λ y p. h y (subst (λ (l : List ℕ). among l y ≡ true) (parts_are types j ∙ ap users (sym is ∙ sym (take_all us k long))) p)
+seen_all types j k us seen is long h = λ y p. h y (subst (λ (l : List ℕ). among l y ≡ true) (parts_are types j ∙ ap users (sym is ∙ sym (take_all k us long))) p)
 
 pub part_at : (types : List TypeDecl) (i j k : ℕ) (d : DataType) (us : List DataType) → us ≡ types_at types j → k < length us → (i ≡ j) ⊎ Reaches types i j → (y : ℕ) → among (number_of (get_or us k d).base) y ≡ true → Reaches types i y
 part_at types i j k d us is long r y p = part_reached types i j y r (base_part types j k d us y is long p)
@@ -233,7 +221,7 @@ part_at types i j k d us is long r y p = part_reached types i j y r (base_part t
 pub waits_there : (types : List TypeDecl) (i e : ℕ) (seen : List Bool) (waiting : List ℕ) (j : ℕ) → IsSearch types i e seen (waiting ++ j ∷ []) → (j < length types) × Reaches types i j
 waits_there types i e seen waiting j s =
     let there : slice_get seen j ≡ Some true = s.waits (length waiting) j (get_last waiting j) in
-    (omega (arith, get_low seen j true there, s.many), s.reached j there)
+    (omega (arith, slice_get_within seen j true there, s.many), s.reached j there)
 
-pub left_less : (seen new : List Bool) (waiting rest : List ℕ) (j : ℕ) → left new rest ≤ left seen waiting → left new rest < left seen (waiting ++ j ∷ [])
-left_less seen new waiting rest j h = omega (arith, h, length-append waiting (j ∷ []))
+pub to_see_less : (seen new : List Bool) (waiting rest : List ℕ) (j : ℕ) → to_see new rest ≤ to_see seen waiting → to_see new rest < to_see seen (waiting ++ j ∷ [])
+to_see_less seen new waiting rest j h = omega (arith, h, length-append waiting (j ∷ []))

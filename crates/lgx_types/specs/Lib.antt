@@ -1,5 +1,4 @@
 pub mod Tables
-pub mod Names
 pub mod Outlines
-pub mod Walk
-pub mod Rings
+pub mod Sizing
+pub mod Cycles

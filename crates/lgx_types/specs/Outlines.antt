@@ -1,5 +1,5 @@
 -- Declarations with each member's type found.
-use Rattle.std.specs.Prelude.{◌≡◌, ℕ, ◌<◌, ◌%◌, Bool, true, false, not, ◌&&◌, ◌==◌, List, [], ◌++◌, map, length, flat_map, Option, Some, None, is_none, if◌then◌else◌, ⊤}
+use Rattle.std.specs.Prelude.{◌≡◌, ℕ, ◌<◌, ◌%◌, Bool, true, false, not, ◌&&◌, ◌==◌, List, [], ◌++◌, map, length, flat_map, Option, Some, None, is_none, if◌then◌else◌}
 use Rattle.std.specs.List.{AllByRecursion as Each, enumerate_from}
 use Rattle.spec_language.specs.declared.types.Base.{Base}
 use Rattle.spec_language.specs.declared.types.DataType.{DataType}
@@ -8,11 +8,9 @@ use Rattle.spec_language.specs.declared.types.MemberDecl.{MemberDecl}
 use Rattle.spec_language.specs.declared.types.TypeCode.{TypeCode}
 use Rattle.spec_language.specs.declared.types.TypeCode.TheVariants.{Y1, Y2, Y4}
 use Rattle.spec_language.specs.declared.types.TypeFault.{TypeFault}
-use Rattle.spec_base.specs.FirstCause.{where_true, first}
+use Rattle.spec_base.specs.FirstCause.{where_true}
 use Rattle.spec_language.specs.Layout.{find, type_of}
 use Rattle.spec_language.specs.TypeFaults.{of_member, is_bool, member_faults, structure_faults, is_uneven}
-use Rattle.lgx_types.specs.declared.error.TypeError.{TypeError}
-use Rattle.lgx_types.specs.declared.error.TypeError.TheVariants.{Fault, Memory}
 use Rattle.lgx_types.specs.Tables.{HasMembers}
 
 abbrev pub names_of : List TypeDecl → List (List ℕ)
@@ -28,12 +26,7 @@ outline types ms = map (type_of types) ms
 abbrev pub outlines_of : List TypeDecl → List (List DataType)
 outlines_of types = map (λ d. outline types d.members) types
 
--- the fault is the first of these
-abbrev pub IsFirst : List TypeFault → TypeError → Type 0
-IsFirst faults (Fault f) = first faults ≡ Some f
-IsFirst faults Memory = ⊤
-
--- the faults of member k of structure i, where it is known whether an earlier one has its name
+-- the faults of member k of structure i, by whether an earlier one has its name
 abbrev pub faults_by : Bool → List TypeDecl → ℕ → ℕ → MemberDecl → List TypeFault
 faults_by taken types i k m = where_true taken (of_member Y2 i k) ++ (where_true (is_none (find types m.of)) (of_member Y1 i k) ++ where_true (is_uneven types m) (of_member Y4 i k))
 

@@ -1,11 +1,13 @@
 -- What is asked of the table of types, and what it answers.
-use Rattle.std.specs.Prelude.{◌≡◌, ℕ, ◌+◌, ◌*◌, ◌<◌, ◌≤◌, List, [], ◌∷◌, slice_index, length, map, Some, None, ⊤}
+use Rattle.std.specs.Prelude.{◌≡◌, ℕ, ◌+◌, ◌*◌, ◌<◌, ◌≤◌, List, [], ◌∷◌, slice_index, length, map, Option, Some, None, ⊤}
 use Rattle.std.specs.List.{AllByRecursion as Each}
 use Rattle.spec_language.specs.declared.types.Base.{Base}
 use Rattle.spec_language.specs.declared.types.Base.TheVariants.{Bool as OneBit, Sint, Int, Dint, Timer, Counter, User}
 use Rattle.spec_language.specs.declared.types.DataType.{DataType}
 use Rattle.spec_language.specs.declared.types.TypeDecl.{TypeDecl}
 use Rattle.spec_language.specs.declared.types.Member.{Member}
+use Rattle.spec_language.specs.declared.types.TypeFault.{TypeFault}
+use Rattle.spec_base.specs.declared.limits.TheConstants.{MAX_STRUCTURE_BYTES, MAX_ELEMENTS}
 use Rattle.spec_language.specs.Layout.{sizes, size_in, begin_after, type_of}
 use Rattle.spec_language.specs.LayoutLaws.{IsEven}
 use Rattle.spec_language.specs.TypeFaults.{type_fault}
@@ -24,25 +26,24 @@ IsNumbered n Counter = ⊤
 
 -- the size of a structure that is let in
 abbrev pub IsSmall : ℕ → Type 0
-IsSmall size = size ≤ 4096
+IsSmall size = size ≤ MAX_STRUCTURE_BYTES
 
--- types that have a size: a structure is one of the table's, an array has at most 65,536 elements, and one of BOOLs a
--- multiple of 32
+-- types that have a size: a structure is one of the table's, and an array of BOOLs has a multiple of 32 elements
 pub record HasSize (types : List TypeDecl) (t : DataType) : Type 0 where
   pub declared : IsNumbered (length types) t.base
-  pub short : t.dim ≤ 65536
+  pub short : t.dim ≤ MAX_ELEMENTS
   pub even : IsEven t
 
 -- how many members a declaration has
 abbrev pub HasMembers : TypeDecl → Type 0
 HasMembers d = (0 < length d.members) × (length d.members < 4294967296)
 
--- the fault is the first of the declarations
-abbrev pub IsFirstFault : List TypeDecl → TypeError → Type 0
-IsFirstFault types (Fault f) = type_fault types ≡ Some f
-IsFirstFault types Memory = ⊤
+-- an error's fault
+abbrev pub fault : TypeError → Option TypeFault
+fault (Fault f) = Some f
+fault Memory = None
 
--- the places of members of these types, in order, where what stands before them ends at a byte
+-- the places of members of these types, in order, if what stands before them ends at this byte
 abbrev pub places_from : List ℕ → ℕ → List DataType → List Member
 places_from sizes at [] = []
 places_from sizes at (t ∷ ts) = record { of = t; at = 8 * begin_after at t } ∷ places_from sizes (begin_after at t + size_in sizes t) ts
@@ -54,8 +55,8 @@ places_of types = map (λ d. places_from (sizes types) 0 (map (type_of types) d.
 -- structure i is the first that is too large
 pub record IsLarge (bytes : List ℕ) (i : ℕ) : Type 0 where
   pub there : i < length bytes
-  pub large : 4096 < slice_index bytes i
-  pub before : (j : ℕ) → j < i → slice_index bytes j ≤ 4096
+  pub large : MAX_STRUCTURE_BYTES < slice_index bytes i
+  pub before : (j : ℕ) → j < i → slice_index bytes j ≤ MAX_STRUCTURE_BYTES
 
 -- what a table keeps: declarations without a fault, their sizes, and where their members lie
 pub record IsTable (types : List TypeDecl) (bytes : List ℕ) (places : List (List Member)) : Type 0 where

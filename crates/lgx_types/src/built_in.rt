@@ -1,28 +1,37 @@
 // The built-in types, and the members of a TIMER and of a COUNTER.
-ghost use Rattle.std.specs.Prelude.{◌≡◌, ◌≤◌, IfSome};
+ghost use Rattle.std.specs.Prelude.{◌≡◌, ◌*◌, ◌≤◌, IfSome};
+ghost use Rattle.spec_base.specs.declared.limits.TheConstants.{MAX_STRUCTURE_BYTES};
 ghost use Rattle.spec_language.specs.Layout.{built_ins, looked_up, bit_at, word_at, timer_members, counter_members};
 
 use lgx_num::same;
 use spec_language::{Base, DataType, Member};
 
+/// What the name stands for in a table of names; case doesn't matter.
+macro_rules! looked_up {
+    ($name:expr $(,)?) => {
+        None
+    };
+    ($name:expr, $first:expr => $value:expr $(, $more:expr => $others:expr)* $(,)?) => {
+        if same($first, $name) {
+            Some($value)
+        } else {
+            looked_up!($name $(, $more => $others)*)
+        }
+    };
+}
+
 pub fn built_in(name: &[u8]) -> Option<Base>
     ensures { result ≡ looked_up name.now built_ins }
 {
-    if same(b"BOOL", name) {
-        Some(Base::Bool)
-    } else if same(b"SINT", name) {
-        Some(Base::Sint)
-    } else if same(b"INT", name) {
-        Some(Base::Int)
-    } else if same(b"DINT", name) {
-        Some(Base::Dint)
-    } else if same(b"TIMER", name) {
-        Some(Base::Timer)
-    } else if same(b"COUNTER", name) {
-        Some(Base::Counter)
-    } else {
-        None
-    }
+    looked_up!(
+        name,
+        b"BOOL" => Base::Bool,
+        b"SINT" => Base::Sint,
+        b"INT" => Base::Int,
+        b"DINT" => Base::Dint,
+        b"TIMER" => Base::Timer,
+        b"COUNTER" => Base::Counter,
+    )
 }
 
 fn bit_at(at: u32) -> Member
@@ -52,42 +61,30 @@ fn word_at(byte: u32) -> Member
 
 pub fn timer_member(name: &[u8]) -> Option<Member>
     ensures value { result ≡ looked_up name.now timer_members }
-    ensures room { IfSome result (λ m. m.at ≤ 32768) }
+    ensures room { IfSome result (λ m. m.at ≤ 8 * MAX_STRUCTURE_BYTES) }
 {
-    if same(b"EN", name) {
-        Some(bit_at(31))
-    } else if same(b"TT", name) {
-        Some(bit_at(30))
-    } else if same(b"DN", name) {
-        Some(bit_at(29))
-    } else if same(b"PRE", name) {
-        Some(word_at(4))
-    } else if same(b"ACC", name) {
-        Some(word_at(8))
-    } else {
-        None
-    }
+    looked_up!(
+        name,
+        b"EN" => bit_at(31),
+        b"TT" => bit_at(30),
+        b"DN" => bit_at(29),
+        b"PRE" => word_at(4),
+        b"ACC" => word_at(8),
+    )
 }
 
 pub fn counter_member(name: &[u8]) -> Option<Member>
     ensures value { result ≡ looked_up name.now counter_members }
-    ensures room { IfSome result (λ m. m.at ≤ 32768) }
+    ensures room { IfSome result (λ m. m.at ≤ 8 * MAX_STRUCTURE_BYTES) }
 {
-    if same(b"CU", name) {
-        Some(bit_at(31))
-    } else if same(b"CD", name) {
-        Some(bit_at(30))
-    } else if same(b"DN", name) {
-        Some(bit_at(29))
-    } else if same(b"OV", name) {
-        Some(bit_at(28))
-    } else if same(b"UN", name) {
-        Some(bit_at(27))
-    } else if same(b"PRE", name) {
-        Some(word_at(4))
-    } else if same(b"ACC", name) {
-        Some(word_at(8))
-    } else {
-        None
-    }
+    looked_up!(
+        name,
+        b"CU" => bit_at(31),
+        b"CD" => bit_at(30),
+        b"DN" => bit_at(29),
+        b"OV" => bit_at(28),
+        b"UN" => bit_at(27),
+        b"PRE" => word_at(4),
+        b"ACC" => word_at(8),
+    )
 }

@@ -6,7 +6,7 @@ use lgx_num::Memory as NoMemory;
 use spec_language::TypeFault;
 use std::alloc::{AllocError, AllocFailed};
 
-/// Why there is no table: the first fault of the declarations, or want of memory.
+/// Why there is no table: the first fault of the declarations, or out of memory.
 #[derive(Clone, Copy, PartialEq, Eq, Debug)]
 pub enum TypeError {
     Fault(TypeFault),

@@ -1,17 +1,18 @@
 // The places of a structure's members.
 ghost use Rattle.std.specs.Prelude.{◌≡◌, ◌≤◌, [], option_and_then, slice_get, slice_index_or, IfOk};
-ghost use Rattle.lgx_types.specs.Walk.{end_of};
+ghost use Rattle.spec_base.specs.declared.limits.TheConstants.{MAX_STRUCTURE_BYTES};
+ghost use Rattle.lgx_types.specs.Sizing.{end_of};
 ghost use Rattle.lgx_types.specs.Tables.{places_from};
 
 use crate::size::size_in;
-use crate::walk::{alignment, round_up};
+use crate::sizing::{alignment, round_up};
 use lgx_num::{Items, Memory};
 use spec_language::{DataType, Member};
 use std::alloc::Global;
 
-/// The places of members of these types, in order, where the structures have these sizes.
+/// The places of members of these types, in order, by the sizes of the structures.
 pub fn places(alloc: Global, types: &[DataType], sizes: &[u32]) -> Result<Items<Member>, Memory>
-    requires { end_of sizes.now 0 types.now ≤ 4096 }
+    requires { end_of sizes.now 0 types.now ≤ MAX_STRUCTURE_BYTES }
     ensures { IfOk result (λ places. places ≡ places_from sizes.now 0 types.now) }
 {
     let mut places = Vec::with_capacity(alloc, types.len())?;

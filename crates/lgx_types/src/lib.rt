@@ -5,17 +5,14 @@
 #![tactic(auto)]
 
 mod built_in;
+mod cycle;
 mod error;
 mod layout;
-mod names;
 mod resolved;
-mod ring;
 mod size;
+mod sizing;
 mod structures;
 mod table;
-#[cfg(test)]
-mod tests;
-mod walk;
 
 pub use error::TypeError;
 pub use spec_language::{Base, DataType, Member, MemberDecl, TypeCode, TypeDecl, TypeFault};

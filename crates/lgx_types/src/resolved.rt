@@ -1,18 +1,20 @@
 // The types of all members, found by their names, and what is wrong with names and members.
-ghost use Rattle.std.specs.Prelude.{◌≡◌, ◌<◌, [], length, IfOk, IfErr};
-ghost use Rattle.std.specs.List.{AllByRecursion as Each, position_from};
+ghost use Rattle.std.specs.Prelude.{◌≡◌, ◌<◌, [], length, position, IfOk, IfErr};
+ghost use Rattle.std.specs.List.{AllByRecursion as Each};
+ghost use Rattle.spec_base.specs.Causes.{IsFaultOf};
+ghost use Rattle.spec_base.specs.FirstCause.{first};
 ghost use Rattle.spec_language.specs.declared.types.TypeCode.TheVariants.{Y6};
 ghost use Rattle.spec_language.specs.TypeFaults.{of_structure};
 ghost use Rattle.lgx_types.specs.declared.error.TypeError.TheVariants.{Fault};
 ghost use Rattle.lgx_num.specs.Name.{same};
 ghost use Rattle.spec_language.specs.Layout.{find, members_of, type_of};
-ghost use Rattle.lgx_types.specs.Tables.{HasMembers};
-ghost use Rattle.lgx_types.specs.Walk.{types_at};
-ghost use Rattle.lgx_types.specs.Outlines.{IsFirst, first_wrong, faults_by, faults_in, name_faults, member_names, outline};
+ghost use Rattle.lgx_types.specs.Tables.{HasMembers, fault};
+ghost use Rattle.lgx_types.specs.Sizing.{types_at};
+ghost use Rattle.lgx_types.specs.Outlines.{first_wrong, faults_by, faults_in, name_faults, member_names, outline};
 
 use crate::error::TypeError;
-use crate::names::Names;
 use crate::structures::Structures;
+use lgx_names::NameIndex;
 use lgx_num::{Items, Name};
 use spec_language::{Base, DataType, MemberDecl, TypeCode, TypeDecl, TypeFault};
 use std::alloc::Global;
@@ -22,7 +24,7 @@ use std::marker::Model;
 #[derive(Drop)]
 pub struct Resolved {
     structures: Structures,
-    members: Vec<Names>,
+    members: Vec<NameIndex>,
     outlines: Vec<Items<DataType>>,
 }
 
@@ -44,7 +46,7 @@ impl Resolved {
         requires members { Each HasMembers decls.now }
         ensures value { IfOk result (λ resolved. resolved ≡ decls.now) }
         ensures in_order { IfOk result (λ resolved. name_faults decls.now ≡ []) }
-        ensures fault { IfErr result (λ error. IsFirst (name_faults decls.now) error) }
+        ensures fault { IfErr result (λ error. IsFaultOf (first (name_faults decls.now)) (fault error)) }
     {
         let structures = Structures::new(alloc, decls)?;
         let mut members = Vec::with_capacity(alloc, decls.len())?;
@@ -82,11 +84,11 @@ impl Resolved {
 
     /// The number of the first member of a name in structure `i`, if there is that structure.
     pub fn member_number(&self, i: u32, name: &Name) -> Option<u32>
-        ensures { result ≡ position_from (λ n. same n name.now) 0 (member_names (members_of self.now i)) }
+        ensures { result ≡ position (λ n. same n name.now) (member_names (members_of self.now i)) }
     {
         if (i as usize) < self.members.len() {
             let names = &self.members[i as usize];
-            names.find(name)
+            names.find(name.bytes())
         } else {
             None
         }
@@ -112,32 +114,33 @@ fn fault_of(i: u32) -> TypeError
     })
 }
 
-// The names and the types of the members of structure `i`.
+/// The names and the types of the members of structure `i`.
 fn members_of(
     alloc: Global,
     structures: &Structures,
     i: u32,
     members: &[MemberDecl],
-) -> Result<(Names, Items<DataType>), TypeError>
+) -> Result<(NameIndex, Items<DataType>), TypeError>
     requires { length members.now < 4294967296 }
     ensures names { IfOk result (λ r. r.0 ≡ member_names members.now) }
     ensures types { IfOk result (λ r. r.1 ≡ outline structures.now members.now) }
     ensures in_order { IfOk result (λ r. faults_in structures.now i members.now ≡ []) }
-    ensures fault { IfErr result (λ error. IsFirst (faults_in structures.now i members.now) error) }
+    ensures fault { IfErr result (λ error. IsFaultOf (first (faults_in structures.now i members.now)) (fault error)) }
 {
-    let mut names = Names::new(alloc);
+    let mut names = NameIndex::new(alloc);
     let mut types = Vec::with_capacity(alloc, members.len())?;
     for k in 0..members.len() {
         let number = k as u32;
         let member = &members[k];
-        let first = names.add(alloc, &member.name)?;
-        let of = resolve(structures, member, first < number, i, number)?;
+        let taken = names.find(member.name.bytes()).is_some();
+        names.push(&member.name)?;
+        let of = resolve(structures, member, taken, i, number)?;
         types.push(of)?;
     }
     Ok((names, Items::of(types)))
 }
 
-// The type of member `k` of structure `i`, where it is known whether an earlier one has its name.
+/// The type of member `k` of structure `i`, by whether an earlier one has its name.
 fn resolve(
     structures: &Structures,
     member: &MemberDecl,
@@ -147,7 +150,7 @@ fn resolve(
 ) -> Result<DataType, TypeError>
     ensures value { IfOk result (λ of. of ≡ type_of structures.now member.now) }
     ensures in_order { IfOk result (λ of. faults_by taken structures.now i k member.now ≡ []) }
-    ensures fault { IfErr result (λ error. IsFirst (faults_by taken structures.now i k member.now) error) }
+    ensures fault { IfErr result (λ error. IsFaultOf (first (faults_by taken structures.now i k member.now)) (fault error)) }
 {
     let of = structures.find(&member.of);
     if let Some(code) = wrong_with(taken, of, member.dim) {
@@ -163,8 +166,8 @@ fn resolve(
     })
 }
 
-// What is wrong with a member: another has its name, its type isn't there, or it is an array of BOOLs of a length that
-// isn't a multiple of 32.
+/// What is wrong with a member: another has its name, its type isn't there, or it is an array of BOOLs of a length that
+/// isn't a multiple of 32.
 fn wrong_with(taken: bool, of: Option<Base>, dim: u32) -> Option<TypeCode>
     ensures { result ≡ first_wrong taken of dim }
 {

@@ -7,7 +7,7 @@ ghost use Rattle.spec_language.specs.Layout.{find};
 ghost use Rattle.spec_language.specs.TypeFaults.{name_taken};
 
 use crate::built_in::built_in;
-use crate::names::Names;
+use lgx_names::NameIndex;
 use lgx_num::{Items, Memory, Name};
 use spec_language::{Base, MemberDecl, TypeDecl};
 use std::alloc::Global;
@@ -17,7 +17,7 @@ use std::marker::Model;
 #[derive(Drop)]
 pub struct Structures {
     decls: Items<TypeDecl>,
-    names: Names,
+    names: NameIndex,
 }
 
 impl Model for Structures {
@@ -38,9 +38,9 @@ impl Structures {
         ensures { IfOk result (λ structures. structures ≡ decls.now) }
     {
         let mut kept = Vec::with_capacity(alloc, decls.len())?;
-        let mut names = Names::new(alloc);
+        let mut names = NameIndex::new(alloc);
         for i in 0..decls.len() {
-            let _first = names.add(alloc, &decls[i].name)?;
+            names.push(&decls[i].name)?;
             kept.push(copied(alloc, &decls[i])?)?;
         }
         Ok(Structures {
@@ -53,7 +53,8 @@ impl Structures {
     pub fn find(&self, name: &Name) -> Option<Base>
         ensures { result ≡ find self.now name.now }
     {
-        or_structure(built_in(name.bytes()), self.names.find(name))
+        let text = name.bytes();
+        or_structure(built_in(text), self.names.find(text))
     }
 
     /// Whether the name of structure `i` is built in, or that of an earlier structure.
@@ -61,8 +62,8 @@ impl Structures {
         requires { i < length self.now }
         ensures { (d : TypeDecl) → slice_get self.now i ≡ Some d → result ≡ name_taken self.now i d }
     {
-        let name = &self.decls.as_slice()[i].name;
-        is_taken_by(built_in(name.bytes()), self.names.find(name), i)
+        let name = self.decls.as_slice()[i].name.bytes();
+        is_taken_by(built_in(name), self.names.find(name), i)
     }
 
     pub fn decls(&self) -> &[TypeDecl]
@@ -82,7 +83,7 @@ fn or_structure(base: Option<Base>, structure: Option<u32>) -> Option<Base>
     }
 }
 
-// Whether a name is built in, or was first declared before `i`.
+/// Whether a name is built in, or was first declared before `i`.
 fn is_taken_by(base: Option<Base>, first: Option<u32>, i: usize) -> bool
     ensures { result ≡ (is_some base || option_map_or (λ p. nat_lt p i) first false) }
 {

@@ -1,21 +1,26 @@
 // The table of types.
-ghost use Rattle.std.specs.Prelude.{◌≡◌, ◌<◌, ◌≤◌, None, [], length, map, take, IfSome, IfNone, IfErr, IfOk, OnOk};
+ghost use Rattle.std.specs.Prelude.{◌≡◌, ◌*◌, ◌<◌, ◌≤◌, None, [], length, map, take, IfSome, IfNone, IfErr, IfOk, OnOk};
 ghost use Rattle.std.specs.List.{AllByRecursion as Each};
 ghost use Rattle.spec_language.specs.declared.types.TypeCode.{TypeCode};
+ghost use Rattle.spec_base.specs.Causes.{IsFaultOf};
+ghost use Rattle.spec_base.specs.declared.limits.TheConstants.{MAX_ELEMENTS, MAX_STRUCTURE_BYTES};
 ghost use Rattle.spec_language.specs.Layout.{find, member, size_of, sizes};
+ghost use Rattle.spec_base.specs.Causes.{IsFaultOf};
+ghost use Rattle.spec_base.specs.declared.limits.TheConstants.{MAX_ELEMENTS, MAX_STRUCTURE_BYTES};
 ghost use Rattle.spec_language.specs.LayoutLaws.{SoundTypes};
 ghost use Rattle.spec_language.specs.TypeFaults.{of_structure, type_fault};
 ghost use Rattle.lgx_types.specs.declared.error.TypeError.TheVariants.{Fault};
-ghost use Rattle.lgx_types.specs.Tables.{HasSize, HasMembers, IsFirstFault, IsLarge, IsSmall, places_of};
+ghost use Rattle.lgx_types.specs.Tables.{HasSize, HasMembers, fault, IsLarge, IsSmall, places_of};
 
 use crate::built_in::{counter_member, timer_member};
+use crate::cycle::first_cycle;
 use crate::error::TypeError;
 use crate::layout::{place_in, places};
 use crate::resolved::Resolved;
-use crate::ring::first_ring;
 use crate::size::size_in;
-use crate::walk::{Settled, settle};
+use crate::sizing::{Outcome, size_all};
 use lgx_num::{Items, Memory, Name};
+use spec_base::limits::MAX_STRUCTURE_BYTES;
 use spec_language::{Base, DataType, Member, TypeCode, TypeDecl, TypeFault, sizes_are_settled};
 use std::alloc::Global;
 use std::marker::Model;
@@ -43,25 +48,25 @@ impl Model for TypeTable {
 }
 
 impl TypeTable {
-    /// The table of these declarations, or the first fault of them, or want of memory.
+    /// The table of these declarations, or the first fault of them, or out of memory.
     ///
     /// The faults of names and members come first, in order of declaration, then a structure that reaches itself, then
-    /// one that is too large. It takes time in proportion to the declarations and members. Only where structures reach
-    /// themselves it takes this time once more for each structure before the first that does.
+    /// one that is too large. It takes time in proportion to the declarations and members. Only if structures reach
+    /// themselves, it takes this time once more for each structure before the first that does.
     pub fn build(alloc: Global, decls: &[TypeDecl]) -> Result<TypeTable, TypeError>
         requires few { length decls.now < 4294967296 }
         requires members { Each HasMembers decls.now }
         ensures value { IfOk result (λ table. table ≡ decls.now) }
         ensures ok { OnOk result (type_fault decls.now ≡ None) }
-        ensures fault { IfErr result (λ error. IsFirstFault decls.now error) }
+        ensures fault { IfErr result (λ error. IsFaultOf (type_fault decls.now) (fault error)) }
     {
         let resolved = Resolved::new(alloc, decls)?;
-        match settle(alloc, &resolved)? {
-            Settled::Ring(ring) => {
-                let first = first_ring(alloc, &resolved, ring)?;
+        match size_all(alloc, &resolved)? {
+            Outcome::Cycle(cycle) => {
+                let first = first_cycle(alloc, &resolved, cycle)?;
                 Err(fault_of(TypeCode::Y3, first))
             }
-            Settled::Sizes(sizes) => {
+            Outcome::Sizes(sizes) => {
                 if let Some(i) = too_large(&sizes) {
                     return Err(fault_of(TypeCode::Y5, i));
                 }
@@ -86,7 +91,7 @@ impl TypeTable {
     pub fn size_of(&self, of: DataType) -> u32
         requires { HasSize self.now of }
         ensures value { result ≡ size_of self.now of }
-        ensures room { result ≤ 268435456 }
+        ensures room { result ≤ MAX_STRUCTURE_BYTES * MAX_ELEMENTS }
     {
         size_in(&self.sizes, of)
     }
@@ -96,7 +101,7 @@ impl TypeTable {
     /// It is None exactly where there is none: also for a structure that isn't in the table.
     pub fn member(&self, base: Base, name: &Name) -> Option<Member>
         ensures value { result ≡ member self.now base name.now }
-        ensures room { IfSome result (λ m. m.at ≤ 32768) }
+        ensures room { IfSome result (λ m. m.at ≤ 8 * MAX_STRUCTURE_BYTES) }
     {
         match base {
             Base::Timer => timer_member(name.bytes()),
@@ -129,21 +134,21 @@ fn fault_of(code: TypeCode, i: u32) -> TypeError
     })
 }
 
-// The first structure that is over 4,096 bytes.
+/// The first structure that is too large.
 fn too_large(sizes: &[u32]) -> Option<u32>
     requires { length sizes.now < 4294967296 }
     ensures some { IfSome result (λ i. IsLarge sizes.now i) }
     ensures none { IfNone result (Each IsSmall sizes.now) }
 {
     for i in 0..sizes.len() {
-        if sizes[i] > 4096 {
+        if sizes[i] > MAX_STRUCTURE_BYTES {
             return Some(i as u32);
         }
     }
     None
 }
 
-// The places of the members of each structure, where the structures have these sizes.
+/// The places of the members of each structure, by the structures' sizes.
 fn all_places(
     alloc: Global,
     resolved: &Resolved,

@@ -1,3 +1,4 @@
 pub mod Causes
 pub mod FirstCause
 pub mod Pieces
+pub mod Causes

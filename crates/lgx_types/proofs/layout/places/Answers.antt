@@ -2,7 +2,7 @@ use Rattle.std.proofs.Common.{◌≡◌, ◌∙◌, ap, arith, ◌+◌, ◌≤�
 use Rattle.spec_language.specs.declared.types.Base.TheVariants.{Bool as OneBit}
 use Rattle.spec_language.specs.declared.types.DataType.{DataType}
 use Rattle.spec_language.specs.Layout.{begin_after, size_in, round_up}
-use Rattle.lgx_types.specs.Walk.{end_of}
+use Rattle.lgx_types.specs.Sizing.{end_of}
 use Rattle.lgx_types.proofs.Placed.{ends_next, fits_next, places_next}
 use Rattle.lgx_types.proofs.layout.places.Goals as goal
 

@@ -1,27 +1,30 @@
-use Rattle.std.proofs.Common.{◌∙◌, ◌≡◌, ap, arith, sym, subst, List, ℕ, Bool, ◌++◌, ◌∷◌, take}
+use Rattle.std.proofs.Common.{◌∙◌, ◌≡◌, ap, sym, subst, List, ℕ, Bool, ◌++◌, ◌∷◌, take}
 use Rattle.spec_language.specs.declared.types.DataType.{DataType}
 use Rattle.spec_language.specs.Layout.{type_of}
 use Rattle.spec_language.specs.declared.types.MemberDecl.{MemberDecl}
 use Rattle.std.proofs.lemmas.Result.{err_from_is_err_and}
-use Rattle.std.specs.Prelude.{nat_lt, []}
+use Rattle.std.specs.Prelude.{[]}
 use Rattle.spec_language.specs.TypeFaults.{member_faults, repeated}
-use Rattle.lgx_types.specs.Outlines.{faults_by, IsFirst, outline}
-use Rattle.lgx_types.proofs.Found.{first_here, none_here, taken_before, take_map_more}
+use Rattle.lgx_types.specs.Outlines.{faults_by, outline}
+use Rattle.lgx_types.specs.Tables.{fault}
+use Rattle.spec_base.specs.Causes.{IsFaultOf}
+use Rattle.spec_base.specs.FirstCause.{first}
+use Rattle.lgx_types.proofs.Found.{first_here, none_here, repeated_is, take_map_more}
 use Rattle.lgx_types.proofs.resolved.members_of.Goals as goal
 
 pub returns-in_err-of-clause-fault : goal.returns-in_err-of-clause-fault
 returns-in_err-of-clause-fault c =
     let p = err_from_is_err_and c.from_residual-in_err-of.result c.from_residual-in_err-of.ensures.1 in
     let m = c.index-members-k.result in
-    let taken : nat_lt c.in_ok-first.first c.loop-k.k ≡ repeated c.args.members.now c.loop-k.k m = taken_before c.args.members.now c.loop-k.names c.loop-k.k c.in_ok-first.first m (omega arith) c.loop-k.invariant.names (rw c.in_ok-first.ensures.names at c.in_ok-first.ensures.first) in
-    rw (p.1, p.2) (first_here (member_faults c.args.structures.now c.args.i c.args.members.now) c.args.members.now c.loop-k.k m _ c.loop-k-test.true c.index-members-k.is c.loop-k.invariant.faults c.in_err-of.field-0.0 (subst (λ (b : Bool). IsFirst (faults_by b c.args.structures.now c.args.i c.loop-k.k m) c.in_err-of.field-0.0) taken c.in_err-of.ensures.fault))
+    let taken : c.is_some-taken.result ≡ repeated c.args.members.now c.loop-k.k m = rw (c.is_some-taken.ensures, c.find.ensures.number, c.bytes.ensures.bytes) (repeated_is c.args.members.now c.loop-k.names c.loop-k.k m c.loop-k.invariant.names) in
+    rw (p.1, p.2) (first_here (member_faults c.args.structures.now c.args.i c.args.members.now) c.args.members.now c.loop-k.k m _ c.loop-k-test.true c.index-members-k.is c.loop-k.invariant.faults (fault c.in_err-of.field-0.0) (subst (λ (b : Bool). IsFaultOf (first (faults_by b c.args.structures.now c.args.i c.loop-k.k m)) (fault c.in_err-of.field-0.0)) taken c.in_err-of.ensures.fault))
 
 pub loop-k-preserved : goal.loop-k-preserved
 loop-k-preserved c =
     let m = c.index-members-k.result in
-    let taken : nat_lt c.in_ok-first.first c.loop-k.k ≡ repeated c.args.members.now c.loop-k.k m = taken_before c.args.members.now c.loop-k.names c.loop-k.k c.in_ok-first.first m (omega arith) c.loop-k.invariant.names (rw c.in_ok-first.ensures.names at c.in_ok-first.ensures.first) in
+    let taken : c.is_some-taken.result ≡ repeated c.args.members.now c.loop-k.k m = rw (c.is_some-taken.ensures, c.find.ensures.number, c.bytes.ensures.bytes) (repeated_is c.args.members.now c.loop-k.names c.loop-k.k m c.loop-k.invariant.names) in
     record {
-      names = c.in_ok-first.ensures.names ∙ ap (λ (l : List (List ℕ)). l ++ m.name ∷ []) c.loop-k.invariant.names ∙ sym (take_map_more (λ (o : MemberDecl). o.name) c.args.members.now c.loop-k.k m c.loop-k-test.true c.index-members-k.is);
-      types = c.in_ok-push.ensures.items ∙ ap (λ (l : List DataType). l ++ c.in_ok-of.of ∷ []) c.loop-k.invariant.types ∙ ap (λ (t : DataType). outline c.args.structures.now (take c.loop-k.k c.args.members.now) ++ t ∷ []) c.in_ok-of.ensures.value ∙ sym (take_map_more (type_of c.args.structures.now) c.args.members.now c.loop-k.k m c.loop-k-test.true c.index-members-k.is);
+      names = c.in_ok-push.ensures.ok ∙ ap (λ (l : List (List ℕ)). l ++ m.name ∷ []) c.loop-k.invariant.names ∙ sym (take_map_more (λ (o : MemberDecl). o.name) c.args.members.now c.loop-k.k m c.loop-k-test.true c.index-members-k.is);
+      types = c.in_ok-push-2.ensures.items ∙ ap (λ (l : List DataType). l ++ c.in_ok-of.of ∷ []) c.loop-k.invariant.types ∙ ap (λ (t : DataType). outline c.args.structures.now (take c.loop-k.k c.args.members.now) ++ t ∷ []) c.in_ok-of.ensures.value ∙ sym (take_map_more (type_of c.args.structures.now) c.args.members.now c.loop-k.k m c.loop-k-test.true c.index-members-k.is);
       faults = none_here (member_faults c.args.structures.now c.args.i c.args.members.now) c.args.members.now c.loop-k.k m _ c.loop-k-test.true c.index-members-k.is c.loop-k.invariant.faults (subst (λ (b : Bool). faults_by b c.args.structures.now c.args.i c.loop-k.k m ≡ []) taken c.in_ok-of.ensures.in_order);
     }

@@ -1,6 +1,6 @@
 use Rattle.std.proofs.Common.{◌≡◌, ◌∙◌, refl}
-use Rattle.lgx_types.specs.Walk.{types_at}
-use Rattle.lgx_types.proofs.Sizing.{few_at, typed_at}
+use Rattle.lgx_types.specs.Sizing.{types_at}
+use Rattle.lgx_types.proofs.MemberSizes.{few_at, typed_at}
 use Rattle.lgx_types.proofs.resolved.Resolved.types_at.Goals as goal
 
 pub returns : goal.returns

@@ -1,5 +1,10 @@
+use Rattle.std.proofs.Common.{arith, ◌≤◌, ◌*◌}
+use Rattle.spec_base.specs.declared.limits.TheConstants.{MAX_ELEMENTS, MAX_STRUCTURE_BYTES}
+use Rattle.spec_language.specs.Layout.{size_in}
 use Rattle.lgx_types.proofs.Placed.{size_fits}
 use Rattle.lgx_types.proofs.table.TypeTable.size_of.Goals as goal
 
 pub size_in-requires : goal.size_in-requires
-size_in-requires c = rw c.deref.ensures.value (size_fits c.self.inside.resolved c.self.inside.sizes.items c.self.inside.places.items c.args.of c.self.invariant (rw c.self.view_is c.requires))
+size_in-requires c =
+    let fits : size_in c.self.inside.sizes.items c.args.of ≤ MAX_STRUCTURE_BYTES * MAX_ELEMENTS = size_fits c.self.inside.resolved c.self.inside.sizes.items c.self.inside.places.items c.args.of c.self.invariant (rw c.self.view_is c.requires) in
+    rw c.deref.ensures.value (omega (arith, fits))
