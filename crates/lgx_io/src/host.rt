@@ -42,7 +42,7 @@ fn read_some<R: Read>(file: &mut R, piece: &mut [u8]) -> Option<usize>
 
 /// All that a reader has left, in as many reads as it takes. A reader that has more than a file may is given
 /// up at the read that shows it.
-pub(crate) fn read_to_end<R: Read>(alloc: Global, file: &mut R) -> Result<Vec<u8>, FileFault>
+pub fn read_to_end<R: Read>(alloc: Global, file: &mut R) -> Result<Vec<u8>, FileFault>
     ensures ok { IfOk result (λ bytes. length bytes.items ≤ MAX_FILE_BYTES) }
     ensures whole { IfOk result (λ bytes.
         IfSome (R.remaining file.old) (λ contents. bytes.items ≡ contents)) }
@@ -71,7 +71,7 @@ pub(crate) fn read_to_end<R: Read>(alloc: Global, file: &mut R) -> Result<Vec<u8
 
 /// Writes all of the bytes, in as many writes as it takes, and answers whether that succeeded. An interrupted
 /// write is made again; one that takes nothing is a failure, and so is the end of 2^64 - 1 writes.
-pub(crate) fn write_all<W: Write>(writer: &mut W, bytes: &[u8]) -> bool
+pub fn write_all<W: Write>(writer: &mut W, bytes: &[u8]) -> bool
     ensures all { OnTrue result (Appends (W.contents writer.old) (W.contents writer.new) bytes.now) }
     ensures part { OnFalse result (AppendsPart (W.contents writer.old) (W.contents writer.new) bytes.now) }
 {

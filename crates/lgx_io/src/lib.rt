@@ -25,7 +25,7 @@ mod sink;
 mod sure;
 
 pub use files::{FileFault, Files, ReadCause};
-pub use host::{HostFiles, HostSink};
+pub use host::{HostFiles, HostSink, read_to_end, write_all};
 pub use memory::{MemFiles, MemSink};
 pub use sink::{Sink, SinkFault};
 pub use sure::{SureFiles, SureSink};

@@ -1,5 +1,5 @@
 -- How many events a journal has.
-use Rattle.std.proofs.Common.{◌≡◌, ℕ, ◌+◌, ◌≤◌, List, [], ◌∷◌, length, length-append, Bool, true, false, ◌&&◌, Option, Some, nat_le, arith}
+use Rattle.std.proofs.Common.{◌≡◌, ◌+◌, ◌≤◌, List, [], ◌∷◌, length, length-append, true, arith}
 use Rattle.std.proofs.lemmas.Bool.Decides.{nat_tests}
 use Rattle.std.proofs.lemmas.List.{length-replicate}
 use Rattle.logix_run.specs.declared.limits.TheConstants.{MAX_STEPS, MAX_CHANGES}

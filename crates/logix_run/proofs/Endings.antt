@@ -1,9 +1,7 @@
 -- How a call ends, as its clauses say it.
-use Rattle.std.proofs.Common.{◌≡◌, ◌⊎◌, inl, inr, ℕ, ◌<◌, ◌≤◌, length, List, Option, Some, None, IsSome, IfSome, refl, sym, ap, ◌∙◌, subst, arith}
+use Rattle.std.proofs.Common.{◌≡◌, inl, inr, ℕ, List, Option, Some, None, refl, sym, ◌∙◌, subst}
 use Rattle.std.specs.Bool.{⊤}
 use Rattle.std.specs.Io.KnownBytes.{Appends}
-use Rattle.lgx_io.specs.declared.files.ReadCause.TheVariants as cause
-use Rattle.spec_base.specs.declared.limits.TheConstants.{MAX_FILE_BYTES}
 use Rattle.lgx_core.specs.Project.{Plan}
 use Rattle.lgx_core.specs.declared.event.Event.{Event}
 use Rattle.logix_run.specs.declared.status.Status.{Status}
@@ -12,10 +10,10 @@ use Rattle.logix_run.specs.Project.{project_of}
 use Rattle.logix_run.specs.Journal.{journal_of}
 use Rattle.logix_run.specs.Words.{replay_of}
 use Rattle.logix_run.specs.Output.{Contents, journal_output, replay_output, command_output, output}
-use Rattle.logix_run.specs.Call.{Call, AreToldOf, CameWhole, AreRead, Adds, AddsFailure, Gains, PutFailed, NoPutFailed, OfRead, IsAccepted, IsTooLong}
+use Rattle.logix_run.specs.Call.{Call, AreRead, Adds, AddsFailure, PutFailed, NoPutFailed}
 use Rattle.logix_run.specs.Request.{IsStopped, Writes, Ended}
 use Rattle.logix_run.specs.Causes.{IsOrMemory}
-use Rattle.logix_run.proofs.Puts.{appends_none}
+use Rattle.std.proofs.KnownBytes.{Appends-nil}
 use Rattle.logix_run.proofs.Requests.{told_contents}
 
 -- the statuses of a whole output
@@ -71,7 +69,7 @@ module _ (call : Call) where
   adds_nothing status.WriteFault h = absurd h
   adds_nothing status.Memory h =
       let agree = told_contents call.told (replay_of call.words) in
-      (agree.0, agree.1, (0, appends_none call.held.old))
+      (agree.0, agree.1, (0, Appends-nil call.held.old))
   adds_nothing status.TooLong h = refl
 
   pub ended_adds : (s : Status) → Ended (record call { answer = s }) → Adds (record call { answer = s })
@@ -124,7 +122,7 @@ module _ (call : Call) where
       let P : Status → Type 0 = λ s. IsStopped call.told call.failures (replay_of call.words) s in
       absurd (subst P is e.0)
 
-  -- the status that what is told calls for, where nothing outside fails
+  -- the status that what is told calls for, if nothing outside fails
   pub expected : (wanted s : Status) → Adds (record call { answer = s }) → AddsFailure (record call { answer = s }) → (s ≡ status.WriteFault → PutFailed call.faults) → ((contents : Contents) → AreRead call.told call.words contents → (output contents call.words).0 ≡ wanted) → (AddsFailure (record call { answer = status.ReadFault }) → ⊥) → (AddsFailure (record call { answer = status.TooLong }) → ⊥) → NoPutFailed call.faults → IsOrMemory wanted s
   expected wanted status.Ok adds failures rose is_wanted reads short no_put = inl (adds.2 ∙ is_wanted adds.0 adds.1)
   expected wanted status.Usage adds failures rose is_wanted reads short no_put = inl (adds.2 ∙ is_wanted adds.0 adds.1)

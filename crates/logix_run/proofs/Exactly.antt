@@ -1,4 +1,4 @@
--- Where each status comes, from what was written, what failed and what is told.
+-- The cause of each status, from what was written, what failed and what is told.
 use Rattle.std.proofs.Common.{◌≡◌, ◌⊎◌, inl, inr, ℕ, ◌<◌, ◌≤◌, length, List, Option, Some, None, IsSome, IfSome, refl, sym, ap, ◌∙◌, subst, arith}
 use Rattle.lgx_io.specs.declared.files.ReadCause.TheVariants as cause
 use Rattle.spec_base.specs.declared.limits.TheConstants.{MAX_FILE_BYTES}
@@ -10,8 +10,8 @@ use Rattle.logix_run.specs.Project.{project_of}
 use Rattle.logix_run.specs.Journal.{journal_of}
 use Rattle.logix_run.specs.Words.{replay_of}
 use Rattle.logix_run.specs.Output.{Contents, journal_output, replay_output, command_output, output}
-use Rattle.logix_run.specs.Call.{Call, AreToldOf, CameWhole, AreRead, Adds, AddsFailure, Gains, PutFailed, NoPutFailed, OfRead, IsAccepted, IsTooLong}
-use Rattle.logix_run.specs.Causes.{IsOrMemory, IsNoList, IsNoProject, IsNoJournal, IsJournal, OfNames, IsReadAs, OnlyUsage, IsUsage, OnlyProject, IsProject, OnlyScript, IsScript, OnlyOk, IsOk, IsProjectTooLong, IsJournalTooLong}
+use Rattle.logix_run.specs.Call.{Call, AreToldOf, CameWhole, AreRead, Adds, AddsFailure, Gains, PutFailed, OfRead, IsAccepted, IsTooLong}
+use Rattle.logix_run.specs.Causes.{IsNoProject, IsNoJournal, IsJournal, OfNames, OnlyUsage, IsUsage, OnlyProject, IsProject, OnlyScript, IsScript, OnlyOk, IsOk, IsProjectTooLong, IsJournalTooLong}
 use Rattle.logix_run.proofs.Endings.{expected, stops}
 
 -- ---- what a status says of the contents

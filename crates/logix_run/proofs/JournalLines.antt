@@ -1,5 +1,5 @@
 -- The lines of a journal.
-use Rattle.std.proofs.Common.{◌≡◌, ℕ, ◌+◌, ◌≤◌, List, [], ◌∷◌, ◌++◌, length, Bool, true, false, eqb, cond, codes, Option, Some, None, option_map, option_and_then, bytes_eq, refl, sym, ap, ◌∙◌, append-nil, arith}
+use Rattle.std.proofs.Common.{◌≡◌, ℕ, List, [], ◌∷◌, ◌++◌, length, Bool, true, false, eqb, cond, codes, Option, Some, None, option_map, option_and_then, bytes_eq, refl, sym, ap, ◌∙◌, append-nil, arith}
 use Rattle.std.proofs.lemmas.Bool.Decides.{nat_tests}
 use Rattle.logix_run.specs.declared.journal.Entry.{Entry}
 use Rattle.logix_run.specs.Pieces.{pieces, onto_first}
@@ -13,17 +13,17 @@ last_of false c [] f = refl
 last_of false c (q ∷ []) f = refl
 last_of false c (q ∷ r ∷ qs) f = refl
 
--- the text behind `end` is empty
+-- the text after `end` is empty
 pub is_last-pieces : (text : List ℕ) → is_last (pieces 10 text) ≡ eqb (length text) 0
 is_last-pieces [] = refl
 is_last-pieces (c ∷ cs) =
     let more : eqb (length (c ∷ cs)) 0 ≡ false = grind (arith, nat_tests) in
     last_of (eqb c 10) c (pieces 10 cs) (first_piece 10 cs) ∙ sym more
 
-abbrev behind_none : Entry → Option (List Entry)
-behind_none e = option_map (λ es. e ∷ es) None
+abbrev onto_none : Entry → Option (List Entry)
+onto_none e = option_map (λ es. e ∷ es) None
 
-none_last : (o : Option Entry) → option_and_then behind_none o ≡ None
+none_last : (o : Option Entry) → option_and_then onto_none o ≡ None
 none_last None = refl
 none_last (Some e) = refl
 

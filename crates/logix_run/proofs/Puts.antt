@@ -1,6 +1,7 @@
 -- Puts, one after another.
-use Rattle.std.proofs.Common.{◌≡◌, ◌⊎◌, inl, inr, ◌<◌, ◌≤◌, ◌+◌, ℕ, zero, suc, get_or, List, [], ◌∷◌, ◌++◌, length, length-append, take, drop, Option, Some, None, Result, Ok, Err, OnOk, OnErr, IsErrOf, refl, sym, ap, ◌∙◌, append_assoc, append-nil, subst, arith}
+use Rattle.std.proofs.Common.{◌≡◌, inl, inr, ◌<◌, ℕ, zero, suc, get_or, List, [], ◌∷◌, ◌++◌, length, take, Option, Result, Ok, Err, OnOk, OnErr, IsErrOf, refl, sym, ap, ◌∙◌, append_assoc, append-nil, subst, arith}
 use Rattle.std.specs.Io.KnownBytes.{Appends}
+use Rattle.std.proofs.KnownBytes.{Appends-nil, Appends-trans}
 use Rattle.lgx_io.specs.declared.sink.SinkFault.{SinkFault}
 use Rattle.lgx_io.specs.declared.sink.SinkFault.TheVariants.{Failed, Memory}
 use Rattle.lgx_io.specs.Sink.{FaultsRose, AppendsPart}
@@ -8,16 +9,6 @@ use Rattle.std.specs.List.{flat_map}
 use Rattle.logix_run.specs.declared.status.Status.{Status}
 use Rattle.logix_run.specs.Status.{status_after}
 use Rattle.logix_run.specs.Request.{Writes}
-
-pub appends_none : (held : Option (List ℕ)) → Appends held held []
-appends_none None = tt
-appends_none (Some xs) = sym (append-nil xs)
-
-pub appends_both : (a b c : Option (List ℕ)) (xs ys : List ℕ) → Appends a b xs → Appends b c ys → Appends a c (xs ++ ys)
-appends_both None b c xs ys h k = tt
-appends_both (Some a) None c xs ys h k = absurd h
-appends_both (Some a) (Some b) None xs ys h k = absurd k
-appends_both (Some a) (Some b) (Some c) xs ys h k = k ∙ ap (λ zs. zs ++ ys) h ∙ append_assoc a xs ys
 
 take_front : (ys zs : List ℕ) (n : ℕ) → (m : ℕ) × (take m (ys ++ zs) ≡ take n ys)
 take_front [] zs zero = (0, refl)
@@ -34,7 +25,7 @@ pub part_after : (a b c : Option (List ℕ)) (xs ys zs : List ℕ) → Appends a
 part_after a b c xs ys zs h k =
     let r = take_part xs ys zs k.0 in
     let P : List ℕ → Type 0 = λ t. Appends a c t in
-    (r.0, subst P (sym r.1) (appends_both a b c xs (take k.0 ys) h k.1))
+    (r.0, subst P (sym r.1) (Appends-trans a b c xs (take k.0 ys) h k.1))
 
 -- a first part of the text that comes next, after what was added
 pub part_goes_on : (r : Result (Unit {0}) SinkFault) (a b c : Option (List ℕ)) (xs ys zs whole : List ℕ) → Appends a b xs → AppendsPart b c ys → whole ≡ xs ++ (ys ++ zs) → OnErr r (AppendsPart a c whole)
@@ -51,18 +42,18 @@ part_of_both (Err e) a b c xs ys whole done part all =
 
 -- a first part of the first text
 pub part_of_first : (r : Result (Unit {0}) SinkFault) (a c : Option (List ℕ)) (xs ys whole : List ℕ) → AppendsPart a c xs → whole ≡ xs ++ ys → OnErr r (AppendsPart a c whole)
-part_of_first r a c xs ys whole part all = part_goes_on r a a c [] xs ys whole (appends_none a) part all
+part_of_first r a c xs ys whole part all = part_goes_on r a a c [] xs ys whole (Appends-nil a) part all
 
 pub both_added : (r : Result (Unit {0}) SinkFault) (a b c : Option (List ℕ)) (xs ys whole : List ℕ) → Appends a b xs → OnOk r (Appends b c ys) → whole ≡ xs ++ ys → OnOk r (Appends a c whole)
 both_added (Ok x) a b c xs ys whole first second all =
     let P : List ℕ → Type 0 = λ t. Appends a c t in
-    subst P (sym all) (appends_both a b c xs ys first second)
+    subst P (sym all) (Appends-trans a b c xs ys first second)
 both_added (Err e) a b c xs ys whole first second all = tt
 
 -- nothing is a first part
 pub no_part : (r : Result (Unit {0}) SinkFault) (a : Option (List ℕ)) (whole : List ℕ) → OnErr r (AppendsPart a a whole)
 no_part (Ok x) a whole = tt
-no_part (Err e) a whole = (0, appends_none a)
+no_part (Err e) a whole = (0, Appends-nil a)
 
 -- the two faults of a put
 pub put_part : (r : Result (Unit {0}) SinkFault) (a b : Option (List ℕ)) (line : List ℕ) → (IsErrOf r Failed → AppendsPart a b line) → (IsErrOf r Memory → b ≡ a) → OnErr r (AppendsPart a b line)
@@ -70,7 +61,7 @@ put_part (Ok x) a b line failed memory = tt
 put_part (Err Failed) a b line failed memory = failed refl
 put_part (Err Memory) a b line failed memory =
     let P : Option (List ℕ) → Type 0 = λ b. AppendsPart a b line in
-    subst P (sym (memory refl)) (0, appends_none a)
+    subst P (sym (memory refl)) (0, Appends-nil a)
 
 -- a list's text, about one of its members
 pub flat_map_around : {A : Type 0} (text : A → List ℕ) (xs : List A) (i : ℕ) (d : A) → i < length xs → (zs : List ℕ) × (flat_map text xs ≡ flat_map text (take i xs) ++ (text (get_or xs i d) ++ zs))

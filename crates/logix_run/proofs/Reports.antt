@@ -1,12 +1,11 @@
 -- The lines that are kept are the first ones of the run.
-use Rattle.std.proofs.Common.{◌≡◌, ℕ, suc, ◌+◌, ◌-◌, ◌<◌, ◌≤◌, List, [], ◌∷◌, ◌++◌, length, length-append, take, take_all, append_assoc, append-nil, Bool, true, false, cond, nat_lt, refl, sym, ap, ◌∙◌, arith}
+use Rattle.std.proofs.Common.{◌≡◌, ℕ, ◌+◌, ◌-◌, ◌<◌, ◌≤◌, List, [], ◌∷◌, ◌++◌, length, length-append, take, take_all, append_assoc, append-nil, Bool, true, false, cond, nat_lt, refl, sym, ap, ◌∙◌, arith}
 use Rattle.std.proofs.lemmas.Bool.Decides.{nat_tests}
 use Rattle.std.proofs.lemmas.List.{take-append-le}
 use Rattle.std.specs.List.{flat_map}
 use Rattle.spec_base.specs.declared.limits.TheConstants.{MAX_REPORT_LINES}
-use Rattle.lgx_core.specs.declared.project.Watch.{Watch}
 use Rattle.lgx_core.specs.Project.{Plan}
-use Rattle.lgx_core.specs.Machine.{State, start, step, run}
+use Rattle.lgx_core.specs.Machine.{start, step, run}
 use Rattle.lgx_core.specs.declared.event.Event.{Event}
 use Rattle.logix_run.specs.declared.line.Line.{Line}
 use Rattle.logix_run.specs.BoundedLog.{BoundedLog, with_line, with_lines}

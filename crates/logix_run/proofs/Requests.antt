@@ -1,15 +1,14 @@
 -- The request that was read is that of what is told.
-use Rattle.std.proofs.Common.{◌≡◌, ◌⊎◌, inl, inr, ℕ, ◌≤◌, length, List, [], ◌∷◌, ◌++◌, Option, Some, None, IfSome, IsSome, unwrap_or, refl, sym, ap, ◌∙◌, append-nil, subst}
+use Rattle.std.proofs.Common.{◌≡◌, ℕ, ◌≤◌, length, List, [], ◌++◌, Option, Some, None, IfSome, IsSome, unwrap_or, refl, sym, ◌∙◌, append-nil, subst}
 use Rattle.spec_base.specs.declared.limits.TheConstants.{MAX_FILE_BYTES}
 use Rattle.lgx_core.specs.Project.{Plan}
 use Rattle.logix_run.specs.declared.journal.Entry.{Entry}
-use Rattle.logix_run.specs.declared.request.Request.{Request}
 use Rattle.logix_run.specs.declared.request.Request.TheVariants.{Usage, NoProject, NoJournal, Report}
 use Rattle.logix_run.specs.Project.{project_of}
-use Rattle.logix_run.specs.Journal.{journal_entries, events_of}
-use Rattle.logix_run.specs.Output.{Contents, command_output}
-use Rattle.logix_run.specs.Call.{Told, Failures, Change, AreToldOf, CameWhole}
-use Rattle.logix_run.specs.Request.{request_output, IsRequest}
+use Rattle.logix_run.specs.Journal.{journal_entries}
+use Rattle.logix_run.specs.Output.{Contents}
+use Rattle.logix_run.specs.Call.{Told, Failures, AreToldOf}
+use Rattle.logix_run.specs.Request.{IsRequest}
 
 told_or : (o : Option (List ℕ)) → IfSome o (λ bytes. unwrap_or o [] ≡ bytes)
 told_or None = tt

@@ -28,7 +28,7 @@ recorded_command before after cs i d h is =
     ∙ sym (recorded_all-append before (entry_events (get_or cs i d)) (events_of (drop (i + 1) cs)))
     ∙ ap (recorded_all before) (sym (events_of-drop cs i d h))
 
--- the room that is left behind one command
+-- the room that is left after one command
 pub events_left : (cs : List Entry) (i : ℕ) (d : Entry) (a b m : ℕ) → i < length cs → b ≡ a + length (entry_events (get_or cs i d)) → a + length (events_of (drop i cs)) ≤ m → b + length (events_of (drop (i + 1) cs)) ≤ m
 events_left cs i d a b m h is room =
     let e = ap length (events_of-drop cs i d h) in

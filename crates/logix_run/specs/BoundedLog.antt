@@ -1,4 +1,4 @@
--- The lines that are kept, and the number of those that are lost for want of room.
+-- The lines that are kept, and the number of those that are lost since there is no room.
 use Rattle.std.specs.Prelude.{ℕ, ◌+◌, List, [], ◌∷◌, ◌++◌, length, nat_lt, if◌then◌else◌}
 use Rattle.spec_base.specs.declared.limits.TheConstants.{MAX_REPORT_LINES}
 use Rattle.logix_run.specs.declared.line.Line.{Line}

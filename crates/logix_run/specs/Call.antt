@@ -8,7 +8,6 @@ use Rattle.lgx_io.specs.Sink.{FaultsRose, AppendsPart}
 use Rattle.logix_run.specs.declared.status.Status.{Status}
 use Rattle.logix_run.specs.declared.status.Status.TheVariants as status
 use Rattle.logix_run.specs.Project.{project_of}
-use Rattle.logix_run.specs.Journal.{journal_of}
 use Rattle.logix_run.specs.Words.{replay_of}
 use Rattle.logix_run.specs.Output.{Contents, output}
 

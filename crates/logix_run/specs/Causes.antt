@@ -1,6 +1,6 @@
 -- The cause of each status, and all that is said of a call. Out of memory may come at any time, and each 'exactly if' yields
 -- to it.
-use Rattle.std.specs.Prelude.{◌≡◌, ◌⊎◌, ◌≤◌, ℕ, List, length, Option, Some, None, IsSome, IfSome}
+use Rattle.std.specs.Prelude.{◌≡◌, ◌⊎◌, ◌≤◌, ℕ, List, length, Some, None, IsSome, IfSome}
 use Rattle.spec_base.specs.declared.limits.TheConstants.{MAX_FILE_BYTES}
 use Rattle.logix_run.specs.declared.status.Status.{Status}
 use Rattle.logix_run.specs.declared.status.Status.TheVariants as status

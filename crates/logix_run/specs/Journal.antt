@@ -1,5 +1,5 @@
 -- The journal that a text is.
-use Rattle.std.specs.Prelude.{ℕ, ◌+◌, List, [], ◌∷◌, ◌++◌, take, drop, Bool, true, false, ◌&&◌, nat_le, if◌then◌else◌, codes, replicate, Option, Some, None, option_map, option_and_then}
+use Rattle.std.specs.Prelude.{ℕ, ◌+◌, List, [], ◌∷◌, ◌++◌, take, drop, Bool, false, ◌&&◌, nat_le, if◌then◌else◌, codes, replicate, Option, Some, None, option_map, option_and_then}
 use Rattle.std.specs.Str.{bytes_eq}
 use Rattle.lgx_core.specs.declared.event.Event.{Event}
 use Rattle.lgx_core.specs.declared.event.Event.TheVariants as event

@@ -14,7 +14,7 @@ use Rattle.logix_run.specs.declared.line.Note.TheVariants.{Begin, Reply, Set}
 abbrev pub line_at : ℕ → Note → Line
 line_at steps note = record { steps = steps; note = note }
 
--- a processor step has a line where it began a scan
+-- a processor step has a line if it began a scan
 abbrev pub step_lines : ℕ → What → List Line
 step_lines steps Idle = []
 step_lines steps (Began task program version) = line_at steps (Begin version) ∷ []
@@ -34,7 +34,7 @@ abbrev pub differs : Bool → Bool → Bool
 differs true b = not b
 differs false b = b
 
--- a watch has a line where its bit changed
+-- a watch has a line if its bit changed
 abbrev pub change : ℕ → ℕ → Bool → Bool → List Line
 change steps watch before after = if differs before after then line_at steps (Set watch after) ∷ [] else []
 

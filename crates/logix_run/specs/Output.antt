@@ -29,7 +29,7 @@ abbrev pub journal_output : Plan → Option (List Event) → Status × List ℕ
 journal_output plan None = no_journal
 journal_output plan (Some events) = (status.Ok, report plan events)
 
--- `replay`: the journal is output only where the project is one
+-- `replay`: the journal is read only if the project is one
 abbrev pub replay_output : Option Plan → List ℕ → Status × List ℕ
 replay_output None journal = no_project
 replay_output (Some plan) journal = journal_output plan (journal_of journal)

@@ -10,7 +10,7 @@ use Rattle.lgx_core.specs.declared.answer.Reply.{Reply}
 use Rattle.lgx_core.specs.declared.answer.Reply.TheVariants as answer
 use Rattle.lgx_core.specs.declared.answer.ModeFault.TheVariants.{M1}
 use Rattle.lgx_core.specs.Project.{Plan}
-use Rattle.lgx_core.specs.Machine.{State, start, run}
+use Rattle.lgx_core.specs.Machine.{start, run}
 use Rattle.logix_run.specs.declared.line.Line.{Line}
 use Rattle.logix_run.specs.declared.line.Note.{Note}
 use Rattle.logix_run.specs.declared.line.Note.TheVariants.{Begin, Reply as Replied, Set}

@@ -1,13 +1,11 @@
 -- What the words ask for, by the files that they name, and what was written of it.
-use Rattle.std.specs.Prelude.{◌≡◌, ◌⊎◌, ◌≤◌, ◌+◌, ℕ, List, length, Option, Some, None, Result, Ok, Err, IfSome}
+use Rattle.std.specs.Prelude.{◌≡◌, ◌⊎◌, ◌≤◌, ◌+◌, ℕ, List, length, Option, Result, Ok, Err, IfSome}
 use Rattle.std.specs.Io.KnownBytes.{Appends}
 use Rattle.lgx_io.specs.declared.files.ReadCause.TheVariants as cause
 use Rattle.lgx_io.specs.Sink.{AppendsPart}
-use Rattle.lgx_core.specs.Project.{Plan}
 use Rattle.logix_run.specs.declared.limits.TheConstants.{MAX_WATCHES, MAX_STEPS, MAX_CHANGES}
 use Rattle.logix_run.specs.declared.status.Status.{Status}
 use Rattle.logix_run.specs.declared.status.Status.TheVariants as status
-use Rattle.logix_run.specs.declared.journal.Entry.{Entry}
 use Rattle.logix_run.specs.declared.request.Request.{Request}
 use Rattle.logix_run.specs.declared.request.Request.TheVariants.{Usage, NoProject, NoJournal, Report}
 use Rattle.logix_run.specs.Journal.{events_of}

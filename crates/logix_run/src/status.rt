@@ -1,6 +1,6 @@
 // How the program ends.
 ghost use Rattle.std.specs.Prelude.{◌≡◌};
-ghost use Rattle.logix_run.specs.declared.status.Status.TheVariants.{Memory as WantOfMemory};
+ghost use Rattle.logix_run.specs.declared.status.Status.TheVariants.{Memory as OutOfMemory};
 ghost use Rattle.logix_run.specs.Status.{file_status};
 
 use lgx_io::FileFault;
@@ -21,7 +21,7 @@ pub enum Status {
     ReadFault,
     /// The sink failed.
     WriteFault,
-    /// Memory was wanted.
+    /// Out of memory.
     Memory,
     /// A file that the words name has more than 16,777,216 bytes.
     TooLong,
@@ -48,7 +48,7 @@ impl Status {
 }
 
 impl From<Memory> for Status {
-    ghost from_gives = { λ _ status. status ≡ WantOfMemory };
+    ghost from_gives = { λ _ status. status ≡ OutOfMemory };
 
     fn from(_: Memory) -> Self {
         Status::Memory

@@ -2,13 +2,14 @@
 ghost use Rattle.std.specs.Prelude.{◌≡◌, map, option_map, string_bytes};
 ghost use Rattle.logix_run.specs.Words.{replay_of};
 
-/// The files' names behind the word `replay`: the project's and the journal's.
+/// The files' names after the word `replay`: the project's and the journal's.
 #[derive(Clone, Copy)]
 pub(crate) struct Replay<'a> {
     pub project: &'a str,
     pub journal: &'a str,
 }
 
+/// The two names, if the words are `replay` and two names.
 pub(crate) fn replay_of(words: &[String]) -> Option<Replay<'_>>
     ensures { option_map (λ r. (r.project.now, r.journal.now)) result ≡ replay_of (map string_bytes words.now) }
 {

@@ -1,4 +1,3 @@
 pub mod Causes
 pub mod FirstCause
 pub mod Pieces
-pub mod Causes

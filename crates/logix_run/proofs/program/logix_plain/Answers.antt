@@ -1,4 +1,3 @@
-use Rattle.std.proofs.Common.{map, string_bytes}
 use Rattle.logix_run.specs.Call.{Call, Adds, AddsFailure}
 use Rattle.logix_run.specs.Request.{Ended}
 use Rattle.logix_run.specs.Causes.{IsAnswered}

@@ -1,6 +1,4 @@
-use Rattle.std.proofs.Common.{◌≡◌, ◌++◌}
-use Rattle.std.specs.List.{flat_map}
-use Rattle.logix_run.specs.Report.{names_of, line_text, end_text, recording_text}
+use Rattle.logix_run.specs.Report.{end_text}
 use Rattle.logix_run.proofs.Puts.{part_of_both, part_of_first, both_added}
 use Rattle.logix_run.proofs.report.write_report.Goals as goal
 

@@ -1,4 +1,4 @@
-use Rattle.std.proofs.Common.{◌≡◌, refl, sym, ◌∙◌}
+use Rattle.std.proofs.Common.{refl, sym}
 use Rattle.logix_run.proofs.Requests.{is_usage}
 use Rattle.logix_run.proofs.request.read_request.Goals as goal
 
