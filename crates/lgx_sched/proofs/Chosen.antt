@@ -11,7 +11,7 @@ use Rattle.spec_tables.proofs.StateLists.{no_entry, entry}
 use Rattle.std.proofs.lemmas.Bool.Decides.{nat_tests}
 use Rattle.std.proofs.lemmas.List.{get_or_past, get_or-map, length-map}
 use Rattle.spec_tables.specs.declared.task.TaskDef.{TaskDef}
-use Rattle.spec_tables.specs.Tasks.{TaskState, Table, tasks, precedes, is_first, or_else, chosen, is_open, state_of, task, no_task}
+use Rattle.spec_tables.specs.Tasks.{TaskState, Table, tasks, precedes, is_first, first_task, or_else, chosen, is_open, state_of, task, no_task}
 use Rattle.lgx_sched.specs.declared.table.ActiveTask.{ActiveTask}
 use Rattle.lgx_sched.specs.TableView.{TableView, up_of, queue_at, has_open, front_of, next_task}
 use Rattle.lgx_sched.specs.Represents.{Ascends, rank_of, without_rank, IsUpAt, Represents, IsSound, is_it}
@@ -195,7 +195,7 @@ front_by v s sound h (Some t) e k =
       | inr ne ↦ other_not_first v s sound h t f.0 f.1 x.0 x.1 here.1 k (state_of s k) refl ne ∙ sym (ne_eqb t k (λ t_k. ne (sym t_k)))
     ]
 
-pub first-front : (v : TableView) (s : Table) → IsSound v → Represents v s → position_from (λ t. is_first (tasks s) t.0 t.1) 0 (tasks s) ≡ front_of v.queues
+pub first-front : (v : TableView) (s : Table) → IsSound v → Represents v s → first_task (tasks s) ≡ front_of v.queues
 first-front v s sound h =
     position-is_it (λ t. is_first (tasks s) t.0 t.1) no_entry (tasks s) 0 (front_of v.queues) refl
     (λ k. ap (λ y. is_first (tasks s) y.0 y.1) (entry_at v s sound h k) ∙ front_by v s sound h (front_of v.queues) refl k)
@@ -221,4 +221,4 @@ first_open v s sound h =
 -- the table's answer is the definition's
 pub next_task-chosen : (v : TableView) (s : Table) → IsSound v → Represents v s → next_task v ≡ chosen s
 next_task-chosen v s sound h =
-    sym (ap (λ o. or_else o (position_from (λ t. is_first (tasks s) t.0 t.1) 0 (tasks s))) (first_open v s sound h) ∙ ap (λ o. or_else v.open_task o) (first-front v s sound h))
+    sym (ap (λ o. or_else o (first_task (tasks s))) (first_open v s sound h) ∙ ap (λ o. or_else v.open_task o) (first-front v s sound h))

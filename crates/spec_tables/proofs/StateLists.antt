@@ -7,7 +7,7 @@ use Rattle.std.proofs.lemmas.Bool.{false≢true}
 pub use Rattle.std.proofs.lemmas.Option.{same_Some as inner}
 use Rattle.std.proofs.lemmas.Slice.Zip.{length-zip, get_or-zip}
 use Rattle.spec_tables.specs.declared.task.TaskDef.{TaskDef}
-use Rattle.spec_tables.specs.Tasks.{TaskState, Table, no_task, state_of, is_open, chosen, or_else, tasks, is_first}
+use Rattle.spec_tables.specs.Tasks.{TaskState, Table, no_task, state_of, is_open, chosen, or_else, tasks, is_first, first_task}
 
 -- ---- one state changed
 
@@ -96,7 +96,7 @@ IsUp s t = (u : TaskState) × (state_of s t ≡ Some u)
 
 pub chosen_up : (s : Table) (t : ℕ) → chosen s ≡ Some t → IsUp s t
 chosen_up s t h =
-    elim (of_two (position_from is_open 0 s.states) (position_from (λ p. is_first (tasks s) p.0 p.1) 0 (tasks s)) t h) [
+    elim (of_two (position_from is_open 0 s.states) (first_task (tasks s)) t h) [
       | inl e ↦ open_up (state_of s t) (found is_open None s.states t e).1
       | inr e ↦
           let f = found (λ p. is_first (tasks s) p.0 p.1) no_entry (tasks s) t e.1 in
@@ -107,7 +107,7 @@ chosen_up s t h =
 -- if a task has something open, so has the chosen one
 pub chosen_open : (s : Table) (t q : ℕ) (v : TaskState) → chosen s ≡ Some t → state_of s q ≡ Some v → is_open (Some v) ≡ true → (u : TaskState) × (state_of s t ≡ Some u) × (is_open (Some u) ≡ true)
 chosen_open s t q v h g o =
-    elim (of_two (position_from is_open 0 s.states) (position_from (λ p. is_first (tasks s) p.0 p.1) 0 (tasks s)) t h) [
+    elim (of_two (position_from is_open 0 s.states) (first_task (tasks s)) t h) [
       | inl e ↦
           let f = (found is_open None s.states t e).1 in
           let u = open_up (state_of s t) f in

@@ -64,10 +64,14 @@ precedes d None e v = false
 abbrev pub is_first : List (TaskDef × Option TaskState) → TaskDef → Option TaskState → Bool
 is_first all e v = is_some v && not (list_any (λ other. precedes other.0 other.1 e v) all)
 
--- The task that has something open, if there is one; else the task that is up and that no other task precedes; else none.
--- (Of several such, in a table that no controller reaches, it is the first in project order.)
+-- The first of these that is up and that none of them precedes. In each table that a controller reaches ranks differ, and
+-- so it is the one that is up and precedes every other that is up.
+abbrev pub first_task : List (TaskDef × Option TaskState) → Option ℕ
+first_task all = position_from (λ t. is_first all t.0 t.1) 0 all
+
+-- The task that has something open, if there is one; else the up task that no other precedes; else none.
 abbrev pub chosen : Table → Option ℕ
-chosen s = or_else (position_from is_open 0 s.states) (position_from (λ t. is_first (tasks s) t.0 t.1) 0 (tasks s))
+chosen s = or_else (position_from is_open 0 s.states) (first_task (tasks s))
 
 -- ---- up and down
 
