@@ -1,35 +1,114 @@
--- The task at the front of the first queue that has one is up, and no other precedes it.
+-- The task at the front of the first queue that has one is the least by priority and then by rank.
 use Rattle.std.proofs.Common.{◌≡◌, ℕ, ◌+◌, ◌-◌, ◌<◌, ◌≤◌, zero, suc, Bool, true, false, cond, not, eqb, List, [], ◌∷◌, length, get_or, map, Option, Some, None, option_map, ◌⊎◌, inl, inr, IsTrue, is_some, refl, sym, ap, ◌∙◌, subst, arith}
 use Rattle.std.specs.List.{position_from, All, Contains}
 use Rattle.std.proofs.lemmas.Bool.{cases_lt, cases_eq, false≢true, eq-eqb, ne_eqb}
 use Rattle.std.proofs.lemmas.Option.{none-some, same_Some}
-use Rattle.std.proofs.lemmas.List.Folds.{list_any_none, list_any_at}
-use Rattle.std.proofs.lemmas.List.Elements.{All-head, All-contains, All-from_get_or}
-use Rattle.std.proofs.lemmas.Slice.Zip.{length-zip}
+use Rattle.std.proofs.lemmas.List.Elements.{All-head, All-contains}
 use Rattle.spec_base.proofs.Lists.{value_of_some}
-use Rattle.spec_tables.proofs.StateLists.{no_entry, entry}
 use Rattle.std.proofs.lemmas.Bool.Decides.{nat_tests}
 use Rattle.std.proofs.lemmas.List.{get_or_past, get_or-map, length-map}
 use Rattle.spec_tables.specs.declared.task.TaskDef.{TaskDef}
-use Rattle.spec_tables.specs.Tasks.{TaskState, Table, tasks, precedes, is_first, or_else, chosen, is_open, state_of, task, no_task}
+use Rattle.spec_tables.specs.Tasks.{TaskState, Table, Candidate, candidates, before, least_of, least, or_else, chosen, is_open, state_of, task, no_task}
 use Rattle.lgx_sched.specs.declared.table.ActiveTask.{ActiveTask}
 use Rattle.lgx_sched.specs.TableView.{TableView, up_of, queue_at, has_open, front_of, next_task}
 use Rattle.lgx_sched.specs.Represents.{Ascends, rank_of, without_rank, IsUpAt, Represents, IsSound, is_it}
 use Rattle.lgx_sched.proofs.Queues.{in_cons}
 
--- ---- of two tasks at most one precedes the other
+-- ---- the least of candidates
 
-precedes_asym : (d e : TaskDef) (u v : TaskState) → precedes d (Some u) e (Some v) ≡ true → precedes e (Some v) d (Some u) ≡ false
-precedes_asym d e u v h = grind (arith, nat_tests)
+abbrev pub Among : Candidate → List Candidate → Type 0
+Among a [] = ⊥
+Among a (c ∷ cs) = (a ≡ c) ⊎ Among a cs
 
-precedes_itself : (d : TaskDef) (u : TaskState) → precedes d (Some u) d (Some u) ≡ false
-precedes_itself d u = grind (arith, nat_tests)
+abbrev pub Wins : Candidate → Candidate → Type 0
+Wins a c = (a ≡ c) ⊎ (before a c ≡ true)
 
-by_priority : (d e : TaskDef) (u v : TaskState) → d.priority < e.priority → precedes d (Some u) e (Some v) ≡ true
-by_priority d e u v h = grind (arith, nat_tests)
+abbrev pub Beats : Candidate → List Candidate → Type 0
+Beats a [] = Unit {0}
+Beats a (c ∷ cs) = Wins a c × Beats a cs
 
-by_rank : (d e : TaskDef) (u v : TaskState) → d.priority ≡ e.priority → u.rank < v.rank → precedes d (Some u) e (Some v) ≡ true
-by_rank d e u v p h = grind (arith, nat_tests)
+before_asym : (a b : Candidate) → before a b ≡ true → before b a ≡ false
+before_asym a b h = grind (arith, nat_tests)
+
+pub before-priority : (a b : Candidate) → a.priority < b.priority → before a b ≡ true
+before-priority a b h = grind (arith, nat_tests)
+
+pub before-rank : (a b : Candidate) → a.priority ≡ b.priority → a.rank < b.rank → before a b ≡ true
+before-rank a b e h = grind (arith, nat_tests)
+
+-- the better of two still loses to the best, which is it or among the others
+better : (a b c : Candidate) (cs : List Candidate) (t : Bool) → before c b ≡ t → (a ≡ b) ⊎ Among a (c ∷ cs) → Wins a b → Wins a c → ((a ≡ cond t c b) ⊎ Among a cs) × Wins a (cond t c b)
+better a b c cs true e i w wc = (
+  elim i [
+    | inl a_b ↦ elim wc [ inl a_c ↦ inl a_c | inr l ↦ absurd (false≢true (sym (before_asym a c l) ∙ (ap (λ x. before c x) a_b ∙ e))) ]
+    | inr j ↦ elim j [ inl a_c ↦ inl a_c | inr k ↦ inr k ]
+  ],
+  wc,
+)
+better a b c cs false e i w wc = (
+  elim i [
+    | inl a_b ↦ inl a_b
+    | inr j ↦ elim j [
+      | inl a_c ↦ elim w [ inl a_b ↦ inl a_b | inr l ↦ absurd (false≢true (sym e ∙ (ap (λ x. before x b) (sym a_c) ∙ l))) ]
+      | inr k ↦ inr k
+    ]
+  ],
+  w,
+)
+
+least_of-beats : (a b : Candidate) (cs : List Candidate) → (a ≡ b) ⊎ Among a cs → Wins a b → Beats a cs → least_of b cs ≡ a
+least_of-beats a b [] i w bs = elim i [ inl e ↦ sym e | inr x ↦ absurd x ]
+least_of-beats a b (c ∷ cs) i w bs =
+    let next = better a b c cs (before c b) refl i w bs.0 in
+    least_of-beats a (cond (before c b) c b) cs next.0 next.1 bs.1
+
+pub least-beats : (a : Candidate) (cs : List Candidate) → Among a cs → Beats a cs → least cs ≡ Some a.task
+least-beats a [] i bs = absurd i
+least-beats a (c ∷ cs) i bs = ap (λ (x : Candidate). Some x.task) (least_of-beats a c cs i bs.0 bs.1)
+
+-- ---- the candidates
+
+abbrev pub up_candidate : ℕ → TaskDef → TaskState → Candidate
+up_candidate t d u = record { task = t; priority = d.priority; rank = u.rank }
+
+shift : (n k : ℕ) → n + suc k ≡ n + 1 + k
+shift n k = omega arith
+
+Beats-candidates : (a : Candidate) (n : ℕ) (ds : List TaskDef) (us : List (Option TaskState)) → ((k : ℕ) (u : TaskState) → get_or us k None ≡ Some u → Wins a (up_candidate (n + k) (get_or ds k no_task) u)) → Beats a (candidates n ds us)
+Beats-candidates a n [] us h = tt
+Beats-candidates a n (d ∷ ds) [] h = tt
+Beats-candidates a n (d ∷ ds) (None ∷ us) h =
+    Beats-candidates a (n + 1) ds us (λ k u e. subst (λ m. Wins a (up_candidate m (get_or ds k no_task) u)) (shift n k) (h (suc k) u e))
+Beats-candidates a n (d ∷ ds) (Some x ∷ us) h = (
+  subst (λ m. Wins a (up_candidate m d x)) (zero_more n) (h 0 x refl),
+  Beats-candidates a (n + 1) ds us (λ k u e. subst (λ m. Wins a (up_candidate m (get_or ds k no_task) u)) (shift n k) (h (suc k) u e)),
+)
+  where
+    zero_more : (m : ℕ) → m + 0 ≡ m
+    zero_more m = omega arith
+
+Among-candidates : (n : ℕ) (ds : List TaskDef) (us : List (Option TaskState)) (k : ℕ) (u : TaskState) → k < length ds → get_or us k None ≡ Some u → Among (up_candidate (n + k) (get_or ds k no_task) u) (candidates n ds us)
+Among-candidates n [] us k u l e = absurd (omega arith)
+Among-candidates n (d ∷ ds) [] k u l e = absurd (cc)
+Among-candidates n (d ∷ ds) (None ∷ us) zero u l e = absurd (cc)
+Among-candidates n (d ∷ ds) (None ∷ us) (suc k) u l e =
+    subst (λ m. Among (up_candidate m (get_or ds k no_task) u) (candidates (n + 1) ds us)) (sym (shift n k)) (Among-candidates (n + 1) ds us k u (omega arith) e)
+Among-candidates n (d ∷ ds) (Some x ∷ us) zero u l e =
+    inl (candidate_is n d x u (omega arith) e)
+  where
+    candidate_is : (m : ℕ) (d' : TaskDef) (y z : TaskState) → m + 0 ≡ m → Some y ≡ Some z → up_candidate (m + 0) d' z ≡ up_candidate m d' y
+    candidate_is m d' y z e' o = let same : y ≡ z = cc in ap (λ i. up_candidate i d' z) e' ∙ ap (λ w. up_candidate m d' w) (sym same)
+Among-candidates n (d ∷ ds) (Some x ∷ us) (suc k) u l e =
+    inr (subst (λ m. Among (up_candidate m (get_or ds k no_task) u) (candidates (n + 1) ds us)) (sym (shift n k)) (Among-candidates (n + 1) ds us k u (omega arith) e))
+
+candidates-none : (n : ℕ) (ds : List TaskDef) (us : List (Option TaskState)) → ((k : ℕ) → get_or us k None ≡ None) → candidates n ds us ≡ []
+candidates-none n [] us h = refl
+candidates-none n (d ∷ ds) [] h = refl
+candidates-none n (d ∷ ds) (None ∷ us) h = candidates-none (n + 1) ds us (λ k. h (suc k))
+candidates-none n (d ∷ ds) (Some x ∷ us) h = absurd (not_both x (h 0))
+  where
+    not_both : (y : TaskState) → Some y ≡ None → ⊥
+    not_both y e = cc
 
 -- ---- the front of the queues
 
@@ -73,9 +152,6 @@ position-is_it test d (x ∷ xs) n (Some (suc m)) shut h =
   where
     suc_zero : (i : ℕ) → suc i ≡ 0 → ⊥
     suc_zero i e = omega arith
-
-    shift : (m k : ℕ) → m + suc k ≡ m + 1 + k
-    shift m k = omega arith
 
     eq_suc : (i k : ℕ) → eqb (suc i) (suc k) ≡ eqb i k
     eq_suc i k = grind (arith, nat_tests)
@@ -121,9 +197,9 @@ up_at_front v s h t p f =
     let up : ℕ → Type 0 = IsUpAt (state_of s) (λ k. (task s k).priority) (p + 1) in
     All-head up t f.rest (subst (λ q. All up q) f.starts ((h.queues p).each))
 
--- the front of the queues precedes every other task that is up
-front_precedes : (v : TableView) (s : Table) → IsSound v → Represents v s → (t p : ℕ) → FrontAt v.queues t p → (x : TaskState) → state_of s t ≡ Some x → (task s t).priority ≡ p + 1 → (k : ℕ) (u : TaskState) → state_of s k ≡ Some u → (k ≡ t → ⊥) → precedes (task s t) (Some x) (task s k) (Some u) ≡ true
-front_precedes v s sound h t p f x tx pr k u ku ne =
+-- the front of the queues is ahead of every other task
+front_wins : (v : TableView) (s : Table) → IsSound v → Represents v s → (t p : ℕ) → FrontAt v.queues t p → (x : TaskState) → state_of s t ≡ Some x → (task s t).priority ≡ p + 1 → (k : ℕ) (u : TaskState) → state_of s k ≡ Some u → Wins (up_candidate t (task s t) x) (up_candidate k (task s k) u)
+front_wins v s sound h t p f x tx pr k u ku =
     let w : IsTrue (is_some (state_of s k)) = subst (λ y. IsTrue (is_some y)) (sym ku) refl in
     let place = (task s k).priority - 1 in
     let above : (task s k).priority ≡ place + 1 = placed v s sound h k w in
@@ -131,14 +207,14 @@ front_precedes v s sound h t p f x tx pr k u ku ne =
     elim (cases_lt place p) [
       | inl l ↦ absurd (not_in k (subst (λ q. Contains q k) (f.earlier place l) mine))
       | inr ge ↦ elim (cases_lt p place) [
-        | inl l ↦ by_priority (task s t) (task s k) x u (lower ((task s t).priority) ((task s k).priority) place p pr above l)
+        | inl l ↦ inr (before-priority (up_candidate t (task s t) x) (up_candidate k (task s k) u) (lower ((task s t).priority) ((task s k).priority) place p pr above l))
         | inr le ↦
             let place_p : place ≡ p = omega arith in
             let ahead : Ascends (λ i. rank_of (state_of s i)) (t ∷ f.rest) = subst (λ q. Ascends (λ i. rank_of (state_of s i)) q) f.starts ((h.queues p).by_rank) in
             elim (in_cons k t f.rest (subst (λ q. Contains q k) f.starts (subst (λ i. Contains (queue_at v i) k) place_p mine))) [
-              | inl k_t ↦ absurd (ne k_t)
-              | inr i ↦ by_rank (task s t) (task s k) x u (pr ∙ (ap (λ i'. i' + 1) (sym place_p) ∙ sym above))
-                  (subst (λ r. r < u.rank) (ap rank_of tx) (subst (λ r. rank_of (state_of s t) < r) (ap rank_of ku) (All-contains (λ j. rank_of (state_of s t) < rank_of (state_of s j)) f.rest k ahead.0 i)))
+              | inl k_t ↦ inl (same_one t k x u (sym k_t) tx ku)
+              | inr i ↦ inr (before-rank (up_candidate t (task s t) x) (up_candidate k (task s k) u) (pr ∙ (ap (λ i'. i' + 1) (sym place_p) ∙ sym above))
+                  (subst (λ r. r < u.rank) (ap rank_of tx) (subst (λ r. rank_of (state_of s t) < r) (ap rank_of ku) (All-contains (λ j. rank_of (state_of s t) < rank_of (state_of s j)) f.rest k ahead.0 i))))
             ]
       ]
     ]
@@ -146,60 +222,28 @@ front_precedes v s sound h t p f x tx pr k u ku ne =
     lower : (a b i j : ℕ) → a ≡ j + 1 → b ≡ i + 1 → j < i → a < b
     lower a b i j e e' l = omega arith
 
--- each task with its state
-entry_at : (v : TableView) (s : Table) → IsSound v → Represents v s → (k : ℕ) → get_or (tasks s) k no_entry ≡ (task s k, state_of s k)
-entry_at v s sound h k = elim (cases_lt k (length (tasks s))) [
-  | inl l ↦ entry s.defs s.states k l
-  | inr past ↦
-      let n = length-zip s.defs s.states in
-      let same = same_length v s sound h in
-      get_or_past (tasks s) k no_entry past ∙ (ap (λ d. (d, None)) (sym (get_or_past s.defs k no_task (omega arith))) ∙ ap (λ o. (task s k, o)) (sym (get_or_past s.states k None (omega arith))))
-]
+    same_one : (a b : ℕ) (y z : TaskState) → a ≡ b → state_of s a ≡ Some y → state_of s b ≡ Some z → up_candidate a (task s a) y ≡ up_candidate b (task s b) z
+    same_one a b y z e ey ez =
+        let e' : state_of s b ≡ Some y = subst (λ i. state_of s i ≡ Some y) e ey in
+        let yz : y ≡ z = cc in
+        ap (λ i. up_candidate i (task s i) y) e ∙ ap (λ w'. up_candidate b (task s b) w') yz
 
--- no task precedes the front of the queues
-none_before : (v : TableView) (s : Table) → IsSound v → Represents v s → (t p : ℕ) → FrontAt v.queues t p → (x : TaskState) → state_of s t ≡ Some x → (task s t).priority ≡ p + 1 → (i : ℕ) (o : Option TaskState) → state_of s i ≡ o → precedes (task s i) o (task s t) (Some x) ≡ false
-none_before v s sound h t p f x tx pr i None e = refl
-none_before v s sound h t p f x tx pr i (Some w) e = elim (cases_eq i t) [
-  | inl i_t ↦
-      let same : w ≡ x = same_Some w x (sym e ∙ (ap (state_of s) i_t ∙ tx)) in
-      subst (λ j. precedes (task s j) (Some w) (task s t) (Some x) ≡ false) (sym i_t) (subst (λ z. precedes (task s t) (Some z) (task s t) (Some x) ≡ false) (sym same) (precedes_itself (task s t) x))
-  | inr ne ↦ precedes_asym (task s t) (task s i) x w (front_precedes v s sound h t p f x tx pr i w e ne)
-]
-
-front_is_first : (v : TableView) (s : Table) → IsSound v → Represents v s → (t p : ℕ) → FrontAt v.queues t p → (x : TaskState) → state_of s t ≡ Some x → (task s t).priority ≡ p + 1 → is_first (tasks s) (task s t) (state_of s t) ≡ true
-front_is_first v s sound h t p f x tx pr =
-    let none = list_any_none (λ other. precedes other.0 other.1 (task s t) (Some x)) (tasks s)
-    (All-from_get_or (λ y. precedes y.0 y.1 (task s t) (Some x) ≡ false) (tasks s) no_entry
-    (λ i l. subst (λ y. precedes y.0 y.1 (task s t) (Some x) ≡ false) (sym (entry_at v s sound h i)) (none_before v s sound h t p f x tx pr i (state_of s i) refl))) in
-    ap (is_first (tasks s) (task s t)) tx ∙ ap not none
-
--- and no other is the first task
-other_not_first : (v : TableView) (s : Table) → IsSound v → Represents v s → (t p : ℕ) → FrontAt v.queues t p → (x : TaskState) → state_of s t ≡ Some x → (task s t).priority ≡ p + 1 → (k : ℕ) (o : Option TaskState) → state_of s k ≡ o → (k ≡ t → ⊥) → is_first (tasks s) (task s k) o ≡ false
-other_not_first v s sound h t p f x tx pr k None e ne = refl
-other_not_first v s sound h t p f x tx pr k (Some u) e ne =
-    let l = within s.states t (subst (λ y. IsTrue (is_some y)) (sym tx) refl) in
-    let n = length-zip s.defs s.states in
-    let same = same_length v s sound h in
-    ap not (list_any_at (λ other. precedes other.0 other.1 (task s k) (Some u)) (tasks s) t no_entry (omega arith)
-    (subst (λ y. precedes y.0 y.1 (task s k) (Some u) ≡ true) (sym (entry_at v s sound h t)) (subst (λ y. precedes (task s t) y (task s k) (Some u) ≡ true) (sym tx) (front_precedes v s sound h t p f x tx pr k u e ne))))
-
--- the front of the queues, if there is one, is the first task and no other
-front_by : (v : TableView) (s : Table) → IsSound v → Represents v s → (o : Option ℕ) → front_of v.queues ≡ o → (k : ℕ) → is_first (tasks s) (task s k) (state_of s k) ≡ is_it o k
-front_by v s sound h None e k = ap (is_first (tasks s) (task s k)) (all_down_if_none v s sound h (front-none v.queues e) k (state_of s k) refl)
-front_by v s sound h (Some t) e k =
+pub least-front : (v : TableView) (s : Table) → IsSound v → Represents v s → (o : Option ℕ) → front_of v.queues ≡ o → least (candidates 0 s.defs s.states) ≡ o
+least-front v s sound h None e =
+    ap least (candidates-none 0 s.defs s.states (λ k. all_down_if_none v s sound h (front-none v.queues e) k (state_of s k) refl))
+least-front v s sound h (Some t) e =
     let f = front-some v.queues t e in
-    let here = up_at_front v s h t f.0 f.1 in
+    let p = f.0 in
+    let here = up_at_front v s h t p f.1 in
     let x = value_of_some (state_of s t) here.0 in
-    elim (cases_eq k t) [
-      | inl k_t ↦ ap (λ i. is_first (tasks s) (task s i) (state_of s i)) k_t ∙ (front_is_first v s sound h t f.0 f.1 x.0 x.1 here.1 ∙ sym (eq-eqb t k (sym k_t)))
-      | inr ne ↦ other_not_first v s sound h t f.0 f.1 x.0 x.1 here.1 k (state_of s k) refl ne ∙ sym (ne_eqb t k (λ t_k. ne (sym t_k)))
-    ]
-
-pub first-front : (v : TableView) (s : Table) → IsSound v → Represents v s → position_from (λ t. is_first (tasks s) t.0 t.1) 0 (tasks s) ≡ front_of v.queues
-first-front v s sound h =
-    position-is_it (λ t. is_first (tasks s) t.0 t.1) no_entry (tasks s) 0 (front_of v.queues) refl
-    (λ k. ap (λ y. is_first (tasks s) y.0 y.1) (entry_at v s sound h k) ∙ front_by v s sound h (front_of v.queues) refl k)
-    ∙ from_zero (front_of v.queues)
+    let l : t < length s.defs = subst (λ n. t < n) (same_length v s sound h) (within s.states t here.0) in
+    least-beats (up_candidate t (task s t) x.0) (candidates 0 s.defs s.states)
+    (subst (λ i. Among (up_candidate i (task s t) x.0) (candidates 0 s.defs s.states)) (add_zero t) (Among-candidates 0 s.defs s.states t x.0 l x.1))
+    (Beats-candidates (up_candidate t (task s t) x.0) 0 s.defs s.states
+    (λ k u ku. subst (λ i. Wins (up_candidate t (task s t) x.0) (up_candidate i (task s k) u)) (sym (add_zero k)) (front_wins v s sound h t p f.1 x.0 x.1 here.1 k u ku)))
+  where
+    add_zero : (n : ℕ) → 0 + n ≡ n
+    add_zero n = omega arith
 
 -- ---- the chosen task
 
@@ -221,4 +265,4 @@ first_open v s sound h =
 -- the table's answer is the definition's
 pub next_task-chosen : (v : TableView) (s : Table) → IsSound v → Represents v s → next_task v ≡ chosen s
 next_task-chosen v s sound h =
-    sym (ap (λ o. or_else o (position_from (λ t. is_first (tasks s) t.0 t.1) 0 (tasks s))) (first_open v s sound h) ∙ ap (λ o. or_else v.open_task o) (first-front v s sound h))
+    sym (ap (λ o. or_else o (least (candidates 0 s.defs s.states))) (first_open v s sound h) ∙ ap (λ o. or_else v.open_task o) (least-front v s sound h (front_of v.queues) refl))

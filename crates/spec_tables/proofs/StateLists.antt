@@ -1,13 +1,12 @@
 -- What a change of one task's state leaves, and what is known of the chosen task.
 use Rattle.std.proofs.Common.{◌≡◌, ℕ, zero, suc, ◌+◌, ◌<◌, Bool, true, false, cond, List, [], ◌∷◌, length, Option, Some, None, map, ◌⊎◌, inl, inr, refl, sym, ◌∙◌, ap, subst, arith}
 use Rattle.std.specs.Prelude.{slice_set, slice_index_or}
-use Rattle.std.specs.List.{position_from, zip}
+use Rattle.std.specs.List.{position_from}
 use Rattle.std.proofs.lemmas.Bool.{false≢true}
 -- what stands in a `Some` is one value
 pub use Rattle.std.proofs.lemmas.Option.{same_Some as inner}
-use Rattle.std.proofs.lemmas.Slice.Zip.{length-zip, get_or-zip}
 use Rattle.spec_tables.specs.declared.task.TaskDef.{TaskDef}
-use Rattle.spec_tables.specs.Tasks.{TaskState, Table, no_task, state_of, is_open, chosen, or_else, tasks, is_first}
+use Rattle.spec_tables.specs.Tasks.{TaskState, Table, Candidate, state_of, is_open, chosen, or_else, least, least_of, before, candidates}
 
 -- ---- one state changed
 
@@ -79,35 +78,57 @@ open_up : (o : Option TaskState) → is_open o ≡ true → (u : TaskState) × (
 open_up None e = absurd (false≢true e)
 open_up (Some u) e = (u, refl)
 
-first_up : (all : List (TaskDef × Option TaskState)) (d : TaskDef) (o : Option TaskState) → is_first all d o ≡ true → (u : TaskState) × (o ≡ Some u)
-first_up all d None e = absurd (false≢true e)
-first_up all d (Some u) e = (u, refl)
+-- a candidate of these states, the first of which is number i, is up
+abbrev UpAt : List (Option TaskState) → ℕ → ℕ → Type 0
+UpAt us i t = (k : ℕ) × (u : TaskState) × (t ≡ i + k) × (slice_index_or us k None ≡ Some u)
 
-abbrev pub no_entry : TaskDef × Option TaskState
-no_entry = (no_task, None)
+abbrev Each : (ℕ → Type 0) → List Candidate → Type 0
+Each Q [] = Unit {0}
+Each Q (c ∷ cs) = Q c.task × Each Q cs
 
--- the task with its state at a place of both lists
-pub entry : (ds : List TaskDef) (us : List (Option TaskState)) (t : ℕ) → t < length (zip ds us) → slice_index_or (zip ds us) t no_entry ≡ (slice_index_or ds t no_task, slice_index_or us t None)
-entry ds us t l = let n = length-zip ds us in get_or-zip ds us t no_entry (omega arith) (omega arith)
+each_of : (Q : ℕ → Type 0) (b : Bool) (x y : Candidate) → Q x.task → Q y.task → Q (cond b x y).task
+each_of Q true x y p q = p
+each_of Q false x y p q = q
+
+least_in : (Q : ℕ → Type 0) (a : Candidate) (bs : List Candidate) → Q a.task → Each Q bs → Q (least_of a bs).task
+least_in Q a [] p q = p
+least_in Q a (b ∷ bs) p q = least_in Q (cond (before b a) b a) bs (each_of Q (before b a) b a q.0 p) q.1
+
+weaker : (Q R : ℕ → Type 0) → ((t : ℕ) → Q t → R t) → (cs : List Candidate) → Each Q cs → Each R cs
+weaker Q R f [] h = tt
+weaker Q R f (c ∷ cs) h = (f c.task h.0, weaker Q R f cs h.1)
+
+up_later : (x : Option TaskState) (us : List (Option TaskState)) (i t : ℕ) → UpAt us (i + 1) t → UpAt (x ∷ us) i t
+up_later x us i t p = (suc p.0, p.1, (let e = p.2 in omega arith), p.3)
+
+pub each_up : (i : ℕ) (ds : List TaskDef) (us : List (Option TaskState)) → Each (UpAt us i) (candidates i ds us)
+each_up i [] us = tt
+each_up i (d ∷ ds) [] = tt
+each_up i (d ∷ ds) (None ∷ us) = weaker (UpAt us (i + 1)) (UpAt (None ∷ us) i) (up_later None us i) (candidates (i + 1) ds us) (each_up (i + 1) ds us)
+each_up i (d ∷ ds) (Some u ∷ us) = ((0, u, omega arith, refl), weaker (UpAt us (i + 1)) (UpAt (Some u ∷ us) i) (up_later (Some u) us i) (candidates (i + 1) ds us) (each_up (i + 1) ds us))
+
+least_up : (Q : ℕ → Type 0) (cs : List Candidate) (t : ℕ) → Each Q cs → least cs ≡ Some t → Q t
+least_up Q [] t h e = let f : None ≡ Some t → ⊥ = λ p. cc in absurd (f e)
+least_up Q (c ∷ cs) t h e = subst Q (inner (least_of c cs).task t e) (least_in Q c cs h.0 h.1)
 
 -- the chosen task is up
 abbrev pub IsUp : Table → ℕ → Type 0
 IsUp s t = (u : TaskState) × (state_of s t ≡ Some u)
 
+at_zero : (us : List (Option TaskState)) (k t : ℕ) (u : TaskState) → t ≡ 0 + k → slice_index_or us k None ≡ Some u → slice_index_or us t None ≡ Some u
+at_zero us k t u e h = subst (λ n. slice_index_or us n None ≡ Some u) (let e' : k ≡ t = omega arith in e') h
+
 pub chosen_up : (s : Table) (t : ℕ) → chosen s ≡ Some t → IsUp s t
 chosen_up s t h =
-    elim (of_two (position_from is_open 0 s.states) (position_from (λ p. is_first (tasks s) p.0 p.1) 0 (tasks s)) t h) [
+    elim (of_two (position_from is_open 0 s.states) (least (candidates 0 s.defs s.states)) t h) [
       | inl e ↦ open_up (state_of s t) (found is_open None s.states t e).1
-      | inr e ↦
-          let f = found (λ p. is_first (tasks s) p.0 p.1) no_entry (tasks s) t e.1 in
-          let u = first_up (tasks s) _ _ f.1 in
-          (u.0, sym (ap (λ p. p.1) (entry s.defs s.states t f.0)) ∙ u.1)
+      | inr e ↦ (let p = least_up (UpAt s.states 0) (candidates 0 s.defs s.states) t (each_up 0 s.defs s.states) e.1 in (p.1, at_zero s.states p.0 t p.1 p.2 p.3))
     ]
 
 -- if a task has something open, so has the chosen one
 pub chosen_open : (s : Table) (t q : ℕ) (v : TaskState) → chosen s ≡ Some t → state_of s q ≡ Some v → is_open (Some v) ≡ true → (u : TaskState) × (state_of s t ≡ Some u) × (is_open (Some u) ≡ true)
 chosen_open s t q v h g o =
-    elim (of_two (position_from is_open 0 s.states) (position_from (λ p. is_first (tasks s) p.0 p.1) 0 (tasks s)) t h) [
+    elim (of_two (position_from is_open 0 s.states) (least (candidates 0 s.defs s.states)) t h) [
       | inl e ↦
           let f = (found is_open None s.states t e).1 in
           let u = open_up (state_of s t) f in

@@ -1,5 +1,5 @@
 -- The table of tasks: which are up, which one is chosen, and how they come up and go down (1756-PM005).
-use Rattle.std.specs.Prelude.{ℕ, ◌+◌, ◌-◌, ◌%◌, Bool, true, false, not, ◌&&◌, ◌||◌, List, map, nat_lt, nat_le, nat_eq, if◌then◌else◌, Option, Some, None, is_some, slice_set, slice_index_or}
+use Rattle.std.specs.Prelude.{ℕ, ◌+◌, ◌-◌, ◌%◌, Bool, true, false, ◌&&◌, ◌||◌, List, [], ◌∷◌, ◌++◌, map, nat_lt, nat_le, nat_eq, if◌then◌else◌, Option, Some, None, is_some, slice_set, slice_index_or}
 use Rattle.std.specs.List.{list_any, position_from, zip}
 -- the first of two that is there
 pub use Rattle.std.specs.Option.{option_or as or_else}
@@ -34,10 +34,6 @@ state_of s t = slice_index_or s.states t None
 abbrev pub is_up : Table → ℕ → Bool
 is_up s t = is_some (state_of s t)
 
--- each task with its state, in project order
-abbrev pub tasks : Table → List (TaskDef × Option TaskState)
-tasks s = zip s.defs s.states
-
 -- ---- the chosen task
 
 -- a task has something open if its region count is positive or its CPS is in progress
@@ -53,21 +49,37 @@ has_open_cps (Some u) = u.cps_open
 abbrev pub held : Table → Bool
 held s = list_any has_open_cps s.states
 
--- Of two tasks that are up, the first one's priority is higher, that is, a lower number; or the priorities are equal, and
--- its rank is lower.
-abbrev pub precedes : TaskDef → Option TaskState → TaskDef → Option TaskState → Bool
-precedes d (Some u) e (Some v) = nat_lt d.priority e.priority || (nat_eq d.priority e.priority && nat_lt u.rank v.rank)
-precedes d (Some u) e None = false
-precedes d None e v = false
+pub record Candidate : Type 0 where
+  pub task : ℕ
+  pub priority : ℕ
+  pub rank : ℕ
 
--- this task is up, and none of these precedes it
-abbrev pub is_first : List (TaskDef × Option TaskState) → TaskDef → Option TaskState → Bool
-is_first all e v = is_some v && not (list_any (λ other. precedes other.0 other.1 e v) all)
+abbrev pub candidate : ℕ → TaskDef → Option TaskState → List Candidate
+candidate t d None = []
+candidate t d (Some u) = record { task = t; priority = d.priority; rank = u.rank } ∷ []
 
--- The task that has something open, if there is one; else the task that is up and that no other task precedes; else none.
--- (Of several such, in a table that no controller reaches, it is the first in project order.)
+-- the tasks that are up, where the first of the table is number t
+abbrev pub candidates : ℕ → List TaskDef → List (Option TaskState) → List Candidate
+candidates t [] us = []
+candidates t (d ∷ ds) [] = []
+candidates t (d ∷ ds) (u ∷ us) = candidate t d u ++ candidates (t + 1) ds us
+
+-- by priority, 1 being the highest, and then by rank
+abbrev pub before : Candidate → Candidate → Bool
+before a b = nat_lt a.priority b.priority || (nat_eq a.priority b.priority && nat_lt a.rank b.rank)
+
+abbrev pub least_of : Candidate → List Candidate → Candidate
+least_of a [] = a
+least_of a (b ∷ bs) = least_of (if before b a then b else a) bs
+
+abbrev pub least : List Candidate → Option ℕ
+least [] = None
+least (a ∷ others) = Some ((least_of a others).task)
+
+-- The task that has something open, if there is one; else the up task that is least by priority and then by rank; else
+-- none.
 abbrev pub chosen : Table → Option ℕ
-chosen s = or_else (position_from is_open 0 s.states) (position_from (λ t. is_first (tasks s) t.0 t.1) 0 (tasks s))
+chosen s = or_else (position_from is_open 0 s.states) (least (candidates 0 s.defs s.states))
 
 -- ---- up and down
 
@@ -155,6 +167,10 @@ rotate s = unless_open (chosen s) s
 abbrev pub has_expired : ℕ → TaskDef → Option TaskState → Bool
 has_expired now d None = false
 has_expired now d (Some u) = nat_le d.watchdog (now - u.start)
+
+-- each task with its state, in project order
+abbrev pub tasks : Table → List (TaskDef × Option TaskState)
+tasks s = zip s.defs s.states
 
 -- The first task in project order that has been up for its watchdog's ticks or more.
 abbrev pub expired : ℕ → Table → Option ℕ
