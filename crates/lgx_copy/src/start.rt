@@ -10,7 +10,7 @@ use lgx_rung::Op;
 use spec_base::limits::MAX_IMAGE_BYTES;
 use spec_scan::{Arg, Bound, Copying};
 
-/// The copy or fill that begins; None exactly where it has no element.
+/// The copy or fill that begins; None exactly if it has no element.
 ///
 /// It has as many elements as the length asks for, but no more than lie whole up to the end of the destination's tag
 /// and, for COP and CPS, of the source's (profile). FLL keeps the value that its source has now.
@@ -69,7 +69,7 @@ fn elements(op: Op, args: &Bound, image: &Image) -> u32
     }
 }
 
-/// The elements that the length asks for, none where it isn't positive, and the destination has room for.
+/// The elements that the length asks for, none if it isn't positive, and the destination has room for.
 fn asked(args: &Bound, image: &Image) -> u32
     requires { ArgsInBounds args.now (length image.now.bytes) }
     ensures { result ≡ asked args.now image.now.bytes }
@@ -78,7 +78,7 @@ fn asked(args: &Bound, image: &Image) -> u32
     length.min(elements_in(args, args.at(1)))
 }
 
-/// A length, 0 where it isn't positive.
+/// A length, 0 if it isn't positive.
 fn positive(length: i32) -> u32
     ensures { result ≡ positive length }
 {

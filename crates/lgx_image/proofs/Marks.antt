@@ -1,16 +1,17 @@
 -- Grains and marks.
-use Rattle.std.proofs.Common.{◌≡◌, ℕ, zero, suc, ◌+◌, ◌/◌, ◌%◌, ◌<◌, ◌≤◌, inl, inr, Bool, true, false, List, length, set, refl, sym, ap, ◌∙◌, arith, length-set, get_or-set_same, get_or-set_other}
+use Rattle.std.proofs.Common.{◌≡◌, ℕ, zero, suc, ◌+◌, ◌-◌, ◌/◌, ◌%◌, ◌<◌, ◌≤◌, inl, inr, Bool, true, false, List, length, set, refl, sym, ap, ◌∙◌, arith, length-set, get_or-set_same, get_or-set_other}
 use Rattle.std.proofs.lemmas.Bool.{cases_eq, cases_lt, false≢true}
 use Rattle.std.proofs.lemmas.List.{get_or_past}
 use Rattle.lgx_num.specs.declared.number.Kind.{Kind}
 use Rattle.lgx_num.specs.declared.number.Kind.TheVariants.{Bool as KBool, Sint, Int, Dint}
+use Rattle.lgx_image.specs.declared.grain.TheConstants.{GRAIN}
 use Rattle.lgx_image.specs.Grains.{grain_of, grains_in, bytes_in, is_marked, mark_range}
 use Rattle.lgx_image.specs.Laws.{PieceIsMarked, OtherMarksStay, AlignedPlaceInOneGrain}
 
 -- ---- grains
 
 -- the grains of so many bytes as a quotient that is rounded up
-pub grains_in-ceil : (n : ℕ) → grains_in n ≡ (n + 63) / 64
+pub grains_in-ceil : (n : ℕ) → grains_in n ≡ (n + (GRAIN - 1)) / GRAIN
 unfolding grains_in grain_of
 grains_in-ceil zero = refl
 grains_in-ceil (suc n) = omega arith
@@ -21,7 +22,7 @@ unfolding grains_in grain_of
 grain_of-below byte zero below = absurd (omega arith)
 grain_of-below byte (suc n) below = omega arith
 
-pub grain_of-is : (byte : ℕ) → grain_of byte ≡ byte / 64
+pub grain_of-is : (byte : ℕ) → grain_of byte ≡ byte / GRAIN
 unfolding grain_of
 grain_of-is byte = refl
 

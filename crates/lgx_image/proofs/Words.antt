@@ -6,6 +6,7 @@ use Rattle.std.proofs.lemmas.Nat.{shr-shr}
 use Rattle.std.proofs.lemmas.Nat.Bits.{bit_at-zero, bit_at_above, bit_at_set_same, bit_at_set_other}
 use Rattle.std.proofs.lemmas.List.{get_or_past, ext_get_or, get_or-replicate, length-replicate}
 use Rattle.std.proofs.lemmas.List.FromFn.{length-map-range_with_len, get_or-map-range_with_len}
+use Rattle.lgx_image.specs.declared.grain.TheConstants.{GRAIN}
 use Rattle.lgx_image.specs.Grains.{ImageView, grain_of, grains_in, is_marked, mark_range, NextMarked}
 use Rattle.lgx_image.specs.Words.{bit_of_words, marks_of, NextBit, LeastBit}
 use Rattle.lgx_image.specs.Laws.{HoldsByte}
@@ -64,8 +65,8 @@ bit_set_other words g k within other = elim (cases_eq (k / 64) (g / 64)) [
 -- ---- the marks of a piece
 
 -- a grain from the first to the last of a piece holds a byte of it
-holds_byte : (at size g : ℕ) → 0 < size → at / 64 ≤ g → g ≤ (at + size - 1) / 64 → HoldsByte g at size
-holds_byte at size g some above below = (max at (64 * g), omega arith, omega arith, grain_of-is (max at (64 * g)) ∙ omega arith)
+holds_byte : (at size g : ℕ) → 0 < size → at / GRAIN ≤ g → g ≤ (at + size - 1) / GRAIN → HoldsByte g at size
+holds_byte at size g some above below = (max at (GRAIN * g), omega arith, omega arith, grain_of-is (max at (GRAIN * g)) ∙ omega arith)
 
 pub marks_of-piece : (old new : List ℕ) (at size n : ℕ) → 0 < size → ((g : ℕ) → grain_of at ≤ g → g ≤ grain_of (at + size - 1) → bit_of_words new g ≡ true) → ((g : ℕ) → (g < grain_of at) ⊎ (grain_of (at + size - 1) < g) → bit_of_words new g ≡ bit_of_words old g) → marks_of new n ≡ mark_range (marks_of old n) at size
 marks_of-piece old new at size n some covered others =

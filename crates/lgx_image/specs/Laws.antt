@@ -18,7 +18,7 @@ Unmarked marks p = (byte : ℕ) → p.at / 8 ≤ byte → byte < p.at / 8 + byte
 abbrev pub UnmarkedPlacesStay : Type 0
 UnmarkedPlacesStay = (old new : ImageView) (p : Place) → ChangesOnlyMarked old new → Unmarked new.marks p → number new.bytes p ≡ number old.bytes p
 
--- a grain is marked where it was, or where it holds a byte of the piece, and nowhere else
+-- a grain is marked if it was, or if it holds a byte of the piece, and only then
 abbrev pub HoldsByte : ℕ → ℕ → ℕ → Type 0
 HoldsByte grain at size = (byte : ℕ) × (at ≤ byte) × (byte < at + size) × (grain_of byte ≡ grain)
 

@@ -1,5 +1,5 @@
 // Numbers in the bytes of an image, and where subscripts lead.
-ghost use Rattle.std.specs.Prelude.{◌≡◌, ◌+◌, ◌*◌, ◌≤◌, length, IfSome};
+ghost use Rattle.std.specs.Prelude.{◌≡◌, ◌+◌, ◌*◌, ◌≤◌, length};
 ghost use Rattle.spec_base.specs.declared.limits.TheConstants.{MAX_IMAGE_BYTES};
 ghost use Rattle.lgx_num.specs.Image.{number, write, piece, splice, InBounds, step_by, bit_of};
 ghost use Rattle.lgx_num.specs.Paths.{PathInBounds};
@@ -64,9 +64,9 @@ pub(crate) fn copy_piece(bytes: &mut [u8], source: u32, target: u32, size: u32)
     bytes.copy_within(source..source + size, target as usize);
 }
 
-/// The first bit of what a path names; None where a subscript is negative or not below its length.
+/// The first bit of what a path names; None if a subscript is negative or not below its length.
 ///
-/// A sum that doesn't fit is cut off: it comes only where a later subscript is out of range.
+/// A sum that doesn't fit is cut off: it comes only if a later subscript is out of range.
 pub(crate) fn first_bit(bytes: &[u8], path: &Path) -> Option<u32>
     requires room { length bytes.now ≤ MAX_IMAGE_BYTES }
     requires lies { PathInBounds path.now (length bytes.now) (λ to. to ≤ 8 * length bytes.now) }
@@ -80,7 +80,7 @@ pub(crate) fn first_bit(bytes: &[u8], path: &Path) -> Option<u32>
     Some(at)
 }
 
-/// How many bits a subscript leads on; None where it is negative or not below the number of elements.
+/// How many bits a subscript leads on; None if it is negative or not below the number of elements.
 fn distance(index: Index, number: i32) -> Option<u32>
     ensures { result ≡ cut_step (step_by index number) }
 {

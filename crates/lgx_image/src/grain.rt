@@ -57,7 +57,7 @@ fn set_mark(words: &mut [u64], grain: u32)
     ensures others { (other : ℕ) → other ≢ grain → bit_of_words words.new other ≡ bit_of_words words.old other }
     ensures len { length words.new ≡ length words.old }
 {
-    words[(grain / 64) as usize] |= 1 << (grain % 64);
+    words[(grain / u64::BITS) as usize] |= 1 << (grain % u64::BITS);
 }
 
 /// The least bit of the words that is set and not below `from`.
@@ -65,19 +65,17 @@ pub(crate) fn next_bit(words: &[u64], from: u32) -> Option<u32>
     requires { length words.now ≡ WORDS }
     ensures { NextBit words.now from result }
 {
-    let first = (from / 64) as usize;
+    let first = (from / u64::BITS) as usize;
     if first >= words.len() {
         return None;
     }
-    if let Some(bit) = least_bit(words[first] >> (from % 64)) {
+    if let Some(bit) = least_bit(words[first] >> (from % u64::BITS)) {
         return Some(from + bit);
     }
-    let mut at = first + 1;
-    while at < words.len() {
+    for at in first + 1..words.len() {
         if let Some(bit) = least_bit(words[at]) {
-            return Some(at as u32 * 64 + bit);
+            return Some(at as u32 * u64::BITS + bit);
         }
-        at += 1;
     }
     None
 }

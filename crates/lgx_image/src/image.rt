@@ -124,7 +124,7 @@ impl Image {
         mark_range(&mut self.marks, target, size);
     }
 
-    /// The place that a path leads to; None where a subscript is negative or not below its length.
+    /// The place that a path leads to; None if a subscript is negative or not below its length.
     pub fn place(&self, path: &Path) -> Option<Place>
         requires { CellInBounds path.now (length self.now.bytes) }
         ensures value { result ≡ option_map (place_at path.now.kind) (bit_of self.now.bytes path.now) }
@@ -137,7 +137,7 @@ impl Image {
         })
     }
 
-    /// The operands of an instruction with their places worked out; None where a subscript is negative or not below its
+    /// The operands of an instruction with their places worked out; None if a subscript is negative or not below its
     /// length.
     pub fn bind(&self, args: &[Operand]) -> Option<Bound>
         requires room { length args.now ≤ MAX_OPERANDS }
@@ -150,7 +150,7 @@ impl Image {
         bind_all(&self.bytes, args)
     }
 
-    /// The least marked grain that isn't below `from`; None where there is none.
+    /// The least marked grain that isn't below `from`; None if there is none.
     pub fn next_marked(&self, from: u32) -> Option<u32>
         ensures { NextMarked self.now.marks from result }
     {

@@ -9,7 +9,7 @@ pub fn law_of_changes()
     ensures places { UnmarkedPlacesStay }
 {}
 
-/// A grain is marked by a write where it holds a byte of what is written, and no other mark changes. A place that is
+/// A grain is marked by a write if it holds a byte of what is written, and no other mark changes. A place that is
 /// aligned to its size lies in one grain.
 pub fn law_of_marks()
     ensures marked { PieceIsMarked }

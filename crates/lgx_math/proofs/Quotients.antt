@@ -2,6 +2,7 @@
 use Rattle.std.proofs.Common.{◌≡◌, ◌≢◌, ℕ, zero, suc, ◌%◌, ◌<◌, Bool, true, false, not, ◌&&◌, ◌||◌, cond, ℤ, pos, negsuc, neg_ℤ, ◌+ℤ◌, ◌*ℤ◌, ◌≤ℤ◌, refl, ap, ◌∙◌, arith}
 use Rattle.std.specs.Prelude.{unsigned_abs, int_div, int_rem}
 use Rattle.std.proofs.lemmas.Int.{quot-rem, rem_below, ints}
+use Rattle.std.proofs.lemmas.Bool.{false_from_ne_true}
 use Rattle.std.proofs.lemmas.Bool.Decides.{Decides-int_eq}
 use Rattle.lgx_num.specs.Number.{fits}
 use Rattle.lgx_num.proofs.Numbers.{value_in_range_is_kept}
@@ -10,12 +11,8 @@ use Rattle.lgx_math.specs.Laws.{RemainderIsLeft, RemainderIsLess, RemainderHasTh
 
 -- ---- another divisor than 0
 
-not_true : (t : Bool) → (t ≡ true → ⊥) → t ≡ false
-not_true true other = absurd (other refl)
-not_true false other = refl
-
 not_zero : (b : ℤ) → b ≢ pos 0 → is_zero b ≡ false
-not_zero b other = not_true (is_zero b) (λ is. other ((Decides-int_eq b (pos 0)).0 is))
+not_zero b other = false_from_ne_true (is_zero b) (λ is. other ((Decides-int_eq b (pos 0)).0 is))
 
 quotient-is : (a b : ℤ) → b ≢ pos 0 → quotient a b ≡ int_div a b
 quotient-is a b other = ap (λ (t : Bool). cond t a (int_div a b)) (not_zero b other)

@@ -53,7 +53,7 @@ fn is_within(low: i32, test: i32, high: i32) -> bool
     }
 }
 
-/// MEQ: equal in the bits where the mask has a 1.
+/// MEQ: equal in the bits in which the mask has a 1.
 fn is_equal_under(source: i32, mask: i32, other: i32) -> bool
     ensures { result ≡ is_equal_under source mask other }
 {

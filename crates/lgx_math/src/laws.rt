@@ -14,7 +14,7 @@ pub fn law_of_overflow()
     ensures { StoredIsExact }
 {}
 
-/// MVM takes a bit from the source where the mask has a 1, and leaves it elsewhere.
+/// MVM takes a bit from the source if the mask has a 1 there, and else leaves it.
 pub fn law_of_masks()
     ensures moved { MaskedBitsAreMoved }
     ensures others { OtherBitsStay }

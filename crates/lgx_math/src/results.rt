@@ -31,7 +31,7 @@ pub(crate) fn result_of(op: Op, a: i32, b: i32, dest: i32) -> i64
     }
 }
 
-/// DIV: the quotient, cut towards zero; the dividend where the divisor is 0.
+/// DIV: the quotient, cut towards zero; the dividend if the divisor is 0.
 fn quotient(a: i32, b: i32) -> i64
     ensures { result ≡ quotient a b }
 {
@@ -42,7 +42,7 @@ fn quotient(a: i32, b: i32) -> i64
     }
 }
 
-/// MOD: what the quotient leaves, with the sign of the dividend; 0 where the divisor is 0 (profile).
+/// MOD: what the quotient leaves, with the sign of the dividend; 0 if the divisor is 0 (profile).
 fn remainder(a: i32, b: i32) -> i64
     ensures { result ≡ remainder a b }
 {
@@ -53,7 +53,7 @@ fn remainder(a: i32, b: i32) -> i64
     }
 }
 
-/// MVM: the bits of the source where the mask has a 1, and those of the destination elsewhere.
+/// MVM: the bits of the source for which the mask has a 1, and the other bits of the destination.
 fn masked_move(source: i32, mask: i32, dest: i32) -> i32
     ensures { result ≡ masked_move source mask dest }
 {
@@ -68,7 +68,7 @@ pub(crate) fn overflows(op: Op, kind: Kind, divisor: i32, exact: i64) -> bool
     is_exact(op) && (!fits(kind, exact) || (divides(op) && divisor == 0))
 }
 
-/// Whether an instruction overflows where its exact result doesn't fit the destination.
+/// Whether an instruction overflows if its exact result doesn't fit the destination.
 fn is_exact(op: Op) -> bool
     ensures { result ≡ is_exact op }
 {

@@ -1,15 +1,15 @@
 // The prescan of an instruction.
 ghost use Rattle.std.specs.Prelude.{◌≡◌, ◌+◌, ◌≤◌, true, false, pos, length};
+ghost use Rattle.spec_base.specs.declared.limits.TheConstants.{TIMER_BYTES};
 ghost use Rattle.lgx_num.specs.Image.{write, InBounds};
 ghost use Rattle.spec_scan.specs.Arguments.{bit_number};
+ghost use Rattle.spec_scan.specs.Executable.{IsExecutable};
+ghost use Rattle.spec_scan.specs.Fits.{ArgsFit};
 ghost use Rattle.spec_scan.specs.Prescan.{prescan_ins, prescan_one, timer_bits_off};
 ghost use Rattle.spec_scan.specs.StatusWords.{pre, put_acc};
 ghost use Rattle.lgx_image.specs.Args.{ArgsInBounds};
 ghost use Rattle.lgx_image.specs.Grains.{ChangesOnlyMarked};
-ghost use Rattle.spec_scan.specs.Executable.{IsExecutable};
-ghost use Rattle.lgx_prescan.specs.Written.{IsWritten};
 
-use crate::operand::{counter_at, place_at, put_bit, timer_at};
 use lgx_image::Image;
 use lgx_num::Place;
 use lgx_prog::Ins;
@@ -17,7 +17,7 @@ use lgx_rung::Op;
 use lgx_time::words::{self, CD, CU, DN, EN, TT};
 use spec_scan::Bound;
 
-/// The prescan of an instruction: where a subscript is out of range it does nothing.
+/// The prescan of an instruction: if a subscript is out of range it does nothing.
 pub(crate) fn prescan_ins(ins: &Ins, image: &mut Image)
     requires { IsExecutable (length image.old.bytes) ins.now }
     ensures bytes { image.new.bytes ≡ prescan_ins image.old.bytes ins.now }
@@ -29,22 +29,23 @@ pub(crate) fn prescan_ins(ins: &Ins, image: &mut Image)
 }
 
 /// The prescan of an instruction whose operands have their places.
+#[tactic(auto, using(lgx_image::proofs::BoundKinds::place_lies, lgx_image::proofs::BoundKinds::timer_lies, lgx_image::proofs::BoundKinds::counter_lies))]
 fn prescan_one(op: Op, args: &Bound, image: &mut Image)
-    requires written { IsWritten op args.now }
+    requires fit { ArgsFit op args.now }
     requires lie { ArgsInBounds args.now (length image.old.bytes) }
     ensures bytes { image.new.bytes ≡ prescan_one op args.now image.old.bytes }
     ensures only_marked { ChangesOnlyMarked image.old image.new }
 {
     match op {
-        Op::Ote => put_bit(place_at(args, 0), false, image),
-        Op::Ons => put_bit(place_at(args, 0), true, image),
-        Op::Osr => one_shot(place_at(args, 0), true, place_at(args, 1), image),
-        Op::Osf => one_shot(place_at(args, 0), false, place_at(args, 1), image),
-        Op::Ton => ton(timer_at(args), image),
-        Op::Tof => tof(timer_at(args), image),
-        Op::Rto => timer_bits_off(timer_at(args), image),
-        Op::Ctu => words::put_bit(counter_at(args), CU, true, image),
-        Op::Ctd => words::put_bit(counter_at(args), CD, true, image),
+        Op::Ote => image.put_bit(args.at(0).place(), false),
+        Op::Ons => image.put_bit(args.at(0).place(), true),
+        Op::Osr => one_shot(args.at(0).place(), true, args.at(1).place(), image),
+        Op::Osf => one_shot(args.at(0).place(), false, args.at(1).place(), image),
+        Op::Ton => ton(args.at(0).byte(), image),
+        Op::Tof => tof(args.at(0).byte(), image),
+        Op::Rto => timer_bits_off(args.at(0).byte(), image),
+        Op::Ctu => words::put_status(args.at(0).byte(), CU, true, image),
+        Op::Ctd => words::put_status(args.at(0).byte(), CD, true, image),
         _ => {}
     }
 }
@@ -56,13 +57,13 @@ fn one_shot(storage: Place, on: bool, output: Place, image: &mut Image)
     ensures bytes { image.new.bytes ≡ write (write image.old.bytes storage (bit_number on)) output (bit_number false) }
     ensures only_marked { ChangesOnlyMarked image.old image.new }
 {
-    put_bit(storage, on, image);
-    put_bit(output, false, image);
+    image.put_bit(storage, on);
+    image.put_bit(output, false);
 }
 
 /// TON: its bits are off, and it begins at 0.
 fn ton(at: u32, image: &mut Image)
-    requires { at + 16 ≤ length image.old.bytes }
+    requires { at + TIMER_BYTES ≤ length image.old.bytes }
     ensures bytes { image.new.bytes ≡ put_acc at (pos 0) (timer_bits_off at image.old.bytes) }
     ensures only_marked { ChangesOnlyMarked image.old image.new }
 {
@@ -73,7 +74,7 @@ fn ton(at: u32, image: &mut Image)
 /// TOF: its bits are off, and it has come to its preset.
 #[tactic(auto, using(lgx_image::proofs::Changes::changes_follow_one_another))]
 fn tof(at: u32, image: &mut Image)
-    requires { at + 16 ≤ length image.old.bytes }
+    requires { at + TIMER_BYTES ≤ length image.old.bytes }
     ensures bytes { image.new.bytes ≡ put_acc at (pre image.old.bytes at) (timer_bits_off at image.old.bytes) }
     ensures only_marked { ChangesOnlyMarked image.old image.new }
 {
@@ -84,11 +85,11 @@ fn tof(at: u32, image: &mut Image)
 
 /// The bits of a timer are off.
 fn timer_bits_off(at: u32, image: &mut Image)
-    requires { at + 16 ≤ length image.old.bytes }
+    requires { at + TIMER_BYTES ≤ length image.old.bytes }
     ensures bytes { image.new.bytes ≡ timer_bits_off at image.old.bytes }
     ensures only_marked { ChangesOnlyMarked image.old image.new }
 {
-    words::put_bit(at, DN, false, image);
-    words::put_bit(at, TT, false, image);
-    words::put_bit(at, EN, false, image);
+    words::put_status(at, DN, false, image);
+    words::put_status(at, TT, false, image);
+    words::put_status(at, EN, false, image);
 }

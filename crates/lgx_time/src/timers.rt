@@ -177,7 +177,7 @@ fn add_ticks(at: u32, now: u32, image: &mut Image)
     put_accumulator(at, accumulated, image);
 }
 
-/// An accumulator with the ticks since the last count: none where time ran backwards, and at most its greatest value.
+/// An accumulator with the ticks since the last count: none if time ran backwards, and at most its greatest value.
 fn accumulated(acc: i32, last_tick: i32, now: u32) -> i32
     ensures { result ≡ int_min (pos 2147483647) (acc +ℤ int_max (pos 0) (pos now -ℤ last_tick)) }
 {

@@ -22,18 +22,22 @@ pub const CU: u32 = 31;
 /// A counter's bit for counting down.
 pub const CD: u32 = 30;
 
-// a counter's bits for overflow and underflow
+/// A counter's bit for overflow.
 pub(crate) const OV: u32 = 28;
 
+/// A counter's bit for underflow.
 pub(crate) const UN: u32 = 27;
 
-// bytes from the first one to the status word and the numbers
+/// The byte of a timer or a counter at which the status word begins.
 const STATUS_WORD: u32 = 0;
 
+/// The byte of the preset.
 const PRE: u32 = 4;
 
+/// The byte of the accumulator.
 const ACC: u32 = 8;
 
+/// The byte of a timer's tick of the last count.
 const LAST_TICK: u32 = 12;
 
 /// The place of a kind at a bit of a timer or counter, counted from its first one.

@@ -1,4 +1,4 @@
-use Rattle.std.proofs.Common.{◌≡◌, ℕ, ◌-◌, ◌*◌, ◌/◌, ◌<◌, ◌≤◌, false, length}
+use Rattle.std.proofs.Common.{◌≡◌, ℕ, ◌*◌, ◌/◌, ◌<◌, ◌≤◌, false}
 use Rattle.lgx_image.specs.Words.{bit_of_words}
 use Rattle.lgx_image.proofs.grain.next_bit.Given as goal
 
@@ -7,6 +7,3 @@ invariant-loop-at l = record {
   later : l.from / 64 < l.at;
   before : (k : ℕ) → l.from ≤ k → k < 64 * l.at → bit_of_words l.words k ≡ false;
 }
-
-abbrev pub decreases-loop-at : goal.decreases-loop-at
-decreases-loop-at l = length l.words - l.at

@@ -11,6 +11,6 @@ use Rattle.lgx_prescan.proofs.program.prescan.Given as goal
 abbrev pub invariant-loop-routine : goal.invariant-loop-routine
 invariant-loop-routine l = record {
   bytes : fold prescan_ins l.image.bytes (flat_map (λ n. executes (routine_at l.program n).code) (drop l.routine-index l.routine-items)) ≡ fold prescan_ins l.fn.image.bytes (flat_map (λ n. executes (routine_at l.program n).code) l.program.reached);
-  ready : (n : ℕ) → Each (IsExecutable (length l.fn.image.bytes)) (executes (routine_at l.program n).code);
+  executable : (n : ℕ) → Each (IsExecutable (length l.fn.image.bytes)) (executes (routine_at l.program n).code);
   only_marked : ChangesOnlyMarked l.fn.image l.image;
 }

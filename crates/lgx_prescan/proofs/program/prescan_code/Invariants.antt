@@ -10,6 +10,6 @@ use Rattle.lgx_prescan.proofs.program.prescan_code.Given as goal
 abbrev pub invariant-loop-piece : goal.invariant-loop-piece
 invariant-loop-piece l = record {
   bytes : fold prescan_ins l.image.bytes (executes (drop l.piece-index l.code)) ≡ fold prescan_ins l.fn.image.bytes (executes l.code);
-  ready : Each (IsExecutable (length l.fn.image.bytes)) (executes (drop l.piece-index l.code));
+  executable : Each (IsExecutable (length l.fn.image.bytes)) (executes (drop l.piece-index l.code));
   only_marked : ChangesOnlyMarked l.fn.image l.image;
 }
