@@ -3,8 +3,6 @@ use Rattle.spec_base.proofs.Lists.{each_parts}
 use Rattle.std.proofs.Common.{◌≡◌, ℕ, suc, ◌+◌, ◌<◌, List, [], ◌∷◌, ◌++◌, length, get_or, drop, flat_map, sym, ap, ◌∙◌, subst, arith}
 use Rattle.std.proofs.lemmas.List.{drop_more}
 use Rattle.std.specs.List.{AllByRecursion as Each}
-use Rattle.lgx_num.specs.declared.place.Operand.{Operand}
-use Rattle.lgx_rung.specs.declared.operands.OperandKind.{OperandKind}
 use Rattle.lgx_rung.specs.Tree.{instructions}
 use Rattle.lgx_rung.specs.declared.ins.Ins.{Ins}
 use Rattle.spec_scan.specs.Position.{Rungs, ProgramRungs, routine_rungs}
@@ -13,7 +11,6 @@ use Rattle.lgx_prog.specs.declared.code.Code.TheVariants.{RungStart, Execute, Br
 use Rattle.lgx_prog.specs.Executes.{executes}
 use Rattle.lgx_prog.specs.Flat.{Flat, IsFlat}
 use Rattle.lgx_prog.specs.FlatProgram.{Program, routine_at, IsFlatProgram}
-use Rattle.spec_scan.specs.Fits.{operand_at, Fits, FitFrom}
 use Rattle.spec_scan.specs.Executable.{IsExecutable, AreExecutable, IsExecutableProgram}
 use Rattle.lgx_prog.proofs.Executes.{executes_flat}
 
@@ -47,9 +44,3 @@ each_from P (r ∷ rs) f = (f 0 (omega arith), each_from P rs (λ n h. f (suc n)
 pub program_executable : (len : ℕ) (flat : Program) (program : ProgramRungs) → IsFlatProgram flat program → ((n : ℕ) → n < length program.routines → Each (IsExecutable len) (executes (routine_at flat n).code)) → IsExecutableProgram len program
 program_executable len flat program is all =
     each_from (AreExecutable len) program.routines (λ n h. routine_executable len (routine_at flat n) (routine_rungs program n) (is.routines n) (all n h))
-
--- ---- operands, kind by kind
-
-pub fit_step : (kinds : List OperandKind) (i : ℕ) (k : OperandKind) (operands : List Operand) → i < length kinds → k ≡ get_or kinds i k → Fits k (operand_at operands i) → FitFrom (i + 1) (drop (i + 1) kinds) operands → FitFrom i (drop i kinds) operands
-fit_step kinds i k operands lies is here rest =
-    subst (λ (ks : List OperandKind). FitFrom i ks operands) (sym (drop_more kinds i k lies ∙ ap (λ x. x ∷ drop (i + 1) kinds) (sym is))) (here, rest)
