@@ -13,6 +13,11 @@ abbrev on_first : {S R : Type 0} → (OperandPart → (S → R) → S → R) →
 on_first step end bad None last s = last
 on_first step end bad (Some (p, rest)) last s = step p (over_parts step end bad rest) s
 
+-- a bracket and a word that no bracket follows
+begun_part : {S R : Type 0} (step : OperandPart → (S → R) → S → R) (end bad : S → R) (w : List ℕ) (ts : List Token) (s : S) (b : Bool) → (if b then bad s else step (opened w) (over_parts step end bad ts) s) ≡ on_first step end bad (if b then None else Some (opened w, ts)) (bad s) s
+begun_part step end bad w ts s true = refl
+begun_part step end bad w ts s false = refl
+
 by_part : {S R : Type 0} (step : OperandPart → (S → R) → S → R) (end bad : S → R) (ts : List Token) (s : S) → over_parts step end bad ts s ≡ on_first step end bad (first_part ts) (ended end bad ts s) s
 by_part step end bad [] s = refl
 by_part step end bad (word w ∷ ts) s = refl
@@ -30,26 +35,10 @@ by_part step end bad (opening ∷ word w ∷ closing ∷ ts) s = go (are_digits 
     go : (b : Bool) → (if b then step (element w) (over_parts step end bad ts) s else step (opened w) (step closed (over_parts step end bad ts)) s) ≡ on_first step end bad (if b then Some (element w, ts) else Some (opened w, closing ∷ ts)) (bad s) s
     go true = refl
     go false = refl
-by_part step end bad (opening ∷ word w ∷ []) s = go (are_digits 10 w)
-  where
-    go : (b : Bool) → (if b then bad s else step (opened w) (over_parts step end bad []) s) ≡ on_first step end bad (if b then None else Some (opened w, [])) (bad s) s
-    go true = refl
-    go false = refl
-by_part step end bad (opening ∷ word w ∷ word v ∷ ts) s = go (are_digits 10 w)
-  where
-    go : (b : Bool) → (if b then bad s else step (opened w) (over_parts step end bad (word v ∷ ts)) s) ≡ on_first step end bad (if b then None else Some (opened w, word v ∷ ts)) (bad s) s
-    go true = refl
-    go false = refl
-by_part step end bad (opening ∷ word w ∷ dot ∷ ts) s = go (are_digits 10 w)
-  where
-    go : (b : Bool) → (if b then bad s else step (opened w) (over_parts step end bad (dot ∷ ts)) s) ≡ on_first step end bad (if b then None else Some (opened w, dot ∷ ts)) (bad s) s
-    go true = refl
-    go false = refl
-by_part step end bad (opening ∷ word w ∷ opening ∷ ts) s = go (are_digits 10 w)
-  where
-    go : (b : Bool) → (if b then bad s else step (opened w) (over_parts step end bad (opening ∷ ts)) s) ≡ on_first step end bad (if b then None else Some (opened w, opening ∷ ts)) (bad s) s
-    go true = refl
-    go false = refl
+by_part step end bad (opening ∷ word w ∷ []) s = begun_part step end bad w [] s (are_digits 10 w)
+by_part step end bad (opening ∷ word w ∷ word v ∷ ts) s = begun_part step end bad w (word v ∷ ts) s (are_digits 10 w)
+by_part step end bad (opening ∷ word w ∷ dot ∷ ts) s = begun_part step end bad w (dot ∷ ts) s (are_digits 10 w)
+by_part step end bad (opening ∷ word w ∷ opening ∷ ts) s = begun_part step end bad w (opening ∷ ts) s (are_digits 10 w)
 by_part step end bad (closing ∷ ts) s = refl
 
 -- where a part stands

@@ -27,6 +27,30 @@ value_alias n d i e t p = rw p refl
 
 -- ---- when none is found any more
 
+-- an alias that isn't known ran out however many may follow one another
+still_open : (m : ℕ) (d : Declarations) (known : List Resolved) (i : ℕ) (e : Entry) (t : List ℕ) → AreInScopes d.programs d.entries → AllResolved d known → slice_get d.entries i ≡ Some e → e.meaning ≡ is_alias t → EachBelow d.entries (value_in m d) (λ i e. answer_at known i) → is_open (slice_index_or known i (Err G7)) ≡ true → value_in (suc m) d i e ≡ Err G7
+still_open m d known i e t h w g p before o =
+    let b : Below (in_form numbers_alone d.types (named_within m d e.scope) t) (in_form numbers_alone d.types (named_by d.entries known e.scope) t) = form_below d.types (named_within m d e.scope) (named_by d.entries known e.scope) t (named_known m d known h before e.scope) in
+    let f : Below (in_form numbers_alone d.types (named_within m d e.scope) t) (Err G7) = subst (λ (a : Answer). Below (in_form numbers_alone d.types (named_within m d e.scope) t) a) (w.stuck i e t g p o) b in
+    value_alias (suc m) d i e t p ∙ same f
+  where
+    same : {a : Answer} → Below a (Err G7) → a ≡ Err G7
+    same (inl p) = p
+    same (inr p) = p
+
+-- what is known stays, however many may follow one another
+known_stays : (n m : ℕ) (d : Declarations) (i : ℕ) (e : Entry) (k : Resolved) → is_open k ≡ false → Below (answer k) (value_in n d i e) → Below (value_in m d i e) (answer k)
+known_stays n m d i e k o (inl q) = absurd (cc (g7_closed k q, o))
+known_stays n m d i e k o (inr q) = by_length (nat_le m n) refl
+  where
+    later : Below (value_in n d i e) (value_in m d i e) → Below (value_in m d i e) (answer k)
+    later (inl r) = absurd (cc (g7_closed k (q ∙ r), o))
+    later (inr r) = inr (sym (q ∙ r))
+
+    by_length : (b : Bool) → nat_le m n ≡ b → Below (value_in m d i e) (answer k)
+    by_length true r = subst (λ (a : Answer). Below (value_in m d i e) a) (sym q) (value_up m n d i e (leb-true m n r))
+    by_length false r = later (value_up n m d i e (omega (arith, leb-false m n r)))
+
 resolved_up : (m : ℕ) (d : Declarations) (known : List Resolved) → AreInScopes d.programs d.entries → AllResolved d known → EachBelow d.entries (value_in m d) (λ i e. answer_at known i)
 resolved_up zero d known h w i e g = go e.meaning refl
   where
@@ -38,37 +62,9 @@ resolved_up (suc m) d known h w i e g = go e.meaning refl (resolved_up m d known
     k : Resolved
     k = slice_index_or known i (Err G7)
 
-    n : ℕ
-    n = length (aliases d) - open_in known
-
-    ran_out : (t : List ℕ) → e.meaning ≡ is_alias t → EachBelow d.entries (value_in m d) (λ i e. answer_at known i) → is_open k ≡ true → Below (value_in (suc m) d i e) (answer k)
-    ran_out t p before o =
-        let b : Below (in_form numbers_alone d.types (named_within m d e.scope) t) (in_form numbers_alone d.types (named_by d.entries known e.scope) t) = form_below d.types (named_within m d e.scope) (named_by d.entries known e.scope) t (named_known m d known h before e.scope) in
-        let f : Below (in_form numbers_alone d.types (named_within m d e.scope) t) (Err G7) = subst (λ (a : Answer). Below (in_form numbers_alone d.types (named_within m d e.scope) t) a) (w.stuck i e t g p o) b in
-        inl (value_alias (suc m) d i e t p ∙ same f)
-      where
-        same : {a : Answer} → Below a (Err G7) → a ≡ Err G7
-        same (inl p) = p
-        same (inr p) = p
-
-    stays : is_open k ≡ false → answer k ≡ value_in n d i e → Below (value_in (suc m) d i e) (answer k)
-    stays o q = by_length (nat_le (suc m) n) refl
-      where
-        later : Below (value_in n d i e) (value_in (suc m) d i e) → Below (value_in (suc m) d i e) (answer k)
-        later (inl r) = absurd (cc (g7_closed k (q ∙ r), o))
-        later (inr r) = inr (sym (q ∙ r))
-
-        by_length : (b : Bool) → nat_le (suc m) n ≡ b → Below (value_in (suc m) d i e) (answer k)
-        by_length true r = subst (λ (a : Answer). Below (value_in (suc m) d i e) a) (sym q) (value_up (suc m) n d i e (leb-true (suc m) n r))
-        by_length false r = later (value_up n (suc m) d i e (omega (arith, leb-false (suc m) n r)))
-
-    closed : is_open k ≡ false → Below (answer k) (value_in n d i e) → Below (value_in (suc m) d i e) (answer k)
-    closed o (inl q) = absurd (cc (g7_closed k q, o))
-    closed o (inr q) = stays o q
-
     by_test : (t : List ℕ) → e.meaning ≡ is_alias t → EachBelow d.entries (value_in m d) (λ i e. answer_at known i) → (b : Bool) → is_open k ≡ b → Below (value_in (suc m) d i e) (answer k)
-    by_test t p before true o = ran_out t p before o
-    by_test t p before false o = closed o (w.partly.below i e g)
+    by_test t p before true o = inl (still_open m d known i e t h w g p before o)
+    by_test t p before false o = known_stays (length (aliases d) - open_in known) (suc m) d i e k o (w.partly.below i e g)
 
     go : (x : Meaning) → e.meaning ≡ x → EachBelow d.entries (value_in m d) (λ i e. answer_at known i) → Below (value_in (suc m) d i e) (answer_at known i)
     go (is_tag of) p before = inr (value_tag (suc m) d i e of p ∙ sym (w.partly.tags i e of g p))
@@ -115,6 +111,12 @@ one_less known i r h p q =
     let sums : open_in (slice_set known i r) + f (slice_index_or known i (Err G7)) ≡ open_in known + f r = sum_by-set f known i r (Err G7) h in
     omega (arith, sums, was, is)
 
+set_here : (known : List Resolved) (i : ℕ) (r : Resolved) (j : ℕ) → i < length known → j ≡ i → answer_at (slice_set known i r) j ≡ answer r
+set_here known i r j l s = ap answer (ap (λ (k : ℕ). slice_index_or (slice_set known i r) k (Err G7)) s ∙ get_or-set_same known i r (Err G7) l)
+
+set_there : (known : List Resolved) (i : ℕ) (r : Resolved) (j : ℕ) → (j == i) ≡ false → answer_at (slice_set known i r) j ≡ answer_at known j
+set_there known i r j s = ap answer (get_or-set_other known i j r (Err G7) (λ q. absurd (cc (eq-eqb j i q, s))))
+
 -- what is found of an alias that wasn't known
 found_more : (d : Declarations) (known : List Resolved) (i : ℕ) (e : Entry) (t : List ℕ) (r : Resolved) → AreInScopes d.programs d.entries → PartlyResolved d known → slice_get d.entries i ≡ Some e → e.meaning ≡ is_alias t → is_open (slice_index_or known i (Err G7)) ≡ true → answer r ≡ in_form numbers_alone d.types (named_by d.entries known e.scope) t → is_open r ≡ false → ResolvesEntry d i known (slice_set known i r)
 found_more d known i e t r h w g p o a c =
@@ -125,15 +127,6 @@ found_more d known i e t r h w g p o a c =
     n : ℕ
     n = length (aliases d) - open_in known
 
-    here : (j : ℕ) → i < length known → j ≡ i → answer_at (slice_set known i r) j ≡ answer r
-    here j l s = ap answer (ap (λ (k : ℕ). slice_index_or (slice_set known i r) k (Err G7)) s ∙ get_or-set_same known i r (Err G7) l)
-
-    there : (j : ℕ) → (j == i) ≡ false → answer_at (slice_set known i r) j ≡ answer_at known j
-    there j s = ap answer (get_or-set_other known i j r (Err G7) (λ q. not_equal j i q s))
-      where
-        not_equal : (a b : ℕ) → a ≡ b → (a == b) ≡ false → ⊥
-        not_equal a b q s = absurd (cc (eq-eqb a b q, s))
-
     found : Below (in_form numbers_alone d.types (named_by d.entries known e.scope) t) (target_in (suc n) d e.scope t)
     found = form_below d.types (named_by d.entries known e.scope) (named_within n d e.scope) t (known_below n d known h w.below e.scope)
 
@@ -142,17 +135,17 @@ found_more d known i e t r h w g p o a c =
         let at : j ≡ i = eqb-true j i s in
         let same : e ≡ x = same_Some e x (sym g ∙ ap (slice_get d.entries) (sym at) ∙ q) in
         let fuel : suc n ≡ length (aliases d) - open_in (slice_set known i r) = omega (arith, w.few) in
-        subst (λ (m : ℕ). Below (answer_at (slice_set known i r) j) (value_in m d j x)) fuel (subst (λ (x : Entry). Below (answer_at (slice_set known i r) j) (value_in (suc n) d j x)) same (subst (λ (a : Answer). Below a (value_in (suc n) d j e)) (sym (here j l at ∙ a)) (subst (λ (b : Answer). Below (in_form numbers_alone d.types (named_by d.entries known e.scope) t) b) (sym (value_alias (suc n) d j e t p)) found)))
+        subst (λ (m : ℕ). Below (answer_at (slice_set known i r) j) (value_in m d j x)) fuel (subst (λ (x : Entry). Below (answer_at (slice_set known i r) j) (value_in (suc n) d j x)) same (subst (λ (a : Answer). Below a (value_in (suc n) d j e)) (sym (set_here known i r j l at ∙ a)) (subst (λ (b : Answer). Below (in_form numbers_alone d.types (named_by d.entries known e.scope) t) b) (sym (value_alias (suc n) d j e t p)) found)))
     below l less j x q false s =
         let up : n ≤ length (aliases d) - open_in (slice_set known i r) = omega (arith, w.few) in
-        subst (λ (a : Answer). Below a (value_in (length (aliases d) - open_in (slice_set known i r)) d j x)) (sym (there j s)) (below_trans (answer_at known j) (value_in n d j x) (value_in (length (aliases d) - open_in (slice_set known i r)) d j x) (w.below j x q) (value_up n (length (aliases d) - open_in (slice_set known i r)) d j x up))
+        subst (λ (a : Answer). Below a (value_in (length (aliases d) - open_in (slice_set known i r)) d j x)) (sym (set_there known i r j s)) (below_trans (answer_at known j) (value_in n d j x) (value_in (length (aliases d) - open_in (slice_set known i r)) d j x) (w.below j x q) (value_up n (length (aliases d) - open_in (slice_set known i r)) d j x up))
 
     tags : (j : ℕ) (x : Entry) (of : DataType) → slice_get d.entries j ≡ Some x → x.meaning ≡ is_tag of → (b : Bool) → (j == i) ≡ b → answer_at (slice_set known i r) j ≡ Ok (tag_found d.types (start_of d x.scope j) of)
     tags j x of q m true s = let same : e ≡ x = same_Some e x (sym g ∙ ap (slice_get d.entries) (sym (eqb-true j i s)) ∙ q) in absurd (not_alias t of (sym p ∙ ap (λ (e : Entry). e.meaning) same ∙ m))
       where
         not_alias : (t : List ℕ) (of : DataType) → is_alias t ≡ is_tag of → ⊥
         not_alias t of r = cc r
-    tags j x of q m false s = there j s ∙ w.tags j x of q m
+    tags j x of q m false s = set_there known i r j s ∙ w.tags j x of q m
 
 -- nothing was found of it
 found_none : (d : Declarations) (known : List Resolved) (i : ℕ) (e : Entry) (t : List ℕ) (r : Resolved) → PartlyResolved d known → slice_get d.entries i ≡ Some e → e.meaning ≡ is_alias t → is_open (slice_index_or known i (Err G7)) ≡ true → answer r ≡ in_form numbers_alone d.types (named_by d.entries known e.scope) t → is_open r ≡ true → ResolvesEntry d i known (slice_set known i r)
