@@ -1,15 +1,11 @@
 -- The slots and numbers of words.
-use Rattle.std.proofs.Common.{◌≡◌, ℕ, ◌+◌, ◌*◌, ◌<◌, ◌≤◌, ◌^◌, min, Bool, true, false, cond, not, ltb, List, length, take, get_or, Option, Some, None, Result, Ok, Err, refl, sym, ap, ◌∙◌, subst, arith, if◌then◌else◌, sum_by}
+use Rattle.std.proofs.Common.{◌≡◌, ℕ, ◌+◌, ◌*◌, ◌<◌, ◌≤◌, ◌^◌, min, List, length, take, get_or, sym, ◌∙◌, subst, arith}
 use Rattle.std.specs.List.{All}
-use Rattle.std.proofs.lemmas.Bool.{lt-ltb, le-ltb, true≢false, false≢true}
 use Rattle.std.proofs.lemmas.List.{length-take, get_or_read}
 use Rattle.std.proofs.lemmas.List.Sums.{sum_by-le}
 use Rattle.std.proofs.lemmas.List.Elements.{All-take, All-weaker}
 use Rattle.spec_tables.specs.declared.conn.ConnDef.{ConnDef}
-use Rattle.spec_tables.specs.declared.conn.Slot.{Slot}
-use Rattle.spec_tables.specs.declared.conn.ConnFault.{ConnFault}
-use Rattle.spec_tables.specs.declared.conn.ConnFault.TheVariants.{N1, N2, N3}
-use Rattle.spec_tables.specs.Connections.{no_conn, conn_named, words_of, trigger_at, slot_of, in_direction, slot_in, slot, io_in, io_word}
+use Rattle.spec_tables.specs.Connections.{words_of}
 use Rattle.spec_base.specs.declared.limits.TheConstants.{MAX_CONNECTIONS, MAX_CONNECTION_WORDS}
 use Rattle.lgx_conn.specs.Numbered.{IsSmall, IsNumbered}
 

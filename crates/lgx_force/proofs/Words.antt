@@ -1,6 +1,6 @@
 -- The words with their forces, as they are kept and as they are seen.
-use Rattle.std.proofs.Common.{◌≡◌, ℕ, ◌+◌, ◌*◌, ◌<◌, ◌≤◌, ◌++◌, zero, suc, Bool, true, false, cond, ltb, leb, eqb, not, List, [], ◌∷◌, length, get_or, set, map, take, drop, replicate, Option, Some, None, option_map, is_some, count_by, refl, sym, ap, ◌∙◌, subst, arith}
-use Rattle.std.proofs.lemmas.List.{length-map, map-set, get_or-map, length-replicate}
+use Rattle.std.proofs.Common.{◌≡◌, ℕ, ◌+◌, ◌*◌, ◌<◌, ◌≤◌, zero, suc, Bool, true, false, cond, ltb, leb, not, List, [], ◌∷◌, length, get_or, set, replicate, Option, Some, None, option_map, is_some, count_by, refl, sym, ap, ◌∙◌, subst, arith}
+use Rattle.std.proofs.lemmas.List.{length-map, map-set, get_or-map}
 use Rattle.std.proofs.lemmas.List.Sums.{sum_by-set, sum_by-cons}
 use Rattle.std.proofs.lemmas.List.Folds.{sum_by-replicate}
 use Rattle.std.proofs.Common.{◌-◌, ◌^◌, if◌then◌else◌, Result, Ok, Err, ℤ, pos, negsuc, bit_and, bit_or}

@@ -1,7 +1,7 @@
 -- The task at the front of the first queue that has one is the least by priority and then by rank.
-use Rattle.std.proofs.Common.{◌≡◌, ℕ, ◌+◌, ◌-◌, ◌<◌, ◌≤◌, zero, suc, Bool, true, false, cond, not, eqb, List, [], ◌∷◌, length, get_or, map, Option, Some, None, option_map, ◌⊎◌, inl, inr, IsTrue, is_some, refl, sym, ap, ◌∙◌, subst, arith}
+use Rattle.std.proofs.Common.{◌≡◌, ℕ, ◌+◌, ◌-◌, ◌<◌, ◌≤◌, zero, suc, Bool, true, false, cond, eqb, List, [], ◌∷◌, length, get_or, map, Option, Some, None, option_map, ◌⊎◌, inl, inr, IsTrue, is_some, refl, sym, ap, ◌∙◌, subst, arith}
 use Rattle.std.specs.List.{position_from, All, Contains}
-use Rattle.std.proofs.lemmas.Bool.{cases_lt, cases_eq, false≢true, eq-eqb, ne_eqb}
+use Rattle.std.proofs.lemmas.Bool.{cases_lt, false≢true, eq-eqb, ne_eqb}
 use Rattle.std.proofs.lemmas.Option.{none-some, same_Some}
 use Rattle.std.proofs.lemmas.List.Elements.{All-head, All-contains}
 use Rattle.spec_base.proofs.Lists.{value_of_some}

@@ -1,10 +1,9 @@
 -- A table that was just made.
-use Rattle.std.proofs.Common.{◌≡◌, ℕ, ◌+◌, ◌*◌, ◌<◌, ◌≤◌, zero, suc, cond, List, [], ◌∷◌, length, get_or, map, replicate, Option, None, option_map, is_some, refl, sym, ap, ◌∙◌, subst, arith, count_by}
+use Rattle.std.proofs.Common.{◌≡◌, ℕ, ◌+◌, ◌<◌, ◌≤◌, zero, suc, List, [], ◌∷◌, length, get_or, map, replicate, Option, None, option_map, refl, sym, ap, ◌∙◌, subst}
 use Rattle.std.specs.List.{All}
 use Rattle.std.proofs.lemmas.Bool.{false≢true}
 use Rattle.std.proofs.lemmas.List.{length-replicate}
 use Rattle.std.proofs.lemmas.List.Elements.{All-nil}
-use Rattle.std.proofs.lemmas.List.Folds.{sum_by-replicate}
 use Rattle.spec_base.specs.declared.limits.TheConstants.{MAX_TASKS, LEAST_PRIORITY}
 use Rattle.spec_tables.specs.declared.task.TaskDef.{TaskDef}
 use Rattle.spec_tables.specs.Tasks.{TaskState, state_of, task, no_task}

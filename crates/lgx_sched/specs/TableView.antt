@@ -1,5 +1,5 @@
 -- What the table of tasks keeps. It has no ranks: the order of each queue tells them.
-use Rattle.std.specs.Prelude.{ℕ, ◌+◌, ◌-◌, Bool, false, ◌||◌, nat_lt, nat_le, nat_eq, List, [], ◌∷◌, ◌++◌, length, map, drop, replicate, slice_get, Option, Some, None, slice_set, slice_index_or, if◌then◌else◌}
+use Rattle.std.specs.Prelude.{ℕ, ◌-◌, Bool, false, ◌||◌, nat_lt, nat_le, nat_eq, List, [], ◌∷◌, ◌++◌, length, map, drop, replicate, slice_get, Option, Some, None, slice_set, slice_index_or, if◌then◌else◌}
 use Rattle.spec_tables.specs.declared.task.TaskDef.{TaskDef}
 use Rattle.spec_tables.specs.Tasks.{no_task, or_else}
 use Rattle.lgx_sched.specs.declared.table.ActiveTask.{ActiveTask}

@@ -1,5 +1,5 @@
 -- There are few words.
-use Rattle.std.proofs.Common.{◌≡◌, ℕ, ◌<◌, List, length, get_or, sym, ap, ◌∙◌, subst, arith}
+use Rattle.std.proofs.Common.{◌≡◌, ◌<◌, List, length, get_or, sym, ap, ◌∙◌, subst}
 use Rattle.spec_tables.specs.declared.conn.ConnDef.{ConnDef}
 use Rattle.lgx_conn.proofs.Slots.{word_fits, is_small}
 use Rattle.lgx_conn.proofs.conns.Conns.io_word.Goals as goal

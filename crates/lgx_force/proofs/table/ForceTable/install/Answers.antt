@@ -1,11 +1,11 @@
 -- The other words with a force are those with one but for this word.
-use Rattle.std.proofs.Common.{◌≡◌, ℕ, ◌-◌, ◌<◌, ◌≤◌, List, Option, None, length, get_or, ◌∙◌, ap, sym, subst, arith, is_some}
+use Rattle.std.proofs.Common.{◌≡◌, ◌-◌, ◌<◌, ◌≤◌, Option, None, length, get_or, ◌∙◌, ap, subst, arith, is_some}
 use Rattle.std.proofs.lemmas.List.{get_or_read}
 use Rattle.std.proofs.lemmas.Int.{to_z-of_z}
 use mir.Val.{bool_byte}
 use Rattle.spec_base.specs.declared.limits.TheConstants.{MAX_FORCES}
 use Rattle.lgx_force.specs.declared.table.StoredForce.{StoredForce}
-use Rattle.lgx_force.proofs.Words.{install-full, install-ok, byte_is, one_if, count_of}
+use Rattle.lgx_force.proofs.Words.{install-full, install-ok, byte_is, one_if}
 use Rattle.lgx_force.proofs.table.ForceTable.install.Goals as goal
 
 pub returns-then-others-ge-MAX_FORCES-clause-exact : goal.returns-then-others-ge-MAX_FORCES-clause-exact

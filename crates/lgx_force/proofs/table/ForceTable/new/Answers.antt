@@ -1,5 +1,5 @@
 -- No word has a force.
-use Rattle.std.proofs.Common.{◌≡◌, Some, None, replicate, refl}
+use Rattle.std.proofs.Common.{refl}
 use Rattle.spec_tables.proofs.StateLists.{none_alone}
 use Rattle.lgx_force.proofs.Words.{new_seen}
 use Rattle.lgx_force.proofs.table.ForceTable.new.Goals as goal
