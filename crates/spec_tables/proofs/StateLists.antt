@@ -4,7 +4,7 @@ use Rattle.std.specs.Prelude.{slice_set, slice_index_or}
 use Rattle.std.specs.List.{position_from}
 use Rattle.std.proofs.lemmas.Bool.{false≢true}
 -- what stands in a `Some` is one value
-pub use Rattle.std.proofs.lemmas.Option.{same_Some as inner}
+use Rattle.std.proofs.lemmas.Option.{same_Some}
 use Rattle.spec_tables.specs.declared.task.TaskDef.{TaskDef}
 use Rattle.spec_tables.specs.Tasks.{TaskState, Table, Candidate, state_of, is_open, chosen, or_else, least, least_of, before, candidates}
 
@@ -39,7 +39,7 @@ record FoundAt {X : Type 0} (test : X → Bool) (d : X) (xs : List X) (i t : ℕ
   passes : test (slice_index_or xs place d) ≡ true
 
 found_by : {X : Type 0} (test : X → Bool) (d x : X) (xs : List X) (i t : ℕ) (b : Bool) → test x ≡ b → (position_from test (i + 1) xs ≡ Some t → FoundAt test d xs (i + 1) t) → cond b (Some i) (position_from test (i + 1) xs) ≡ Some t → FoundAt test d (x ∷ xs) i t
-found_by test d x xs i t true e rest h = let n = inner i t h in record { place = 0; number = omega arith; within = omega arith; passes = e }
+found_by test d x xs i t true e rest h = let n = same_Some i t h in record { place = 0; number = omega arith; within = omega arith; passes = e }
 found_by test d x xs i t false e rest h =
     let p = rest h in
     let n = p.number in
@@ -109,7 +109,7 @@ each_up i (d ∷ ds) (Some u ∷ us) = ((0, u, omega arith, refl), weaker (UpAt 
 
 least_up : (Q : ℕ → Type 0) (cs : List Candidate) (t : ℕ) → Each Q cs → least cs ≡ Some t → Q t
 least_up Q [] t h e = let f : None ≡ Some t → ⊥ = λ p. cc in absurd (f e)
-least_up Q (c ∷ cs) t h e = subst Q (inner (least_of c cs).task t e) (least_in Q c cs h.0 h.1)
+least_up Q (c ∷ cs) t h e = subst Q (same_Some (least_of c cs).task t e) (least_in Q c cs h.0 h.1)
 
 -- the chosen task is up
 abbrev pub IsUp : Table → ℕ → Type 0

@@ -1,8 +1,6 @@
 -- Forces of I/O words. No command on forces changes a tag by itself (profile).
 use Rattle.std.specs.Prelude.{ℕ, Bool, true, false, not, List, length, nat_lt, nat_le, nat_eq, if◌then◌else◌, ℤ, Option, Some, None, is_some, Result, Ok, Err, count_by, replicate, slice_set, slice_index_or}
 use Rattle.spec_base.specs.declared.limits.TheConstants.{MAX_FORCES}
--- the limit under the name by which the causes of refusals cite it
-pub use Rattle.spec_base.specs.declared.limits.TheConstants.{MAX_FORCES as force_room}
 use Rattle.std.specs.Int.{w32, int_bit_and, int_bit_or, int_bit_not}
 use Rattle.spec_tables.specs.declared.force.ForceFault.{ForceFault}
 use Rattle.spec_tables.specs.declared.force.ForceFault.TheVariants.{F1, F2, F3}
