@@ -34,10 +34,7 @@ pub fn same_row(alloc: Global, text: &str) -> Result<String, Trouble> {
 pub fn keep_row(alloc: Global, text: &str) -> Result<String, Trouble> {
     let mut words = text.split_whitespace();
     let kind = kind(&mut words)?;
-    let value = word(&mut words)?
-        .parse::<i64>()
-        .ok()
-        .ok_or(Trouble::Form)?;
+    let value = word(&mut words)?.parse::<i64>().ok().ok_or(Trouble::Form)?;
     let mut said = Said::new(alloc);
     said.number(i64::from(store_low(kind, value)))?;
     said.truth(fits(kind, value))?;
@@ -66,7 +63,7 @@ pub fn items_row(alloc: Global, text: &str) -> Result<String, Trouble> {
     let items = Items::of(values);
     let mut said = Said::new(alloc);
     said.truth(items.is_empty())?;
-    said.number(items.len() as i64)?;
+    said.count(items.len())?;
     for item in items.as_slice() {
         said.number(i64::from(*item))?;
     }
