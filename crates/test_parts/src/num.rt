@@ -118,7 +118,10 @@ fn path(words: &mut SplitWhitespace<'_>) -> Result<Path, Trouble> {
     let kind = kind(words)?;
     let at = number(words)?;
     let mut steps = Steps::new();
-    while let Some(word) = words.next() {
+    for _ in 0..MAX_SUBSCRIPTS {
+        let Some(word) = words.next() else {
+            break;
+        };
         if word != "by" || steps.len() >= MAX_SUBSCRIPTS {
             return Err(Trouble::Form);
         }
