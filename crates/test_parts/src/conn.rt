@@ -1,17 +1,19 @@
 // Connections.
 ghost use Rattle.std.specs.Prelude.{◌≡◌, ◌+◌, ◌*◌, ◌≤◌, IfOk};
+ghost use Rattle.spec_base.specs.declared.limits.TheConstants.{MAX_CONNECTION_WORDS, MAX_IMAGE_BYTES};
 
 use crate::trouble::Trouble;
 use crate::words::{Said, name, number, word};
 use lgx_conn::Conns;
 use lgx_num::Memory;
+use spec_base::limits::MAX_CONNECTION_WORDS;
 use spec_tables::{ConnDef, ConnFault, Slot};
 use std::alloc::{AllocError, Global};
 
 /// `conns | CONNECTION, CONNECTION ? CALL; .. | ..`: what the calls answer.
 ///
-/// A connection is `NAME in BYTE WORDS TASK` or the same with `out`. A call is `in NAME WORD`, `out NAME WORD` or `io NAME WORD`; a
-/// slot is its byte, its number and its task.
+/// A connection is `NAME in BYTE WORDS TASK` or the same with `out`. A call is `in NAME WORD`, `out NAME WORD` or `io
+/// NAME WORD`; a slot is its byte, its number and its task.
 pub fn conns_row(alloc: Global, text: &str) -> Result<String, Trouble> {
     let (defs, calls) = text.split_once('?').ok_or(Trouble::Form)?;
     let (first, second) = defs.split_once(',').ok_or(Trouble::Form)?;
@@ -24,7 +26,7 @@ pub fn conns_row(alloc: Global, text: &str) -> Result<String, Trouble> {
 }
 
 fn conn(text: &str) -> Result<ConnDef, Trouble>
-    ensures { IfOk result (λ c. (c.words ≤ 128) × (c.byte + 4 * c.words ≤ 262144)) }
+    ensures { IfOk result (λ c. (c.words ≤ MAX_CONNECTION_WORDS) × (c.byte + 4 * c.words ≤ MAX_IMAGE_BYTES)) }
 {
     let mut words = text.split_whitespace();
     let name = name(&mut words)?;
@@ -32,7 +34,7 @@ fn conn(text: &str) -> Result<ConnDef, Trouble>
     let byte = number(&mut words)?;
     let count = number(&mut words)?;
     let task = number(&mut words)?;
-    if byte > 1000 || count > 128 {
+    if byte > 1000 || count > MAX_CONNECTION_WORDS {
         return Err(Trouble::Form);
     }
     Ok(ConnDef {
@@ -45,8 +47,8 @@ fn conn(text: &str) -> Result<ConnDef, Trouble>
 }
 
 fn conns(alloc: Global, first: ConnDef, second: ConnDef) -> Result<Conns, Memory>
-    requires first { (first.words ≤ 128) × (first.byte + 4 * first.words ≤ 262144) }
-    requires second { (second.words ≤ 128) × (second.byte + 4 * second.words ≤ 262144) }
+    requires first { (first.words ≤ MAX_CONNECTION_WORDS) × (first.byte + 4 * first.words ≤ MAX_IMAGE_BYTES) }
+    requires second { (second.words ≤ MAX_CONNECTION_WORDS) × (second.byte + 4 * second.words ≤ MAX_IMAGE_BYTES) }
 {
     Conns::new(alloc, &[first, second])
 }

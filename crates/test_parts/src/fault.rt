@@ -5,8 +5,8 @@ use lgx_fault::FaultLog;
 use spec_tables::{Fault, Severity};
 use std::alloc::Global;
 
-/// `log | COUNT ? NUMBER .. | ..`: after so many faults, one a tick from tick 0 on, whether the log is empty, how many it keeps, and
-/// the ticks of those of these numbers.
+/// `log | COUNT ? NUMBER .. | ..`: after so many faults, one a tick from tick 0 on, whether the log is empty, how many
+/// it keeps, and the ticks of those of these numbers.
 pub fn log_row(alloc: Global, text: &str) -> Result<String, Trouble> {
     let (count, numbers) = text.split_once('?').ok_or(Trouble::Form)?;
     let mut log = FaultLog::new(alloc)?;

@@ -17,8 +17,8 @@ struct Forces {
 
 /// `forces | WORDS ? CALL; .. | ..`: what the calls answer in a table of so many words.
 ///
-/// `install FIRST LAST MASK VALUE` answers the last fault of the words from the first to the last, `force WORD VALUE` what becomes of
-/// the value of a word.
+/// `install FIRST LAST MASK VALUE` answers the last fault of the words from the first to the last, `force WORD VALUE`
+/// what becomes of the value of a word.
 pub fn forces_row(alloc: Global, text: &str) -> Result<String, Trouble> {
     let (words, calls) = text.split_once('?').ok_or(Trouble::Form)?;
     let words = number(&mut words.split_whitespace())?;

@@ -13,8 +13,8 @@ use std::str::SplitWhitespace;
 
 /// `image | LENGTH ? COMMAND; .. | ..`: what the commands answer in an image of so many bytes.
 ///
-/// `put KIND AT VALUE`, `get KIND AT`, `set AT BIT` and `bit AT` write and read at a bit; `copy FROM TO SIZE` copies bytes;
-/// `next GRAIN` answers the least marked grain from there on, and `clear` takes the marks.
+/// `put KIND AT VALUE`, `get KIND AT`, `set AT BIT` and `bit AT` write and read at a bit; `copy FROM TO SIZE` copies
+/// bytes; `next GRAIN` answers the least marked grain from there on, and `clear` takes the marks.
 pub fn image_row(alloc: Global, text: &str) -> Result<String, Trouble> {
     let (length, commands) = text.split_once('?').ok_or(Trouble::Form)?;
     let mut image = image(alloc, length)?;
@@ -133,8 +133,8 @@ pub fn grain_row(alloc: Global, text: &str) -> Result<String, Trouble> {
     Ok(said.into_text())
 }
 
-/// `subscripts | A B C D | ..`: the first bit of element `[A,B,C,D]` of an array of 2 by 3 by 4 by 5 SINTs from byte 16 on, or
-/// `none` if one is out of range.
+/// `subscripts | A B C D | ..`: the first bit of element `[A,B,C,D]` of an array of 2 by 3 by 4 by 5 SINTs from byte 16
+/// on, or `none` if one is out of range.
 pub fn subscripts_row(alloc: Global, text: &str) -> Result<String, Trouble> {
     let mut image = Image::new(alloc, 136)?;
     let mut words = text.split_whitespace();
@@ -184,8 +184,8 @@ fn nested() -> Path
     }
 }
 
-/// `bind | NUMBER VALUE | ..`: a TIMER at byte 16, a number, a DINT at byte 4 that holds the value, and `?`, each with what it is
-/// when it is bound, and then the numbers of the second and of the third.
+/// `bind | NUMBER VALUE | ..`: a TIMER at byte 16, a number, a DINT at byte 4 that holds the value, and `?`, each with
+/// what it is when it is bound, and then the numbers of the second and of the third.
 pub fn bind_row(alloc: Global, text: &str) -> Result<String, Trouble> {
     let mut words = text.split_whitespace();
     let number = value(&mut words)?;
@@ -222,7 +222,7 @@ fn bind(said: &mut Said, image: &Image, number: i32) -> Result<(), Trouble> {
 fn bind_blank(said: &mut Said, image: &Image) -> Result<(), Trouble> {
     let bound = image.bind(&[Operand::Blank]).ok_or(Trouble::Form)?;
     say_arg(said, bound.at(0))?;
-    Ok(said.number(bound.len() as i64)?)
+    Ok(said.count(bound.len())?)
 }
 
 fn say_arg(said: &mut Said, arg: Arg) -> Result<(), AllocError> {

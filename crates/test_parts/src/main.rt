@@ -1,8 +1,8 @@
-//! Judges the rows of a table of the controller's parts on standard input: numbers, names, text, the image, types, tags, flat code, and the
-//! tables of faults, tasks, connections and forces.
+//! Judges the rows of a table of the controller's parts on standard input: numbers, names, text, the image, types,
+//! tags, flat code, and the tables of faults, tasks, connections and forces.
 //!
-//! A row is `KIND | WHAT IS GIVEN | WHAT COMES OUT`; of what form the second part is, the function of the kind says. Lines that begin with
-//! `--` say why a row is so. What differs is printed, and at the end how many rows there were.
+//! A row is `KIND | WHAT IS GIVEN | WHAT COMES OUT`; of what form the second part is, the function of the kind says.
+//! Lines that begin with `--` say why a row is so. What differs is printed, and at the end how many rows there were.
 #![tactic(auto)]
 
 mod conn;

@@ -63,7 +63,7 @@ pub fn items_row(alloc: Global, text: &str) -> Result<String, Trouble> {
     let items = Items::of(values);
     let mut said = Said::new(alloc);
     said.truth(items.is_empty())?;
-    said.number(items.len() as i64)?;
+    said.count(items.len())?;
     for item in items.as_slice() {
         said.number(i64::from(*item))?;
     }
@@ -118,7 +118,10 @@ fn path(words: &mut SplitWhitespace<'_>) -> Result<Path, Trouble> {
     let kind = kind(words)?;
     let at = number(words)?;
     let mut steps = Steps::new();
-    while let Some(word) = words.next() {
+    for _ in 0..MAX_SUBSCRIPTS {
+        let Some(word) = words.next() else {
+            break;
+        };
         if word != "by" || steps.len() >= MAX_SUBSCRIPTS {
             return Err(Trouble::Form);
         }

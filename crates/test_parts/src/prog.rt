@@ -7,10 +7,11 @@ use lgx_rung::Op;
 use std::alloc::Global;
 use test_bench::read_program;
 
-/// `code | RUNGS | ..`: the code of a routine of these rungs, and the place at which each of its rungs starts, and one more.
+/// `code | RUNGS | ..`: the code of a routine of these rungs, and the place at which each of its rungs starts, and one
+/// more.
 ///
-/// `R` is a rung's start, `a` a XIC and `b` a XIO, `(` a branch's start and `<` that of one that passes its condition on, `,` a leg's
-/// end and `)` a branch's end.
+/// `R` is a rung's start, `a` a XIC and `b` a XIO, `(` a branch's start and `<` that of one that passes its condition
+/// on, `,` a leg's end and `)` a branch's end.
 pub fn code_row(alloc: Global, text: &str) -> Result<String, Trouble> {
     let routines = read_program(alloc, text)?;
     let rungs = routines.first().ok_or(Trouble::Form)?;
@@ -23,9 +24,9 @@ pub fn code_row(alloc: Global, text: &str) -> Result<String, Trouble> {
 
 fn say_places(said: &mut Said, routine: &FlatRoutine, rungs: usize) -> Result<(), Trouble> {
     for rung in 0..rungs {
-        said.number(routine.place(rung as u64) as i64)?;
+        said.count(routine.place(rung as u64))?;
     }
-    said.number(routine.place(rungs as u64) as i64)?;
+    said.count(routine.place(rungs as u64))?;
     Ok(())
 }
 
@@ -53,8 +54,8 @@ fn letter(piece: &Code) -> u8 {
     }
 }
 
-/// `program | MAIN ? RUNGS # RUNGS .. | ..`: of a program of these routines the number of the main one, those that it reaches, and
-/// then the code of each, with the place of its second rung, and of one more.
+/// `program | MAIN ? RUNGS # RUNGS .. | ..`: of a program of these routines the number of the main one, those that it
+/// reaches, and then the code of each, with the place of its second rung, and of one more.
 pub fn program_row(alloc: Global, text: &str) -> Result<String, Trouble> {
     let (main, rungs) = text.split_once('?').ok_or(Trouble::Form)?;
     let main = number(&mut main.split_whitespace())?;
@@ -68,13 +69,13 @@ pub fn program_row(alloc: Global, text: &str) -> Result<String, Trouble> {
     said.number(i64::from(program.main()))?;
     said.word("reaches")?;
     for routine in program.reached() {
-        said.number(*routine as i64)?;
+        said.count(*routine)?;
     }
     for routine in 0..routines.len() {
         said.bytes(&letters(alloc, program.code(routine))?)?;
-        said.number(program.place(routine, 1) as i64)?;
+        said.count(program.place(routine, 1))?;
     }
-    said.number(program.code(routines.len()).len() as i64)?;
+    said.count(program.code(routines.len()).len())?;
     Ok(said.into_text())
 }
 

@@ -26,7 +26,8 @@ fn say_op(alloc: Global, said: &mut Said, op: Op) -> Result<(), AllocError> {
     Ok(())
 }
 
-/// `rung | TEXT | ..`: the canonical text of the rung that the text spells, or the code and the place of its first fault.
+/// `rung | TEXT | ..`: the canonical text of the rung that the text spells, or the code and the place of its first
+/// fault.
 ///
 /// In the text, `\s`, `\t`, `\r`, `\n`, `\0` and `\f` are the blank, the tab, CR, LF and the bytes 0 and 255.
 pub fn rung_row(alloc: Global, text: &str) -> Result<String, Trouble> {

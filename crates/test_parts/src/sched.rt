@@ -1,12 +1,14 @@
 // Tasks.
 ghost use Rattle.std.specs.Prelude.{◌≡◌, ◌<◌, ◌≤◌, length, IfOk};
-ghost use Rattle.lgx_sched.specs.StandsFor.{HasPeriod};
+ghost use Rattle.spec_base.specs.declared.limits.TheConstants.{LEAST_PRIORITY};
+ghost use Rattle.test_parts.specs.Periods.{HasTicks};
 
 use crate::slow::Slow;
 use crate::trouble::Trouble;
 use crate::words::{Said, number, word};
 use lgx_num::Memory;
 use lgx_sched::{Release, TaskDef, TaskKind, TaskTable};
+use spec_base::limits::LEAST_PRIORITY;
 use std::alloc::Global;
 use std::str::SplitWhitespace;
 
@@ -19,8 +21,8 @@ struct Tasks {
 
 /// `tasks | TASK TASK TASK TASK ? CALL; .. | ..`: what the calls answer at a table of four tasks.
 ///
-/// A task is `E3`, `C` or `P5:10`: its kind, its priority and its period; its watchdog is 500 ticks. `finish NOW`, `up`, `down`,
-/// `empty`, `cps` and `cop` are calls for the task that is chosen: they answer nothing.
+/// A task is `E3`, `C` or `P5:10`: its kind, its priority and its period; its watchdog is 500 ticks. `finish NOW`,
+/// `up`, `down`, `empty`, `cps` and `cop` are calls for the task that is chosen: they answer nothing.
 pub fn tasks_row(alloc: Global, text: &str) -> Result<String, Trouble> {
     let (defs, calls) = text.split_once('?').ok_or(Trouble::Form)?;
     let mut words = defs.split_whitespace();
@@ -42,13 +44,13 @@ pub fn tasks_row(alloc: Global, text: &str) -> Result<String, Trouble> {
 }
 
 fn task(words: &mut SplitWhitespace<'_>) -> Result<TaskDef, Trouble>
-    ensures { IfOk result (λ d. (0 < d.priority) × (d.priority ≤ 16) × HasPeriod d.kind) }
+    ensures { IfOk result (λ d. (0 < d.priority) × (d.priority ≤ LEAST_PRIORITY) × HasTicks d.kind) }
 {
     let text = word(words)?;
     if text == "C" {
         return Ok(TaskDef {
             kind: TaskKind::Continuous,
-            priority: 16,
+            priority: LEAST_PRIORITY,
             watchdog: 500,
         });
     }
@@ -73,10 +75,10 @@ fn task(words: &mut SplitWhitespace<'_>) -> Result<TaskDef, Trouble>
 }
 
 fn priority_of(text: &str) -> Result<u8, Trouble>
-    ensures { IfOk result (λ p. (0 < p) × (p ≤ 16)) }
+    ensures { IfOk result (λ p. (0 < p) × (p ≤ LEAST_PRIORITY)) }
 {
     let priority = text.parse::<u8>().ok().ok_or(Trouble::Form)?;
-    if priority == 0 || priority > 16 {
+    if priority == 0 || priority > LEAST_PRIORITY {
         return Err(Trouble::Form);
     }
     Ok(priority)
@@ -89,10 +91,10 @@ fn table(
     third: TaskDef,
     fourth: TaskDef,
 ) -> Result<Tasks, Memory>
-    requires first { (0 < first.priority) × (first.priority ≤ 16) × HasPeriod first.kind }
-    requires second { (0 < second.priority) × (second.priority ≤ 16) × HasPeriod second.kind }
-    requires third { (0 < third.priority) × (third.priority ≤ 16) × HasPeriod third.kind }
-    requires fourth { (0 < fourth.priority) × (fourth.priority ≤ 16) × HasPeriod fourth.kind }
+    requires first { (0 < first.priority) × (first.priority ≤ LEAST_PRIORITY) × HasTicks first.kind }
+    requires second { (0 < second.priority) × (second.priority ≤ LEAST_PRIORITY) × HasTicks second.kind }
+    requires third { (0 < third.priority) × (third.priority ≤ LEAST_PRIORITY) × HasTicks third.kind }
+    requires fourth { (0 < fourth.priority) × (fourth.priority ≤ LEAST_PRIORITY) × HasTicks fourth.kind }
 {
     let table = TaskTable::new(alloc, &[first, second, third, fourth])?;
     Ok(Tasks { table })
@@ -162,7 +164,7 @@ fn say_regions(said: &mut Said, tasks: &Tasks, task: u32) -> Result<(), Trouble>
 }
 
 fn say_ready(said: &mut Said, tasks: &Tasks, priority: u32, place: u32) -> Result<(), Trouble> {
-    if priority == 0 || priority > 16 {
+    if priority == 0 || priority > u32::from(LEAST_PRIORITY) {
         return Err(Trouble::Form);
     }
     Ok(said.or_none(tasks.table.ready(priority as u8, place))?)
@@ -196,8 +198,8 @@ fn region_up(tasks: &mut Tasks) -> Result<(), Trouble> {
     Ok(())
 }
 
-/// `calls | COUNT | ..`: after how many of so many calls, picked by a fixed series of numbers, the table and a plain one choose
-/// differently, or `never`.
+/// `calls | COUNT | ..`: after how many of so many calls, picked by a fixed series of numbers, the table and a plain
+/// one choose differently, or `never`.
 pub fn calls_row(alloc: Global, text: &str) -> Result<String, Trouble> {
     let count = number(&mut text.split_whitespace())?;
     let mut words = "E3 E3 E5 C".split_whitespace();
@@ -209,7 +211,7 @@ pub fn calls_row(alloc: Global, text: &str) -> Result<String, Trouble> {
         task(words)?,
         task(words)?,
     )?;
-    let mut slow = Slow::new([3, 3, 5, 16]);
+    let mut slow = Slow::new([3, 3, 5, LEAST_PRIORITY]);
     let mut said = Said::new(alloc);
     let mut seed: u32 = 1;
     for i in 0..count {

@@ -1,6 +1,7 @@
 // Tags and aliases.
 ghost use Rattle.std.specs.Prelude.{◌≡◌, ◌≤◌, false, true, length, IsTrue, IfOk};
 ghost use Rattle.spec_language.specs.Resolution.{aliases};
+ghost use Rattle.lgx_tags.specs.Scopes.{IsScopeOf};
 ghost use Rattle.lgx_types.specs.Tables.{HasSize};
 
 use crate::trouble::Trouble;
@@ -8,6 +9,7 @@ use crate::types::{say_base, table as type_table};
 use crate::words::{Said, number, word};
 use lgx_tags::{Found, Scope, SealError, TagCode, TagError, TagTable};
 use lgx_types::TypeTable;
+use spec_base::limits::MAX_ELEMENTS;
 use spec_language::{Base, DataType};
 use std::alloc::{AllocError, Global};
 
@@ -29,12 +31,12 @@ struct Sealed {
     ghost sealed: { table.sealed ≡ true },
 }
 
-/// `tags | TYPES ? PROGRAMS; DECLARATION; .. ? CALL; .. | ..`: which declarations are refused, and for what; the answer of sealing, if it is
-/// refused; and else what the calls answer.
+/// `tags | TYPES ? PROGRAMS; DECLARATION; .. ? CALL; .. | ..`: which declarations are refused, and for what; the answer
+/// of sealing, if it is refused; and else what the calls answer.
 ///
-/// The types are as in a row of `types`. A declaration is `NAME TYPE`, `NAME TYPE LENGTH` or `NAME = TARGET`, and a name `a@0` is one
-/// of the program 0. `at TEXT` and `fixed TEXT` answer the bit that a text names, `bytes` the length of the image, `count` the number of
-/// tags, and `tag NUMBER` a tag's name, scope and bytes.
+/// The types are as in a row of `types`. A declaration is `NAME TYPE`, `NAME TYPE LENGTH` or `NAME = TARGET`, and a
+/// name `a@0` is one of the program 0. `at TEXT` and `fixed TEXT` answer the bit that a text names, `bytes` the length
+/// of the image, `count` the number of tags, and `tag NUMBER` a tag's name, scope and bytes.
 pub fn tags_row(alloc: Global, text: &str) -> Result<String, Trouble> {
     let (types, text) = text.split_once('?').ok_or(Trouble::Form)?;
     let (declarations, calls) = text.split_once('?').ok_or(Trouble::Form)?;
@@ -116,7 +118,10 @@ fn base(types: &TypeTable, word: &str) -> Result<Base, Trouble> {
     types.find(&name).ok_or(Trouble::Form)
 }
 
-fn is_scope(scope: Scope, programs: u32) -> bool {
+/// Whether a table of so many programs has the scope.
+fn is_scope(scope: Scope, programs: u32) -> bool
+    ensures { IsTrue result → IsScopeOf programs scope }
+{
     match scope {
         Scope::Program(program) => program < programs,
         Scope::Controller => true,
@@ -132,7 +137,7 @@ fn has_size(types: &TypeTable, of: DataType) -> bool
         Base::Bool => of.dim % 32 == 0,
         _ => true,
     };
-    fits && of.dim <= 65536
+    fits && of.dim <= MAX_ELEMENTS
 }
 
 fn declare(
@@ -141,13 +146,8 @@ fn declare(
     name: &str,
     of: DataType,
 ) -> Result<Result<(), TagError>, Trouble> {
-    if !has_size(declared.table.types(), of) {
+    if !is_scope(scope, declared.programs) || !has_size(declared.table.types(), of) {
         return Err(Trouble::Form);
-    }
-    if let Scope::Program(program) = scope {
-        if program >= declared.programs {
-            return Err(Trouble::Form);
-        }
     }
     Ok(declared.table.declare(scope, name.as_bytes(), of))
 }
@@ -158,13 +158,8 @@ fn alias(
     name: &str,
     target: &str,
 ) -> Result<Result<(), TagError>, Trouble> {
-    if declared.count > 1000 {
+    if declared.count > 1000 || !is_scope(scope, declared.programs) {
         return Err(Trouble::Form);
-    }
-    if let Scope::Program(program) = scope {
-        if program >= declared.programs {
-            return Err(Trouble::Form);
-        }
     }
     let answer = declared
         .table
@@ -248,8 +243,8 @@ const NESTED: &str = "Two: x DINT 2; Four: a Two 2; Eight: b Four 2; Sixteen: c 
 /// From byte 0 n, from 4 a, from 20 b, from 24 t, from 40 ts and from 88 d.
 const TAGS: &str = "0; n DINT; a DINT 4; b BOOL 32; t TIMER; ts TIMER 3; d Sixteen 2";
 
-/// `operand | TEXT | ..`: the bit that the text names, its type, the length of its array and the number of its variable subscripts, or the
-/// cause why it names nothing. The tags are `TAGS`.
+/// `operand | TEXT | ..`: the bit that the text names, its type, the length of its array and the number of its variable
+/// subscripts, or the cause why it names nothing. The tags are `TAGS`.
 pub fn operand_row(alloc: Global, text: &str) -> Result<String, Trouble> {
     let sealed = tags(alloc)?;
     said_found(
@@ -267,8 +262,8 @@ pub fn fixed_row(alloc: Global, text: &str) -> Result<String, Trouble> {
     )
 }
 
-/// `long | BEFORE MIDDLE AFTER LAST | ..`: the same of a long text: before and after the middle stand a hundred copies. `-` stands for no
-/// text.
+/// `long | BEFORE MIDDLE AFTER LAST | ..`: the same of a long text: before and after the middle stand a hundred copies.
+/// `-` stands for no text.
 pub fn long_row(alloc: Global, text: &str) -> Result<String, Trouble> {
     let mut words = text.split_whitespace();
     let before = part(word(&mut words)?);
@@ -313,11 +308,11 @@ fn say_found(alloc: Global, said: &mut Said, found: &Found) -> Result<(), AllocE
     said.number(i64::from(at))?;
     say_base(alloc, said, of.base)?;
     said.number(i64::from(of.dim))?;
-    said.number(found.steps.len() as i64)
+    said.count(found.steps.len())
 }
 
-/// `many | TAGS PROGRAMS ? CALL; .. | ..`: what the calls answer at a table of so many DINTs of the controller, tag0, tag1, .., and after
-/// them one, `own`, of the controller and of each of so many programs.
+/// `many | TAGS PROGRAMS ? CALL; .. | ..`: what the calls answer at a table of so many DINTs of the controller, tag0,
+/// tag1, .., and after them one, `own`, of the controller and of each of so many programs.
 pub fn many_row(alloc: Global, text: &str) -> Result<String, Trouble> {
     let (counts, calls) = text.split_once('?').ok_or(Trouble::Form)?;
     let mut words = counts.split_whitespace();

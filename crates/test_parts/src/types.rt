@@ -7,14 +7,15 @@ use crate::trouble::Trouble;
 use crate::words::{Said, name, number, word};
 use lgx_num::Items;
 use lgx_types::{TypeError, TypeTable};
+use spec_base::limits::MAX_ELEMENTS;
 use spec_language::{Base, DataType, MemberDecl, TypeDecl, TypeFault};
 use std::alloc::{AllocError, Global};
 
-/// `types | STRUCTURE; .. ? CALL; .. | ..`: what the calls answer at a table of these structures, or the first fault: its code, the number
-/// of the structure and that of the member.
+/// `types | STRUCTURE; .. ? CALL; .. | ..`: what the calls answer at a table of these structures, or the first fault:
+/// its code, the number of the structure and that of the member.
 ///
-/// A structure is `NAME: MEMBER TYPE LENGTH, ..`, with no length where it is no array. `at TYPE MEMBER` answers a member's first bit,
-/// `size TYPE LENGTH` a size in bytes, and `find NAME` a type.
+/// A structure is `NAME: MEMBER TYPE LENGTH, ..`, with no length where it is no array. `at TYPE MEMBER` answers a
+/// member's first bit, `size TYPE LENGTH` a size in bytes, and `find NAME` a type.
 pub fn types_row(alloc: Global, text: &str) -> Result<String, Trouble> {
     let (structures, calls) = text.split_once('?').ok_or(Trouble::Form)?;
     let mut said = Said::new(alloc);
@@ -116,7 +117,7 @@ fn run(alloc: Global, said: &mut Said, table: &TypeTable, call: &str) -> Result<
             Some(base) => say_base(alloc, said, base)?,
             None => said.word("none")?,
         },
-        "count" => said.number(table.structures().len() as i64)?,
+        "count" => said.count(table.structures().len())?,
         _ => return Err(Trouble::Form),
     }
     Ok(())
@@ -127,7 +128,7 @@ pub fn say_base(alloc: Global, said: &mut Said, base: Base) -> Result<(), AllocE
 }
 
 fn size_of(table: &TypeTable, of: DataType) -> Option<u32> {
-    let fits = of.dim <= 65536
+    let fits = of.dim <= MAX_ELEMENTS
         && match of.base {
             Base::User(i) => (i as usize) < table.structures().len(),
             Base::Bool => of.dim % 32 == 0,
@@ -143,8 +144,8 @@ fn say_fault(alloc: Global, said: &mut Said, fault: TypeFault) -> Result<(), All
     said.or_none(member)
 }
 
-/// `chain | LENGTH | ..`: the count of a table of so many structures, at most 99, each of which holds the next, and the last a DINT, and
-/// the size of the first.
+/// `chain | LENGTH | ..`: the count of a table of so many structures, at most 99, each of which holds the next, and the
+/// last a DINT, and the size of the first.
 pub fn chain_row(alloc: Global, text: &str) -> Result<String, Trouble> {
     let length = number(&mut text.split_whitespace())?;
     let mut decls = Vec::new(alloc);
@@ -156,7 +157,7 @@ pub fn chain_row(alloc: Global, text: &str) -> Result<String, Trouble> {
     decls.push(structure_of(alloc, format!(in alloc; "S{last}: x DINT")?.as_str())?)?;
     let table = build(alloc, &decls).ok().ok_or(Trouble::Form)?;
     let mut said = Said::new(alloc);
-    said.number(table.structures().len() as i64)?;
+    said.count(table.structures().len())?;
     run(alloc, &mut said, &table, "size S0 0")?;
     Ok(said.into_text())
 }

@@ -65,6 +65,12 @@ impl Said {
         write!(self.text, "{number}")
     }
 
+    /// Adds a number of things.
+    pub fn count(&mut self, count: usize) -> Result<(), AllocError> {
+        self.blank()?;
+        write!(self.text, "{count}")
+    }
+
     /// Adds a number, or `none`.
     pub fn or_none(&mut self, number: Option<u32>) -> Result<(), AllocError> {
         match number {
