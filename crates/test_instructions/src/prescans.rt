@@ -37,7 +37,6 @@ fn run(alloc: Global, routines: &[Rungs], image: &mut Image) -> Result<(), Refus
 }
 
 /// Whether the program of these routines can be executed over an image of `len` bytes.
-#[tactic(auto, using(test_bench::proofs::Executing::program_executable))]
 fn can_run(program: &FlatProgram, routines: &[Rungs], len: u32) -> bool
     requires { IsFlatProgram program.now (record { routines = routines.now; main = 0 }) }
     ensures { result ≡ true → IsExecutableProgram len (record { routines = routines.now; main = 0 }) }
