@@ -7,8 +7,9 @@ use lgx_time::{reset, run_counter, run_timer};
 use std::alloc::Global;
 use test_bench::{LEN, Refusal};
 
-/// `count TON on 103 / t0.pre=5 t0.last=100 t0.EN / ..`: t0 after a timer instruction with a true condition at a tick, or c0 after a counter
-/// instruction, or both after RES on each. `negative 5 -1` at the end says that the preset and the accumulator were refused.
+/// `count TON on 103 / t0.pre=5 t0.last=100 t0.EN / ..`: t0 after a timer instruction with a true condition at a
+/// tick, or c0 after a counter instruction, or both after RES on each. `negative 5 -1` at the end says that the
+/// preset and the accumulator were refused.
 pub fn count_row(alloc: Global, what: &str, before: &str) -> Result<String, Refusal> {
     let mut words = what.split_whitespace();
     let mnemonic = words.next().unwrap_or("");

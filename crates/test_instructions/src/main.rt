@@ -1,7 +1,7 @@
 //! Judges the rows of a table of single instructions and of prescans on standard input.
 //!
-//! A row is `KIND WHAT / BEFORE / AFTER`; of what form its parts are, the function of the kind says. Lines that begin with `#` say why a
-//! row is so. What differs is printed, and at the end how many rows there were.
+//! A row is `KIND WHAT / BEFORE / AFTER`; of what form its parts are, the function of the kind says. Lines that begin
+//! with `#` say why a row is so. What differs is printed, and at the end how many rows there were.
 #![tactic(auto)]
 
 mod counts;

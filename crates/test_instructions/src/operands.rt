@@ -15,8 +15,9 @@ use test_bench::{Refusal, is_executable};
 /// The bytes of the image.
 pub const LEN: u32 = 16;
 
-/// The instruction of these operands: a number, `SINT=-1` for a place of its own that holds the number, `SINT@4` for a place at a byte,
-/// `8:2:12` for elements of 2 bytes from byte 8 on up to byte 12, and `S:V`. The places of their own are 4 bytes apart.
+/// The instruction of these operands: a number, `SINT=-1` for a place of its own that holds the number, `SINT@4` for
+/// a place at a byte, `8:2:12` for elements of 2 bytes from byte 8 on up to byte 12, and `S:V`. The places of their
+/// own are 4 bytes apart.
 pub fn read_ins(alloc: Global, op: Op, text: &str, image: &mut Image) -> Result<Ins, Refusal> {
     let mut args = Vec::new(alloc);
     let mut at = 0u32;

@@ -15,8 +15,8 @@ use lgx_rung::Op;
 use std::alloc::Global;
 use test_bench::{Refusal, is_executable_program, read_program};
 
-/// `prescan ONS(a);JSR(S1);|TON(t0,?,?); / t0.acc=5 / a`: the bench's tags after the prescan of the program. Its routines have
-/// `|` between them, and the first is the main one.
+/// `prescan ONS(a);JSR(S1);|TON(t0,?,?); / t0.acc=5 / a`: the bench's tags after the prescan of the program. Its
+/// routines have `|` between them, and the first is the main one.
 pub fn prescan_row(alloc: Global, program: &str, before: &str) -> Result<String, Refusal> {
     let routines = read_program(alloc, program)?;
     let mut image = read_tags(alloc, before)?;
@@ -44,8 +44,8 @@ fn can_run(program: &FlatProgram, routines: &[Rungs], len: u32) -> bool
     is_executable_program(program, routines.len(), len)
 }
 
-/// `subscript / 3 / 119`: the first byte, all of whose bits are 1, after the prescan of an OTE of the bit that the subscript
-/// names, and of an OTE of bit 7.
+/// `subscript / 3 / 119`: the first byte, all of whose bits are 1, after the prescan of an OTE of the bit that the
+/// subscript names, and of an OTE of bit 7.
 pub fn subscript_row(alloc: Global, subscript: &str) -> Result<String, Refusal> {
     let mut image = Image::new(alloc, 8)?;
     put(&mut image, sint(0), 255);

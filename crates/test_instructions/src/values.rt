@@ -16,8 +16,8 @@ use lgx_rung::{Family, Op};
 use std::alloc::Global;
 use test_bench::Refusal;
 
-/// `bit XIC / S:V first V Z N / yes`: whether the condition, true before, goes on, in a first scan if `first` is there, with
-/// these flags.
+/// `bit XIC / S:V first V Z N / yes`: whether the condition, true before, goes on, in a first scan if `first` is
+/// there, with these flags.
 pub fn bit_row(alloc: Global, op: Op, text: &str) -> Result<String, Refusal> {
     let (operand, flags) = text.trim().split_once(' ').unwrap_or((text, ""));
     let mut image = Image::new(alloc, LEN)?;
@@ -83,7 +83,8 @@ fn truth(alloc: Global, holds: bool) -> Result<String, Refusal> {
     Ok(String::from_str(alloc, if holds { "yes" } else { "no" })?)
 }
 
-/// `copy COP / 0:1:16 1:1:16 3 / 3: 1 1 1 1 5 ..`: how many steps the copy takes, and the bytes afterwards, which are 1 to 16 before.
+/// `copy COP / 0:1:16 1:1:16 3 / 3: 1 1 1 1 5 ..`: how many steps the copy takes, and the bytes afterwards, which are
+/// 1 to 16 before.
 pub fn copy_row(alloc: Global, op: Op, text: &str) -> Result<String, Refusal> {
     let mut image = Image::new(alloc, LEN)?;
     for byte in 0..16u8 {
