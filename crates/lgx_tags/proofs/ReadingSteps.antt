@@ -13,7 +13,8 @@ use Rattle.lgx_tags.specs.Parts.{OperandPart, first_part}
 use Rattle.lgx_tags.specs.Parts as part
 use Rattle.lgx_tags.specs.TextReading.{Reading, may_open, open_at, close_at, step, end_at, reading_step, found_after}
 use Rattle.lgx_tags.proofs.TagNames.{no_digits}
-use Rattle.spec_language.proofs.FormsSpelled.{same_form, stepped as step_made}
+use Rattle.std.proofs.lemmas.Option.{same_Some}
+use Rattle.spec_language.proofs.FormsSpelled.{stepped as step_made}
 use Rattle.lgx_tags.proofs.PartSteps.{part_taken, no_part}
 
 -- ---- binds
@@ -117,9 +118,9 @@ by_brackets s types named w ts outer f r q known =
   where
     go : (x b d : Bool) (g : Form) → (if x then None else if b then Some (element f (digits_number 10 w)) else if d then Some (indexed f (tag w)) else None) ≡ Some g → Walks s types named ts r outer g → resolved s types named r ≡ (state s types named outer f >>= λ k. if b then (step s types named (part.element w) k >>= found_after s types named ts) else (step s types named (part.opened w) k >>= λ j. step s types named part.closed j >>= found_after s types named ts))
     go true b d g e more = absurd (cc e)
-    go false true d g e more = on_step s types named ts (part.element w) r outer f outer g (subst (λ (z : Form). Steps s types named (part.element w) outer f outer z) (same_form _ g e) (element_steps s types named outer f w)) more
+    go false true d g e more = on_step s types named ts (part.element w) r outer f outer g (subst (λ (z : Form). Steps s types named (part.element w) outer f outer z) (same_Some _ g e) (element_steps s types named outer f w)) more
     go false false true g e more =
-        let inner : resolved s types named r ≡ (state s types named (f ∷ outer) (tag w) >>= λ k. step s types named part.closed k >>= found_after s types named ts) = on_step s types named ts part.closed r (f ∷ outer) (tag w) outer g (subst (λ (z : Form). Steps s types named part.closed (f ∷ outer) (tag w) outer z) (same_form _ g e) (close_steps s types named outer f (tag w))) more in
+        let inner : resolved s types named r ≡ (state s types named (f ∷ outer) (tag w) >>= λ k. step s types named part.closed k >>= found_after s types named ts) = on_step s types named ts part.closed r (f ∷ outer) (tag w) outer g (subst (λ (z : Form). Steps s types named part.closed (f ∷ outer) (tag w) outer z) (same_Some _ g e) (close_steps s types named outer f (tag w))) more in
         inner ∙ ap (λ m. m >>= λ k. step s types named part.closed k >>= found_after s types named ts) (open_steps s types named outer f w) ∙ bind_assoc (state s types named outer f) (step s types named (part.opened w)) (λ k. step s types named part.closed k >>= found_after s types named ts)
     go false false false g e more = absurd (cc e)
 
@@ -132,7 +133,7 @@ by_word s types named w ts outer f r q known =
     go true d i b h g e more = absurd (cc e)
     go false false i b h g e more = absurd (cc e)
     go false true i true h g e more = absurd (cc (i, no_digits w h))
-    go false true i false h g e more = on_step s types named ts (part.opened w) r outer f (f ∷ outer) g (subst (λ (z : Form). Steps s types named (part.opened w) outer f (f ∷ outer) z) (same_form _ g e) (open_steps s types named outer f w)) more
+    go false true i false h g e more = on_step s types named ts (part.opened w) r outer f (f ∷ outer) g (subst (λ (z : Form). Steps s types named (part.opened w) outer f (f ∷ outer) z) (same_Some _ g e) (open_steps s types named outer f w)) more
 
 at_last : (s : Subscripts) (types : List TypeDecl) (named : List ℕ → Result Found TagCode) (f : Form) → Walks s types named [] f [] f
 at_last s types named f = go (resolved s types named f)
@@ -142,7 +143,7 @@ at_last s types named f = go (resolved s types named f)
     go (Err e) = refl
 
 pub walks : (s : Subscripts) (types : List TypeDecl) (named : List ℕ → Result Found TagCode) (ts : List Token) (outer : List Form) (f r : Form) → form_from ts outer f ≡ Some r → Walks s types named ts r outer f
-walks s types named [] [] f r q = subst (λ (z : Form). Walks s types named [] z [] f) (same_form f r q) (at_last s types named f)
+walks s types named [] [] f r q = subst (λ (z : Form). Walks s types named [] z [] f) (same_Some f r q) (at_last s types named f)
 walks s types named [] (g ∷ outer) f r q = absurd (cc q)
 walks s types named (dot ∷ word w ∷ ts) outer f r q = by_dot s types named w ts outer f r q (λ g h. walks s types named ts outer g r h)
 walks s types named (opening ∷ word w ∷ closing ∷ ts) outer f r q = by_brackets s types named w ts outer f r q (λ g h. walks s types named ts outer g r h)
