@@ -1,0 +1,13 @@
+//! The log of a run, the texts of its lines, and the watched places of each grain of the image.
+//!
+//! A [`Log`] has room for `MAX_REPORT_LINES` lines from the start and counts the others, so it takes no memory while a run goes on.
+//! A text is made of a line when it is asked for.
+#![tactic(auto)]
+
+mod laws;
+mod log;
+
+pub use laws::law_of_pushes;
+pub use log::Log;
+pub use spec_machine::{EditFault, Line, Mode, ModeFault, Reply};
+pub use spec_tables::{ConnFault, Fault, ForceFault, Severity};
