@@ -1,10 +1,10 @@
 -- To keep or count a line at each push is to keep the first of all lines and to count the others.
-use Rattle.std.proofs.Common.{◌≡◌, ℕ, ◌+◌, ◌-◌, ◌<◌, ◌≤◌, inl, inr, List, [], ◌∷◌, ◌++◌, length, take, refl, sym, ap, ◌∙◌, arith, append_assoc, length-append}
+use Rattle.std.proofs.Common.{◌≡◌, ℕ, ◌+◌, ◌<◌, ◌≤◌, inl, inr, List, [], ◌∷◌, ◌++◌, length, take, refl, sym, ap, ◌∙◌, arith, append_assoc, length-append}
 use Rattle.std.proofs.lemmas.Bool.{cases_lt, lt-ltb, le-ltb}
 use Rattle.std.proofs.lemmas.List.{append-nil, take_all, take-append-le, length-take-le}
 use Rattle.spec_base.specs.declared.limits.TheConstants.{MAX_REPORT_LINES}
 use Rattle.spec_machine.specs.Report.{Stamped}
-use Rattle.lgx_watch.specs.Kept.{Kept, no_lines, kept_of, with_line, with_lines, KeepsTheFirst}
+use Rattle.lgx_watch.specs.Kept.{Kept, kept_of, with_line, with_lines, KeepsTheFirst}
 
 same_kept : (a b : List Stamped) (m n : ℕ) → a ≡ b → m ≡ n → (let x : Kept = record { lines = a; lost = m } in x) ≡ record { lines = b; lost = n }
 same_kept a b m n p q = rw (p, q) refl
