@@ -1,11 +1,10 @@
 // The watched places of each grain of the image.
-ghost use Rattle.std.specs.Prelude.{◌≡◌, ◌≢◌, ℕ, ◌+◌, ◌-◌, ◌^◌, ◌<◌, ◌≤◌, ◌⊎◌, true, false, length, slice_get, Some, IfOk};
+ghost use Rattle.std.specs.Prelude.{◌≡◌, ℕ, ◌+◌, ◌/◌, ◌^◌, ◌<◌, ◌≤◌, true, length, slice_get, Some, IfOk};
 ghost use Rattle.lgx_num.specs.declared.place.Place.{Place};
-ghost use Rattle.lgx_image.specs.Words.{bit_of_words};
-ghost use Rattle.lgx_image.specs.Grains.{bytes_in};
+ghost use Rattle.lgx_image.specs.Grains.{bytes_in, grain_of};
 ghost use Rattle.lgx_watch.specs.declared.bits.TheConstants.{MAX_WATCHES};
-ghost use Rattle.lgx_watch.specs.Watches.{is_member, LiesIn, last_grain, spans};
-ghost use Rattle.lgx_watch.specs.Index.{row};
+ghost use Rattle.lgx_watch.specs.Watches.{is_member, LiesIn, last_grain};
+ghost use Rattle.lgx_watch.specs.Index.{NumberAdded};
 
 use crate::bits::{WORDS, no_bits, set_bit};
 use crate::watch_set::WatchSet;
@@ -83,9 +82,7 @@ fn grains_of(places: &[Place]) -> usize
 fn add_place(rows: &mut [[u64; WORDS]], place: Place, number: u32)
     requires room { last_grain place < length rows.old }
     requires number { number < MAX_WATCHES }
-    ensures added { (grain : ℕ) → spans place grain ≡ true → bit_of_words (row rows.new grain) number ≡ true }
-    ensures others { (grain w : ℕ) → (w ≢ number) ⊎ (spans place grain ≡ false) → bit_of_words (row rows.new grain) w ≡ bit_of_words (row rows.old grain) w }
-    ensures len { length rows.new ≡ length rows.old }
+    ensures { NumberAdded number (grain_of (place.at / 8)) (last_grain place + 1) rows.old rows.new }
 {
     for grain in grain_of(place.at / 8)..last_grain(place) + 1 {
         set_bit(&mut rows[grain as usize], number);

@@ -5,7 +5,7 @@ use Rattle.lgx_watch.proofs.watch_index.WatchIndex.new.Goals as goal
 
 pub loop-number-preserved : goal.loop-number-preserved
 loop-number-preserved c =
-    one_more_place c.args.places.now c.loop-number.number _ c.loop-number.rows.len c.loop-number.rows.items c.deref_mut.result.now c.add_place.new.rows c.loop-number-test.true c.deref_mut.ensures.value c.add_place.ensures.added c.add_place.ensures.others c.add_place.ensures.len (omega arith) c.loop-number.invariant
+    one_more_place c.args.places.now c.loop-number.number _ c.loop-number.rows.len c.loop-number.rows.items c.deref_mut.result.now c.add_place.new.rows c.loop-number-test.true c.deref_mut.ensures.value c.add_place.ensures (omega (arith, c.add_place.ensures.len)) c.loop-number.invariant
 
 pub invariant_of-result : goal.invariant_of-result
 invariant_of-result c =
