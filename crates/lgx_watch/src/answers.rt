@@ -10,6 +10,7 @@ use lgx_num::Memory;
 use lgx_rung::{CheckFault, TextFault};
 use spec_machine::{EditFault, Reply};
 
+/// Adds the code and the place of a fault of a rung's text.
 fn push_text_fault(text: &mut Vec<u8>, fault: TextFault) -> Result<(), Memory>
     ensures { OnOk result (text.new.items ≡ text.old.items ++ after_spaces (text_fault fault)) }
 {
@@ -17,6 +18,7 @@ fn push_text_fault(text: &mut Vec<u8>, fault: TextFault) -> Result<(), Memory>
     push_count(text, u64::from(fault.at))
 }
 
+/// Adds the code, the rung and the instruction of a fault of a check.
 fn push_check_fault(text: &mut Vec<u8>, fault: CheckFault) -> Result<(), Memory>
     ensures { OnOk result (text.new.items ≡ text.old.items ++ after_spaces (check_fault fault)) }
 {
@@ -33,6 +35,7 @@ fn push_numbered(text: &mut Vec<u8>, code: &[u8], number: u32) -> Result<(), Mem
     push_count(text, u64::from(number))
 }
 
+/// Adds the cause for which an edit was refused.
 fn push_edit_cause(text: &mut Vec<u8>, fault: EditFault) -> Result<(), Memory>
     ensures { OnOk result (text.new.items ≡ text.old.items ++ after_spaces (edit_cause fault)) }
 {

@@ -6,6 +6,7 @@ use lgx_rung::{CheckCode, TextCode};
 use spec_machine::{Mode, ModeFault};
 use spec_tables::{ConnFault, ForceFault, Severity};
 
+/// The code of a fault of a rung's text.
 pub(crate) fn text_code(code: TextCode) -> &'static [u8]
     ensures { result.now ≡ text_code code }
 {
@@ -18,6 +19,7 @@ pub(crate) fn text_code(code: TextCode) -> &'static [u8]
     }
 }
 
+/// The code of a fault of a check.
 pub(crate) fn check_code(code: CheckCode) -> &'static [u8]
     ensures { result.now ≡ check_code code }
 {
@@ -41,6 +43,7 @@ pub(crate) fn check_code(code: CheckCode) -> &'static [u8]
     }
 }
 
+/// The code of a refusal by a connection.
 pub(crate) fn conn_cause(fault: ConnFault) -> &'static [u8]
     ensures { result.now ≡ conn_cause fault }
 {
@@ -51,6 +54,7 @@ pub(crate) fn conn_cause(fault: ConnFault) -> &'static [u8]
     }
 }
 
+/// The code of a refusal of a force.
 pub(crate) fn force_cause(fault: ForceFault) -> &'static [u8]
     ensures { result.now ≡ force_cause fault }
 {
@@ -61,6 +65,7 @@ pub(crate) fn force_cause(fault: ForceFault) -> &'static [u8]
     }
 }
 
+/// The code of a refusal of a change of mode.
 pub(crate) fn mode_cause(fault: ModeFault) -> &'static [u8]
     ensures { result.now ≡ mode_cause fault }
 {
@@ -71,6 +76,7 @@ pub(crate) fn mode_cause(fault: ModeFault) -> &'static [u8]
     }
 }
 
+/// The word of a severity.
 pub(crate) fn severity(of: Severity) -> &'static [u8]
     ensures { result.now ≡ severity of }
 {
@@ -80,6 +86,7 @@ pub(crate) fn severity(of: Severity) -> &'static [u8]
     }
 }
 
+/// The word of a mode.
 pub(crate) fn mode_text(mode: Mode) -> &'static [u8]
     ensures { result.now ≡ mode_text mode }
 {

@@ -46,6 +46,7 @@ fn push_fault_number(text: &mut Vec<u8>, fault: Fault) -> Result<(), Memory>
     push_number(text, u64::from(fault.code))
 }
 
+/// Adds the words of a line of a fault.
 fn push_fault(text: &mut Vec<u8>, names: &Names, fault: Fault) -> Result<(), Memory>
     ensures { OnOk result (text.new.items ≡ text.old.items ++ after_spaces (line_words names.now (FaultLine fault))) }
 {
