@@ -1,0 +1,9 @@
+use Rattle.std.proofs.Common.{arith}
+use Rattle.lgx_image.proofs.Words.{bit_set, bit_set_other}
+use Rattle.lgx_watch.proofs.bits.set_bit.Goals as goal
+
+pub returns-clause-set : goal.returns-clause-set
+returns-clause-set c = bit_set c.args.words.now c.args.bit (omega arith)
+
+pub returns-clause-others : goal.returns-clause-others
+returns-clause-others c = λ k other. bit_set_other c.args.words.now c.args.bit k (omega arith) other

@@ -1,0 +1,5 @@
+pub mod Kept
+pub mod Spaces
+pub mod Watches
+pub mod Index
+pub mod JournalLines

@@ -1,0 +1,34 @@
+-- Watched places by their numbers, and the grains in which they lie.
+use Rattle.std.specs.Prelude.{◌≡◌, ℕ, ◌+◌, ◌-◌, ◌/◌, Bool, true, false, ◌&&◌, List, Option, nat_le, slice_index_or}
+use Rattle.lgx_num.specs.declared.place.Place.{Place}
+use Rattle.lgx_num.specs.Image.{number}
+use Rattle.lgx_image.specs.Grains.{ImageView, ChangesOnlyMarked, NextMarked, grain_of, bytes_in, is_marked}
+use Rattle.lgx_image.specs.Laws.{HoldsByte}
+
+-- whether a set has a number, and its least member that isn't below another number, or none
+abbrev pub is_member : List Bool → ℕ → Bool
+is_member set w = slice_index_or set w false
+
+abbrev pub NextMember : List Bool → ℕ → Option ℕ → Type 0
+NextMember set from found = NextMarked set from found
+
+-- a place has a byte in a grain
+abbrev pub LiesIn : Place → ℕ → Type 0
+LiesIn p grain = HoldsByte grain (p.at / 8) (bytes_in p.kind)
+
+-- the same as a test: the grain is one of those from the first byte's to the last byte's
+abbrev pub last_grain : Place → ℕ
+last_grain p = grain_of (p.at / 8 + bytes_in p.kind - 1)
+
+abbrev pub spans : Place → ℕ → Bool
+spans p grain = nat_le (grain_of (p.at / 8)) grain && nat_le grain (last_grain p)
+
+-- ---- the law
+
+-- a place has no byte in a marked grain
+abbrev pub LiesInNoMarked : List Bool → Place → Type 0
+LiesInNoMarked marks p = (grain : ℕ) → is_marked marks grain ≡ true → LiesIn p grain → ⊥
+
+-- a place that lies in no marked grain has the number that it had when it was last compared
+abbrev pub UnmarkedWatchesStay : Type 0
+UnmarkedWatchesStay = (compared now : ImageView) (p : Place) → ChangesOnlyMarked compared now → LiesInNoMarked now.marks p → number now.bytes p ≡ number compared.bytes p
