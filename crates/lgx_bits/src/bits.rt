@@ -28,7 +28,7 @@ pub fn run_bits(
 ) -> bool
     requires fit { ArgsFit op args.now }
     requires lie { ArgsInBounds args.now (length image.old.bytes) }
-    ensures goes_on { result ≡ (bits op args.now on first flags image.old.bytes).on }
+    ensures condition { result ≡ (bits op args.now on first flags image.old.bytes).on }
     ensures bytes { image.new.bytes ≡ (bits op args.now on first flags image.old.bytes).image }
     ensures only_marked { ChangesOnlyMarked image.old image.new }
 {
@@ -47,9 +47,10 @@ pub fn run_bits(
 }
 
 /// OTE: the bit is the condition.
+#[inline(always)]
 fn ote(bit: Place, on: bool, image: &mut Image) -> bool
     requires { InBounds bit (length image.old.bytes) }
-    ensures goes_on { result ≡ on }
+    ensures condition { result ≡ on }
     ensures bytes { image.new.bytes ≡ write image.old.bytes bit (bit_number on) }
     ensures only_marked { ChangesOnlyMarked image.old image.new }
 {
@@ -60,7 +61,7 @@ fn ote(bit: Place, on: bool, image: &mut Image) -> bool
 /// OTL: a true condition sets the bit.
 fn otl(bit: Place, on: bool, image: &mut Image) -> bool
     requires { InBounds bit (length image.old.bytes) }
-    ensures goes_on { result ≡ on }
+    ensures condition { result ≡ on }
     ensures bytes { image.new.bytes ≡ (if on then write image.old.bytes bit (bit_number true) else image.old.bytes) }
     ensures only_marked { ChangesOnlyMarked image.old image.new }
 {
@@ -73,7 +74,7 @@ fn otl(bit: Place, on: bool, image: &mut Image) -> bool
 /// OTU: a true condition clears the bit.
 fn otu(bit: Place, on: bool, image: &mut Image) -> bool
     requires { InBounds bit (length image.old.bytes) }
-    ensures goes_on { result ≡ on }
+    ensures condition { result ≡ on }
     ensures bytes { image.new.bytes ≡ (if on then write image.old.bytes bit (bit_number false) else image.old.bytes) }
     ensures only_marked { ChangesOnlyMarked image.old image.new }
 {
@@ -86,7 +87,7 @@ fn otu(bit: Place, on: bool, image: &mut Image) -> bool
 /// ONS: the condition goes on in the scan in which it becomes true. The storage bit keeps it for the next scan.
 fn ons(storage: Place, on: bool, image: &mut Image) -> bool
     requires { InBounds storage (length image.old.bytes) }
-    ensures goes_on { result ≡ (on && not (is_one (number image.old.bytes storage))) }
+    ensures condition { result ≡ (on && not (is_one (number image.old.bytes storage))) }
     ensures bytes { image.new.bytes ≡ write image.old.bytes storage (bit_number on) }
     ensures only_marked { ChangesOnlyMarked image.old image.new }
 {
@@ -100,7 +101,7 @@ fn ons(storage: Place, on: bool, image: &mut Image) -> bool
 fn osr(storage: Place, output: Place, on: bool, image: &mut Image) -> bool
     requires storage { InBounds storage (length image.old.bytes) }
     requires output { InBounds output (length image.old.bytes) }
-    ensures goes_on { result ≡ on }
+    ensures condition { result ≡ on }
     ensures bytes { image.new.bytes ≡ write (write image.old.bytes output (bit_number (on && not (is_one (number image.old.bytes storage))))) storage (bit_number on) }
     ensures only_marked { ChangesOnlyMarked image.old image.new }
 {
@@ -116,7 +117,7 @@ fn osr(storage: Place, output: Place, on: bool, image: &mut Image) -> bool
 fn osf(storage: Place, output: Place, on: bool, image: &mut Image) -> bool
     requires storage { InBounds storage (length image.old.bytes) }
     requires output { InBounds output (length image.old.bytes) }
-    ensures goes_on { result ≡ on }
+    ensures condition { result ≡ on }
     ensures rises { on ≡ true → image.new.bytes ≡ write (write image.old.bytes storage (bit_number true)) output (bit_number false) }
     ensures falls { on ≡ false → image.new.bytes ≡ write (write image.old.bytes output (bit_number (is_one (number image.old.bytes storage)))) storage (bit_number false) }
     ensures only_marked { ChangesOnlyMarked image.old image.new }

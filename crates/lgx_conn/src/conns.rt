@@ -1,9 +1,9 @@
 // The connections of a project.
-ghost use Rattle.std.specs.Prelude.{◌≡◌, ◌<◌, ◌≤◌, Bool, true, false, length, IfOk, IfSome, slice_index_or};
+ghost use Rattle.std.specs.Prelude.{◌≡◌, ◌+◌, ◌*◌, ◌<◌, ◌≤◌, Bool, true, false, length, take, IfOk, IfSome, slice_index_or};
 ghost use Rattle.std.specs.List.{All, position_from};
 ghost use Rattle.lgx_num.specs.Name.{same};
-ghost use Rattle.spec_base.specs.declared.limits.TheConstants.{MAX_CONNECTIONS};
-ghost use Rattle.spec_tables.specs.Connections.{slot, io_word, no_conn, trigger_at};
+ghost use Rattle.spec_base.specs.declared.limits.TheConstants.{MAX_CONNECTIONS, MAX_CONNECTION_WORDS};
+ghost use Rattle.spec_tables.specs.Connections.{slot, io_word, no_conn, trigger_at, words_of};
 ghost use Rattle.lgx_conn.specs.Numbered.{IsSmall};
 
 use lgx_num::{Items, Memory, Name};
@@ -19,6 +19,8 @@ pub struct Conns {
     defs: Items<ConnDef>,
     /// For each the number of its first word among the words of all.
     firsts: Vec<u32>,
+    /// How many words all have.
+    words: u32,
 }
 
 impl Model for Conns {
@@ -30,7 +32,7 @@ impl Model for Conns {
 
     ghost view = { λ c. c.defs };
 
-    ghost invariant = { λ c. IsNumbered c.defs c.firsts.items };
+    ghost invariant = { λ c. IsNumbered c.defs c.firsts.items c.words };
 }
 
 impl Conns {
@@ -52,41 +54,64 @@ impl Conns {
         Ok(Conns {
             defs: Items::of(kept),
             firsts,
+            words: next,
         })
+    }
+
+    /// How many words the connections have in all, inputs and outputs.
+    pub fn words(&self) -> u32
+        ensures words { result ≡ words_of self.now }
+        ensures few { result ≤ MAX_CONNECTIONS * MAX_CONNECTION_WORDS }
+    {
+        self.words
     }
 
     /// The slot of word `word` of an input connection.
     ///
     /// N1 is an unknown connection, N2 a word out of range and N3 an output, the first of these in this order.
     pub fn word_in(&self, conn: &Name, word: u32) -> Result<Slot, ConnFault>
-        ensures { result ≡ slot self.now conn.now word false }
+        ensures slot { result ≡ slot self.now conn.now word false }
+        ensures within { IfOk result (λ s. s.io < words_of self.now) }
     {
         self.slot(conn, word, false)
     }
 
     /// The slot of word `word` of an output connection, with the refusals of [`Conns::word_in`] but for N3, an input.
     pub fn word_out(&self, conn: &Name, word: u32) -> Result<Slot, ConnFault>
-        ensures { result ≡ slot self.now conn.now word true }
+        ensures slot { result ≡ slot self.now conn.now word true }
+        ensures within { IfOk result (λ s. s.io < words_of self.now) }
     {
         self.slot(conn, word, true)
     }
 
     /// The number of a word among the words of all connections, in either direction.
     pub fn io_word(&self, conn: &Name, word: u32) -> Option<u32>
-        ensures { result ≡ io_word self.now conn.now word }
+        ensures number { result ≡ io_word self.now conn.now word }
+        ensures within { IfSome result (λ n. n < words_of self.now) }
     {
         let defs = self.defs.as_slice();
         let n = find(defs, conn)?;
         if word < defs[n].words {
-            Some(self.firsts[n] + word)
+            Some(self.number(n, word))
         } else {
             None
         }
     }
 
+    /// The number of a word of connection `n` among the words of all.
+    fn number(&self, n: usize, word: u32) -> u32
+        requires conn { n < length self.now }
+        requires word { word < (slice_index_or self.now n no_conn).words }
+        ensures number { result ≡ words_of (take n self.now) + word }
+        ensures within { result < words_of self.now }
+    {
+        self.firsts[n] + word
+    }
+
     /// The slot of a word, whose connection must be an output if `output` says so, and else an input.
     fn slot(&self, conn: &Name, word: u32, output: bool) -> Result<Slot, ConnFault>
-        ensures { result ≡ slot self.now conn.now word output }
+        ensures slot { result ≡ slot self.now conn.now word output }
+        ensures within { IfOk result (λ s. s.io < words_of self.now) }
     {
         let defs = self.defs.as_slice();
         match find(defs, conn) {
@@ -101,7 +126,7 @@ impl Conns {
                 }
                 Ok(Slot {
                     byte: def.byte + 4 * word,
-                    io: self.firsts[n] + word,
+                    io: self.number(n, word),
                     trigger: trigger_at(def, word),
                 })
             }

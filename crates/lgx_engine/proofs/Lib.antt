@@ -4,5 +4,10 @@ pub mod Moving
 pub mod Tops
 pub mod Follows
 pub mod Stepping
+pub mod Triggers
 pub mod FamilyRows
 pub mod Operands
+pub mod Told
+pub mod Stores
+pub mod Calls
+pub mod Handed

@@ -1,6 +1,7 @@
 // Where a program scan stands in flat code.
 use arrayvec::ArrayVec;
-use spec_base::limits::{MAX_FORKS, MAX_FRAMES};
+use lgx_num::Place;
+use spec_base::limits::{MAX_FORKS, MAX_FRAMES, MAX_PARAMETERS};
 use spec_scan::Copying;
 use std::marker::Model;
 
@@ -20,8 +21,14 @@ pub(crate) enum Zone {
     Disabled,
 }
 
-/// A routine in progress: its number, the place in its code, the condition, its zone, and its open branches, the innermost
-/// last.
+/// The numbers that a call hands over.
+pub(crate) type Inputs = ArrayVec<i32, MAX_PARAMETERS>;
+
+/// The places of the numbers that come back from a call.
+pub(crate) type Returns = ArrayVec<Place, MAX_PARAMETERS>;
+
+/// A routine in progress: its number, the place in its code, the condition, its zone, its open branches, the innermost last,
+/// and what its call handed over.
 #[derive(Drop, Default)]
 pub(crate) struct Frame {
     pub(crate) routine: u32,
@@ -29,6 +36,8 @@ pub(crate) struct Frame {
     pub(crate) on: bool,
     pub(crate) zone: Zone,
     pub(crate) branches: ArrayVec<OpenBranch, MAX_FORKS>,
+    pub(crate) inputs: Inputs,
+    pub(crate) returns: Returns,
 }
 
 impl Model for Frame {
@@ -37,7 +46,7 @@ impl Model for Frame {
 
     ghost Value = { FrameView };
 
-    ghost view = { λ f. record { routine = f.routine; pc = f.pc; on = f.on; zone = zone_of f.zone; branches = reverse f.branches.items } };
+    ghost view = { λ f. record { routine = f.routine; pc = f.pc; on = f.on; zone = zone_of f.zone; branches = reverse f.branches.items; inputs = f.inputs.items; returns = f.returns.items } };
 }
 
 /// What a scan tells its instructions: the tick, and whether it is the first scan, which is the flag `S:FS`.
@@ -47,18 +56,36 @@ pub(crate) struct ScanContext {
     pub(crate) first: bool,
 }
 
+/// The routines in progress, the innermost last. A place that a routine left keeps what stood there until it is taken again.
+#[derive(Drop)]
+pub(crate) struct Frames {
+    pub(crate) slots: [Frame; MAX_FRAMES],
+    pub(crate) depth: usize,
+}
+
+impl Model for Frames {
+    ghost use Rattle.std.specs.Prelude.{List, ◌≡◌, ◌≤◌, length, reverse, take};
+    ghost use Rattle.spec_base.specs.declared.limits.TheConstants.{MAX_FRAMES};
+    ghost use Rattle.lgx_engine.specs.Views.{FrameView};
+
+    ghost Value = { List FrameView };
+
+    ghost view = { λ f. reverse (take f.depth f.slots) };
+
+    ghost invariant = { λ f. (f.depth ≤ MAX_FRAMES) × (length f.slots ≡ MAX_FRAMES) };
+}
+
 /// Where a program scan stands: the routines in progress, and the copy in progress. It takes no memory.
 #[derive(Drop)]
 pub struct Position {
-    pub(crate) frames: ArrayVec<Frame, MAX_FRAMES>,
+    pub(crate) frames: Frames,
     pub(crate) copying: Option<Copying>,
 }
 
 impl Model for Position {
-    ghost use Rattle.std.specs.Prelude.{reverse};
     ghost use Rattle.lgx_engine.specs.Views.{PositionView};
 
     ghost Value = { PositionView };
 
-    ghost view = { λ p. record { frames = reverse p.frames.items; copy = p.copying } };
+    ghost view = { λ p. record { frames = p.frames; copy = p.copying } };
 }

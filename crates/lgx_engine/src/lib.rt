@@ -6,6 +6,7 @@
 
 mod frame;
 mod frames;
+mod handing;
 mod moves;
 mod operand;
 mod row;

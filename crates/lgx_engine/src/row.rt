@@ -1,6 +1,6 @@
 // One instruction: what it does to the image and the flags, and what else it does.
-ghost use Rattle.std.specs.Prelude.{◌≡◌, ℕ, ◌+◌, ◌≤◌, true, ◌||◌, List, length, nat_lt, if◌then◌else◌, IfSome, Some, None};
-ghost use Rattle.spec_base.specs.declared.limits.TheConstants.{MAX_FRAMES, TIMER_BYTES};
+ghost use Rattle.std.specs.Prelude.{◌≡◌, ℕ, ◌+◌, ◌≤◌, true, false, ◌||◌, List, length, if◌then◌else◌, IfSome, IsSome, option_map, Some, None};
+ghost use Rattle.spec_base.specs.declared.limits.TheConstants.{TIMER_BYTES};
 ghost use Rattle.lgx_rung.specs.OperandTable.{family_of};
 ghost use Rattle.lgx_rung.specs.declared.operands.OperandKind.{OperandKind};
 ghost use Rattle.spec_scan.specs.Arguments.{arg, bind, byte_of};
@@ -9,39 +9,38 @@ ghost use Rattle.spec_scan.specs.StatusWords.{reset};
 ghost use Rattle.spec_scan.specs.Arithmetic.{math};
 ghost use Rattle.spec_scan.specs.Copies.{start_copy};
 ghost use Rattle.spec_scan.specs.Position.{Frame};
-ghost use Rattle.spec_scan.specs.Instructions.{row, acts_when_false, target, bad_timer, too_deep};
+ghost use Rattle.spec_scan.specs.Instructions.{Nothing, row, acts_when_false, bad_timer};
 ghost use Rattle.lgx_image.specs.Args.{ArgInBounds, ArgsInBounds};
 ghost use Rattle.lgx_image.specs.Grains.{ChangesOnlyMarked};
 ghost use Rattle.spec_scan.specs.Executable.{IsExecutable, ArgsEndIn};
-ghost use Rattle.spec_scan.specs.Fits.{IsRoutine, OperandsFit, ArgFits, ArgsFit, operand_at};
+ghost use Rattle.spec_scan.specs.Fits.{OperandsFit, ArgFits, ArgsFit};
+ghost use Rattle.lgx_prog.specs.Fixed.{AreFixed};
+ghost use Rattle.lgx_prog.specs.HandsOver.{hands_over};
 ghost use Rattle.lgx_engine.specs.Rows.{row_of, ControlInRows, CanFollow};
 
 use crate::frame::ScanContext;
-use crate::operand::{routine_of, target, task_of};
+use crate::operand::{target, task_of};
 use lgx_bits::run_bits;
 use lgx_copy::start_copy;
 use lgx_image::Image;
 use lgx_math::{compare, run_math};
 use lgx_num::Flags;
+use lgx_prog::Prepared;
 use lgx_rung::{Family, Ins, Op};
 use lgx_time::{reset, run_counter, run_timer};
-use spec_base::limits::MAX_FRAMES;
 use spec_scan::{Arg, Bound, Copying};
 
-// codes of type 4: a subscript out of range, a timer with a negative number, and a call with all frames taken
-const BAD_SUBSCRIPT: u8 = 20;
+// codes of type 4: a subscript out of range, and a timer with a negative number
+pub(crate) const BAD_SUBSCRIPT: u8 = 20;
 
 const BAD_TIMER: u8 = 34;
 
-const TOO_DEEP: u8 = 84;
-
 /// What an instruction does beside the image and the flags.
 ///
-/// A routine, the rung of a label and a task go by their numbers. `MajorFault` has the code of a major fault of type 4.
+/// The rung of a label and a task go by their numbers. `MajorFault` has the code of a major fault of type 4.
 #[derive(Clone, Copy)]
 pub(crate) enum Control {
     Nothing,
-    Call(u32),
     Return,
     Jump(u64),
     ToggleZone,
@@ -60,37 +59,85 @@ pub(crate) struct RowStep {
     pub(crate) control: Control,
 }
 
-/// What an instruction is told: the condition before it, the number of routines in progress, and what the scan tells.
+/// What an instruction is told: the condition before it, and what the scan tells.
 #[derive(Clone, Copy)]
 struct RowInput {
     on: bool,
-    depth: usize,
     scan: ScanContext,
 }
 
-/// Executes an instruction (1756-RM003), with the condition before it.
+/// Executes an instruction (1756-RM003), with the condition before it. It is none that hands numbers over.
 ///
-/// `depth` is the number of routines in progress. With a major fault the image and the flags are as before.
+/// With a major fault the image and the flags are as before.
+#[inline(always)]
 pub(crate) fn run_row(
-    ins: &Ins,
+    prepared: &Prepared,
     on: bool,
     scan: ScanContext,
-    depth: usize,
     flags: &mut Flags,
     image: &mut Image,
 ) -> RowStep
-    requires executable { IsExecutable (length image.old.bytes) ins.now }
-    ensures row { (frames : List Frame) → length frames ≡ depth → row ins.now.op ins.now.args on scan.now scan.first frames flags.old image.old.bytes ≡ row_of result flags.new image.new.bytes }
-    ensures can_follow { CanFollow result.control depth (length image.new.bytes) }
+    requires executable { IsExecutable (length image.old.bytes) prepared.now }
+    requires alone { hands_over prepared.now.op ≡ false }
+    ensures row { (frames : List Frame) → row prepared.now.op prepared.now.args on scan.now scan.first frames flags.old image.old.bytes ≡ row_of result flags.new image.new.bytes }
+    ensures can_follow { CanFollow result.control (length image.new.bytes) }
     ensures only_marked { ChangesOnlyMarked image.old image.new }
 {
-    if !on && !acts_when_false(ins.op) {
+    if !on && !acts_when_false(prepared.op()) {
         return pass_on(on, Control::Nothing);
     }
-    let input = RowInput { on, depth, scan };
+    let input = RowInput { on, scan };
+    match prepared.bound() {
+        Some(bound) => execute(prepared.ins(), bound, input, flags, image),
+        None => work_out(prepared.ins(), input, flags, image),
+    }
+}
+
+/// The operands of a bit instruction, if it is one and their places are the same in every scan.
+#[inline(always)]
+pub(crate) fn bit_operands(ins: &Prepared) -> Option<&Bound>
+    ensures fixed { AreFixed ins.now.args (option_map (λ bound. bound.now) result) }
+    ensures bit { IsSome result → family_of ins.now.op ≡ Family.Bit }
+{
+    match ins.op().family() {
+        Family::Bit => ins.bound(),
+        _ => None,
+    }
+}
+
+/// Executes a bit instruction, and answers the condition that goes on. With a false condition it does what such an
+/// instruction does then, so that nothing need be asked before.
+#[inline(always)]
+pub(crate) fn run_bit(
+    ins: &Prepared,
+    bound: &Bound,
+    on: bool,
+    scan: ScanContext,
+    flags: Flags,
+    image: &mut Image,
+) -> bool
+    requires executable { IsExecutable (length image.old.bytes) ins.now }
+    requires bit { family_of ins.now.op ≡ Family.Bit }
+    requires fixed { AreFixed ins.now.args (Some bound.now) }
+    ensures row { (frames : List Frame) → row ins.now.op ins.now.args on scan.now scan.first frames flags image.old.bytes ≡ record { on = result; image = image.new.bytes; flags = flags; control = Nothing } }
+    ensures only_marked { ChangesOnlyMarked image.old image.new }
+{
+    run_bits(ins.op(), bound, on, scan.first, flags, image)
+}
+
+/// Executes an instruction that acts, of whose operands one has a variable subscript.
+#[cold]
+fn work_out(ins: &Ins, input: RowInput, flags: &mut Flags, image: &mut Image) -> RowStep
+    requires executable { IsExecutable (length image.old.bytes) ins.now }
+    requires alone { hands_over ins.now.op ≡ false }
+    requires acts { (input.on || acts_when_false ins.now.op) ≡ true }
+    ensures row { (frames : List Frame) → row ins.now.op ins.now.args input.on input.scan.now input.scan.first frames flags.old image.old.bytes ≡ row_of result flags.new image.new.bytes }
+    ensures can_follow { CanFollow result.control (length image.new.bytes) }
+    ensures only_marked { ChangesOnlyMarked image.old image.new }
+{
     match image.bind(ins.args.as_slice()) {
         Some(bound) => execute(ins, &bound, input, flags, image),
-        None => pass_on(on, Control::MajorFault(BAD_SUBSCRIPT)),
+        None => pass_on(input.on, Control::MajorFault(BAD_SUBSCRIPT)),
     }
 }
 
@@ -107,6 +154,7 @@ fn acts_when_false(op: Op) -> bool
 }
 
 /// The condition goes on as it is.
+#[inline(always)]
 fn pass_on(on: bool, control: Control) -> RowStep
     ensures { result ≡ record { on = on; control = control } }
 {
@@ -114,6 +162,7 @@ fn pass_on(on: bool, control: Control) -> RowStep
 }
 
 /// Executes an instruction that acts, with its operands' places worked out.
+#[inline(always)]
 fn execute(
     ins: &Ins,
     bound: &Bound,
@@ -121,14 +170,15 @@ fn execute(
     flags: &mut Flags,
     image: &mut Image,
 ) -> RowStep
+    requires alone { hands_over ins.now.op ≡ false }
     requires acts { (input.on || acts_when_false ins.now.op) ≡ true }
     requires bound { bind image.old.bytes ins.now.args ≡ Some bound.now }
     requires operands { OperandsFit ins.now.op ins.now.args }
     requires fit { ArgsFit ins.now.op bound.now }
     requires lie { ArgsInBounds bound.now (length image.old.bytes) }
     requires ends { ArgsEndIn (length image.old.bytes) bound.now }
-    ensures row { (frames : List Frame) → length frames ≡ input.depth → row ins.now.op ins.now.args input.on input.scan.now input.scan.first frames flags.old image.old.bytes ≡ row_of result flags.new image.new.bytes }
-    ensures can_follow { CanFollow result.control input.depth (length image.new.bytes) }
+    ensures row { (frames : List Frame) → row ins.now.op ins.now.args input.on input.scan.now input.scan.first frames flags.old image.old.bytes ≡ row_of result flags.new image.new.bytes }
+    ensures can_follow { CanFollow result.control (length image.new.bytes) }
     ensures only_marked { ChangesOnlyMarked image.old image.new }
 {
     let op = ins.op;
@@ -150,7 +200,7 @@ fn execute(
         Family::Comparison => pass_on(compare(op, bound, image), Control::Nothing),
         Family::Arithmetic => pass_on(on, compute(op, bound, flags, image)),
         Family::Copy => pass_on(on, begin_copy(op, bound, image)),
-        Family::ProgramControl => pass_on(on, program_control(ins, input.depth)),
+        Family::ProgramControl => pass_on(on, program_control(ins)),
     }
 }
 
@@ -190,7 +240,7 @@ fn compute(op: Op, bound: &Bound, flags: &mut Flags, image: &mut Image) -> Contr
     ensures due { result ≡ (if (math op bound.now image.old.bytes).flags.v then Control.MinorFault else Control.Nothing) }
     ensures flags { flags.new ≡ (math op bound.now image.old.bytes).flags }
     ensures bytes { image.new.bytes ≡ (math op bound.now image.old.bytes).image }
-    ensures can_follow { (depth len : ℕ) → CanFollow result depth len }
+    ensures can_follow { (len : ℕ) → CanFollow result len }
     ensures only_marked { ChangesOnlyMarked image.old image.new }
 {
     if run_math(op, bound, flags, image) {
@@ -207,7 +257,7 @@ fn begin_copy(op: Op, bound: &Bound, image: &Image) -> Control
     requires ends { ArgsEndIn (length image.now.bytes) bound.now }
     ensures starts { IfSome (start_copy op bound.now image.now.bytes) (λ copying. result ≡ Control.StartCopy copying) }
     ensures nothing { start_copy op bound.now image.now.bytes ≡ None → result ≡ Control.Nothing }
-    ensures can_follow { (depth : ℕ) → CanFollow result depth (length image.now.bytes) }
+    ensures can_follow { CanFollow result (length image.now.bytes) }
 {
     match start_copy(op, bound, image) {
         Some(copying) => Control::StartCopy(copying),
@@ -215,16 +265,16 @@ fn begin_copy(op: Op, bound: &Bound, image: &Image) -> Control
     }
 }
 
-/// Calls, jumps, zones, regions and triggers, and what does nothing.
-fn program_control(ins: &Ins, depth: usize) -> Control
+/// Jumps, zones, regions and triggers, and what does nothing.
+fn program_control(ins: &Ins) -> Control
     requires family { family_of ins.now.op ≡ Family.ProgramControl }
+    requires alone { hands_over ins.now.op ≡ false }
     requires operands { OperandsFit ins.now.op ins.now.args }
-    ensures rows { ControlInRows ins.now.op ins.now.args depth result }
-    ensures can_follow { (len : ℕ) → CanFollow result depth len }
+    ensures rows { ControlInRows ins.now.op ins.now.args result }
+    ensures can_follow { (len : ℕ) → CanFollow result len }
 {
     match ins.op {
-        Op::Jsr => call(ins, depth),
-        Op::Ret | Op::Tnd => Control::Return,
+        Op::Tnd => Control::Return,
         Op::Jmp => Control::Jump(target(ins.args.as_slice())),
         Op::Mcr => Control::ToggleZone,
         Op::Uid => Control::RegionUp,
@@ -232,18 +282,5 @@ fn program_control(ins: &Ins, depth: usize) -> Control
         Op::Event => Control::TriggerTask(task_of(ins.args.as_slice())),
         Op::Lbl | Op::Nop => Control::Nothing,
         _ => unreachable!(),
-    }
-}
-
-/// JSR: with all frames taken it is a major fault.
-fn call(ins: &Ins, depth: usize) -> Control
-    requires { IsRoutine (operand_at ins.now.args 0) }
-    ensures call { result ≡ (if nat_lt depth MAX_FRAMES then Control.Call (target ins.now.args) else Control.MajorFault too_deep) }
-    ensures can_follow { (len : ℕ) → CanFollow result depth len }
-{
-    if depth < MAX_FRAMES {
-        Control::Call(routine_of(ins.args.as_slice()))
-    } else {
-        Control::MajorFault(TOO_DEEP)
     }
 }

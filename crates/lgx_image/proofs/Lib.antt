@@ -1,5 +1,6 @@
 pub mod Marks
 pub mod Words
+pub mod Summaries
 pub mod Pieces
 pub mod Changes
 pub mod Paths

@@ -26,7 +26,7 @@ pub marks_of-past : (words : List ℕ) (n g : ℕ) → n ≤ g → is_marked (ma
 marks_of-past words n g past = get_or_past (marks_of words n) g false (omega (arith, length-marks_of words n))
 
 -- no bit of words that are 0 is set
-no_bit : (words : List ℕ) (g : ℕ) → get_or words (g / 64) 0 ≡ 0 → bit_of_words words g ≡ false
+pub no_bit : (words : List ℕ) (g : ℕ) → get_or words (g / 64) 0 ≡ 0 → bit_of_words words g ≡ false
 no_bit words g none = ap (λ x. eqb (bit_at x (g % 64)) 1) none ∙ ap (λ x. eqb x 1) (bit_at-zero (g % 64))
 
 pub bit_past : (words : List ℕ) (g : ℕ) → length words ≤ g / 64 → bit_of_words words g ≡ false

@@ -6,6 +6,11 @@ use Rattle.std.specs.List.{range_with_len}
 abbrev pub bit_of_words : List ℕ → ℕ → Bool
 bit_of_words words grain = bit_at (slice_index words (grain / 64)) (grain % 64) == 1
 
+-- a summary has a bit for each word in which a bit is set, and for no other
+pub record IsSummary (words summary : List ℕ) : Type 0 where
+  pub known : (g : ℕ) → bit_of_words words g ≡ true → bit_of_words summary (g / 64) ≡ true
+  pub kept : (k : ℕ) → bit_of_words summary k ≡ true → (g : ℕ) × (g / 64 ≡ k) × (bit_of_words words g ≡ true)
+
 -- the marks of so many grains
 unfoldable pub marks_of : List ℕ → ℕ → List Bool
 marks_of words grains = map (bit_of_words words) (range_with_len 0 grains)

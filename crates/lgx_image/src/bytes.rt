@@ -1,8 +1,9 @@
 // Numbers in the bytes of an image, and where subscripts lead.
-ghost use Rattle.std.specs.Prelude.{◌≡◌, ◌+◌, ◌*◌, ◌≤◌, length};
+ghost use Rattle.std.specs.Prelude.{◌≡◌, ◌+◌, ◌*◌, ◌/◌, ◌<◌, ◌≤◌, length};
 ghost use Rattle.spec_base.specs.declared.limits.TheConstants.{MAX_IMAGE_BYTES};
-ghost use Rattle.lgx_num.specs.Image.{number, write, piece, splice, InBounds, step_by, bit_of};
+ghost use Rattle.lgx_num.specs.Image.{number, number_of, write, write_of, piece, splice, InBounds, step_by, bit_of};
 ghost use Rattle.lgx_num.specs.Paths.{PathInBounds};
+ghost use Rattle.spec_scan.specs.Arguments.{is_one, bit_number};
 ghost use Rattle.lgx_image.specs.Words.{cut_step};
 
 use lgx_num::{Index, Kind, Path, Place, bytes_of};
@@ -19,6 +20,29 @@ pub(crate) fn number_at(bytes: &[u8], place: Place) -> i32
         Kind::Int => i32::from(i16::from_le_bytes([bytes[at], bytes[at + 1]])),
         Kind::Dint => i32::from_le_bytes([bytes[at], bytes[at + 1], bytes[at + 2], bytes[at + 3]]),
     }
+}
+
+/// Whether the bit of this number is 1.
+pub(crate) fn bit_at(bytes: &[u8], bit: u32) -> bool
+    requires { bit / 8 < length bytes.now }
+    ensures { result ≡ is_one (number_of Kind.Bool bytes.now bit) }
+{
+    (bytes[(bit / 8) as usize] >> (bit % 8)) & 1 == 1
+}
+
+/// Puts a bit at the place of this number.
+pub(crate) fn write_bit(bytes: &mut [u8], bit: u32, value: bool)
+    requires { bit / 8 < length bytes.old }
+    ensures after { bytes.new ≡ write_of Kind.Bool bytes.old bit (bit_number value) }
+    ensures len { length bytes.new ≡ length bytes.old }
+{
+    let at = (bit / 8) as usize;
+    let mask = 1u8 << (bit % 8);
+    bytes[at] = if value {
+        bytes[at] | mask
+    } else {
+        bytes[at] & !mask
+    };
 }
 
 /// Puts the low bits of a value at a place.

@@ -1,18 +1,19 @@
 // The image: the bytes of all tags, with the marks of what was written.
 ghost use Rattle.std.specs.Prelude.{◌≡◌, ℕ, ◌+◌, ◌/◌, ◌≤◌, length, replicate, false, IfOk, IfSome, option_map};
 ghost use Rattle.std.specs.List.{All};
-ghost use Rattle.spec_base.specs.declared.limits.TheConstants.{MAX_IMAGE_BYTES, MAX_OPERANDS};
+ghost use Rattle.spec_base.specs.declared.limits.TheConstants.{MAX_IMAGE_BYTES, MAX_BOUND_OPERANDS};
 ghost use Rattle.lgx_num.specs.Image.{number, write, piece, splice, InBounds, bit_of};
-ghost use Rattle.spec_scan.specs.Arguments.{bind, value_of, is_one, bit_number};
+ghost use Rattle.lgx_num.specs.Paths.{OperandInBounds};
+ghost use Rattle.spec_scan.specs.Arguments.{bind, bind_one, value_of, is_one, bit_number};
 ghost use Rattle.spec_scan.specs.Executable.{EndsIn, ArgsEndIn};
 ghost use Rattle.spec_scan.specs.Fits.{OperandsFit, ArgsFit};
 ghost use Rattle.lgx_rung.specs.declared.op.Op.{Op};
 ghost use Rattle.lgx_image.specs.Grains.{grains_in, bytes_in, mark_range, NextMarked, ChangesOnlyMarked};
 ghost use Rattle.lgx_image.specs.Args.{place_at, CellInBounds, OperandsInBounds, ArgInBounds, ArgsInBounds};
 
-use crate::bytes::{copy_piece, first_bit, number_at, write_at};
-use crate::grain::{WORDS, grains_in, mark_range, next_bit, no_marks};
-use crate::operands::bind_all;
+use crate::bytes::{bit_at, copy_piece, first_bit, number_at, write_at, write_bit};
+use crate::grain::{Marks, grains_in};
+use crate::operands::{bind_all, bind_one};
 use lgx_num::{Kind, Memory, Operand, Path, Place};
 use spec_scan::{Arg, Bound};
 use std::alloc::Global;
@@ -24,7 +25,7 @@ use std::marker::Model;
 #[derive(Drop)]
 pub struct Image {
     bytes: Vec<u8>,
-    marks: [u64; WORDS],
+    marks: Marks,
 }
 
 impl Model for Image {
@@ -49,7 +50,7 @@ impl Image {
     {
         Ok(Image {
             bytes: vec![in alloc; 0; len as usize]?,
-            marks: no_marks(),
+            marks: Marks::new(),
         })
     }
 
@@ -78,7 +79,7 @@ impl Image {
         ensures only_marked { ChangesOnlyMarked self.old self.new }
     {
         write_at(&mut self.bytes, place, value);
-        mark_range(&mut self.marks, place.at / 8, bytes_in(place.kind));
+        self.marks.mark_range(place.at / 8, bytes_in(place.kind));
     }
 
     /// Whether the bit at a place, which lies in the image, is 1.
@@ -86,7 +87,10 @@ impl Image {
         requires { InBounds place (length self.now.bytes) }
         ensures { result ≡ is_one (number self.now.bytes place) }
     {
-        self.get(place) > 0
+        match place.kind {
+            Kind::Bool => bit_at(&self.bytes, place.at),
+            _ => self.get(place) > 0,
+        }
     }
 
     /// Puts a bit at a place, which lies in the image, and marks the grains of its bytes.
@@ -96,7 +100,13 @@ impl Image {
         ensures marks { self.new.marks ≡ mark_range self.old.marks (place.at / 8) (bytes_in place.kind) }
         ensures only_marked { ChangesOnlyMarked self.old self.new }
     {
-        self.put(place, i32::from(bit));
+        match place.kind {
+            Kind::Bool => {
+                write_bit(&mut self.bytes, place.at, bit);
+                self.marks.mark_range(place.at / 8, 1);
+            }
+            _ => self.put(place, i32::from(bit)),
+        }
     }
 
     /// The number that an operand is, or that stands at its place; 0 for any other operand. Its place lies in the image.
@@ -121,7 +131,7 @@ impl Image {
         ensures only_marked { ChangesOnlyMarked self.old self.new }
     {
         copy_piece(&mut self.bytes, source, target, size);
-        mark_range(&mut self.marks, target, size);
+        self.marks.mark_range(target, size);
     }
 
     /// The place that a path leads to; None if a subscript is negative or not below its length.
@@ -140,7 +150,7 @@ impl Image {
     /// The operands of an instruction with their places worked out; None if a subscript is negative or not below its
     /// length.
     pub fn bind(&self, args: &[Operand]) -> Option<Bound>
-        requires room { length args.now ≤ MAX_OPERANDS }
+        requires room { length args.now ≤ MAX_BOUND_OPERANDS }
         requires lie { OperandsInBounds args.now (length self.now.bytes) }
         ensures value { result ≡ bind self.now.bytes args.now }
         ensures lie { IfSome result (λ bound. ArgsInBounds bound (length self.now.bytes)) }
@@ -150,11 +160,20 @@ impl Image {
         bind_all(&self.bytes, args)
     }
 
+    /// An operand with its place worked out; None if a subscript is negative or not below its length.
+    pub fn bind_one(&self, operand: &Operand) -> Option<Arg>
+        requires { OperandInBounds operand.now (length self.now.bytes) }
+        ensures value { result ≡ bind_one self.now.bytes operand.now }
+        ensures lies { IfSome result (λ arg. ArgInBounds arg (length self.now.bytes)) }
+    {
+        bind_one(&self.bytes, operand)
+    }
+
     /// The least marked grain that isn't below `from`; None if there is none.
     pub fn next_marked(&self, from: u32) -> Option<u32>
         ensures { NextMarked self.now.marks from result }
     {
-        let grain = next_bit(&self.marks, from)?;
+        let grain = self.marks.next(from)?;
         if grain < grains_in(self.len()) {
             Some(grain)
         } else {
@@ -167,7 +186,7 @@ impl Image {
         ensures bytes { self.new.bytes ≡ self.old.bytes }
         ensures marks { self.new.marks ≡ replicate (length self.old.marks) false }
     {
-        self.marks = no_marks();
+        self.marks.clear();
     }
 }
 

@@ -14,4 +14,10 @@ mod operands;
 pub use grain::{GRAIN, grain_of};
 pub use image::Image;
 pub use laws::{law_of_changes, law_of_marks};
+pub use operands::bind_fixed;
 pub use spec_scan::{Arg, Bound};
+
+/// Sets of numbers as bits of words.
+pub mod number_sets {
+    pub use crate::grain::{WORDS, next_bit};
+}

@@ -1,3 +1,4 @@
 pub mod Files
 pub mod Sink
 pub mod Memory
+pub mod Gathered

@@ -1,23 +1,26 @@
 // The files and the standard output of the system. They tell nothing of contents.
-ghost use Rattle.std.specs.Prelude.{◌≡◌, ◌≤◌, ◌<◌, [], take, length, None, OnOk, OnErr, IfOk, IfErr, IfSome, IsErrOf, is_ok, if◌then◌else◌};
-ghost use Rattle.std.specs.Bool.{OnTrue, OnFalse};
+ghost use Rattle.std.specs.Prelude.{◌≡◌, ◌≢◌, ◌≤◌, ◌<◌, [], take, length, None, OnOk, OnErr, IfOk, IfErr, IfSome, IsErrOf, is_ok, if◌then◌else◌};
 ghost use Rattle.std.specs.Io.{ReadsAtMost, WritesAtMost};
 ghost use Rattle.std.specs.Io.KnownBytes.{Appends, Consumes, IsAtEnd, Keeps};
-ghost use Rattle.lgx_io.specs.Files.{IsCause};
+ghost use Rattle.lgx_io.specs.Files.{IsCause, CameBefore};
 ghost use Rattle.lgx_io.specs.Sink.{next_count, FaultsRose, AppendsPart};
 ghost use Rattle.spec_base.specs.declared.limits.TheConstants.{MAX_FILE_BYTES};
 
 use crate::files::{FailedRead, FileFault, Files, ReadCause};
+use crate::gathered::Gathered;
 use crate::sink::{Sink, SinkFault};
 use spec_base::limits::MAX_FILE_BYTES;
 use std::alloc::Global;
 use std::fs::File;
-use std::io::{self, ErrorKind, Print, Read, Write};
+use std::io::{self, BufWriter, ErrorKind, Print, Printer, Read};
 use std::marker::Model;
 use std::rt::Files as FileAccess;
 
 /// How many bytes are asked for at once.
 const PIECE: usize = 16_384;
+
+/// How many bytes are gathered before they are written.
+const GATHERED_BYTES: usize = 65_536;
 
 /// Reads once, and again after an interruption. `None` is a failure, also if each of 2^64 - 1 tries was
 /// interrupted.
@@ -47,6 +50,7 @@ pub fn read_to_end<R: Read>(alloc: Global, file: &mut R) -> Result<Vec<u8>, File
     ensures whole { IfOk result (λ bytes.
         IfSome (R.remaining file.old) (λ contents. bytes.items ≡ contents)) }
     ensures cause { IfErr result (IsCause (R.remaining file.old)) }
+    ensures came { IfErr result (CameBefore (R.remaining file.old) (R.remaining file.new)) }
 {
     let mut bytes = Vec::new(alloc);
     let mut piece = [0u8; PIECE];
@@ -67,30 +71,6 @@ pub fn read_to_end<R: Read>(alloc: Global, file: &mut R) -> Result<Vec<u8>, File
     }
     // Not reached: each turn took a byte, and so many are too long long before.
     Err(FileFault::Failed)
-}
-
-/// Writes all of the bytes, in as many writes as it takes, and answers whether that succeeded. An interrupted
-/// write is made again; one that takes nothing is a failure, and so is the end of 2^64 - 1 writes.
-pub fn write_all<W: Write>(writer: &mut W, bytes: &[u8]) -> bool
-    ensures all { OnTrue result (Appends (W.contents writer.old) (W.contents writer.new) bytes.now) }
-    ensures part { OnFalse result (AppendsPart (W.contents writer.old) (W.contents writer.new) bytes.now) }
-{
-    let mut rest = bytes;
-    for _ in 0..u64::MAX {
-        if rest.is_empty() {
-            return true;
-        }
-        match writer.write(rest) {
-            Ok(0) => return false,
-            Ok(count) => rest = &rest[count..],
-            Err(error) => {
-                if error.kind() != ErrorKind::Interrupted {
-                    return false;
-                }
-            }
-        }
-    }
-    false
 }
 
 /// The files of the system. They tell nothing of contents.
@@ -156,11 +136,11 @@ impl<'a, R: FileAccess> Files for HostFiles<'a, R> {
     }
 }
 
-/// Standard output, seen as the count of its faults. It tells nothing of what it holds.
+/// Standard output, seen as the count of its faults. It tells nothing of what it holds. It gathers 65,536 bytes at
+/// a time; if there is no memory for so many, each piece is written at once.
 #[derive(Drop)]
 pub struct HostSink<'a, P: Print> {
-    rt: &'a P,
-    faults: u64,
+    output: Gathered<Printer<'a, P>>,
 }
 
 impl<'a, P: Print> Model for HostSink<'a, P> {
@@ -168,15 +148,39 @@ impl<'a, P: Print> Model for HostSink<'a, P> {
 
     ghost Value = { ℕ };
 
-    ghost view = { λ s. s.faults };
+    ghost view = { λ s. s.output.faults };
 }
 
 impl<'a, P: Print> HostSink<'a, P> {
-    /// Standard output, with no fault.
-    pub fn new(rt: &'a P) -> Self
+    /// Standard output, with no fault. The memory for what is gathered is taken here, and none later.
+    pub fn new(rt: &'a P, alloc: Global) -> Self
         ensures { result ≡ 0 }
     {
-        HostSink { rt, faults: 0 }
+        HostSink {
+            output: Gathered::over(writer(rt, alloc)),
+        }
+    }
+
+    /// Writes what is gathered. Until then a part of what was put may not be written.
+    ///
+    /// `Failed` comes if that fails or an earlier call failed, and counts as a fault.
+    pub fn finish(&mut self) -> Result<(), SinkFault>
+        ensures counted { self.new ≡ (if is_ok result then self.old else next_count self.old) }
+        ensures stays_failed { self.old ≢ 0 → IsErrOf result SinkFault.Failed }
+        ensures no_memory { ¬ IsErrOf result SinkFault.Memory }
+    {
+        self.output.finish()
+    }
+}
+
+/// A writer to standard output that gathers, if there is memory for it.
+fn writer<P: Print>(rt: &P, alloc: Global) -> BufWriter<Printer<'_, P>> {
+    if let Ok(gathering) = BufWriter::with_capacity(alloc, GATHERED_BYTES, io::writer(rt)) {
+        return gathering;
+    }
+    match BufWriter::with_capacity(alloc, 0, io::writer(rt)) {
+        Ok(plain) => plain,
+        Err(_) => unreachable!(),
     }
 }
 
@@ -187,19 +191,18 @@ impl<'a, P: Print> Sink for HostSink<'a, P> {
 
     fn put(&mut self, bytes: &[u8]) -> Result<(), SinkFault>
         ensures ok { OnOk result (Appends None None bytes.now) }
+        ensures ok_faults { OnOk result (self.new ≡ self.old) }
         ensures failed { IsErrOf result SinkFault.Failed → FaultsRose self.old self.new }
         ensures part { IsErrOf result SinkFault.Failed → AppendsPart None None bytes.now }
         ensures no_fault { IsErrOf result SinkFault.Memory → self.new ≡ self.old }
         ensures later { self.old ≤ self.new }
 
-        // Beside what each `Sink` says: the count rises at a fault alone, and it is never out of memory.
+        // Beside what each `Sink` says: the count rises at a fault alone, after a fault every call fails, and it
+        // is never out of memory.
         ensures counted { self.new ≡ (if is_ok result then self.old else next_count self.old) }
+        ensures stays_failed { self.old ≢ 0 → IsErrOf result SinkFault.Failed }
         ensures no_memory { ¬ IsErrOf result SinkFault.Memory }
     {
-        if write_all(&mut io::writer(self.rt), bytes) {
-            return Ok(());
-        }
-        self.faults = self.faults.saturating_add(1);
-        Err(SinkFault::Failed)
+        self.output.put(bytes)
     }
 }

@@ -221,6 +221,7 @@ impl Sink for MemSink {
 
     fn put(&mut self, bytes: &[u8]) -> Result<(), SinkFault>
         ensures ok { OnOk result (Appends (Some self.old.held) (Some self.new.held) bytes.now) }
+        ensures ok_faults { OnOk result (self.new.faults ≡ self.old.faults) }
         ensures failed { IsErrOf result SinkFault.Failed → FaultsRose self.old.faults self.new.faults }
         ensures part { IsErrOf result SinkFault.Failed →
             AppendsPart (Some self.old.held) (Some self.new.held) bytes.now }

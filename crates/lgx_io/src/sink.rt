@@ -46,6 +46,7 @@ pub trait Sink {
     /// added, maybe none of it or all.
     fn put(&mut self, bytes: &[u8]) -> Result<(), SinkFault>
         ensures ok { OnOk result (Appends (held self.old) (held self.new) bytes.now) }
+        ensures ok_faults { OnOk result (faults self.new ≡ faults self.old) }
         ensures failed { IsErrOf result SinkFault.Failed → FaultsRose (faults self.old) (faults self.new) }
         ensures part { IsErrOf result SinkFault.Failed → AppendsPart (held self.old) (held self.new) bytes.now }
         ensures memory { IsErrOf result SinkFault.Memory → held self.new ≡ held self.old }

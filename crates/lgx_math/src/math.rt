@@ -57,6 +57,6 @@ fn destination(op: Op, args: &Bound) -> Place
     ensures value { result ≡ place_of (arg args.now (dest op)) }
     ensures lies { (len : ℕ) → ArgsInBounds args.now len → InBounds result len }
 {
-    let last = op.operand_kinds().len() - 1;
+    let last = op.fixed_kinds().len() - 1;
     args.at(last).place()
 }

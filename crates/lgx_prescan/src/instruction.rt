@@ -12,19 +12,22 @@ ghost use Rattle.lgx_image.specs.Grains.{ChangesOnlyMarked};
 
 use lgx_image::Image;
 use lgx_num::Place;
-use lgx_prog::Ins;
+use lgx_prog::Prepared;
 use lgx_rung::Op;
 use lgx_time::words::{self, CD, CU, DN, EN, TT};
 use spec_scan::Bound;
 
 /// The prescan of an instruction: if a subscript is out of range it does nothing.
-pub(crate) fn prescan_ins(ins: &Ins, image: &mut Image)
+pub(crate) fn prescan_ins(ins: &Prepared, image: &mut Image)
     requires { IsExecutable (length image.old.bytes) ins.now }
     ensures bytes { image.new.bytes ≡ prescan_ins image.old.bytes ins.now }
     ensures only_marked { ChangesOnlyMarked image.old image.new }
 {
-    if let Some(args) = image.bind(ins.args.as_slice()) {
-        prescan_one(ins.op, &args, image);
+    if ins.hands_over() {
+        return;
+    }
+    if let Some(args) = image.bind(ins.args()) {
+        prescan_one(ins.op(), &args, image);
     }
 }
 

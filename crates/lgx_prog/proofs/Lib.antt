@@ -4,3 +4,4 @@ pub mod Executes
 pub mod Searching
 pub mod Reaches
 pub mod Examined
+pub mod HandsOver

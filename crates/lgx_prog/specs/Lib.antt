@@ -1,4 +1,6 @@
 pub mod Nodes
+pub mod Fixed
+pub mod HandsOver
 pub mod NodesFall
 pub mod Flat
 pub mod Depth

@@ -7,6 +7,7 @@
 
 mod code;
 mod emit;
+mod prepared;
 mod program;
 mod reach;
 mod rung;
@@ -14,5 +15,6 @@ mod rung;
 pub use code::{Code, FlatRoutine};
 pub use emit::flatten;
 pub use lgx_rung::Ins;
+pub use prepared::Prepared;
 pub use program::FlatProgram;
 pub use rung::{Legs, Node, Rung, Rungs};

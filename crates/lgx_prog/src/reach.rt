@@ -63,8 +63,8 @@ fn mark_found(search: &mut Search, routine: usize) -> Result<(), Memory>
 fn mark_call(search: &mut Search, piece: &Code) -> Result<(), Memory>
     ensures { OnOk result (search.new ≡ fold with_found search.old (called_in (piece.now ∷ []))) }
 {
-    if let Code::Execute(ins) = piece {
-        if let Some(number) = called(ins) {
+    if let Code::Execute(prepared) = piece {
+        if let Some(number) = called(prepared.ins()) {
             mark_found(search, number as usize)?;
         }
     }

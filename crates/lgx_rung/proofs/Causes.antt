@@ -9,7 +9,7 @@ use Rattle.lgx_rung.specs.declared.fault.TextCode.TheVariants.{T1, T2, T3, T4, T
 use Rattle.lgx_rung.specs.Text.{rung_tokens, IsNested, MayFollow, InElementPlace, unplaced, IsWrong, StopsAt, IsOpen, IsCause, IsTextCause}
 use Rattle.lgx_rung.specs.Tokens.{Token, Mnemonic, Letters, Operand, OpenFork, CloseFork, OpenParen, CloseParen, Comma, Semicolon, Stray, Placed, tokens, Place, Element, Named, First, After, Next, Fork, Reader, At, Done, open_fork, read_at, read_token, read_end, read_on, read_tokens, read_rung}
 use Rattle.lgx_rung.specs.Tree.{depth, Source}
-use Rattle.lgx_rung.proofs.Reading.{and_then, run, start, fit_by_run, goes_on}
+use Rattle.lgx_rung.proofs.Reading.{and_then, run, start, fit_by_run, continues}
 use Rattle.lgx_rung.proofs.Runs.{Runs, run_on, shorter, runs_before, ends_rung, rung_ends, cut_short, begins, runs_of_begins, one_more}
 use Rattle.lgx_rung.proofs.Open.{forks_of_run, open_of_run, closed_of_run, IsOpenAt}
 
@@ -139,13 +139,13 @@ outcome (t ∷ ts) r = first t ts r (read_token r t.token) refl (outcome ts)
 ends_open : (text : List ℕ) (p : Place) (forks : List Fork) (leg : Source) (f : TextFault) → Runs (unplaced (tokens text)) (At p forks leg)
     → IsOpenAt p forks → fault T3 (length text) ≡ f → IsTextCause text f
 ends_open text p forks leg f e h same =
-    subst (IsTextCause text) same (refl, cut_short (unplaced (tokens text)) (At p forks leg) e (goes_on p forks leg), open_of_run (unplaced (tokens text)) p forks leg e h)
+    subst (IsTextCause text) same (refl, cut_short (unplaced (tokens text)) (At p forks leg) e (continues p forks leg), open_of_run (unplaced (tokens text)) p forks leg e h)
 
 ends_early : (text : List ℕ) (s : Reader) (f : TextFault) → Runs (unplaced (tokens text)) s → read_end (length text) s ≡ Err f → IsTextCause text f
 ends_early text (Done r) f e h = cc
 ends_early text (At Element [] leg) f e h =
     let same : fault T4 (length text) ≡ f = cc in
-    subst (IsTextCause text) same (refl, cut_short (unplaced (tokens text)) (At Element [] leg) e (goes_on Element [] leg), closed_of_run (unplaced (tokens text)) leg e)
+    subst (IsTextCause text) same (refl, cut_short (unplaced (tokens text)) (At Element [] leg) e (continues Element [] leg), closed_of_run (unplaced (tokens text)) leg e)
 ends_early text (At Element (g ∷ gs) leg) f e h = ends_open text Element (g ∷ gs) leg f e tt (cc)
 ends_early text (At (Named op) forks leg) f e h = ends_open text (Named op) forks leg f e tt (cc)
 ends_early text (At (First op) forks leg) f e h = ends_open text (First op) forks leg f e tt (cc)

@@ -8,3 +8,4 @@ pub mod Lexing
 pub mod Lexemes
 pub mod Laws
 pub mod Walks
+pub mod KindCounts

@@ -276,16 +276,16 @@ closes [] t = (t, refl)
 closes (f ∷ fs) t = closes fs (append f.before (fork_of (f.legs ++ t ∷ []) end))
 
 -- a token, and others, that end a rung
-abbrev pub GoesOn : Reader → Type 0
-GoesOn s = (t : Token) × (more : List Token) × Ends (t ∷ more) s
+abbrev pub Continues : Reader → Type 0
+Continues s = (t : Token) × (more : List Token) × Ends (t ∷ more) s
 
-element_goes_on : (forks : List Fork) (t : Source) → GoesOn (At Element forks t)
-element_goes_on [] t = (Semicolon, [], closes [] t)
-element_goes_on (f ∷ fs) t = (CloseFork, closing fs, closes (f ∷ fs) t)
+element_continues : (forks : List Fork) (t : Source) → Continues (At Element forks t)
+element_continues [] t = (Semicolon, [], closes [] t)
+element_continues (f ∷ fs) t = (CloseFork, closing fs, closes (f ∷ fs) t)
 
-pub goes_on : (p : Place) (forks : List Fork) (t : Source) → GoesOn (At p forks t)
-goes_on Element forks t = element_goes_on forks t
-goes_on (Named op) forks t = (OpenParen, CloseParen ∷ closing forks, closes forks (append t (instruction op [])))
-goes_on (First op) forks t = (CloseParen, closing forks, closes forks (append t (instruction op [])))
-goes_on (After op x xs) forks t = (CloseParen, closing forks, closes forks (append t (instruction op (x ∷ xs))))
-goes_on (Next op x xs) forks t = (Operand [], CloseParen ∷ closing forks, closes forks (append t (instruction op (x ∷ (xs ++ [] ∷ [])))))
+pub continues : (p : Place) (forks : List Fork) (t : Source) → Continues (At p forks t)
+continues Element forks t = element_continues forks t
+continues (Named op) forks t = (OpenParen, CloseParen ∷ closing forks, closes forks (append t (instruction op [])))
+continues (First op) forks t = (CloseParen, closing forks, closes forks (append t (instruction op [])))
+continues (After op x xs) forks t = (CloseParen, closing forks, closes forks (append t (instruction op (x ∷ xs))))
+continues (Next op x xs) forks t = (Operand [], CloseParen ∷ closing forks, closes forks (append t (instruction op (x ∷ (xs ++ [] ∷ [])))))

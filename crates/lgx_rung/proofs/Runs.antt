@@ -5,7 +5,7 @@ use Rattle.lgx_rung.specs.declared.fault.TextCode.{TextCode}
 use Rattle.lgx_rung.specs.Text.{rung_tokens, IsNested, Begins, IsCutShort}
 use Rattle.lgx_rung.specs.Tokens.{Token, Reader, At, Done, read_token}
 use Rattle.lgx_rung.specs.Tree.{Source}
-use Rattle.lgx_rung.proofs.Reading.{and_then, run, start, run-append, taken_by_run, fit_by_run, runs_rung, goes_on, GoesOn}
+use Rattle.lgx_rung.proofs.Reading.{and_then, run, start, run-append, taken_by_run, fit_by_run, runs_rung, continues, Continues}
 
 -- ---- a run, and what begins a rung
 
@@ -30,14 +30,14 @@ ends_rung ts r e = (fit_by_run ts (Done r) e, taken_by_run ts (Done r) e)
 pub rung_ends : (ts : List Token) (r : Source) → IsNested r → rung_tokens r ≡ ts → Runs ts (Done r)
 rung_ends ts r h e = subst (λ x. Runs x (Done r)) e (runs_rung r h)
 
-pub cut_short : (ts : List Token) (s : Reader) → Runs ts s → GoesOn s → IsCutShort ts
+pub cut_short : (ts : List Token) (s : Reader) → Runs ts s → Continues s → IsCutShort ts
 cut_short ts s e g =
     let end = ends_rung (ts ++ g.0 ∷ g.1) g.2.0 (run_on ts (g.0 ∷ g.1) s e ∙ g.2.1) in
     (g.2.0, g.0, g.1, end)
 
 pub begins : (ts : List Token) (s : Reader) → Runs ts s → Begins ts
 begins ts (At p forks t) e =
-    let l = cut_short ts (At p forks t) e (goes_on p forks t) in
+    let l = cut_short ts (At p forks t) e (continues p forks t) in
     (l.0, l.1 ∷ l.2, l.3)
 begins ts (Done r) e =
     let h = ends_rung ts r e in

@@ -2,7 +2,7 @@
 use Rattle.std.specs.Prelude.{ℕ, List, [], ◌∷◌, Option, codes, find}
 use Rattle.lgx_num.specs.Name.{same}
 use Rattle.lgx_rung.specs.declared.op.Op.{Op}
-use Rattle.lgx_rung.specs.declared.op.Op.TheVariants.{Xic, Xio, Ote, Otl, Otu, Ons, Osr, Osf, Ton, Rto, Tof, Ctu, Ctd, Res, Equ, Neq, Les, Leq, Grt, Geq, Lim, Meq, Add, Sub, Mul, Div, Mod, Neg, Abs, Mov, And, Or, Xor, Not, Mvm, Clr, Cop, Cps, Fll, Jsr, Ret, Tnd, Jmp, Lbl, Mcr, Afi, Nop, Uid, Uie, Event}
+use Rattle.lgx_rung.specs.declared.op.Op.TheVariants.{Xic, Xio, Ote, Otl, Otu, Ons, Osr, Osf, Ton, Rto, Tof, Ctu, Ctd, Res, Equ, Neq, Les, Leq, Grt, Geq, Lim, Meq, Add, Sub, Mul, Div, Mod, Neg, Abs, Mov, And, Or, Xor, Not, Mvm, Clr, Cop, Cps, Fll, Jsr, Sbr, Ret, Tnd, Jmp, Lbl, Mcr, Afi, Nop, Uid, Uie, Event}
 
 -- the letters of each
 abbrev pub text_of : Op → List ℕ
@@ -46,6 +46,7 @@ text_of Cop = codes "COP"
 text_of Cps = codes "CPS"
 text_of Fll = codes "FLL"
 text_of Jsr = codes "JSR"
+text_of Sbr = codes "SBR"
 text_of Ret = codes "RET"
 text_of Tnd = codes "TND"
 text_of Jmp = codes "JMP"
@@ -62,7 +63,7 @@ abbrev pub mnemonics : List Op
 mnemonics =
     Xic ∷ Xio ∷ Ote ∷ Otl ∷ Otu ∷ Ons ∷ Osr ∷ Osf ∷ Ton ∷ Rto ∷ Tof ∷ Ctu ∷ Ctd ∷ Res ∷ Equ ∷ Neq ∷ Les ∷ Leq ∷ Grt ∷ Geq ∷ Lim ∷ Meq
     ∷ Add ∷ Sub ∷ Mul ∷ Div ∷ Mod ∷ Neg ∷ Abs ∷ Mov ∷ And ∷ Or ∷ Xor ∷ Not ∷ Mvm ∷ Clr ∷ Cop ∷ Cps ∷ Fll
-    ∷ Jsr ∷ Ret ∷ Tnd ∷ Jmp ∷ Lbl ∷ Mcr ∷ Afi ∷ Nop ∷ Uid ∷ Uie ∷ Event ∷ []
+    ∷ Jsr ∷ Sbr ∷ Ret ∷ Tnd ∷ Jmp ∷ Lbl ∷ Mcr ∷ Afi ∷ Nop ∷ Uid ∷ Uie ∷ Event ∷ []
 
 -- the instruction that letters name, in upper or lower case
 abbrev pub op_of : List ℕ → Option Op

@@ -22,26 +22,46 @@ pub struct TextFault {
     pub at: u32,
 }
 
+/// What is wrong with an instruction (profile): of the first one at fault the least code that applies.
 #[derive(Clone, Copy, PartialEq, Eq, Debug)]
 pub enum CheckCode {
+    /// The mnemonic has more operands or fewer.
     C1,
+    /// An operand isn't of the kind that is wanted, is no name where one is, or no count of inputs.
     C2,
+    /// A number or a flag stands where a place is wanted.
     C3,
+    /// No tag has the name.
     C4,
+    /// No member has the name.
     C5,
+    /// An element or a bit that isn't there.
     C6,
+    /// A subscript that is no integer place, or has a variable subscript itself.
     C7,
+    /// A fifth variable subscript.
     C8,
+    /// The text is no form of an operand.
     C9,
+    /// A number is outside its range.
     C10,
+    /// JSR names no routine of the program.
     C11,
+    /// JMP names no label of the routine.
     C12,
+    /// LBL repeats a label.
     C13,
+    /// LBL isn't the first element of its rung.
     C14,
+    /// EVENT names no event task.
     C15,
+    /// One instruction more than a routine may have.
     C16,
+    /// SBR isn't the first element of its routine's first rung.
+    C17,
 }
 
+/// The first fault of a routine: its rung, and the number of the instruction in it in the order of the text, from 0.
 #[derive(Clone, Copy, PartialEq, Eq, Debug)]
 pub struct CheckFault {
     pub code: CheckCode,

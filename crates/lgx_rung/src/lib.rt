@@ -6,6 +6,7 @@
 
 mod fault;
 mod ins;
+mod kinds;
 mod op;
 mod operands;
 mod rung;
@@ -14,6 +15,7 @@ mod texts;
 
 pub use fault::{CheckCode, CheckFault, TextCode, TextFault};
 pub use ins::Ins;
+pub use kinds::{OperandKinds, as_count};
 pub use op::{Op, mnemonics_are_read_back};
 pub use operands::{Family, OperandKind};
 pub use rung::{Element, Legs, OpenFork, SourceRung};

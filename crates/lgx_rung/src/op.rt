@@ -48,6 +48,7 @@ pub enum Op {
     Cps,
     Fll,
     Jsr,
+    Sbr,
     Ret,
     Tnd,
     Jmp,
@@ -60,7 +61,7 @@ pub enum Op {
     Event,
 }
 
-const MNEMONICS: [Op; 50] = [
+const MNEMONICS: [Op; 51] = [
     Op::Xic,
     Op::Xio,
     Op::Ote,
@@ -101,6 +102,7 @@ const MNEMONICS: [Op; 50] = [
     Op::Cps,
     Op::Fll,
     Op::Jsr,
+    Op::Sbr,
     Op::Ret,
     Op::Tnd,
     Op::Jmp,
@@ -169,6 +171,7 @@ impl Op {
             Op::Cps => b"CPS",
             Op::Fll => b"FLL",
             Op::Jsr => b"JSR",
+            Op::Sbr => b"SBR",
             Op::Ret => b"RET",
             Op::Tnd => b"TND",
             Op::Jmp => b"JMP",

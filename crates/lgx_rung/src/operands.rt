@@ -1,6 +1,7 @@
 // What each instruction is and takes.
-ghost use Rattle.std.specs.Prelude.{◌≡◌};
-ghost use Rattle.lgx_rung.specs.OperandTable.{family_of, operand_kinds};
+ghost use Rattle.std.specs.Prelude.{◌≡◌, ◌≤◌, length};
+ghost use Rattle.spec_base.specs.declared.limits.TheConstants.{MAX_BOUND_OPERANDS};
+ghost use Rattle.lgx_rung.specs.OperandTable.{family_of, fixed_kinds};
 
 use crate::op::Op;
 
@@ -23,9 +24,10 @@ pub enum Family {
 }
 
 /// What stands in an operand's place.
-#[derive(Clone, Copy, PartialEq, Eq, Debug)]
+#[derive(Clone, Copy, Default, PartialEq, Eq, Debug)]
 pub enum OperandKind {
     /// A BOOL place.
+    #[default]
     BoolPlace,
     /// A BOOL place or a status flag.
     BoolOrFlag,
@@ -49,8 +51,8 @@ pub enum OperandKind {
     QuestionMark,
     /// The name of a routine of the program.
     RoutineName,
-    /// The `0` that may follow a routine's name: no parameters.
-    NoParameters,
+    /// The number of a call's inputs, from 0 to 8.
+    ParameterCount,
     /// The name of a label of the routine.
     JumpLabel,
     /// The name of the label that stands here.
@@ -95,6 +97,7 @@ impl Op {
             | Op::Clr => Family::Arithmetic,
             Op::Cop | Op::Cps | Op::Fll => Family::Copy,
             Op::Jsr
+            | Op::Sbr
             | Op::Ret
             | Op::Tnd
             | Op::Jmp
@@ -107,9 +110,10 @@ impl Op {
         }
     }
 
-    /// The kinds of its operands, in order.
-    pub fn operand_kinds(self) -> &'static [OperandKind]
-        ensures { result.now ≡ operand_kinds self }
+    /// The kinds of the operands that it always has, in order. JSR, SBR and RET may have others after them.
+    pub fn fixed_kinds(self) -> &'static [OperandKind]
+        ensures kinds { result.now ≡ fixed_kinds self }
+        ensures few { length result.now ≤ MAX_BOUND_OPERANDS }
     {
         match self {
             Op::Xic | Op::Xio => &[OperandKind::BoolOrFlag],
@@ -163,8 +167,8 @@ impl Op {
                 OperandKind::FillTarget,
                 OperandKind::IntegerOrNumber,
             ],
-            Op::Jsr => &[OperandKind::RoutineName, OperandKind::NoParameters],
-            Op::Ret | Op::Tnd | Op::Mcr | Op::Afi | Op::Nop | Op::Uid | Op::Uie => &[],
+            Op::Jsr => &[OperandKind::RoutineName],
+            Op::Sbr | Op::Ret | Op::Tnd | Op::Mcr | Op::Afi | Op::Nop | Op::Uid | Op::Uie => &[],
             Op::Jmp => &[OperandKind::JumpLabel],
             Op::Lbl => &[OperandKind::OwnLabel],
             Op::Event => &[OperandKind::EventTask],

@@ -75,8 +75,23 @@ impl Model for SourceRung {
     ghost size_decreases = { λ r h. omega (arith, elements_fall r.elements.items) };
 }
 
+impl Element {
+    ghost use Rattle.std.specs.Prelude.{◌≡◌, IfOk};
+
+    /// The same element again, in memory of its own.
+    #[cycle(copies)]
+    pub fn copied(&self, alloc: Global) -> Result<Element, Memory>
+        ensures { IfOk result (λ element. element ≡ self.now) }
+    {
+        match self {
+            Element::Ins(op, texts) => Ok(Element::Ins(*op, texts.copied(alloc)?)),
+            Element::Fork(legs) => Ok(Element::Fork(legs.copied(alloc)?)),
+        }
+    }
+}
+
 impl Legs {
-    ghost use Rattle.std.specs.Prelude.{◌≡◌, ◌<◌, length};
+    ghost use Rattle.std.specs.Prelude.{◌≡◌, ◌<◌, length, IfOk};
 
     pub fn as_slice(&self) -> &[SourceRung]
         ensures legs { result.now ≡ self.now }
@@ -84,10 +99,22 @@ impl Legs {
     {
         &self.legs
     }
+
+    /// The same legs again, in memory of their own.
+    #[cycle(copies)]
+    pub fn copied(&self, alloc: Global) -> Result<Legs, Memory>
+        ensures { IfOk result (λ legs. legs ≡ self.now) }
+    {
+        let mut legs = Vec::with_capacity(alloc, self.legs.len())?;
+        for leg in &self.legs {
+            legs.push(leg.copied(alloc)?)?;
+        }
+        Ok(Legs { legs })
+    }
 }
 
 impl SourceRung {
-    ghost use Rattle.std.specs.Prelude.{◌≡◌, [], ◌∷◌, ◌++◌, OnOk, OnErr};
+    ghost use Rattle.std.specs.Prelude.{◌≡◌, [], ◌∷◌, ◌++◌, IfOk, OnOk, OnErr};
     ghost use Rattle.lgx_rung.specs.Tree.{end, one, append};
     ghost use Rattle.lgx_rung.specs.Text.{IsSourceRung};
     ghost use Rattle.lgx_rung.specs.Elements.{tree_of};
@@ -114,6 +141,18 @@ impl SourceRung {
         ensures { IsSourceRung self.now }
     {
         let _ = &self.elements;
+    }
+
+    /// The same rung again, in memory of its own.
+    #[cycle(copies)]
+    pub fn copied(&self, alloc: Global) -> Result<SourceRung, Memory>
+        ensures { IfOk result (λ rung. rung ≡ self.now) }
+    {
+        let mut elements = Vec::with_capacity(alloc, self.elements.len())?;
+        for element in &self.elements {
+            elements.push(element.copied(alloc)?)?;
+        }
+        Ok(SourceRung { elements })
     }
 
     /// Adds an instruction after the other elements.

@@ -1,5 +1,5 @@
 // The operands of an instruction as they were written.
-ghost use Rattle.std.specs.Prelude.{◌≡◌, [], ◌∷◌, ◌++◌, IsTrue, OnOk, OnErr};
+ghost use Rattle.std.specs.Prelude.{◌≡◌, [], ◌∷◌, ◌++◌, IsTrue, IfOk, OnOk, OnErr};
 ghost use Rattle.std.specs.List.{list_all};
 ghost use Rattle.lgx_rung.specs.Tokens.{is_operand};
 
@@ -51,6 +51,18 @@ impl Texts {
         ensures { IsTrue (list_all is_operand self.now) }
     {
         let _ = &self.texts;
+    }
+
+    /// The same operands again, in memory of their own.
+    pub fn copied(&self, alloc: Global) -> Result<Texts, Memory>
+        ensures { IfOk result (λ texts. texts ≡ self.now) }
+    {
+        let mut texts = Vec::with_capacity(alloc, self.texts.len())?;
+        for text in &self.texts {
+            let text = text.as_slice().to_vec(alloc)?;
+            texts.push(Items::of(text))?;
+        }
+        Ok(Texts { texts })
     }
 
     /// The operands, in order.

@@ -1,20 +1,22 @@
 -- The other calls by their definitions.
 use Rattle.std.proofs.Common.{◌≡◌, ℕ, ◌+◌, ◌-◌, ◌<◌, ◌≤◌, zero, suc, Bool, true, false, cond, ◌||◌, List, [], ◌∷◌, length, get_or, set, map, replicate, drop, Option, Some, None, option_map, is_some, refl, sym, ap, ◌∙◌, subst, arith}
+use Rattle.std.specs.Prelude.{option_and_then, if◌then◌else◌}
 use Rattle.std.specs.List.{list_any, position_from, zip}
 use Rattle.std.proofs.lemmas.Bool.{false≢true, ne_eqb}
 use Rattle.std.proofs.lemmas.List.{at_drop_more, at_drop_all}
 use Rattle.std.proofs.lemmas.Slice.Zip.{length-zip, get_or-zip}
 use Rattle.spec_tables.specs.declared.task.TaskDef.{TaskDef}
-use Rattle.spec_tables.specs.Tasks.{TaskState, Table, state_of, no_task, is_open, has_open_cps, held, region_count, with_region_count, set_region, region_up, region_down, region_clear, with_cps_open, set_copy, is_continuous, expired, has_expired, put_up_if, start, stop}
+use Rattle.spec_tables.specs.declared.task.Release.TheVariants.{Released, Overlap, Inhibited}
+use Rattle.spec_tables.specs.Tasks.{TaskState, Table, state_of, no_task, is_open, has_open_cps, held, region_count, with_region_count, set_region, region_up, region_down, region_clear, with_cps_open, set_copy, is_continuous, expired, has_expired, task, release_answer, release, release_some, if_released, released_at_run, start, stop}
 use Rattle.lgx_sched.specs.declared.table.ActiveTask.{ActiveTask}
-use Rattle.lgx_sched.specs.TableView.{TableView, up_of, has_open, has_cps, task_if_open, has_run_out, next_task, enqueued, with_active, all_down}
+use Rattle.lgx_sched.specs.TableView.{TableView, up_of, def_of, answer_of, has_cps, task_if_open, has_run_out, next_task, with_active, all_down}
 use Rattle.lgx_sched.specs.Represents.{without_rank, Represents, IsSound, IsTable, is_it}
 use Rattle.spec_base.proofs.Lists.{value_of_some}
 use Rattle.spec_tables.proofs.StateLists.{found}
-use Rattle.lgx_sched.proofs.Chosen.{state_as_up, open_as_up}
-use Rattle.lgx_sched.proofs.Steps.{represents-changed, represents-none}
-use Rattle.lgx_sched.proofs.Sound.{head-next, up-head, sound-with, sound-none, all_none}
-use Rattle.lgx_sched.proofs.Tables.{known_task, represents-put_up}
+use Rattle.lgx_sched.proofs.Chosen.{state_as_up}
+use Rattle.lgx_sched.proofs.Steps.{represents-changed, represents-none, nothing}
+use Rattle.lgx_sched.proofs.Sound.{head-next, up-head, sound-with, sound-none}
+use Rattle.lgx_sched.proofs.Tables.{known_task, open_is}
 
 -- ---- the chosen task's regions and CPS
 
@@ -112,19 +114,16 @@ only_one (u ∷ us) (suc o) h = ap (λ b. b || list_any has_open_cps us) (h 0 (z
     same_suc : (i j : ℕ) → suc i ≡ suc j → i ≡ j
     same_suc i j e = omega arith
 
-open_by : (v : TableView) (s : Table) (k : ℕ) → IsSound v → Represents v s → is_open (state_of s k) ≡ is_it v.open_task k
-open_by v s k sound h = open_as_up (state_of s k) ∙ (ap has_open (sym (state_as_up v s h k)) ∙ sound.alone k)
-
 cps_as_up : (o : Option TaskState) → has_open_cps o ≡ has_cps (option_map without_rank o)
 cps_as_up None = refl
 cps_as_up (Some u) = refl
 
 pub held-none : (v : TableView) (s : Table) → IsSound v → Represents v s → v.open_task ≡ None → held s ≡ false
-held-none v s sound h none = none_has s.states (λ k. no_cps (state_of s k) (open_by v s k sound h ∙ ap (λ o. is_it o k) none))
+held-none v s sound h none = none_has s.states (λ k. no_cps (state_of s k) (open_is v s k sound h ∙ ap (λ o. is_it o k) none))
 
 pub held-some : (v : TableView) (s : Table) (t : ℕ) → IsSound v → Represents v s → v.open_task ≡ Some t → held s ≡ has_cps (up_of v t)
 held-some v s t sound h one =
-    only_one s.states t (λ k ne. no_cps (state_of s k) (open_by v s k sound h ∙ (ap (λ o. is_it o k) one ∙ ne_eqb t k (λ e. ne (sym e)))))
+    only_one s.states t (λ k ne. no_cps (state_of s k) (open_is v s k sound h ∙ (ap (λ o. is_it o k) one ∙ ne_eqb t k (λ e. ne (sym e)))))
     ∙ (cps_as_up (state_of s t) ∙ ap has_cps (sym (state_as_up v s h t)))
 
 -- the open task is one of the table
@@ -167,17 +166,28 @@ first_continuous ds = position_from (λ d. is_continuous d.kind) 0 ds
 pub continuous_bound : (ds : List TaskDef) (t : ℕ) → first_continuous ds ≡ Some t → t < length ds
 continuous_bound ds t e = (found (λ (d : TaskDef). is_continuous d.kind) no_task ds t e).0
 
-pub represents-start_some : (v w : TableView) (s : Table) (now t : ℕ) → IsTable v → Represents v s → first_continuous v.defs ≡ Some t → w ≡ enqueued t now (record (all_down v) { run_since = now }) → Represents w (start now s)
-represents-start_some v w s now t is h first is_w =
-    let l = continuous_bound v.defs t first in
-    subst (λ (x : TableView). Represents x (start now s)) (sym is_w)
-    (subst (λ (o : Option ℕ). Represents (enqueued t now (record (all_down v) { run_since = now })) (put_up_if o now (record (stop s) { run_since = now }))) (sym (ap first_continuous (sym h.defs) ∙ first))
-    (represents-put_up (record (all_down v) { run_since = now }) (record (stop s) { run_since = now }) t now (sound-none v now is.0) (represents-none v s now h) l (all_none (length v.ups) t)))
+-- all are down, and then the continuous task is released
+pub represents-start_some : (v w : TableView) (s : Table) (now t : ℕ) → Represents v s → first_continuous v.defs ≡ Some t → ((x : Table) → Represents (record (all_down v) { run_since = now }) x → Represents w (release t now x)) → Represents w (start now s)
+represents-start_some v w s now t h first released =
+    subst (λ (o : Option ℕ). Represents w (release_some o now (record (stop s) { run_since = now }))) (sym (ap first_continuous (sym h.defs) ∙ first))
+    (released (record (stop s) { run_since = now }) (represents-none v s now h))
+
+-- the answer that a release has once all are down
+answer_at_run : (v : TableView) (s : Table) (t : ℕ) → Represents v s → answer_of (def_of v t) None ≡ release_answer (stop s) t
+answer_at_run v s t h =
+    ap (λ (ds : List TaskDef). answer_of (get_or ds t no_task) None) h.defs
+    ∙ ap (λ o. if (task s t).inhibited then Inhibited else (if is_some o then Overlap else Released)) (sym (nothing s.states t))
+
+pub represents-released_at_run : (v : TableView) (s : Table) (t : ℕ) (o : Option ℕ) → Represents v s → first_continuous v.defs ≡ Some t → o ≡ if_released (answer_of (def_of v t) None) t → o ≡ released_at_run s
+represents-released_at_run v s t o h first e =
+    e
+    ∙ (ap (λ a. if_released a t) (answer_at_run v s t h)
+    ∙ ap (λ (p : Option ℕ). option_and_then (λ k. if_released (release_answer (stop s) k) k) p) (sym (ap first_continuous (sym h.defs) ∙ first)))
 
 pub represents-start_none : (v w : TableView) (s : Table) (now : ℕ) → Represents v s → first_continuous v.defs ≡ None → w ≡ record (all_down v) { run_since = now } → Represents w (start now s)
 represents-start_none v w s now h first is_w =
     subst (λ (x : TableView). Represents x (start now s)) (sym is_w)
-    (subst (λ (o : Option ℕ). Represents (record (all_down v) { run_since = now }) (put_up_if o now (record (stop s) { run_since = now }))) (sym (ap first_continuous (sym h.defs) ∙ first))
+    (subst (λ (o : Option ℕ). Represents (record (all_down v) { run_since = now }) (release_some o now (record (stop s) { run_since = now }))) (sym (ap first_continuous (sym h.defs) ∙ first))
     (represents-none v s now h))
 
 -- ---- the walk for the first that has run out

@@ -192,7 +192,7 @@ no_ups us = replicate (length us) None
 abbrev no_queues : List (List ℕ) → List (List ℕ)
 no_queues qs = map (λ q. []) qs
 
-nothing : (us : List (Option TaskState)) (t : ℕ) → get_or (no_states us) t None ≡ None
+pub nothing : (us : List (Option TaskState)) (t : ℕ) → get_or (no_states us) t None ≡ None
 nothing [] t = refl
 nothing (u ∷ us) zero = refl
 nothing (u ∷ us) (suc t) = nothing us t

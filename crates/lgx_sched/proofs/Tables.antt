@@ -1,12 +1,14 @@
 -- Each step leaves a table, which represents the list that the definition gives.
-use Rattle.std.proofs.Common.{◌≡◌, ℕ, ◌+◌, ◌<◌, true, false, List, [], length, get_or, set, drop, Option, Some, None, option_map, is_some, refl, sym, ap, ◌∙◌, subst, if◌then◌else◌}
+use Rattle.std.proofs.Common.{◌≡◌, ℕ, ◌+◌, ◌<◌, Bool, true, false, IfSome, List, [], length, get_or, set, drop, Option, Some, None, option_map, is_some, refl, sym, ap, ◌∙◌, subst, if◌then◌else◌}
 use Rattle.std.specs.List.{slice_get}
 use Rattle.std.proofs.lemmas.Bool.{false≢true, eq-eqb}
 use Rattle.spec_base.specs.declared.limits.TheConstants.{MAX_TASKS}
 use Rattle.spec_tables.specs.declared.task.TaskDef.{TaskDef}
-use Rattle.spec_tables.specs.Tasks.{TaskState, Table, state_of, task, no_task, or_else, chosen, is_open, is_up, put_up, release, to_back, unless_open, rotate, with_rank, finish, is_continuous, put_up_if}
+use Rattle.spec_tables.specs.Tasks.{TaskState, Table, state_of, task, no_task, or_else, chosen, is_open, is_up, put_up, put_up_if, release_answer, release, release_some, to_back, unless_open, rotate, with_rank, finish, is_continuous}
+use Rattle.spec_tables.specs.declared.task.Release.{Release}
+use Rattle.spec_tables.specs.declared.task.Release.TheVariants.{Released, Overlap, Inhibited}
 use Rattle.lgx_sched.specs.declared.table.ActiveTask.{ActiveTask}
-use Rattle.lgx_sched.specs.TableView.{TableView, up_of, def_of, queue_at, place_of, has_open, front_of, next_task, pushed, popped, enqueued, dequeued, rotated}
+use Rattle.lgx_sched.specs.TableView.{TableView, up_of, def_of, queue_at, place_of, has_open, front_of, next_task, answer_of, pushed, popped, enqueued, enqueued_if, dequeued, rotated}
 use Rattle.lgx_sched.specs.Represents.{without_rank, Represents, IsSound, IsTable, is_it}
 use Rattle.spec_base.proofs.Lists.{value_of_some}
 use Rattle.lgx_sched.proofs.Chosen.{state_as_up, next_task-chosen, open_as_up}
@@ -82,6 +84,11 @@ last_from v t p qs rs is none front place popped_is pushed_is =
 pub known_task : (v : TableView) (t : ℕ) → IsTable v → next_task v ≡ Some t → t < length v.defs
 known_task v t is next = task-head v is.1.0 t is.0 is.1.1 (head-next v is.1.0 t is.0 is.1.1 next)
 
+-- the task that is to run is one of the table's
+pub known_next : (v : TableView) (o : Option ℕ) → IsTable v → o ≡ next_task v → IfSome o (λ t. t < length v.defs)
+known_next v None is e = tt
+known_next v (Some t) is e = known_task v t is (sym e)
+
 pub room_for_last : (v : TableView) (t p : ℕ) (qs : List (List ℕ)) → IsTable v → v.open_task ≡ None → front_of v.queues ≡ Some t → p ≡ place_of v t → qs ≡ popped v.queues p → length (get_or qs p []) < MAX_TASKS
 room_for_last v t p qs is none front place popped_is =
     let next = next-front v t none front in
@@ -102,11 +109,31 @@ is_up_as v s t h = go (state_of s t) ∙ ap (λ (o : Option ActiveTask). is_some
     go None = refl
     go (Some u) = refl
 
-pub represents-release : (v : TableView) (s : Table) (t now : ℕ) → IsSound v → Represents v s → t < length v.defs → up_of v t ≡ None → Represents (enqueued t now v) (release t now s)
-represents-release v s t now sound h l down =
-    subst (λ b. Represents (enqueued t now v) (if b then s else put_up t now s)) (sym (is_up_as v s t h ∙ ap (λ (o : Option ActiveTask). is_some o) down)) (represents-put_up v s t now sound h l down)
+-- the answer by the list
+pub answer_is : (v : TableView) (s : Table) (t : ℕ) → Represents v s → answer_of (def_of v t) (up_of v t) ≡ release_answer s t
+answer_is v s t h =
+    ap (λ (ds : List TaskDef). answer_of (get_or ds t no_task) (up_of v t)) h.defs
+    ∙ ap (λ b. if (task s t).inhibited then Inhibited else (if b then Overlap else Released)) (sym (is_up_as v s t h))
 
-open_is : (v : TableView) (s : Table) (t : ℕ) → IsSound v → Represents v s → is_open (state_of s t) ≡ is_it v.open_task t
+not_released : (b : Bool) → Released ≡ (if b then Inhibited else Overlap) → ⊥
+not_released true e = absurd (cc)
+not_released false e = absurd (cc)
+
+-- what is released was down
+pub released_down : (d : TaskDef) (u : Option ActiveTask) → Released ≡ answer_of d u → u ≡ None
+released_down d None e = refl
+released_down d (Some x) e = absurd (not_released d.inhibited e)
+
+pub represents-release : (v : TableView) (s : Table) (t now : ℕ) (a : Release) → IsSound v → Represents v s → t < length v.defs → a ≡ answer_of (def_of v t) (up_of v t) → Represents (enqueued_if a t now v) (release t now s)
+represents-release v s t now a sound h l e =
+    subst (λ x. Represents (enqueued_if a t now v) (put_up_if x t now s)) (e ∙ answer_is v s t h) (go a e)
+  where
+    go : (a : Release) → a ≡ answer_of (def_of v t) (up_of v t) → Represents (enqueued_if a t now v) (put_up_if a t now s)
+    go Released e = represents-put_up v s t now sound h l (released_down (def_of v t) (up_of v t) e)
+    go Overlap e = h
+    go Inhibited e = h
+
+pub open_is : (v : TableView) (s : Table) (t : ℕ) → IsSound v → Represents v s → is_open (state_of s t) ≡ is_it v.open_task t
 open_is v s t sound h = open_as_up (state_of s t) ∙ (ap has_open (sym (state_as_up v s h t)) ∙ sound.alone t)
 
 pub represents-rotate : (v : TableView) (s : Table) (t : ℕ) → IsSound v → Represents v s → v.open_task ≡ None → front_of v.queues ≡ Some t → Represents (rotated t v) (rotate s)
@@ -129,18 +156,16 @@ represents-rotate_at v s (Some t) sound h e w =
 pub represents-rotate_open : (v : TableView) (s : Table) → IsSound v → Represents v s → is_some v.open_task ≡ true → Represents v (rotate s)
 represents-rotate_open v s sound h w = represents-rotate_at v s v.open_task sound h refl w
 
-pub down_after : (v : TableView) (t : ℕ) → IsTable v → next_task v ≡ Some t → up_of (dequeued t v) t ≡ None
-down_after v t is next = get_or-set_same v.ups t None None (subst (λ n. t < n) (sym is.0.as_many) (known_task v t is next))
-
 kind_is : (v : TableView) (s : Table) (t : ℕ) → Represents v s → is_continuous (task s t).kind ≡ is_continuous (def_of v t).kind
 kind_is v s t h = ap (λ (xs : List TaskDef). is_continuous (get_or xs t no_task).kind) (sym h.defs)
 
-pub represents-finish : (v : TableView) (s : Table) (t now : ℕ) → IsTable v → Represents v s → next_task v ≡ Some t → is_continuous (def_of v t).kind ≡ true → Represents (enqueued t now (dequeued t v)) (finish t now s)
-represents-finish v s t now is h next continuous =
-    subst (λ b. Represents (enqueued t now (dequeued t v)) (put_up_if (if b then Some t else None) now (lowered t s))) (sym (kind_is v s t h ∙ continuous))
-    (represents-put_up (dequeued t v) (lowered t s) t now (sound-down v s t is.0 h next) (represents-take_out v s t is.0 h next) (known_task v t is next) (down_after v t is next))
+-- the task is down, and then released if it is the continuous one
+pub represents-finish : (v w : TableView) (s : Table) (t now : ℕ) → IsTable v → Represents v s → next_task v ≡ Some t → is_continuous (def_of v t).kind ≡ true → ((x : Table) → Represents (dequeued t v) x → Represents w (release t now x)) → Represents w (finish t now s)
+represents-finish v w s t now is h next continuous released =
+    subst (λ b. Represents w (release_some (if b then Some t else None) now (lowered t s))) (sym (kind_is v s t h ∙ continuous))
+    (released (lowered t s) (represents-take_out v s t is.0 h next))
 
 pub represents-finish_other : (v : TableView) (s : Table) (t now : ℕ) → IsTable v → Represents v s → next_task v ≡ Some t → is_continuous (def_of v t).kind ≡ false → Represents (dequeued t v) (finish t now s)
 represents-finish_other v s t now is h next other =
-    subst (λ b. Represents (dequeued t v) (put_up_if (if b then Some t else None) now (lowered t s))) (sym (kind_is v s t h ∙ other))
+    subst (λ b. Represents (dequeued t v) (release_some (if b then Some t else None) now (lowered t s))) (sym (kind_is v s t h ∙ other))
     (represents-take_out v s t is.0 h next)

@@ -1,5 +1,5 @@
 -- What it means that the table of tasks represents a list of task states with ranks.
-use Rattle.std.specs.Prelude.{◌≡◌, ℕ, ◌+◌, ◌<◌, ◌≤◌, Bool, true, false, IsTrue, nat_eq, List, [], ◌∷◌, length, map, sum_by, count_by, Option, Some, None, IfSome, is_some, option_map, slice_get, replicate}
+use Rattle.std.specs.Prelude.{◌≡◌, ℕ, ◌+◌, ◌<◌, ◌≤◌, Bool, false, IsTrue, nat_eq, List, [], ◌∷◌, length, map, sum_by, count_by, Option, Some, None, IfSome, is_some, option_map, slice_get, replicate}
 use Rattle.std.specs.List.{All, Contains}
 use Rattle.spec_base.specs.declared.limits.TheConstants.{MAX_TASKS, LEAST_PRIORITY}
 use Rattle.spec_tables.specs.declared.task.TaskDef.{TaskDef}
@@ -7,8 +7,6 @@ use Rattle.spec_tables.specs.declared.task.TaskKind.{TaskKind}
 use Rattle.spec_tables.specs.declared.task.TaskKind.TheVariants.{Periodic}
 use Rattle.spec_tables.specs.Tasks.{TaskState, Table, state_of, task}
 use Rattle.lgx_sched.specs.declared.table.ActiveTask.{ActiveTask}
-use Rattle.lgx_sched.specs.declared.table.Release.{Release}
-use Rattle.lgx_sched.specs.declared.table.Release.TheVariants.{Released, Overlap}
 use Rattle.lgx_sched.specs.TableView.{TableView, up_of, def_of, queue_at, place_of, has_open}
 
 -- each task has a lower rank than all after it
@@ -60,11 +58,6 @@ pub record Represents (v : TableView) (s : Table) : Type 0 where
   pub below : (t : ℕ) → IsTrue (is_some (state_of s t)) → rank_of (state_of s t) < s.next
   pub differ : (t u : ℕ) → IsTrue (is_some (state_of s t)) → IsTrue (is_some (state_of s u)) → rank_of (state_of s t) ≡ rank_of (state_of s u) → t ≡ u
   pub queues : (p : ℕ) → IsQueueOf (state_of s) (λ t. (task s t).priority) (p + 1) (queue_at v p)
-
--- a release of a task that is up overlaps
-abbrev pub release_answer : Bool → Release
-release_answer true = Overlap
-release_answer false = Released
 
 -- ---- what is true of every table
 

@@ -1,6 +1,8 @@
 -- What the table of tasks keeps. It has no ranks: the order of each queue tells them.
-use Rattle.std.specs.Prelude.{ℕ, ◌-◌, Bool, false, ◌||◌, nat_lt, nat_le, nat_eq, List, [], ◌∷◌, ◌++◌, length, map, drop, replicate, slice_get, Option, Some, None, slice_set, slice_index_or, if◌then◌else◌}
+use Rattle.std.specs.Prelude.{ℕ, ◌-◌, Bool, false, ◌||◌, nat_lt, nat_le, nat_eq, List, [], ◌∷◌, ◌++◌, length, map, drop, replicate, slice_get, Option, Some, None, is_some, slice_set, slice_index_or, if◌then◌else◌}
 use Rattle.spec_tables.specs.declared.task.TaskDef.{TaskDef}
+use Rattle.spec_tables.specs.declared.task.Release.{Release}
+use Rattle.spec_tables.specs.declared.task.Release.TheVariants.{Released, Overlap, Inhibited}
 use Rattle.spec_tables.specs.Tasks.{no_task, or_else}
 use Rattle.lgx_sched.specs.declared.table.ActiveTask.{ActiveTask}
 
@@ -44,6 +46,10 @@ abbrev pub has_run_out : ℕ → TaskDef → Option ActiveTask → Bool
 has_run_out now d None = false
 has_run_out now d (Some u) = nat_le d.watchdog (now - u.start)
 
+-- what a release of such a task is answered
+abbrev pub answer_of : TaskDef → Option ActiveTask → Release
+answer_of d u = if d.inhibited then Inhibited else (if is_some u then Overlap else Released)
+
 -- ---- the task at the front
 
 abbrev pub front_or : List ℕ → Option ℕ → Option ℕ
@@ -74,6 +80,12 @@ popped qs p = slice_set qs p (drop 1 (slice_index_or qs p []))
 -- a task that was down is up, last in its queue
 abbrev pub enqueued : ℕ → ℕ → TableView → TableView
 enqueued t now v = record v { ups = slice_set v.ups t (Some (record { start = now; region_count = 0; cps_open = false })); queues = pushed v.queues (place_of v t) t }
+
+-- what a release leaves, by its answer
+abbrev pub enqueued_if : Release → ℕ → ℕ → TableView → TableView
+enqueued_if Released t now v = enqueued t now v
+enqueued_if Overlap t now v = v
+enqueued_if Inhibited t now v = v
 
 -- the task that is to run is down
 abbrev pub dequeued : ℕ → TableView → TableView

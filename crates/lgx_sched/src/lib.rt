@@ -4,5 +4,5 @@
 mod queue;
 mod table;
 
-pub use spec_tables::{TaskDef, TaskKind};
-pub use table::{ActiveTask, Release, TaskTable};
+pub use spec_tables::{Release, TaskDef, TaskKind};
+pub use table::{ActiveTask, TaskTable};

@@ -2,13 +2,13 @@
 ghost use Rattle.std.specs.Prelude.{◌≡◌, ℕ, ◌+◌, ◌-◌, ◌<◌, ◌≤◌, ◌^◌, Bool, List, [], ◌∷◌, length, drop, map, Option, Some, None, IfOk, IfSome, IsNone, slice_set, slice_get, slice_index_or};
 ghost use Rattle.std.specs.List.{All, position_from, zip};
 ghost use Rattle.spec_base.specs.declared.limits.TheConstants.{MAX_TASKS, LEAST_PRIORITY};
-ghost use Rattle.spec_tables.specs.Tasks.{Table, no_task, chosen, is_up, release, start, stop, finish, rotate, is_continuous, expired, due, region_up, region_down, region_clear, set_copy, held};
-ghost use Rattle.lgx_sched.specs.TableView.{TableView, up_of, def_of, queue_at, place_of, next_task, ready_at, front_of, pushed, popped, enqueued, dequeued, rotated, with_active, all_down, task_if_open, region_count_of, has_cps, has_run_out};
-ghost use Rattle.lgx_sched.specs.Represents.{Represents, IsInLine, AtMostUp, IsTable, HasPeriod, none_up, release_answer};
+ghost use Rattle.spec_tables.specs.Tasks.{Table, no_task, chosen, release_answer, release, if_released, released_at_run, start, stop, finish, rotate, is_continuous, expired, due, region_up, region_down, region_clear, set_copy, held};
+ghost use Rattle.lgx_sched.specs.TableView.{TableView, up_of, def_of, queue_at, place_of, next_task, answer_of, ready_at, front_of, pushed, popped, enqueued, enqueued_if, dequeued, rotated, with_active, all_down, task_if_open, region_count_of, has_cps, has_run_out};
+ghost use Rattle.lgx_sched.specs.Represents.{Represents, IsInLine, AtMostUp, IsTable, HasPeriod, none_up};
 
 use crate::queue::Queues;
 use lgx_num::{Items, Memory};
-use spec_tables::{TaskDef, TaskKind};
+use spec_tables::{Release, TaskDef, TaskKind};
 use std::alloc::Global;
 use std::marker::Model;
 
@@ -19,15 +19,6 @@ pub struct ActiveTask {
     pub start: u32,
     pub region_count: u32,
     pub cps_open: bool,
-}
-
-/// What a release did.
-#[derive(Clone, Copy, PartialEq, Eq, Debug)]
-pub enum Release {
-    /// The task was down, and is up.
-    Released,
-    /// The task was up, and nothing changed.
-    Overlap,
 }
 
 /// The tasks in project order: which are up, their turns at each priority, and which has something open.
@@ -78,6 +69,7 @@ impl TaskTable {
     /// It is None exactly if no task is up.
     pub fn chosen(&self) -> Option<u32>
         ensures front { result ≡ next_task self.now }
+        ensures known { IfSome result (λ t. t < length self.now.defs) }
         ensures represents { (s : Table) → Represents self.now s → result ≡ chosen s }
     {
         match self.open_task {
@@ -98,18 +90,22 @@ impl TaskTable {
         self.queues.get(priority as usize - 1, i as usize)
     }
 
-    /// Releases a task at the tick `now`: it is up, last in its queue. A task that is up overlaps, and stays as it is.
+    /// Releases a task at the tick `now`: it is up, last in its queue. A task that is up overlaps, and one that is inhibited
+    /// isn't released; then nothing changes.
     pub fn release(&mut self, t: u32, now: u32) -> Release
         requires task { t < length self.old.defs }
-        ensures answer { (s : Table) → Represents self.old s → result ≡ release_answer (is_up s t) }
+        ensures answer { (s : Table) → Represents self.old s → result ≡ release_answer s t }
+        ensures exact { self.new ≡ enqueued_if result t now self.old }
         ensures represents { (s : Table) → Represents self.old s → Represents self.new (release t now s) }
         ensures defs { self.new.defs ≡ self.old.defs }
     {
-        if self.ups[t as usize].is_some() {
-            return Release::Overlap;
+        let answer = self.answer(t);
+        match answer {
+            Release::Released => self.put_up(t, now),
+            Release::Overlap => {}
+            Release::Inhibited => {}
         }
-        self.put_up(t, now);
-        Release::Released
+        answer
     }
 
     /// Puts the chosen task last in its queue, unless it has something open. So equal priorities take turns at ticks.
@@ -131,8 +127,8 @@ impl TaskTable {
         ensures defs { self.new.defs ≡ self.old.defs }
     {
         self.take_out(t);
-        if is_continuous(self.defs.as_slice()[t as usize].kind) {
-            self.put_up(t, now);
+        if is_continuous(self.kind(t)) {
+            self.release(t, now);
         }
     }
 
@@ -143,8 +139,17 @@ impl TaskTable {
     {
         self.put_all_down(now);
         if let Some(t) = continuous_task(self.defs.as_slice()) {
-            self.put_up(t, now);
+            self.release(t, now);
         }
+    }
+
+    /// The task that a change to Run releases: the continuous one, unless it is inhibited. None if there is none.
+    pub fn released_at_run(&self) -> Option<u32>
+        ensures known { IfSome result (λ t. t < length self.now.defs) }
+        ensures represents { (s : Table) → Represents self.now s → result ≡ released_at_run s }
+    {
+        let t = continuous_task(self.defs.as_slice())?;
+        if_released(answer_of(self.def(t), None), t)
     }
 
     /// The change to Program, or to Faulted: every task goes down.
@@ -169,9 +174,26 @@ impl TaskTable {
 
     /// The first task in project order that has been up for the ticks of its watchdog at the tick `now`.
     pub fn expired(&self, now: u32) -> Option<u32>
-        ensures { (s : Table) → Represents self.now s → result ≡ expired now s }
+        ensures known { IfSome result (λ t. t < length self.now.defs) }
+        ensures represents { (s : Table) → Represents self.now s → result ≡ expired now s }
     {
         first_expired(now, self.defs.as_slice(), &self.ups)
+    }
+
+    /// The number of tasks.
+    pub fn len(&self) -> u32
+        ensures value { result ≡ length self.now.defs }
+        ensures few { result ≤ MAX_TASKS }
+    {
+        self.defs.len() as u32
+    }
+
+    /// The kind of a task.
+    pub fn kind(&self, t: u32) -> TaskKind
+        requires task { t < length self.now.defs }
+        ensures { result ≡ (def_of self.now t).kind }
+    {
+        self.def(t).kind
     }
 
     /// The number of open regions of a task; 0 if it is down.
@@ -260,6 +282,23 @@ impl TaskTable {
         }
     }
 
+    /// A task as the project gives it.
+    fn def(&self, t: u32) -> TaskDef
+        requires task { t < length self.now.defs }
+        ensures { result ≡ def_of self.now t }
+    {
+        self.defs.as_slice()[t as usize]
+    }
+
+    /// What a release of a task is answered.
+    fn answer(&self, t: u32) -> Release
+        requires task { t < length self.now.defs }
+        ensures value { result ≡ answer_of (def_of self.now t) (up_of self.now t) }
+        ensures table { IsTable self.now }
+    {
+        answer_of(self.def(t), self.ups[t as usize])
+    }
+
     /// A task that was down is up, last in its queue.
     fn put_up(&mut self, t: u32, now: u32)
         requires task { t < length self.old.defs }
@@ -342,6 +381,29 @@ fn is_continuous(kind: TaskKind) -> bool
     }
 }
 
+/// What a release of a task is answered.
+fn answer_of(def: TaskDef, up: Option<ActiveTask>) -> Release
+    ensures { result ≡ answer_of def up }
+{
+    if def.inhibited {
+        Release::Inhibited
+    } else if up.is_some() {
+        Release::Overlap
+    } else {
+        Release::Released
+    }
+}
+
+/// The task, if its release is answered so that it is up.
+fn if_released(answer: Release, t: u32) -> Option<u32>
+    ensures { result ≡ if_released answer t }
+{
+    match answer {
+        Release::Released => Some(t),
+        Release::Overlap | Release::Inhibited => None,
+    }
+}
+
 /// The place of a task's queue among the queues.
 fn place(defs: &[TaskDef], t: u32) -> usize
     requires task { t < length defs.now }
@@ -354,7 +416,8 @@ fn place(defs: &[TaskDef], t: u32) -> usize
 /// The first continuous task.
 fn continuous_task(defs: &[TaskDef]) -> Option<u32>
     requires { length defs.now ≤ MAX_TASKS }
-    ensures { result ≡ position_from (λ d. is_continuous d.kind) 0 defs.now }
+    ensures known { IfSome result (λ t. t < length defs.now) }
+    ensures value { result ≡ position_from (λ d. is_continuous d.kind) 0 defs.now }
 {
     for (t, def) in defs.iter().enumerate() {
         if is_continuous(def.kind) {
@@ -399,7 +462,8 @@ fn has_run_out(now: u32, def: TaskDef, up: Option<ActiveTask>) -> bool
 fn first_expired(now: u32, defs: &[TaskDef], ups: &[Option<ActiveTask>]) -> Option<u32>
     requires few { length defs.now ≤ MAX_TASKS }
     requires as_many { length ups.now ≡ length defs.now }
-    ensures { result ≡ position_from (λ t. has_run_out now t.0 t.1) 0 (zip defs.now ups.now) }
+    ensures known { IfSome result (λ t. t < length defs.now) }
+    ensures value { result ≡ position_from (λ t. has_run_out now t.0 t.1) 0 (zip defs.now ups.now) }
 {
     for (t, def) in defs.iter().enumerate() {
         if has_run_out(now, *def, ups[t]) {

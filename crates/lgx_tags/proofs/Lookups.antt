@@ -4,6 +4,7 @@ use Rattle.std.specs.Char.{to_ascii_lowercase}
 use Rattle.std.specs.Cmp.Lexicographic.{pointwise}
 use Rattle.std.specs.List.{AllByRecursion as Each, position_from}
 use Rattle.std.proofs.Common.{sym, ap, ◌∙◌, arith, eqb-true, eq-eqb}
+use Rattle.std.proofs.lemmas.Bool.{and_right as false_right}
 use Rattle.std.proofs.lemmas.Iterator.Adapters.{position_from-zero}
 use Rattle.std.proofs.lemmas.List.{length-map, map-append}
 use Rattle.std.proofs.lemmas.Slice.Eq.{bytes_eq-Decides}
@@ -71,12 +72,8 @@ key_position s name es = position_from-zero (same_key (key_of s name)) (keys_of 
 same_length : (a b : List ℕ) → same a b ≡ true → length a ≡ length b
 same_length a b p = sym (length-map a to_ascii_lowercase) ∙ ap length ((bytes_eq-Decides (lower a) (lower b)).0 p) ∙ length-map b to_ascii_lowercase
 
-and_false : (a b : Bool) → b ≡ false → (a && b) ≡ false
-and_false true b p = p
-and_false false b p = refl
-
 not_named : (s : Scope) (name : List ℕ) (e : Entry) → length e.name ≤ MAX_TAG_NAME_BYTES → MAX_TAG_NAME_BYTES < length name → is_named s name e ≡ false
-not_named s name e p q = and_false (same_scope e.scope s) (same e.name name) (go (same e.name name) refl)
+not_named s name e p q = false_right (same_scope e.scope s) (same e.name name) (go (same e.name name) refl)
   where
     go : (b : Bool) → same e.name name ≡ b → b ≡ false
     go true h = absurd (omega (arith, same_length e.name name h))

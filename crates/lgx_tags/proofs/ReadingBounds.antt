@@ -60,8 +60,9 @@ numbered types Timer h = tt
 numbered types Counter h = tt
 numbered types (User i) h = omega (arith, listed (sizes types) i h, sizes_length types (length types))
 
-pub has_size : (types : List TypeDecl) (bytes : ℕ) (f : Found) → IsInImage types bytes f → HasSize types (single f.of.base)
-has_size types bytes f p = record { declared = numbered types f.of.base p.lies.filled; short = omega arith; even = even_none f.of.base }
+-- the table of types has the size of an element of what lies in the image
+pub has_size : (types : List TypeDecl) (bytes : ℕ) (f : Found) → LiesIn types bytes f → HasSize types (single f.of.base)
+has_size types bytes f p = record { declared = numbered types f.of.base p.filled; short = omega arith; even = even_none f.of.base }
 
 -- ---- steps
 
@@ -124,4 +125,4 @@ step_placed types bytes s named part.closed k j sound known q e = close_placed t
 
 pub all_sized : (types : List TypeDecl) (bytes : ℕ) (arrays : List Found) → Each (IsOpen types bytes) arrays → AreSized types arrays
 all_sized types bytes [] p = tt
-all_sized types bytes (a ∷ arrays) p = (has_size types bytes a p.0.placed, all_sized types bytes arrays p.1)
+all_sized types bytes (a ∷ arrays) p = (has_size types bytes a p.0.placed.lies, all_sized types bytes arrays p.1)

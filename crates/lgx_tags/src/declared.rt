@@ -86,7 +86,7 @@ impl Declared {
     }
 
     /// The number of the first entry of a name in a scope; case doesn't matter. It takes no memory.
-    pub(crate) fn number_of(&self, scope: Scope, name: &[u8]) -> Option<usize>
+    pub(crate) fn index_of(&self, scope: Scope, name: &[u8]) -> Option<usize>
         ensures number { result ≡ position (is_named scope name.now) self.now.entries }
         ensures within { IfSome result (λ i. i < length self.now.entries) }
     {
@@ -107,7 +107,7 @@ impl Declared {
         if !is_name_in(scope, name) {
             return Some(TagCode::G1);
         }
-        match self.number_of(scope, name) {
+        match self.index_of(scope, name) {
             Some(_) => Some(TagCode::G2),
             None => None,
         }
@@ -189,11 +189,11 @@ impl Declared {
         ensures number { result ≡ seen_number self.now.entries scope name.now }
         ensures within { IfSome result (λ i. i < length self.now.entries) }
     {
-        let own = self.number_of(scope, name);
+        let own = self.index_of(scope, name);
         match (own, scope) {
             (Some(i), _) => Some(i),
             (None, Scope::Controller) => None,
-            (None, Scope::Program(_)) => self.number_of(Scope::Controller, name),
+            (None, Scope::Program(_)) => self.index_of(Scope::Controller, name),
         }
     }
 

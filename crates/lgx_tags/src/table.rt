@@ -2,6 +2,7 @@
 ghost use Rattle.std.specs.Prelude.{◌≡◌, ◌<◌, ◌≤◌, [], true, false, length, map, slice_get, option_map, None, Some, IfOk, IfErr, IfSome, OnOk, OnErr};
 ghost use Rattle.spec_base.specs.Causes.{IsFaultOf};
 ghost use Rattle.spec_base.specs.declared.limits.TheConstants.{MAX_IMAGE_BYTES};
+ghost use Rattle.spec_language.specs.Layout.{single};
 ghost use Rattle.spec_language.specs.Declarations.{tag, alias, bytes, declared_as, declare_fault, alias_fault};
 ghost use Rattle.spec_language.specs.Resolution.{aliases, found, found_fixed, in_form, named, seal_fault};
 ghost use Rattle.spec_language.specs.ResolutionLaws.{LiesIn, Sound};
@@ -144,6 +145,7 @@ impl TagTable {
         requires { self.now.sealed ≡ true }
         ensures answer { Answers (in_form (subscripts_of subscripts) self.now.declarations.types (named self.now.declarations scope) text.now) result }
         ensures lies { IfOk result (λ f. LiesIn self.now.declarations.types (bytes self.now.declarations) f) }
+        ensures sized { IfOk result (λ f. HasSize self.now.declarations.types (single f.of.base)) }
         ensures fixed { subscripts ≡ Subscripts.NumbersAlone → IfOk result (λ f. f.steps ≡ []) }
     {
         let known = self.seal_of().known.as_slice();
@@ -162,6 +164,7 @@ impl TagTable {
         requires { self.now.sealed ≡ true }
         ensures answer { Answers (found self.now.declarations scope text.now) result }
         ensures lies { IfOk result (λ f. LiesIn self.now.declarations.types (bytes self.now.declarations) f) }
+        ensures sized { IfOk result (λ f. HasSize self.now.declarations.types (single f.of.base)) }
     {
         self.resolve_with(alloc, scope, text, Subscripts::Operands)
     }
@@ -171,6 +174,7 @@ impl TagTable {
         requires { self.now.sealed ≡ true }
         ensures answer { Answers (found_fixed self.now.declarations scope text.now) result }
         ensures lies { IfOk result (λ f. LiesIn self.now.declarations.types (bytes self.now.declarations) f) }
+        ensures sized { IfOk result (λ f. HasSize self.now.declarations.types (single f.of.base)) }
         ensures fixed { IfOk result (λ f. f.steps ≡ []) }
     {
         self.resolve_with(alloc, scope, text, Subscripts::NumbersAlone)

@@ -10,7 +10,7 @@ use Rattle.spec_language.specs.declared.types.TypeCode.TheVariants.{Y1, Y2, Y4}
 use Rattle.spec_language.specs.declared.types.TypeFault.{TypeFault}
 use Rattle.spec_base.specs.FirstCause.{where_true}
 use Rattle.spec_language.specs.Layout.{find, type_of}
-use Rattle.spec_language.specs.TypeFaults.{of_member, is_bool, member_faults, structure_faults, is_uneven}
+use Rattle.spec_language.specs.TypeFaults.{of_member, is_bool_base, member_faults, structure_faults, is_uneven}
 use Rattle.lgx_types.specs.Tables.{HasMembers}
 
 abbrev pub names_of : List TypeDecl → List (List ℕ)
@@ -34,7 +34,7 @@ faults_by taken types i k m = where_true taken (of_member Y2 i k) ++ (where_true
 abbrev pub first_wrong : Bool → Option Base → ℕ → Option TypeCode
 first_wrong true of dim = Some Y2
 first_wrong false None dim = Some Y1
-first_wrong false (Some base) dim = if is_bool (Some base) && not (dim % 32 == 0) then Some Y4 else None
+first_wrong false (Some base) dim = if is_bool_base (Some base) && not (dim % 32 == 0) then Some Y4 else None
 
 abbrev pub faults_in : List TypeDecl → ℕ → List MemberDecl → List TypeFault
 faults_in types i ms = flat_map (member_faults types i ms) (enumerate_from 0 ms)

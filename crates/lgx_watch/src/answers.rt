@@ -43,7 +43,6 @@ fn push_edit_cause(text: &mut Vec<u8>, fault: EditFault) -> Result<(), Memory>
         EditFault::E1 => push_word(text, b"E1"),
         EditFault::E2 => push_word(text, b"E2"),
         EditFault::E3(owner) => push_numbered(text, b"E3", owner),
-        EditFault::E4 => push_word(text, b"E4"),
         EditFault::E5(edit) => push_numbered(text, b"E5", edit),
         EditFault::E6(edit) => push_numbered(text, b"E6", edit),
         EditFault::E7(edit, inner) => {

@@ -1,6 +1,6 @@
 // Sets of numbers below `MAX_WATCHES` as bits of words.
 ghost use Rattle.std.specs.Prelude.{◌≡◌, ◌≢◌, ℕ, ◌<◌, ◌||◌, true, false};
-ghost use Rattle.lgx_image.specs.Words.{bit_of_words, NextBit, LeastBit};
+ghost use Rattle.lgx_image.specs.Words.{bit_of_words};
 ghost use Rattle.lgx_watch.specs.declared.bits.TheConstants.{MAX_WATCHES};
 
 /// The watched places of a project (profile).
@@ -31,35 +31,5 @@ pub(crate) fn join_bits(words: &mut [u64; WORDS], more: &[u64; WORDS])
 {
     for at in 0..WORDS {
         words[at] |= more[at];
-    }
-}
-
-/// The least bit that is set and not below `from`.
-pub(crate) fn next_bit(words: &[u64; WORDS], from: u32) -> Option<u32>
-    ensures { NextBit words.now from result }
-{
-    let first = (from / u64::BITS) as usize;
-    if first >= WORDS {
-        return None;
-    }
-    if let Some(bit) = least_bit(words[first] >> (from % u64::BITS)) {
-        return Some(from + bit);
-    }
-    for at in first + 1..WORDS {
-        if let Some(bit) = least_bit(words[at]) {
-            return Some(at as u32 * u64::BITS + bit);
-        }
-    }
-    None
-}
-
-/// The least bit of a word that is set.
-fn least_bit(word: u64) -> Option<u32>
-    ensures { LeastBit word result }
-{
-    if word == 0 {
-        None
-    } else {
-        Some(word.trailing_zeros())
     }
 }

@@ -40,6 +40,7 @@ pub(crate) fn check_code(code: CheckCode) -> &'static [u8]
         CheckCode::C14 => b"C14",
         CheckCode::C15 => b"C15",
         CheckCode::C16 => b"C16",
+        CheckCode::C17 => b"C17",
     }
 }
 

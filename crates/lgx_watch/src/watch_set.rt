@@ -4,7 +4,8 @@ ghost use Rattle.lgx_image.specs.Words.{bit_of_words};
 ghost use Rattle.lgx_watch.specs.declared.bits.TheConstants.{MAX_WATCHES};
 ghost use Rattle.lgx_watch.specs.Watches.{is_member, NextMember};
 
-use crate::bits::{MAX_WATCHES, WORDS, join_bits, next_bit, no_bits};
+use crate::bits::{MAX_WATCHES, WORDS, join_bits, no_bits};
+use lgx_image::number_sets::next_bit;
 use std::marker::Model;
 
 /// A set of watched places by their numbers, which are below [`MAX_WATCHES`]. It takes no memory.

@@ -1,15 +1,19 @@
 //! `logix`: tries a ladder program and its journal before they reach a machine.
 #![tactic(auto)]
 
+ghost use Rattle.std.specs.Prelude.{◌≡◌, ◌⊎◌};
+ghost use Rattle.lgx_io.specs.Sink.{FaultsRose};
+
 use lgx_io::{HostFiles, HostSink};
 use logix_run::{Status, logix_plain};
 use std::env;
+use std::io::Print;
 use std::process::ExitCode;
 
 fn main(rt: HostRuntime) -> ExitCode {
     let alloc = rt.alloc();
     let mut files = HostFiles::new(&rt, alloc);
-    let mut sink = HostSink::new(&rt);
+    let mut sink = HostSink::new(&rt, alloc);
     let mut words = Vec::new(alloc);
     // Arguments that can't be read as text are wrong arguments, as none are.
     if let Ok(args) = env::args(&rt) {
@@ -20,5 +24,16 @@ fn main(rt: HostRuntime) -> ExitCode {
         }
     }
     let status = logix_plain(alloc, &words, &mut files, &mut sink);
-    ExitCode::from(status.number())
+    ExitCode::from(end(status, &mut sink).number())
+}
+
+/// Writes what is still gathered, and answers how the program ends: a fault there is its write fault.
+fn end<P: Print>(status: Status, sink: &mut HostSink<'_, P>) -> Status
+    ensures { ((result ≡ status) × (sink.new ≡ sink.old))
+        ⊎ ((result ≡ Status.WriteFault) × FaultsRose sink.old sink.new) }
+{
+    match sink.finish() {
+        Ok(()) => status,
+        Err(_) => Status::WriteFault,
+    }
 }

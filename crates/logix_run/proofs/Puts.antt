@@ -1,5 +1,5 @@
 -- Puts, one after another.
-use Rattle.std.proofs.Common.{◌≡◌, inl, inr, ◌<◌, ℕ, zero, suc, get_or, List, [], ◌∷◌, ◌++◌, length, take, Option, Result, Ok, Err, OnOk, OnErr, IsErrOf, refl, sym, ap, ◌∙◌, append_assoc, append-nil, subst, arith}
+use Rattle.std.proofs.Common.{◌≡◌, ◌≢◌, inl, inr, ◌<◌, ℕ, zero, suc, get_or, List, [], ◌∷◌, ◌++◌, length, take, Option, Result, Ok, Err, OnOk, OnErr, IsErrOf, refl, sym, ap, ◌∙◌, append_assoc, append-nil, subst, arith}
 use Rattle.std.specs.Io.KnownBytes.{Appends}
 use Rattle.std.proofs.KnownBytes.{Appends-nil, Appends-trans}
 use Rattle.lgx_io.specs.declared.sink.SinkFault.{SinkFault}
@@ -7,6 +7,7 @@ use Rattle.lgx_io.specs.declared.sink.SinkFault.TheVariants.{Failed, Memory}
 use Rattle.lgx_io.specs.Sink.{FaultsRose, AppendsPart}
 use Rattle.std.specs.List.{flat_map}
 use Rattle.logix_run.specs.declared.status.Status.{Status}
+use Rattle.logix_run.specs.declared.status.Status.TheVariants as status
 use Rattle.logix_run.specs.Status.{status_after}
 use Rattle.logix_run.specs.Request.{Writes}
 
@@ -63,6 +64,12 @@ put_part (Err Memory) a b line failed memory =
     let P : Option (List ℕ) → Type 0 = λ b. AppendsPart a b line in
     subst P (sym (memory refl)) (0, Appends-nil a)
 
+-- a put that didn't fail leaves the count
+pub put_count : (r : Result (Unit {0}) SinkFault) (f g : ℕ) → OnOk r (g ≡ f) → (IsErrOf r Memory → g ≡ f) → ¬ IsErrOf r Failed → g ≡ f
+put_count (Ok x) f g ok memory unfailed = ok
+put_count (Err Failed) f g ok memory unfailed = absurd (unfailed refl)
+put_count (Err Memory) f g ok memory unfailed = memory refl
+
 -- a list's text, about one of its members
 pub flat_map_around : {A : Type 0} (text : A → List ℕ) (xs : List A) (i : ℕ) (d : A) → i < length xs → (zs : List ℕ) × (flat_map text xs ≡ flat_map text (take i xs) ++ (text (get_or xs i d) ++ zs))
 flat_map_around text [] i d h = absurd (omega arith)
@@ -76,3 +83,9 @@ pub writes_done : (done : Result (Unit {0}) SinkFault) (a b : Option (List ℕ))
 writes_done (Ok x) a b f g text whole s all part failed is = inl (is, all)
 writes_done (Err Failed) a b f g text whole s all part failed is = inr (inl (is, part, failed refl))
 writes_done (Err Memory) a b f g text whole s all part failed is = inr (inr (is, part))
+
+-- the count after puts, unless the status is that of a fault
+pub count_done : (done : Result (Unit {0}) SinkFault) (f g : ℕ) (whole s : Status) → (¬ IsErrOf done Failed → g ≡ f) → s ≡ status_after done whole → s ≢ status.WriteFault → g ≡ f
+count_done (Ok x) f g whole s unfailed is other = unfailed (λ e. absurd (cc e))
+count_done (Err Failed) f g whole s unfailed is other = absurd (other is)
+count_done (Err Memory) f g whole s unfailed is other = unfailed (λ e. absurd (cc e))

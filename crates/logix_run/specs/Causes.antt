@@ -1,6 +1,6 @@
 -- The cause of each status, and all that is said of a call. Out of memory may come at any time, and each 'exactly if' yields
 -- to it.
-use Rattle.std.specs.Prelude.{◌≡◌, ◌⊎◌, ◌≤◌, ℕ, List, length, Some, None, IsSome, IfSome}
+use Rattle.std.specs.Prelude.{◌≡◌, ◌≢◌, ◌⊎◌, ◌≤◌, ℕ, List, length, Some, None, IsSome, IfSome}
 use Rattle.spec_base.specs.declared.limits.TheConstants.{MAX_FILE_BYTES}
 use Rattle.logix_run.specs.declared.status.Status.{Status}
 use Rattle.logix_run.specs.declared.status.Status.TheVariants as status
@@ -83,6 +83,8 @@ pub record IsAnswered (call : Call) : Type 0 where
   -- The list of failures gains the file that failed or is too long, and nothing at any other status.
   pub failures : AddsFailure call
   pub write_fault : call.answer ≡ status.WriteFault → PutFailed call.faults
+  -- at any other status no put failed
+  pub no_write_fault : call.answer ≢ status.WriteFault → call.faults.new ≡ call.faults.old
   pub only_usage : OnlyUsage call
   pub usage : IsUsage call
   pub only_project : OnlyProject call

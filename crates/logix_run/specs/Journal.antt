@@ -6,12 +6,12 @@ use Rattle.lgx_core.specs.declared.event.Event.TheVariants as event
 use Rattle.logix_run.specs.declared.limits.TheConstants.{MAX_STEPS, MAX_CHANGES}
 use Rattle.logix_run.specs.declared.journal.Entry.{Entry}
 use Rattle.logix_run.specs.declared.journal.Entry.TheVariants.{ModeRun, Cpu}
-use Rattle.logix_run.specs.Pieces.{pieces, number_of}
+use Rattle.logix_run.specs.Pieces.{pieces, unsigned_of}
 
 -- a line: `mode run`, or `cpu` and a number
 unfoldable pub entry_of : List ℕ → Option Entry
 entry_of line =
-    if bytes_eq line (codes "mode run") then Some ModeRun else (if bytes_eq (take 4 line) (codes "cpu ") then option_map (λ n. Cpu n) (number_of (drop 4 line)) else None)
+    if bytes_eq line (codes "mode run") then Some ModeRun else (if bytes_eq (take 4 line) (codes "cpu ") then option_map (λ n. Cpu n) (unsigned_of (drop 4 line)) else None)
 
 -- Nothing stands after the last LF.
 abbrev pub is_last : List (List ℕ) → Bool

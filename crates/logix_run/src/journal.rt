@@ -5,7 +5,7 @@ ghost use Rattle.logix_run.specs.Journal.{entry_of, entries_of, is_within_limits
 ghost use Rattle.logix_run.specs.Pieces.{pieces};
 
 use crate::limits::{MAX_CHANGES, MAX_STEPS};
-use crate::pieces::{number_of, split_first};
+use crate::pieces::{split_first, unsigned_of};
 use lgx_num::{Items, Memory};
 use std::alloc::Global;
 
@@ -28,7 +28,7 @@ fn entry_of(line: &[u8]) -> Option<Entry>
     if head != b"cpu ".as_slice() {
         return None;
     }
-    Some(Entry::Cpu(number_of(digits)?))
+    Some(Entry::Cpu(unsigned_of(digits)?))
 }
 
 /// The entries of the lines down to `end`.

@@ -1,5 +1,5 @@
 // Writes what the words ask for. No file is read here.
-ghost use Rattle.std.specs.Prelude.{◌≡◌, ◌≤◌, ◌+◌, length, OnOk, OnErr, IsErrOf};
+ghost use Rattle.std.specs.Prelude.{◌≡◌, ◌≢◌, ◌≤◌, ◌+◌, length, OnOk, OnErr, IsErrOf};
 ghost use Rattle.logix_run.specs.declared.limits.TheConstants.{MAX_WATCHES, MAX_STEPS, MAX_CHANGES};
 ghost use Rattle.logix_run.specs.Status.{status_after};
 ghost use Rattle.logix_run.specs.Journal.{events_of};
@@ -33,6 +33,7 @@ fn write_run<K: Sink>(
     ensures whole { OnOk result (Appends (K.held sink.old) (K.held sink.new) (report project (events_of journal.now))) }
     ensures part { OnErr result (AppendsPart (K.held sink.old) (K.held sink.new) (report project (events_of journal.now))) }
     ensures failed { IsErrOf result SinkFault.Failed → FaultsRose (K.faults sink.old) (K.faults sink.new) }
+    ensures unfailed { ¬ IsErrOf result SinkFault.Failed → K.faults sink.new ≡ K.faults sink.old }
     ensures later { K.faults sink.old ≤ K.faults sink.new }
 {
     let Ok(mut recorder) = Recorder::new(alloc, project) else {
@@ -53,11 +54,13 @@ fn status_after(done: Result<(), SinkFault>, whole: Status) -> Status
 }
 
 /// Writes the request's text, and answers its status, or that of the fault that cut it off.
+#[tactic(auto, using(crate::proofs::Puts::count_done))]
 pub(crate) fn write_output<K: Sink>(alloc: Global, request: Request, sink: &mut K) -> Status
     requires { IsShort request }
-    ensures { Writes (record { old = K.held sink.old; new = K.held sink.new })
+    ensures writes { Writes (record { old = K.held sink.old; new = K.held sink.new })
         (record { old = K.faults sink.old; new = K.faults sink.new })
         (request_output request) result }
+    ensures unfailed { result ≢ Status.WriteFault → K.faults sink.new ≡ K.faults sink.old }
 {
     match request {
         Request::Usage => status_after(put_line(USAGE, sink), Status::Usage),

@@ -1,5 +1,5 @@
 // The program, over any files and any sink.
-ghost use Rattle.std.specs.Prelude.{map, string_bytes};
+ghost use Rattle.std.specs.Prelude.{◌≡◌, ◌≢◌, map, string_bytes};
 ghost use Rattle.logix_run.specs.Request.{Ended};
 ghost use Rattle.logix_run.specs.Causes.{IsAnswered};
 
@@ -16,7 +16,7 @@ fn read_and_write<F: Files, K: Sink>(
     files: &mut F,
     sink: &mut K,
 ) -> Status
-    ensures { Ended (record {
+    ensures ended { Ended (record {
       told = F.told files.old;
       failures = record { old = F.failures files.old; new = F.failures files.new };
       held = record { old = K.held sink.old; new = K.held sink.new };
@@ -24,6 +24,7 @@ fn read_and_write<F: Files, K: Sink>(
       words = map string_bytes words.now;
       answer = result;
     }) }
+    ensures unfailed { result ≢ Status.WriteFault → K.faults sink.new ≡ K.faults sink.old }
 {
     match read_request(alloc, words, files) {
         Ok(request) => write_output(alloc, request, sink),

@@ -126,6 +126,7 @@ fn write_line<K: Sink>(
     ensures whole { OnOk result (Appends (K.held sink.old) (K.held sink.new) (line_text (names_of task.now program.now watches.now) line)) }
     ensures part { OnErr result (AppendsPart (K.held sink.old) (K.held sink.new) (line_text (names_of task.now program.now watches.now) line)) }
     ensures failed { IsErrOf result SinkFault.Failed → FaultsRose (K.faults sink.old) (K.faults sink.new) }
+    ensures unfailed { ¬ IsErrOf result SinkFault.Failed → K.faults sink.new ≡ K.faults sink.old }
     ensures later { K.faults sink.old ≤ K.faults sink.new }
 {
     let text = line_text(alloc, task, program, watches, line)?;
@@ -143,6 +144,7 @@ fn write_lines<K: Sink>(
     ensures whole { OnOk result (Appends (K.held sink.old) (K.held sink.new) (flat_map (line_text (names_of task.now program.now watches.now)) lines.now)) }
     ensures part { OnErr result (AppendsPart (K.held sink.old) (K.held sink.new) (flat_map (line_text (names_of task.now program.now watches.now)) lines.now)) }
     ensures failed { IsErrOf result SinkFault.Failed → FaultsRose (K.faults sink.old) (K.faults sink.new) }
+    ensures unfailed { ¬ IsErrOf result SinkFault.Failed → K.faults sink.new ≡ K.faults sink.old }
     ensures later { K.faults sink.old ≤ K.faults sink.new }
 {
     for line in lines {
@@ -161,6 +163,7 @@ fn write_end<K: Sink>(
     ensures whole { OnOk result (Appends (K.held sink.old) (K.held sink.new) (end_text steps mode lost)) }
     ensures part { OnErr result (AppendsPart (K.held sink.old) (K.held sink.new) (end_text steps mode lost)) }
     ensures failed { IsErrOf result SinkFault.Failed → FaultsRose (K.faults sink.old) (K.faults sink.new) }
+    ensures unfailed { ¬ IsErrOf result SinkFault.Failed → K.faults sink.new ≡ K.faults sink.old }
     ensures later { K.faults sink.old ≤ K.faults sink.new }
 {
     let text = end_text(alloc, steps, mode, lost)?;
@@ -176,6 +179,7 @@ pub(crate) fn write_report<K: Sink>(
     ensures whole { OnOk result (Appends (K.held sink.old) (K.held sink.new) (recording_text recorder.now)) }
     ensures part { OnErr result (AppendsPart (K.held sink.old) (K.held sink.new) (recording_text recorder.now)) }
     ensures failed { IsErrOf result SinkFault.Failed → FaultsRose (K.faults sink.old) (K.faults sink.new) }
+    ensures unfailed { ¬ IsErrOf result SinkFault.Failed → K.faults sink.new ≡ K.faults sink.old }
     ensures later { K.faults sink.old ≤ K.faults sink.new }
 {
     write_lines(

@@ -15,8 +15,14 @@ pub const MAX_SUBSCRIPTS: usize = 4;
 /// The forks of a rung that stand in one another (profile).
 pub const MAX_FORKS: usize = 16;
 
-/// The operands of an instruction.
-pub const MAX_OPERANDS: usize = 3;
+/// The operands of an instruction: a routine, a count, and the most inputs and returns.
+pub const MAX_OPERANDS: usize = 18;
+
+/// The inputs of a call, and its returns (profile).
+pub const MAX_PARAMETERS: usize = 8;
+
+/// The operands of an instruction that is no call and no end of one.
+pub const MAX_BOUND_OPERANDS: usize = 3;
 
 /// The instructions of a routine (profile).
 pub const MAX_ROUTINE_INSTRUCTIONS: usize = 65536;

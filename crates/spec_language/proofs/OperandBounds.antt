@@ -1,5 +1,5 @@
 -- Every operand of checked rungs lies in the image.
-use Rattle.std.specs.Prelude.{◌≡◌, ℕ, zero, suc, ◌+◌, ◌*◌, ◌<◌, ◌≤◌, Bool, true, false, not, ◌&&◌, nat_lt, ◌⊎◌, if◌then◌else◌, pos, codes, bytes_eq, position, List, [], ◌∷◌, ◌++◌, map, length, filter_map, Option, Some, None, option_map, Result, Ok, Err, refl}
+use Rattle.std.specs.Prelude.{◌≡◌, ℕ, zero, suc, ◌+◌, ◌*◌, ◌<◌, ◌≤◌, Bool, true, false, not, ◌&&◌, nat_lt, ◌⊎◌, if◌then◌else◌, pos, codes, bytes_eq, position, List, [], ◌∷◌, ◌++◌, map, length, filter_map, Option, Some, None, option_map, option_and_then, Result, Ok, Err, refl}
 use Rattle.std.specs.Result.{result_ok}
 use Rattle.std.proofs.Common.{sym, subst, arith, ltb-true, inl, inr}
 use Rattle.std.proofs.lemmas.Bool.{not-true}
@@ -25,10 +25,10 @@ use Rattle.spec_language.specs.declared.tag.Found.{Found}
 use Rattle.spec_language.specs.OperandForm.{Number, fitting, outside, number, flag}
 use Rattle.spec_language.specs.Declarations.{Declarations, bytes}
 use Rattle.spec_language.specs.Resolution.{is_array, is_integer, integer_bits, kind_of, found}
-use Rattle.lgx_rung.specs.OperandTable.{operand_kinds}
+use Rattle.lgx_rung.specs.OperandTable.{as_count}
 use Rattle.lgx_rung.specs.declared.operands.OperandKind.{OperandKind}
-use Rattle.lgx_rung.specs.declared.operands.OperandKind.TheVariants.{BoolPlace, BoolOrFlag, IntegerPlace, IntegerOrNumber, WholeTimer, WholeCounter, TimerOrCounter, CopySource, CopyTarget, FillTarget, QuestionMark, RoutineName, NoParameters, JumpLabel, OwnLabel, EventTask}
-use Rattle.spec_language.specs.Operands.{paired, path_of, is_bool, is_timer, is_counter, one_place, block_where, place_as, number_as, flag_as, found_as, read_as, data_operand, name_operand}
+use Rattle.lgx_rung.specs.declared.operands.OperandKind.TheVariants.{BoolPlace, BoolOrFlag, IntegerPlace, IntegerOrNumber, WholeTimer, WholeCounter, TimerOrCounter, CopySource, CopyTarget, FillTarget, QuestionMark, RoutineName, ParameterCount, JumpLabel, OwnLabel, EventTask}
+use Rattle.spec_language.specs.Operands.{decimal, paired, path_of, is_bool, is_timer, is_counter, one_place, block_where, place_as, number_as, flag_as, found_as, read_as, data_operand, name_operand}
 use Rattle.spec_language.specs.Checked.{CheckScope, Spot, Label, labels, label_of, spot_after, operand_of, operands_of, settled, instruction_of, checked_tree, checked_legs, checked_from}
 use Rattle.lgx_num.specs.Paths.{BytesInBounds, OperandInBounds}
 use Rattle.std.specs.List.{AllByRecursion as Each}
@@ -134,7 +134,7 @@ place_lies types len CopyTarget f o l p = block_lies types len (not (is_bool f.o
 place_lies types len FillTarget f o l p = block_lies types len (nat_lt 0 (integer_bits f.of.base)) f o (no_bool f.of.base) l p
 place_lies types len QuestionMark f o l p = err_not_ok _ _ p
 place_lies types len RoutineName f o l p = err_not_ok _ _ p
-place_lies types len NoParameters f o l p = err_not_ok _ _ p
+place_lies types len ParameterCount f o l p = err_not_ok _ _ p
 place_lies types len JumpLabel f o l p = err_not_ok _ _ p
 place_lies types len OwnLabel f o l p = err_not_ok _ _ p
 place_lies types len EventTask f o l p = err_not_ok _ _ p
@@ -177,11 +177,11 @@ mapped_lies len make known (Some a) x p = subst (λ (z : Operand). OperandInBoun
 
 pub operand_lies : (s : CheckScope) (ls : List Label) (spot : Spot) (w : OperandKind) (text : List ℕ) (o : Operand) → Sound s.tags → operand_of s ls spot (w, text) ≡ Ok o → OperandInBounds o (bytes s.tags)
 operand_lies s ls spot RoutineName text o sound p = name_lies (bytes s.tags) text _ C11 o (mapped_lies (bytes s.tags) operand.Routine (λ _. tt) (position (λ name. same name text) s.routines)) p
-operand_lies s ls spot NoParameters text o sound p = go (bytes_eq text (codes "0")) p
+operand_lies s ls spot ParameterCount text o sound p = go (option_and_then as_count (decimal text)) p
   where
-    go : (b : Bool) → (if b then Ok (operand.Number (pos 0)) else Err C2) ≡ Ok o → OperandInBounds o (bytes s.tags)
-    go true r = subst (λ (z : Operand). OperandInBounds z (bytes s.tags)) (ok_inj _ _ r) tt
-    go false r = err_not_ok _ _ r
+    go : (count : Option ℕ) → some_or (option_map (λ n. operand.Number (pos n)) count) C2 ≡ Ok o → OperandInBounds o (bytes s.tags)
+    go (Some n) r = subst (λ (z : Operand). OperandInBounds z (bytes s.tags)) (ok_inj _ _ r) tt
+    go None r = err_not_ok _ _ r
 operand_lies s ls spot JumpLabel text o sound p = name_lies (bytes s.tags) text _ C12 o (mapped_lies (bytes s.tags) (λ l. operand.Label l.rung) (λ _. tt) (label_of ls text)) p
 operand_lies s ls spot OwnLabel text o sound p = name_lies (bytes s.tags) text _ C2 o (mapped_lies (bytes s.tags) operand.Label (λ _. tt) (Some spot.rung)) p
 operand_lies s ls spot EventTask text o sound p = name_lies (bytes s.tags) text _ C15 o (mapped_lies (bytes s.tags) operand.Task (λ _. tt) (position (λ t. t.event && same t.name text) s.tasks)) p
@@ -215,7 +215,7 @@ abbrev InsLies : ℕ → Ins → Type 0
 InsLies len i = Each (λ o. OperandInBounds o len) i.args
 
 pub instruction_lies : (s : CheckScope) (ls : List Label) (spot : Spot) (i : SourceIns) (made : Ins) → Sound s.tags → instruction_of s ls spot i ≡ Ok made → InsLies (bytes s.tags) made
-instruction_lies s ls spot i made sound p = go (paired (operand_kinds i.op) i.texts) p
+instruction_lies s ls spot i made sound p = go (paired i.op i.texts) p
   where
     go : (o : Option (List (OperandKind × List ℕ))) → settled ls spot i (operands_of s ls spot o) ≡ Ok made → InsLies (bytes s.tags) made
     go None r = subst (λ (z : Ins). InsLies (bytes s.tags) z) (sym (answered_outline spot i.op _ _ made r).1) tt

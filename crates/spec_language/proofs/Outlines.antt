@@ -1,7 +1,7 @@
 -- Checking keeps outlines.
 use Rattle.std.specs.Prelude.{◌≡◌, ℕ, suc, ◌+◌, Bool, true, false, if◌then◌else◌, List, [], ◌∷◌, ◌++◌, map, length, filter_map, Option, Some, None, Result, Ok, Err, option_map, refl}
 use Rattle.std.specs.Result.{result_ok, result_err}
-use Rattle.std.proofs.Common.{ap, sym}
+use Rattle.std.proofs.Common.{ap, sym, arith, ◌∙◌}
 use Rattle.lgx_num.specs.declared.place.Operand.{Operand}
 use Rattle.lgx_rung.specs.Tree.{Tree, end, one, fork, Legs, last, leg, Source, SourceIns, instructions, leg_instructions}
 use Rattle.lgx_rung.specs.declared.op.Op.{Op}
@@ -9,32 +9,31 @@ use Rattle.lgx_rung.specs.declared.fault.CheckCode.{CheckCode}
 use Rattle.lgx_rung.specs.declared.fault.CheckCode.TheVariants.{C1}
 use Rattle.lgx_rung.specs.OperandTable.{operand_kinds}
 use Rattle.lgx_rung.specs.declared.operands.OperandKind.{OperandKind}
-use Rattle.spec_language.specs.Operands.{is_optional, paired}
+use Rattle.spec_language.specs.Operands.{paired, second_number}
+use Rattle.lgx_rung.proofs.KindCounts.{kinds_counted}
+use Rattle.std.specs.List.{zip}
+use Rattle.std.proofs.lemmas.Slice.Zip.{length-zip}
 use Rattle.lgx_rung.specs.declared.ins.Ins.{Ins}
 use Rattle.std.specs.Prelude.{nat_le}
-use Rattle.spec_language.specs.Checked.{code_number, label_faults, length_faults, CheckScope, Spot, Label, labels, spot_after, operand_of, operands_of, lesser, least, answered, settled, instruction_of, checked_tree, checked_legs, checked_from}
+use Rattle.spec_language.specs.Checked.{code_number, other_faults, CheckScope, Spot, Label, labels, spot_after, operand_of, operands_of, lesser, least, answered, settled, instruction_of, checked_tree, checked_legs, checked_from}
 use Rattle.spec_language.specs.CheckedLaws.{tree_map, legs_map, source_outline, outline, KeepsOutline}
 use Rattle.spec_base.proofs.Binds.{bind_ok, ok_inj, err_not_ok}
 
 -- ---- one instruction
 
--- a list with one more in front, if there is a list
-pub longer : (w : OperandKind) (t : List ℕ) (o : Option (List (OperandKind × List ℕ))) (ps : List (OperandKind × List ℕ)) → option_map (λ rest. (w, t) ∷ rest) o ≡ Some ps → (rest : List (OperandKind × List ℕ)) × (o ≡ Some rest) × (ps ≡ (w, t) ∷ rest)
-longer w t (Some rest) ps p = (rest, refl, cc p)
-longer w t None ps p = absurd (cc p)
+-- the kinds that texts are paired with, as many as texts
+pub paired_kinds : (op : Op) (texts : List (List ℕ)) (pairs : List (OperandKind × List ℕ)) → paired op texts ≡ Some pairs → (kinds : List OperandKind) × (operand_kinds op (second_number texts) (length texts) ≡ Some kinds) × (length kinds ≡ length texts) × (pairs ≡ zip kinds texts)
+paired_kinds op texts pairs p = go (operand_kinds op (second_number texts) (length texts)) refl p
+  where
+    go : (o : Option (List OperandKind)) → operand_kinds op (second_number texts) (length texts) ≡ o → option_map (λ kinds. zip kinds texts) o ≡ Some pairs → (kinds : List OperandKind) × (o ≡ Some kinds) × (length kinds ≡ length texts) × (pairs ≡ zip kinds texts)
+    go (Some kinds) e q =
+        let same : zip kinds texts ≡ pairs = cc q in
+        (kinds, refl, (kinds_counted op (second_number texts) (length texts) kinds e).0, sym same)
+    go None e q = absurd (cc q)
 
 -- texts that are paired keep their number
-pub paired_length : (ws : List OperandKind) (ts : List (List ℕ)) (ps : List (OperandKind × List ℕ)) → paired ws ts ≡ Some ps → length ps ≡ length ts
-paired_length [] [] ps p = cc p
-paired_length [] (t ∷ ts) ps p = absurd (cc p)
-paired_length (w ∷ ws) [] ps p = go (is_optional w) (paired_length ws [] ps) p
-  where
-    go : (b : Bool) → (paired ws [] ≡ Some ps → length ps ≡ 0) → (if b then paired ws [] else None) ≡ Some ps → length ps ≡ 0
-    go true known q = known q
-    go false known q = absurd (cc q)
-paired_length (w ∷ ws) (t ∷ ts) ps p =
-    let l = longer w t (paired ws ts) ps p in
-    rw l.2 (ap suc (paired_length ws ts l.0 l.1))
+zip_length : (kinds : List OperandKind) (texts : List (List ℕ)) → length kinds ≡ length texts → length (zip kinds texts) ≡ length texts
+zip_length kinds texts same = length-zip kinds texts ∙ omega (arith, same)
 
 pub some_lesser : (c : CheckCode) (o : Option CheckCode) → lesser c o ≡ None → ⊥
 some_lesser c None p = cc p
@@ -63,17 +62,18 @@ operands_length s ls spot [] = refl
 operands_length s ls spot (p ∷ ps) = ap suc (operands_length s ls spot ps)
 
 pub instruction_outline : (s : CheckScope) (ls : List Label) (spot : Spot) (i : SourceIns) (made : Ins) → instruction_of s ls spot i ≡ Ok made → outline made ≡ source_outline i
-instruction_outline s ls spot i made p = go (paired (operand_kinds i.op) i.texts) refl p
+instruction_outline s ls spot i made p = go (paired i.op i.texts) refl p
   where
-    go : (o : Option (List (OperandKind × List ℕ))) → paired (operand_kinds i.op) i.texts ≡ o → settled ls spot i (operands_of s ls spot o) ≡ Ok made → outline made ≡ source_outline i
+    go : (o : Option (List (OperandKind × List ℕ))) → paired i.op i.texts ≡ o → settled ls spot i (operands_of s ls spot o) ≡ Ok made → outline made ≡ source_outline i
     go None q r =
-        let codes : List CheckCode = C1 ∷ (label_faults ls spot i ++ length_faults spot) in
+        let codes : List CheckCode = C1 ∷ other_faults ls spot i in
         let a : (least codes ≡ None) × (made ≡ record { op = i.op; args = [] }) = answered_outline spot i.op [] (least codes) made r in
         absurd (cc (none_least codes a.0))
     go (Some ps) q r =
         let a = answered_outline spot i.op _ _ made r in
         let there : length (filter_map result_ok (map (operand_of s ls spot) ps)) ≡ length (map (operand_of s ls spot) ps) = all_there (map (operand_of s ls spot) ps) _ (none_least _ a.0) in
-        rw (a.1, there, operands_length s ls spot ps, paired_length (operand_kinds i.op) i.texts ps q) refl
+        let k = paired_kinds i.op i.texts ps q in
+        rw (a.1, there, operands_length s ls spot ps, k.3, zip_length k.0 i.texts k.2) refl
 
 -- ---- rungs
 

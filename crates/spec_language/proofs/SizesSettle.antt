@@ -14,7 +14,7 @@ use Rattle.spec_language.specs.Layout.{find, type_of, round_up, sized_in, size_i
 use Rattle.std.proofs.lemmas.List.{ext_get_or, length-map}
 use Rattle.std.proofs.Math.ListN.{length-replicate}
 use Rattle.spec_language.specs.declared.types.TypeCode.TheVariants.{Y2, Y3, Y6}
-use Rattle.spec_language.specs.TypeFaults.{type_fault, member_faults, structure_faults, name_taken, repeated, of_member, of_structure, is_bool, user_number, parts, among, reached_to, reaches_itself, type_faults}
+use Rattle.spec_language.specs.TypeFaults.{type_fault, member_faults, structure_faults, name_taken, repeated, of_member, of_structure, is_bool_base, user_number, parts, among, reached_to, reaches_itself, type_faults}
 use Rattle.spec_language.specs.LayoutLaws.{IsEvenOf, IsEven, HasBytes, IsSoundType, FaultlessIsSound, SizesAreTheOnly}
 use Rattle.spec_base.proofs.Lists.{each_map, each_get, get_mapped}
 use Rattle.spec_language.proofs.TypesFit.{end_grows}
@@ -184,7 +184,7 @@ enumerated_none f from (x ∷ xs) p =
     let a = append_none (f (from, x)) (flat_map f (enumerate_from (from + 1) xs)) p in
     ((from, a.0), enumerated_none f (from + 1) xs a.1)
 
-pub even_base : (o : Option Base) (dim : ℕ) → is_none o ≡ false → (is_bool o && not (dim % 32 == 0)) ≡ false → IsEvenOf (unwrap_or o OneBit) dim
+pub even_base : (o : Option Base) (dim : ℕ) → is_none o ≡ false → (is_bool_base o && not (dim % 32 == 0)) ≡ false → IsEvenOf (unwrap_or o OneBit) dim
 even_base None dim p q = absurd (cc p)
 even_base (Some OneBit) dim p q = eqb-true (dim % 32) 0 (twice (dim % 32 == 0) q)
   where

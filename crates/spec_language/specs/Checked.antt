@@ -1,6 +1,6 @@
 -- Rungs with their operands checked and resolved: the same trees, or the first fault in order of instructions and, within
 -- one instruction, the least number that applies.
-use Rattle.std.specs.Prelude.{ℕ, suc, ◌+◌, Bool, true, false, not, ◌&&◌, ◌==◌, nat_le, if◌then◌else◌, List, [], ◌∷◌, ◌++◌, length, map, filter_map, flat_map, find, position, pos, codes, bytes_eq, Option, Some, None, Result, Ok, Err, option_map, option_and_then}
+use Rattle.std.specs.Prelude.{ℕ, suc, ◌+◌, Bool, true, false, not, ◌&&◌, ◌==◌, nat_le, if◌then◌else◌, List, [], ◌∷◌, ◌++◌, length, map, filter_map, flat_map, find, position, codes, bytes_eq, Option, Some, None, Result, Ok, Err, option_map, option_and_then}
 use Rattle.std.specs.List.{enumerate_from}
 use Rattle.std.specs.Result.{result_ok, result_err}
 use Rattle.spec_base.specs.declared.limits.TheConstants.{MAX_ROUTINE_INSTRUCTIONS}
@@ -9,16 +9,15 @@ use Rattle.lgx_num.specs.declared.place.Operand.{Operand}
 use Rattle.lgx_num.specs.declared.place.Operand.TheVariants as operand
 use Rattle.lgx_rung.specs.Tree.{Tree, end, one, fork, Legs, last, leg, Source, SourceIns, instructions, leg_instructions}
 use Rattle.lgx_rung.specs.declared.op.Op.{Op}
-use Rattle.lgx_rung.specs.declared.op.Op.TheVariants.{Lbl}
+use Rattle.lgx_rung.specs.declared.op.Op.TheVariants.{Lbl, Sbr}
 use Rattle.lgx_rung.specs.declared.fault.CheckCode.{CheckCode}
-use Rattle.lgx_rung.specs.declared.fault.CheckCode.TheVariants.{C1, C2, C3, C4, C5, C6, C7, C8, C9, C10, C11, C12, C13, C14, C15, C16}
+use Rattle.lgx_rung.specs.declared.fault.CheckCode.TheVariants.{C1, C2, C3, C4, C5, C6, C7, C8, C9, C10, C11, C12, C13, C14, C15, C16, C17}
 use Rattle.lgx_rung.specs.declared.fault.CheckFault.{CheckFault}
 use Rattle.spec_base.specs.FirstCause.{◌>>=◌, where_true}
 use Rattle.spec_language.specs.Declarations.{Declarations}
-use Rattle.lgx_rung.specs.OperandTable.{operand_kinds}
 use Rattle.lgx_rung.specs.declared.operands.OperandKind.{OperandKind}
-use Rattle.lgx_rung.specs.declared.operands.OperandKind.TheVariants.{RoutineName, NoParameters, JumpLabel, OwnLabel, EventTask, QuestionMark}
-use Rattle.spec_language.specs.Operands.{paired, data_operand, name_operand}
+use Rattle.lgx_rung.specs.declared.operands.OperandKind.TheVariants.{RoutineName, ParameterCount, JumpLabel, OwnLabel, EventTask, QuestionMark}
+use Rattle.spec_language.specs.Operands.{paired, data_operand, name_operand, count_operand}
 use Rattle.lgx_rung.specs.declared.ins.Ins.{Ins}
 use Rattle.spec_language.specs.declared.tag.Scope.TheVariants.{Program}
 use Rattle.spec_language.specs.declared.names.TaskName.{TaskName}
@@ -74,7 +73,7 @@ stands_elsewhere spot (Some l) = not (l.rung == spot.rung && l.ins == spot.ins)
 -- an operand's text where something is wanted: what it stands for, or why it stands for nothing
 abbrev pub operand_of : CheckScope → List Label → Spot → OperandKind × List ℕ → Result Operand CheckCode
 operand_of s ls spot (RoutineName, text) = name_operand text (option_map operand.Routine (position (λ name. same name text) s.routines)) C11
-operand_of s ls spot (NoParameters, text) = if bytes_eq text (codes "0") then Ok (operand.Number (pos 0)) else Err C2
+operand_of s ls spot (ParameterCount, text) = count_operand text
 operand_of s ls spot (JumpLabel, text) = name_operand text (option_map (λ l. operand.Label l.rung) (label_of ls text)) C12
 operand_of s ls spot (OwnLabel, text) = name_operand text (Some (operand.Label spot.rung)) C2
 operand_of s ls spot (EventTask, text) = name_operand text (option_map operand.Task (position (λ t. t.event && same t.name text) s.tasks)) C15
@@ -90,6 +89,18 @@ label_faults ls spot i = where_true (stands_elsewhere spot (option_and_then (lab
 -- C16: it is the routine's first instruction beyond the limit
 abbrev pub length_faults : Spot → List CheckCode
 length_faults spot = where_true (spot.before == MAX_ROUTINE_INSTRUCTIONS) C16
+
+abbrev pub is_entry : Op → Bool
+is_entry Sbr = true
+is_entry _ = false
+
+-- C17: an SBR isn't the first element of its routine's first rung
+abbrev pub entry_faults : Spot → Op → List CheckCode
+entry_faults spot op = where_true (is_entry op && not (spot.rung == 0 && spot.leads)) C17
+
+-- what is wrong with an instruction beside its operands
+abbrev pub other_faults : List Label → Spot → SourceIns → List CheckCode
+other_faults ls spot i = label_faults ls spot i ++ length_faults spot ++ entry_faults spot i.op
 
 -- C1: the number of operands isn't the mnemonic's
 abbrev pub operands_of : CheckScope → List Label → Spot → Option (List (OperandKind × List ℕ)) → List (Result Operand CheckCode)
@@ -113,6 +124,7 @@ code_number C13 = 13
 code_number C14 = 14
 code_number C15 = 15
 code_number C16 = 16
+code_number C17 = 17
 
 abbrev pub lesser : CheckCode → Option CheckCode → Option CheckCode
 lesser c None = Some c
@@ -128,10 +140,11 @@ answered spot op args None = Ok (record { op = op; args = args })
 answered spot op args (Some code) = Err (record { code = code; rung = spot.rung; ins = spot.ins })
 
 abbrev pub settled : List Label → Spot → SourceIns → List (Result Operand CheckCode) → Result Ins CheckFault
-settled ls spot i operands = answered spot i.op (filter_map result_ok operands) (least (filter_map result_err operands ++ (label_faults ls spot i ++ length_faults spot)))
+settled ls spot i operands =
+    answered spot i.op (filter_map result_ok operands) (least (filter_map result_err operands ++ other_faults ls spot i))
 
 abbrev pub instruction_of : CheckScope → List Label → Spot → SourceIns → Result Ins CheckFault
-instruction_of s ls spot i = settled ls spot i (operands_of s ls spot (paired (operand_kinds i.op) i.texts))
+instruction_of s ls spot i = settled ls spot i (operands_of s ls spot (paired i.op i.texts))
 
 -- ---- rungs
 

@@ -29,14 +29,14 @@ name_taken decls i d = is_some (looked_up d.name built_ins) || list_any (λ o. s
 abbrev pub repeated : List MemberDecl → ℕ → MemberDecl → Bool
 repeated ms k m = list_any (λ o. same o.name m.name) (take k ms)
 
-abbrev pub is_bool : Option Base → Bool
-is_bool None = false
-is_bool (Some OneBit) = true
-is_bool (Some _) = false
+abbrev pub is_bool_base : Option Base → Bool
+is_bool_base None = false
+is_bool_base (Some OneBit) = true
+is_bool_base (Some _) = false
 
 -- Y4: an array of BOOLs whose length isn't a multiple of 32
 abbrev pub is_uneven : List TypeDecl → MemberDecl → Bool
-is_uneven decls m = is_bool (find decls m.of) && not (m.dim % 32 == 0)
+is_uneven decls m = is_bool_base (find decls m.of) && not (m.dim % 32 == 0)
 
 -- the faults of member k of structure i: Y2, Y1 its type isn't there, Y4
 abbrev pub member_faults : List TypeDecl → ℕ → List MemberDecl → ℕ × MemberDecl → List TypeFault

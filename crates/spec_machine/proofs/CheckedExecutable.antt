@@ -1,5 +1,5 @@
 -- Checked rungs are executable over the image of their tags.
-use Rattle.std.specs.Prelude.{◌≡◌, ℕ, zero, suc, ◌+◌, ◌<◌, ◌≤◌, ◌⊎◌, Bool, true, false, not, ◌&&◌, nat_le, nat_lt, if◌then◌else◌, pos, codes, bytes_eq, position, List, [], ◌∷◌, ◌++◌, map, length, filter_map, slice_index_or, Option, Some, None, option_map, Result, Ok, Err, refl, ⊤}
+use Rattle.std.specs.Prelude.{◌≡◌, ℕ, suc, ◌<◌, ◌≤◌, ◌⊎◌, Bool, true, false, not, ◌&&◌, nat_lt, if◌then◌else◌, pos, codes, bytes_eq, position, List, [], ◌∷◌, ◌++◌, map, length, filter_map, Option, Some, None, is_some, IsTrue, option_map, option_and_then, Result, Ok, Err, refl, ⊤}
 use Rattle.std.specs.List.{All, AllByRecursion as Each}
 use Rattle.std.specs.Result.{result_ok, result_err}
 use Rattle.std.proofs.Common.{sym, ap, ◌∙◌, subst, arith, ltb-true, inl, inr}
@@ -11,10 +11,10 @@ use Rattle.lgx_num.specs.declared.place.Operand.{Operand}
 use Rattle.lgx_num.specs.declared.place.Operand.TheVariants as operand
 use Rattle.lgx_num.specs.Paths.{OperandInBounds}
 use Rattle.lgx_rung.specs.declared.op.Op.{Op}
-use Rattle.lgx_rung.specs.declared.op.Op.TheVariants.{Xic, Xio, Ote, Otl, Otu, Ons, Osr, Osf, Ton, Rto, Tof, Ctu, Ctd, Res, Equ, Neq, Les, Leq, Grt, Geq, Lim, Meq, Add, Sub, Mul, Div, Mod, Neg, Abs, Mov, And, Or, Xor, Not, Mvm, Clr, Cop, Cps, Fll, Jsr, Ret, Tnd, Jmp, Lbl, Mcr, Afi, Nop, Uid, Uie, Event}
+use Rattle.lgx_rung.specs.declared.op.Op.TheVariants.{Jsr}
 use Rattle.lgx_rung.specs.declared.fault.CheckCode.{CheckCode}
 use Rattle.lgx_rung.specs.declared.fault.CheckCode.TheVariants.{C1, C2, C11, C12, C15}
-use Rattle.lgx_rung.specs.Tree.{Tree, end, one, fork, Legs, last, leg, Source, SourceIns, instructions, leg_instructions}
+use Rattle.lgx_rung.specs.Tree.{Tree, Source, SourceIns, instructions}
 use Rattle.spec_base.specs.FirstCause.{some_or}
 use Rattle.lgx_rung.specs.declared.ins.Ins.{Ins}
 use Rattle.spec_language.specs.declared.types.Base.{Base}
@@ -27,23 +27,25 @@ use Rattle.spec_language.specs.declared.tag.Found.{Found}
 use Rattle.spec_language.specs.Layout.{size_of, single}
 use Rattle.spec_language.specs.OperandForm.{Number, fitting, outside, number, flag}
 use Rattle.spec_language.specs.Declarations.{Declarations, bytes}
-use Rattle.spec_language.specs.Resolution.{is_array, is_integer, integer_bits, found}
+use Rattle.spec_language.specs.Resolution.{is_integer, integer_bits, found}
 use Rattle.spec_language.specs.ResolutionLaws.{Sound, LiesIn}
-use Rattle.lgx_rung.specs.OperandTable.{operand_kinds}
+use Rattle.lgx_rung.specs.OperandTable.{as_count, fixed_kinds, operand_kinds}
+use Rattle.lgx_rung.proofs.KindCounts.{kinds_counted, handed_over, same_kinds, call_begins, told_again}
+use Rattle.std.specs.List.{zip}
 use Rattle.lgx_rung.specs.declared.operands.OperandKind.{OperandKind}
-use Rattle.lgx_rung.specs.declared.operands.OperandKind.TheVariants.{BoolPlace, BoolOrFlag, IntegerPlace, IntegerOrNumber, WholeTimer, WholeCounter, TimerOrCounter, CopySource, CopyTarget, FillTarget, QuestionMark, RoutineName, NoParameters, JumpLabel, OwnLabel, EventTask}
-use Rattle.spec_language.specs.Operands.{is_optional, paired, path_of, is_bool, is_timer, is_counter, one_place, block_where, place_as, number_as, flag_as, found_as, read_as, data_operand, name_operand}
-use Rattle.spec_language.specs.Checked.{CheckScope, Spot, Label, labels, label_of, label_faults, length_faults, spot_after, operand_of, operands_of, code_number, lesser, least, answered, settled, instruction_of, checked_tree, checked_legs, checked_from}
-use Rattle.spec_base.proofs.Binds.{bind_ok, ok_inj, err_not_ok}
-use Rattle.spec_base.proofs.Lists.{each_append}
+use Rattle.lgx_rung.specs.declared.operands.OperandKind.TheVariants.{BoolPlace, BoolOrFlag, IntegerPlace, IntegerOrNumber, WholeTimer, WholeCounter, TimerOrCounter, CopySource, CopyTarget, FillTarget, QuestionMark, RoutineName, ParameterCount, JumpLabel, OwnLabel, EventTask}
+use Rattle.spec_language.specs.Operands.{decimal, second_number, paired, count_operand, path_of, is_bool, is_timer, is_counter, one_place, block_where, place_as, number_as, flag_as, found_as, read_as, data_operand, name_operand}
+use Rattle.spec_language.specs.Checked.{CheckScope, Spot, Label, labels, label_of, other_faults, operand_of, operands_of, least, settled, instruction_of, checked_from}
+use Rattle.spec_base.proofs.Binds.{ok_inj, err_not_ok}
 use Rattle.spec_language.specs.CheckedLaws.{OperandsInBounds, CheckedInBounds}
 use Rattle.spec_language.proofs.FoundBounds.{found_lies}
 use Rattle.spec_language.proofs.OperandBounds.{one_place_ok}
 use Rattle.spec_base.specs.declared.limits.TheConstants.{MAX_OPERANDS}
-use Rattle.spec_scan.specs.Fits.{IsCell, IsTimer, IsCounter, IsIntegers, IsRoutine, IsTask, operand_at, Fits, FitFrom, OperandsFit}
+use Rattle.spec_scan.specs.Fits.{operand_at, Fits, AllFit, FitSome, number_told, OperandsFit}
 use Rattle.spec_scan.specs.Executable.{EndsIn, IsExecutable, AreExecutable}
-use Rattle.spec_language.proofs.Outlines.{longer, none_least, answered_outline}
+use Rattle.spec_language.proofs.Outlines.{paired_kinds, none_least, answered_outline}
 use Rattle.spec_machine.specs.ExecutableLaws.{CheckedAreExecutable}
+use Rattle.spec_machine.proofs.CheckedWalk.{rungs_have}
 
 -- ---- what an operand is, by what was wanted
 
@@ -86,7 +88,7 @@ place_good types len CopyTarget f o l p = block_good types len CopyTarget (not (
 place_good types len FillTarget f o l p = block_good types len FillTarget (nat_lt 0 (integer_bits f.of.base)) f o l (integers types f.of.base) p
 place_good types len QuestionMark f o l p = err_not_ok _ _ p
 place_good types len RoutineName f o l p = err_not_ok _ _ p
-place_good types len NoParameters f o l p = err_not_ok _ _ p
+place_good types len ParameterCount f o l p = err_not_ok _ _ p
 place_good types len JumpLabel f o l p = err_not_ok _ _ p
 place_good types len OwnLabel f o l p = err_not_ok _ _ p
 place_good types len EventTask f o l p = err_not_ok _ _ p
@@ -122,11 +124,11 @@ name_good {A} len w text make named cause o good p = go (is_name text) named p
 
 operand_good : (s : CheckScope) (ls : List Label) (spot : Spot) (w : OperandKind) (text : List ℕ) (o : Operand) → Sound s.tags → operand_of s ls spot (w, text) ≡ Ok o → IsGood (bytes s.tags) w o
 operand_good s ls spot RoutineName text o sound p = name_good (bytes s.tags) RoutineName text operand.Routine (position (λ name. same name text) s.routines) C11 o (λ _. (tt, tt)) p
-operand_good s ls spot NoParameters text o sound p = go (bytes_eq text (codes "0")) p
+operand_good s ls spot ParameterCount text o sound p = go (option_and_then as_count (decimal text)) refl p
   where
-    go : (b : Bool) → (if b then Ok (operand.Number (pos 0)) else Err C2) ≡ Ok o → IsGood (bytes s.tags) NoParameters o
-    go true r = subst (λ (z : Operand). IsGood (bytes s.tags) NoParameters z) (ok_inj _ _ r) (tt, tt)
-    go false r = err_not_ok _ _ r
+    go : (count : Option ℕ) → option_and_then as_count (decimal text) ≡ count → some_or (option_map (λ n. operand.Number (pos n)) count) C2 ≡ Ok o → IsGood (bytes s.tags) ParameterCount o
+    go (Some n) e r = subst (λ (z : Operand). IsGood (bytes s.tags) ParameterCount z) (ok_inj _ _ r) (tt, subst (λ (c : Option ℕ). IsTrue (is_some c)) (sym (told_again (decimal text) n e)) refl)
+    go None e r = err_not_ok _ _ r
 operand_good s ls spot JumpLabel text o sound p = name_good (bytes s.tags) JumpLabel text (λ l. operand.Label l.rung) (label_of ls text) C12 o (λ _. (tt, tt)) p
 operand_good s ls spot OwnLabel text o sound p = name_good (bytes s.tags) OwnLabel text operand.Label (Some spot.rung) C2 o (λ _. (tt, tt)) p
 operand_good s ls spot EventTask text o sound p = name_good (bytes s.tags) EventTask text operand.Task (position (λ t. t.event && same t.name text) s.tasks) C15 o (λ _. (tt, tt)) p
@@ -148,131 +150,70 @@ operand_good s ls spot FillTarget text o sound p = data_good s.tags (Program s.p
 
 -- ---- the operands of an instruction
 
--- each operand is good for what is wanted there; optional ones may be missing
-abbrev AllGood : ℕ → List OperandKind → List Operand → Type 0
-AllGood len [] [] = ⊤
-AllGood len [] (o ∷ os) = ⊥
-AllGood len (w ∷ ws) [] = (is_optional w ≡ true) × AllGood len ws []
-AllGood len (w ∷ ws) (o ∷ os) = IsGood len w o × AllGood len ws os
+module _ (s : CheckScope) (ls : List Label) (spot : Spot) where
+  -- each operand is what its text stands for
+  abbrev AreMade : List OperandKind → List (List ℕ) → List Operand → Type 0
+  AreMade [] [] [] = ⊤
+  AreMade (w ∷ ws) (t ∷ ts) (o ∷ os) = (operand_of s ls spot (w, t) ≡ Ok o) × AreMade ws ts os
+  AreMade _ _ _ = ⊥
 
-none_good : (len : ℕ) (ws : List OperandKind) (ps : List (OperandKind × List ℕ)) → paired ws [] ≡ Some ps → (ps ≡ []) × AllGood len ws []
-none_good len [] ps p = (sym (cc p), tt)
-none_good len (w ∷ ws) ps p = go (is_optional w) refl p (none_good len ws ps)
-  where
-    go : (b : Bool) → is_optional w ≡ b → (if b then paired ws [] else None) ≡ Some ps → (paired ws [] ≡ Some ps → (ps ≡ []) × AllGood len ws []) → (ps ≡ []) × AllGood len (w ∷ ws) []
-    go true q r known = let m = known r in (m.0, (q, m.1))
-    go false q r known = absurd (cc r)
+  all_made : (ws : List OperandKind) (ts : List (List ℕ)) (more : List CheckCode) → length ws ≡ length ts → (filter_map result_err (map (operand_of s ls spot) (zip ws ts)) ++ more) ≡ [] → AreMade ws ts (filter_map result_ok (map (operand_of s ls spot) (zip ws ts)))
+  all_made [] [] more same none = tt
+  all_made [] (t ∷ ts) more same none = absurd (cc same)
+  all_made (w ∷ ws) [] more same none = absurd (cc same)
+  all_made (w ∷ ws) (t ∷ ts) more same none = go (operand_of s ls spot (w, t)) refl none (all_made ws ts more (omega (arith, same)))
+    where
+      go : (r : Result Operand CheckCode) → operand_of s ls spot (w, t) ≡ r → (filter_map result_err (r ∷ map (operand_of s ls spot) (zip ws ts)) ++ more) ≡ [] → ((filter_map result_err (map (operand_of s ls spot) (zip ws ts)) ++ more) ≡ [] → AreMade ws ts (filter_map result_ok (map (operand_of s ls spot) (zip ws ts)))) → AreMade (w ∷ ws) (t ∷ ts) (filter_map result_ok (r ∷ map (operand_of s ls spot) (zip ws ts)))
+      go (Ok o) e left rest = (e, rest left)
+      go (Err c) e left rest = absurd (cc left)
 
-all_good : (s : CheckScope) (ls : List Label) (spot : Spot) (ws : List OperandKind) (ts : List (List ℕ)) (ps : List (OperandKind × List ℕ)) (more : List CheckCode) → Sound s.tags → paired ws ts ≡ Some ps → (filter_map result_err (map (operand_of s ls spot) ps) ++ more) ≡ [] → AllGood (bytes s.tags) ws (filter_map result_ok (map (operand_of s ls spot) ps))
-all_good s ls spot [] [] ps more sound p q =
-    let none : [] ≡ ps = cc p in
-    subst (λ zs. AllGood (bytes s.tags) [] (filter_map result_ok (map (operand_of s ls spot) zs))) none tt
-all_good s ls spot [] (t ∷ ts) ps more sound p q = absurd (cc p)
-all_good s ls spot (w ∷ ws) [] ps more sound p q = go (is_optional w) refl p
-  where
-    go : (b : Bool) → is_optional w ≡ b → (if b then paired ws [] else None) ≡ Some ps → AllGood (bytes s.tags) (w ∷ ws) (filter_map result_ok (map (operand_of s ls spot) ps))
-    go true f g = let m = none_good (bytes s.tags) ws ps g in subst (λ zs. AllGood (bytes s.tags) (w ∷ ws) (filter_map result_ok (map (operand_of s ls spot) zs))) (sym m.0) (f, m.1)
-    go false f g = absurd (cc g)
-all_good s ls spot (w ∷ ws) (t ∷ ts) ps more sound p q =
-    let l = longer w t (paired ws ts) ps p in
-    subst (λ zs. AllGood (bytes s.tags) (w ∷ ws) (filter_map result_ok (map (operand_of s ls spot) zs))) (sym l.2) (go (operand_of s ls spot (w, t)) refl l.0 l.1 (subst (λ zs. (filter_map result_err (map (operand_of s ls spot) zs) ++ more) ≡ []) l.2 q) (all_good s ls spot ws ts l.0 more sound l.1))
-  where
-    go : (r : Result Operand CheckCode) → operand_of s ls spot (w, t) ≡ r → (rest : List (OperandKind × List ℕ)) → paired ws ts ≡ Some rest → (filter_map result_err (r ∷ map (operand_of s ls spot) rest) ++ more) ≡ [] → ((filter_map result_err (map (operand_of s ls spot) rest) ++ more) ≡ [] → AllGood (bytes s.tags) ws (filter_map result_ok (map (operand_of s ls spot) rest))) → AllGood (bytes s.tags) (w ∷ ws) (filter_map result_ok (r ∷ map (operand_of s ls spot) rest))
-    go (Ok o) e rest f none known = (operand_good s ls spot w t o sound e, known none)
-    go (Err c) e rest f none known = absurd (cc none)
+  made_length : (ws : List OperandKind) (ts : List (List ℕ)) (os : List Operand) → AreMade ws ts os → length os ≡ length ts
+  made_length [] [] [] made = refl
+  made_length (w ∷ ws) (t ∷ ts) (o ∷ os) made = ap suc (made_length ws ts os made.1)
+  made_length _ _ _ made = absurd made
 
--- ---- one of them, and all of them
+  made_end : (ws : List OperandKind) (ts : List (List ℕ)) (os : List Operand) → Sound s.tags → AreMade ws ts os → Each (EndsIn (bytes s.tags)) os
+  made_end [] [] [] sound made = tt
+  made_end (w ∷ ws) (t ∷ ts) (o ∷ os) sound made = ((operand_good s ls spot w t o sound made.0).0, made_end ws ts os sound made.1)
+  made_end _ _ _ sound made = absurd made
 
-all_end : (len : ℕ) (ws : List OperandKind) (os : List Operand) → AllGood len ws os → Each (EndsIn len) os
-all_end len ws [] g = tt
-all_end len [] (o ∷ os) g = absurd g
-all_end len (w ∷ ws) (o ∷ os) g = (g.0.0, all_end len ws os g.1)
+  made_fit : (ws : List OperandKind) (ts : List (List ℕ)) (os : List Operand) → Sound s.tags → AreMade ws ts os → AllFit ws os
+  made_fit [] [] [] sound made = tt
+  made_fit (w ∷ ws) (t ∷ ts) (o ∷ os) sound made = ((operand_good s ls spot w t o sound made.0).1, made_fit ws ts os sound made.1)
+  made_fit _ _ _ sound made = absurd made
 
-no_more : (len : ℕ) (ws : List OperandKind) (os : List Operand) → AllGood len ws os → length os ≤ length ws
-no_more len ws [] g = omega arith
-no_more len [] (o ∷ os) g = absurd g
-no_more len (w ∷ ws) (o ∷ os) g = omega (arith, no_more len ws os g.1)
+  -- ---- the count of a call tells the same as its text
+
+  count_told : (text : List ℕ) (o : Operand) → count_operand text ≡ Ok o → option_and_then as_count (decimal text) ≡ option_and_then as_count (number_told o)
+  count_told text o p = go (option_and_then as_count (decimal text)) refl p
+    where
+      go : (count : Option ℕ) → option_and_then as_count (decimal text) ≡ count → some_or (option_map (λ n. operand.Number (pos n)) count) C2 ≡ Ok o → count ≡ option_and_then as_count (number_told o)
+      go (Some n) e r = sym (told_again (decimal text) n e) ∙ ap (λ (z : Operand). option_and_then as_count (number_told z)) (ok_inj _ _ r)
+      go None e r = err_not_ok _ _ r
+
+  second_told : (ws : List OperandKind) (ts : List (List ℕ)) (os : List Operand) → AreMade (RoutineName ∷ ParameterCount ∷ ws) ts os → option_and_then as_count (second_number ts) ≡ option_and_then as_count (number_told (operand_at os 1))
+  second_told ws (t ∷ second ∷ ts) (o ∷ count ∷ os) made = count_told second count made.1.0
+  second_told ws (t ∷ []) (o ∷ os) made = absurd made.1
+  second_told ws (t ∷ second ∷ ts) (o ∷ []) made = absurd made.1
+  second_told ws _ _ made = absurd made
+
+  call_told : (ws : List OperandKind) (ts : List (List ℕ)) (os : List Operand) (op : Op) → AreMade ws ts os → operand_kinds op (second_number ts) (length ts) ≡ Some ws → op ≡ Jsr → length (fixed_kinds op) < length ts → option_and_then as_count (second_number ts) ≡ option_and_then as_count (number_told (operand_at os 1))
+  call_told ws ts os op made e is more =
+      let b = call_begins (second_number ts) (length ts) ws (subst (λ (o : Op). length (fixed_kinds o) < length ts) is more) (subst (λ (o : Op). operand_kinds o (second_number ts) (length ts) ≡ Some ws) is e) in
+      second_told b.0 ts os (subst (λ (zs : List OperandKind). AreMade zs ts os) b.1 made)
+
+  -- operands that were made of their texts are such as the table wants them
+  made_operands_fit : (ws : List OperandKind) (ts : List (List ℕ)) (os : List Operand) (op : Op) → Sound s.tags → AreMade ws ts os → operand_kinds op (second_number ts) (length ts) ≡ Some ws → OperandsFit op os
+  made_operands_fit ws ts os op sound made e =
+      let same : operand_kinds op (second_number ts) (length ts) ≡ operand_kinds op (number_told (operand_at os 1)) (length ts) =
+      same_kinds op (second_number ts) (number_told (operand_at os 1)) (length ts) (λ hands more. call_told ws ts os op made e (handed_over op hands) more) in
+      let kinds : operand_kinds op (number_told (operand_at os 1)) (length os) ≡ Some ws =
+      ap (operand_kinds op (number_told (operand_at os 1))) (made_length ws ts os made) ∙ sym same ∙ e in
+      subst (λ (o : Option (List OperandKind)). FitSome o os) (sym kinds) (made_fit ws ts os sound made)
 
 all_of : {A : Type 0} (P : A → Type 0) (xs : List A) → Each P xs → All P xs
 all_of P [] h = λ k d b. absurd (omega arith)
 all_of P (x ∷ xs) h = All-cons P x xs h.0 (all_of P xs h.1)
-
-few_kinds : (op : Op) → length (operand_kinds op) ≤ MAX_OPERANDS
-few_kinds Xic = omega arith
-few_kinds Xio = omega arith
-few_kinds Ote = omega arith
-few_kinds Otl = omega arith
-few_kinds Otu = omega arith
-few_kinds Ons = omega arith
-few_kinds Osr = omega arith
-few_kinds Osf = omega arith
-few_kinds Ton = omega arith
-few_kinds Rto = omega arith
-few_kinds Tof = omega arith
-few_kinds Ctu = omega arith
-few_kinds Ctd = omega arith
-few_kinds Res = omega arith
-few_kinds Equ = omega arith
-few_kinds Neq = omega arith
-few_kinds Les = omega arith
-few_kinds Leq = omega arith
-few_kinds Grt = omega arith
-few_kinds Geq = omega arith
-few_kinds Lim = omega arith
-few_kinds Meq = omega arith
-few_kinds Add = omega arith
-few_kinds Sub = omega arith
-few_kinds Mul = omega arith
-few_kinds Div = omega arith
-few_kinds Mod = omega arith
-few_kinds Neg = omega arith
-few_kinds Abs = omega arith
-few_kinds Mov = omega arith
-few_kinds And = omega arith
-few_kinds Or = omega arith
-few_kinds Xor = omega arith
-few_kinds Not = omega arith
-few_kinds Mvm = omega arith
-few_kinds Clr = omega arith
-few_kinds Cop = omega arith
-few_kinds Cps = omega arith
-few_kinds Fll = omega arith
-few_kinds Jsr = omega arith
-few_kinds Ret = omega arith
-few_kinds Tnd = omega arith
-few_kinds Jmp = omega arith
-few_kinds Lbl = omega arith
-few_kinds Mcr = omega arith
-few_kinds Afi = omega arith
-few_kinds Nop = omega arith
-few_kinds Uid = omega arith
-few_kinds Uie = omega arith
-few_kinds Event = omega arith
-
--- ---- all operands, by the table
-
-one_on : (i j : ℕ) → i + 1 + j ≡ i + suc j
-one_on i j = omega arith
-
-from_none : (j : ℕ) → 0 + j ≡ j
-from_none j = omega arith
-
-no_more_on : (i : ℕ) → i ≡ i + 0
-no_more_on i = omega arith
-
-optional_fits : (w : OperandKind) (o : Operand) → is_optional w ≡ true → Fits w o
-optional_fits NoParameters o h = tt
-optional_fits _ o h = absurd (cc h)
-
--- the operands from number i on are those that were good for these kinds
-fit_all : (len : ℕ) (ws : List OperandKind) (os : List Operand) → AllGood len ws os → (i : ℕ) (all : List Operand) → ((j : ℕ) → operand_at all (i + j) ≡ operand_at os j) → FitFrom i ws all
-fit_all len [] os g i all same = tt
-fit_all len (w ∷ ws) [] g i all same = (optional_fits w (operand_at all i) g.0, fit_all len ws [] g.1 (i + 1) all (λ j. ap (operand_at all) (one_on i j) ∙ same (suc j)))
-fit_all len (w ∷ ws) (o ∷ os) g i all same =
-    (subst (Fits w) (sym (ap (operand_at all) (no_more_on i) ∙ same 0)) g.0.1, fit_all len ws os g.1 (i + 1) all (λ j. ap (operand_at all) (one_on i j) ∙ same (suc j)))
-
-kinds_fit : (len : ℕ) (op : Op) (args : List Operand) → AllGood len (operand_kinds op) args → OperandsFit op args
-kinds_fit len op args g = fit_all len (operand_kinds op) args g 0 args (λ j. ap (operand_at args) (from_none j))
 
 -- ---- instructions and rungs
 
@@ -287,48 +228,28 @@ AreShaped len rungs = Each (λ r. Each (IsShaped len) (instructions r)) rungs
 
 module _ (s : CheckScope) (ls : List Label) (sound : Sound s.tags) where
   instruction_shaped : (spot : Spot) (i : SourceIns) (made : Ins) → instruction_of s ls spot i ≡ Ok made → IsShaped (bytes s.tags) made
-  instruction_shaped spot i made p = go (paired (operand_kinds i.op) i.texts) refl p
+  instruction_shaped spot i made p = go (paired i.op i.texts) refl p
     where
-      go : (o : Option (List (OperandKind × List ℕ))) → paired (operand_kinds i.op) i.texts ≡ o → settled ls spot i (operands_of s ls spot o) ≡ Ok made → IsShaped (bytes s.tags) made
+      go : (o : Option (List (OperandKind × List ℕ))) → paired i.op i.texts ≡ o → settled ls spot i (operands_of s ls spot o) ≡ Ok made → IsShaped (bytes s.tags) made
       go None q r =
-          let a = answered_outline spot i.op [] (least (C1 ∷ (label_faults ls spot i ++ length_faults spot))) made r in
-          absurd (cc (none_least (C1 ∷ (label_faults ls spot i ++ length_faults spot)) a.0))
+          let a = answered_outline spot i.op [] (least (C1 ∷ other_faults ls spot i)) made r in
+          absurd (cc (none_least (C1 ∷ other_faults ls spot i) a.0))
       go (Some ps) q r =
           let a = answered_outline spot i.op _ _ made r in
-          let good = all_good s ls spot (operand_kinds i.op) i.texts ps (label_faults ls spot i ++ length_faults spot) sound q (none_least _ a.0) in
-          let args : List Operand = filter_map result_ok (map (operand_of s ls spot) ps) in
-          subst (λ (z : Ins). IsShaped (bytes s.tags) z) (sym a.1) (record {
-            few = omega (arith, no_more (bytes s.tags) (operand_kinds i.op) args good, few_kinds i.op);
-            ends = all_of (EndsIn (bytes s.tags)) args (all_end (bytes s.tags) (operand_kinds i.op) args good);
-            fit = kinds_fit (bytes s.tags) i.op args good;
+          let k = paired_kinds i.op i.texts ps q in
+          let none : (filter_map result_err (map (operand_of s ls spot) (zip k.0 i.texts)) ++ other_faults ls spot i) ≡ [] =
+          subst (λ zs. (filter_map result_err (map (operand_of s ls spot) zs) ++ other_faults ls spot i) ≡ []) k.3 (none_least _ a.0) in
+          let args : List Operand = filter_map result_ok (map (operand_of s ls spot) (zip k.0 i.texts)) in
+          let are = all_made s ls spot k.0 i.texts (other_faults ls spot i) k.2 none in
+          let is : made ≡ record { op = i.op; args = args } = a.1 ∙ ap (λ zs. record { op = i.op; args = filter_map result_ok (map (operand_of s ls spot) zs) }) k.3 in
+          subst (λ (z : Ins). IsShaped (bytes s.tags) z) (sym is) (record {
+            few = omega (arith, made_length s ls spot k.0 i.texts args are, (kinds_counted i.op (second_number i.texts) (length i.texts) k.0 k.1).1);
+            ends = all_of (EndsIn (bytes s.tags)) args (made_end s ls spot k.0 i.texts args sound are);
+            fit = made_operands_fit s ls spot k.0 i.texts args i.op sound are k.1;
           })
 
-  mutual
-    tree_shaped : (spot : Spot) (t : Tree SourceIns) (made : Tree Ins) → checked_tree (instruction_of s ls) spot t ≡ Ok made → Each (IsShaped (bytes s.tags)) (instructions made)
-    tree_shaped spot end made p = subst (λ (z : Tree Ins). Each (IsShaped (bytes s.tags)) (instructions z)) (ok_inj _ _ p) tt
-    tree_shaped spot (one i rest) made p =
-        let a = bind_ok (instruction_of s ls spot i) _ made p in
-        let b = bind_ok (checked_tree (instruction_of s ls) (spot_after 1 spot) rest) _ made a.2 in
-        subst (λ (z : Tree Ins). Each (IsShaped (bytes s.tags)) (instructions z)) (ok_inj _ _ b.2) (instruction_shaped spot i a.0 a.1, tree_shaped (spot_after 1 spot) rest b.0 b.1)
-    tree_shaped spot (fork t legs rest) made p =
-        let a = bind_ok (checked_tree (instruction_of s ls) (spot_after 0 spot) t) _ made p in
-        let b = bind_ok (checked_legs (instruction_of s ls) (spot_after (length (instructions t)) spot) legs) _ made a.2 in
-        let c = bind_ok (checked_tree (instruction_of s ls) (spot_after (length (instructions t) + length (leg_instructions legs)) spot) rest) _ made b.2 in
-        subst (λ (z : Tree Ins). Each (IsShaped (bytes s.tags)) (instructions z)) (ok_inj _ _ c.2) (each_append (IsShaped (bytes s.tags)) (instructions a.0) (leg_instructions b.0 ++ instructions c.0) (tree_shaped (spot_after 0 spot) t a.0 a.1) (each_append (IsShaped (bytes s.tags)) (leg_instructions b.0) (instructions c.0) (legs_shaped (spot_after (length (instructions t)) spot) legs b.0 b.1) (tree_shaped (spot_after (length (instructions t) + length (leg_instructions legs)) spot) rest c.0 c.1)))
-
-    legs_shaped : (spot : Spot) (legs : Legs SourceIns) (made : Legs Ins) → checked_legs (instruction_of s ls) spot legs ≡ Ok made → Each (IsShaped (bytes s.tags)) (leg_instructions made)
-    legs_shaped spot last made p = subst (λ (z : Legs Ins). Each (IsShaped (bytes s.tags)) (leg_instructions z)) (ok_inj _ _ p) tt
-    legs_shaped spot (leg t legs) made p =
-        let a = bind_ok (checked_tree (instruction_of s ls) spot t) _ made p in
-        let b = bind_ok (checked_legs (instruction_of s ls) (spot_after (length (instructions t)) spot) legs) _ made a.2 in
-        subst (λ (z : Legs Ins). Each (IsShaped (bytes s.tags)) (leg_instructions z)) (ok_inj _ _ b.2) (each_append (IsShaped (bytes s.tags)) (instructions a.0) (leg_instructions b.0) (tree_shaped spot t a.0 a.1) (legs_shaped (spot_after (length (instructions t)) spot) legs b.0 b.1))
-
-  rungs_shaped : (rung before : ℕ) (rungs : List Source) (made : List (Tree Ins)) → checked_from (instruction_of s ls) rung before rungs ≡ Ok made → AreShaped (bytes s.tags) made
-  rungs_shaped rung before [] made p = subst (AreShaped (bytes s.tags)) (ok_inj _ _ p) tt
-  rungs_shaped rung before (r ∷ rs) made p =
-      let a = bind_ok (checked_tree (instruction_of s ls) (record { rung = rung; ins = 0; before = before; leads = true }) r) _ made p in
-      let b = bind_ok (checked_from (instruction_of s ls) (suc rung) (before + length (instructions r)) rs) _ made a.2 in
-      subst (AreShaped (bytes s.tags)) (ok_inj _ _ b.2) (tree_shaped (record { rung = rung; ins = 0; before = before; leads = true }) r a.0 a.1, rungs_shaped (suc rung) (before + length (instructions r)) rs b.0 b.1)
+  rungs_shaped : (rungs : List Source) (made : List (Tree Ins)) → checked_from (instruction_of s ls) 0 0 rungs ≡ Ok made → AreShaped (bytes s.tags) made
+  rungs_shaped rungs made p = rungs_have (instruction_of s ls) (IsShaped (bytes s.tags)) instruction_shaped 0 0 rungs made p
 
 -- ---- both
 
@@ -341,4 +262,4 @@ ready_all len [] shaped lie = tt
 ready_all len (r ∷ rs) shaped lie = (ready_one len (instructions r) shaped.0 lie.0, ready_all len rs shaped.1 lie.1)
 
 pub checked_ready : CheckedInBounds → CheckedAreExecutable
-checked_ready lies scope rungs made sound p = ready_all (bytes scope.tags) made (rungs_shaped scope (labels rungs) sound 0 0 rungs made p) (lies scope rungs made sound p)
+checked_ready lies scope rungs made sound p = ready_all (bytes scope.tags) made (rungs_shaped scope (labels rungs) sound rungs made p) (lies scope rungs made sound p)

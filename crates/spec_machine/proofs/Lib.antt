@@ -1,5 +1,10 @@
 pub mod OrderlyTables
 pub mod OrderlyRuns
 pub mod OrderlyLaws
+pub mod CheckedWalk
 pub mod CheckedExecutable
+pub mod CheckedTasks
 pub mod TraceEvents
+pub mod ValidProjects
+pub mod TickFaults
+pub mod ReleasesGo

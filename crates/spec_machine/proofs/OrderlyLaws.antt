@@ -6,11 +6,11 @@ use Rattle.spec_base.proofs.Lists.{value_of_some}
 use Rattle.spec_scan.specs.declared.bound.Effect.{Effect}
 use Rattle.spec_scan.specs.declared.bound.Effect.TheVariants.{Ran, Up, Down, Trigger, CopyStart, Copied, Left, Minor, Major}
 use Rattle.spec_scan.specs.Scan.{advance}
-use Rattle.spec_tables.specs.Tasks.{TaskState, state_of, is_up, is_open, chosen}
+use Rattle.spec_tables.specs.Tasks.{TaskState, Table, state_of, is_up, is_open, chosen}
 use Rattle.spec_machine.specs.State.{State, Scan, Progress, progress_of}
 use Rattle.spec_machine.specs.ProcessorStep.{after_effect, scan_step, task_step, with_progress, task_of}
 use Rattle.spec_machine.specs.Machine.{run}
-use Rattle.spec_machine.specs.TaskLaws.{OneOpen, UpInRun, RanksDiffer, RanksBelowNext, StepOfUpTask}
+use Rattle.spec_machine.specs.TaskLaws.{OneOpen, UpInRun, InhibitedStayDown, RanksDiffer, RanksBelowNext, StepOfUpTask}
 use Rattle.spec_tables.proofs.StateLists.{chosen_up}
 use Rattle.spec_machine.proofs.OrderlyRuns.{run_orderly}
 
@@ -28,6 +28,16 @@ one_open project journal t q h k =
 
 pub up_in_run : UpInRun
 up_in_run project journal t h = let p = value_of_some (state_of (run project journal).table t) h in (run_orderly project journal).in_run t p.0 p.1
+
+pub inhibited_stay_down : InhibitedStayDown
+inhibited_stay_down project journal t h = go (state_of s t) refl
+  where
+    s : Table
+    s = (run project journal).table
+
+    go : (o : Option TaskState) → state_of s t ≡ o → is_some o ≡ false
+    go None g = refl
+    go (Some u) g = absurd (let f : true ≡ false → ⊥ = λ p. cc in f (sym h ∙ (run_orderly project journal).allowed t u g))
 
 pub ranks_differ : RanksDiffer
 ranks_differ project journal t q u v g k e = (run_orderly project journal).differ t q u v g k e

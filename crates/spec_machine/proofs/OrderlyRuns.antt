@@ -1,5 +1,5 @@
 -- Each event keeps the tasks orderly, so they are in every state that a journal leads to.
-use Rattle.std.proofs.Common.{◌≡◌, ℕ, ◌+◌, Bool, true, false, cond, List, [], ◌∷◌, Option, Some, None, refl, sym, subst, Ok, Err}
+use Rattle.std.proofs.Common.{◌≡◌, ℕ, ◌+◌, Bool, true, false, List, [], ◌∷◌, Option, Some, None, refl, sym, ◌∙◌, subst, Ok, Err}
 use Rattle.std.proofs.lemmas.Bool.{cond_both}
 use Rattle.std.specs.Prelude.{ℤ, Result, fold, nat_lt, length}
 use Rattle.std.specs.Int.{w32}
@@ -11,27 +11,28 @@ use Rattle.spec_tables.specs.declared.conn.ConnFault.{ConnFault}
 use Rattle.spec_tables.specs.declared.force.ForceFault.{ForceFault}
 use Rattle.spec_machine.specs.declared.reply.EditFault.{EditFault}
 use Rattle.spec_tables.specs.declared.conn.Slot.{Slot}
-use Rattle.spec_machine.specs.declared.answer.TickReport.{TickReport}
 use Rattle.spec_machine.specs.declared.event.Event.{Event}
 use Rattle.spec_machine.specs.declared.event.Event.TheVariants.{Cpu, Tick, Act}
 use Rattle.spec_machine.specs.declared.event.Action.{Action}
 use Rattle.spec_machine.specs.declared.event.Action.TheVariants.{WordIn, WordOut, Accept, Test, Untest, Assemble, Cancel, ForceInstall, ForceEnable, ForceDisable, ForceRemove, ModeRun, ModeProgram, Clear}
 use Rattle.spec_scan.specs.declared.bound.Effect.{Effect}
 use Rattle.spec_scan.specs.declared.bound.Effect.TheVariants.{Ran, Up, Down, Trigger, CopyStart, Copied, Left, Minor, Major}
-use Rattle.spec_tables.specs.Tasks.{Table, state_of, region_count, chosen, is_up, held, rotate, expired, due}
+use Rattle.spec_tables.specs.declared.task.Release.{Release}
+use Rattle.spec_tables.specs.declared.task.Release.TheVariants.{Released, Overlap, Inhibited}
+use Rattle.spec_tables.specs.Tasks.{Table, state_of, region_count, chosen, release_answer, held, rotate, expired, due}
 use Rattle.spec_scan.specs.Scan.{Advanced, advance}
 use Rattle.spec_tables.specs.Forces.{Forces, forced, enable, remove_all}
 use Rattle.spec_tables.specs.Connections.{slot, io_word}
 use Rattle.spec_machine.specs.Edits.{Edited, accept, on_accepted, test, untest, assemble, cancel}
 use Rattle.spec_machine.specs.Project.{Project}
 use Rattle.spec_machine.specs.State.{State, Scan, Progress, progress_of, programs_of, start}
-use Rattle.spec_machine.specs.Releases.{Released, release_or_overlap}
+use Rattle.spec_machine.specs.Releases.{after_answer, release_task}
 use Rattle.spec_machine.specs.ProcessorStep.{with_progress, scan_ended, after_effect, after_advance, scan_step, task_step}
-use Rattle.spec_machine.specs.Ticks.{Ticked, quiet, noted, release_if_due, after_watchdogs, tick}
-use Rattle.spec_machine.specs.Actions.{Acted, held_or, after_trigger, triggers, put_in, take_out, install_on, force_replied, edit_replied, mode_run_from, mode_program_from, clear_from, act}
+use Rattle.spec_machine.specs.Ticks.{Ticked, quiet, release_if_due, after_watchdogs, tick}
+use Rattle.spec_machine.specs.Actions.{Acted, held_or, triggers, put_in, take_out, install_on, force_replied, edit_replied, mode_run_from, mode_program_from, clear_from, act}
 use Rattle.spec_machine.specs.Machine.{step, run_from as run_on, run}
 use Rattle.spec_tables.proofs.StateLists.{none_up}
-use Rattle.spec_machine.proofs.OrderlyTables.{Orderly, chosen_in_run, down_orderly, stop_orderly, region_orderly, copy_orderly, release_orderly, start_orderly, finish_orderly, rotate_orderly}
+use Rattle.spec_machine.proofs.OrderlyTables.{Orderly, chosen_in_run, down_orderly, stop_orderly, region_orderly, copy_orderly, put_up_orderly, released_free, start_orderly, finish_orderly, rotate_orderly}
 
 abbrev pub IsOrderly : State → Type 0
 IsOrderly s = Orderly s.mode s.table
@@ -45,9 +46,14 @@ from_run m s e h = subst (λ n. Orderly n s) (sym e) h
 
 -- ---- releases
 
-after_release : (t : ℕ) (s : State) → s.mode ≡ Run → IsOrderly s → IsOrderly (release_or_overlap t s).state
-after_release t s e h =
-    cond_both (is_up s.table t) _ _ (λ (r : Released). IsOrderly r.state) (λ q. h) (λ q. from_run s.mode _ e (release_orderly s.table t s.tick (in_run s.mode s.table e h)))
+by_answer : (a : Release) (t : ℕ) (s : State) → release_answer s.table t ≡ a → s.mode ≡ Run → IsOrderly s → IsOrderly (after_answer a t s).state
+by_answer Released t s r e h =
+    from_run s.mode _ e (put_up_orderly s.table t s.tick (released_free s.table t r) (in_run s.mode s.table e h))
+by_answer Overlap t s r e h = h
+by_answer Inhibited t s r e h = h
+
+by_release : (t : ℕ) (s : State) → s.mode ≡ Run → IsOrderly s → IsOrderly (release_task t s).state
+by_release t s e h = by_answer (release_answer s.table t) t s refl e h
 
 -- ---- the processor step
 
@@ -59,7 +65,7 @@ by_effect : (s : State) (t : ℕ) (p : Progress) (n : ℕ) (effect : Effect) →
 by_effect s t p n Ran e h c = h
 by_effect s t p n Up e h c = region_orderly s.mode s.table t (region_count (state_of s.table t) + 1) h c
 by_effect s t p n Down e h c = region_orderly s.mode s.table t _ h c
-by_effect s t p n (Trigger other) e h c = after_release other s e h
+by_effect s t p n (Trigger other) e h c = by_release other s e h
 by_effect s t p n (CopyStart sync) e h c = copy_orderly s.mode s.table t sync h c
 by_effect s t p n (Copied true sync) e h c = copy_orderly s.mode s.table t false h c
 by_effect s t p n (Copied false sync) e h c = h
@@ -87,17 +93,18 @@ by_task s (Some t) h c = by_scan s t (progress_of s t) (progress_of s t).scan (c
 abbrev Running : State → Type 0
 Running s = (s.mode ≡ Run) × IsOrderly s
 
-released_running : (t : ℕ) (s : State) → Running s → Running (release_or_overlap t s).state
-released_running t s h = (cond_both (is_up s.table t) _ _ (λ (r : Released). r.state.mode ≡ Run) (λ q. h.0) (λ q. h.0), after_release t s h.0 h.1)
+answer_keeps_mode : (a : Release) (t : ℕ) (s : State) → (after_answer a t s).state.mode ≡ s.mode
+answer_keeps_mode Released t s = refl
+answer_keeps_mode Overlap t s = refl
+answer_keeps_mode Inhibited t s = refl
 
-noted_running : (t : ℕ) (report : TickReport) (s : State) (f : Option _) → Running s → Running (noted t report s f).state
-noted_running t report s None h = h
-noted_running t report s (Some f) h = h
+released_running : (t : ℕ) (s : State) → Running s → Running (release_task t s).state
+released_running t s h = (answer_keeps_mode (release_answer s.table t) t s ∙ h.0, by_release t s h.0 h.1)
 
 due_running : (ts : List ℕ) (x : Ticked) → Running x.state → Running (fold release_if_due x ts).state
 due_running [] x h = h
 due_running (t ∷ ts) x h =
-    due_running ts (release_if_due x t) (cond_both (due t x.state.tick x.state.table) _ x (λ (y : Ticked). Running y.state) (λ q. noted_running t x.report (release_or_overlap t x.state).state (release_or_overlap t x.state).fault (released_running t x.state h)) (λ q. h))
+    due_running ts (release_if_due x t) (cond_both (due t x.state.tick x.state.table) _ x (λ (y : Ticked). Running y.state) (λ q. released_running t x.state h) (λ q. h))
 
 by_watchdogs : (s : State) (o : Option ℕ) → Running s → IsOrderly (after_watchdogs s o).state
 by_watchdogs s (Some t) h = stop_orderly Faulted s.table
@@ -120,12 +127,8 @@ by_held : (b : Bool) (s : State) (a : Acted) → IsOrderly s → IsOrderly a.sta
 by_held true s a h k = h
 by_held false s a h k = k
 
-trigger_running : (t : ℕ) (s : State) (f : Option _) → IsOrderly s → IsOrderly (after_trigger t s f).state
-trigger_running t s None h = h
-trigger_running t s (Some f) h = h
-
 by_trigger : (s : State) (m : Mode) (o : Option ℕ) → s.mode ≡ m → IsOrderly s → IsOrderly (triggers s m o).state
-by_trigger s Run (Some t) e h = trigger_running t _ (release_or_overlap t s).fault (after_release t s e h)
+by_trigger s Run (Some t) e h = by_release t s e h
 by_trigger s Program (Some t) e h = h
 by_trigger s Faulted (Some t) e h = h
 by_trigger s Run None e h = h

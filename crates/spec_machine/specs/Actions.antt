@@ -1,8 +1,7 @@
 -- The actions of modules and engineers: I/O words, forces, edits and modes.
-use Rattle.std.specs.Prelude.{ℕ, ◌^◌, Bool, true, false, List, map, ℤ, Option, Some, None, Result, Ok, Err, fold}
+use Rattle.std.specs.Prelude.{ℕ, Bool, true, false, List, map, ℤ, Option, Some, None, Result, Ok, Err, fold}
 use Rattle.std.specs.Int.{w32}
 use Rattle.lgx_num.specs.Image.{signed_at, write_signed}
-use Rattle.spec_tables.specs.declared.fault.Fault.{Fault}
 use Rattle.spec_tables.specs.declared.conn.Slot.{Slot}
 use Rattle.spec_machine.specs.declared.reply.Mode.{Mode}
 use Rattle.spec_machine.specs.declared.reply.Mode.TheVariants.{Program, Run, Faulted}
@@ -16,13 +15,13 @@ use Rattle.spec_machine.specs.declared.reply.Reply.TheVariants as reply
 use Rattle.spec_machine.specs.declared.event.Action.{Action}
 use Rattle.spec_machine.specs.declared.event.Action.TheVariants.{WordIn, WordOut, Accept, Test, Untest, Assemble, Cancel, ForceInstall, ForceEnable, ForceDisable, ForceRemove, ModeRun, ModeProgram, Clear}
 use Rattle.spec_machine.specs.declared.answer.Outcome.{Outcome}
-use Rattle.spec_tables.specs.Tasks.{held, start, stop, continuous_task}
+use Rattle.spec_tables.specs.Tasks.{held, start, stop, released_at_run}
 use Rattle.spec_tables.specs.Connections.{slot, io_word}
 use Rattle.spec_tables.specs.Forces.{Forces, forced, install, enable, disable, remove_all}
 use Rattle.spec_machine.specs.Edits.{Book, Edited, accept, on_accepted, test, untest, assemble, cancel, selected}
 use Rattle.spec_scan.specs.Prescan.{prescan}
 use Rattle.spec_machine.specs.State.{State, no_progress, dropped}
-use Rattle.spec_machine.specs.Releases.{release_or_overlap}
+use Rattle.spec_machine.specs.Releases.{AfterRelease, release_task, mask_of, released_mask}
 
 -- the state after an action, and its outcome
 pub record Acted : Type 0 where
@@ -43,14 +42,13 @@ unless_held s a = held_or (held s.table) s a
 
 -- ---- I/O words
 
--- the word is taken; bit t of the mask of released tasks stands for task t
-abbrev pub after_trigger : ℕ → State → Option Fault → Acted
-after_trigger t s None = record { state = s; outcome = record { reply = reply.Done; fault = None; released = 2 ^ t } }
-after_trigger t s (Some f) = record { state = s; outcome = record { reply = reply.Done; fault = Some f; released = 0 } }
+-- the word is taken, with the fault and the mask of its trigger's release
+abbrev pub after_trigger : ℕ → AfterRelease → Acted
+after_trigger t r = record { state = r.state; outcome = record { reply = reply.Done; fault = r.fault; released = released_mask t r.answer } }
 
 -- a trigger releases its event task in Run alone
 abbrev pub triggers : State → Mode → Option ℕ → Acted
-triggers s Run (Some t) = let r = release_or_overlap t s in after_trigger t r.state r.fault
+triggers s Run (Some t) = after_trigger t (release_task t s)
 triggers s _ _ = replied s reply.Done
 
 abbrev pub put_in : State → ℤ → Result Slot ConnFault → Acted
@@ -103,14 +101,9 @@ to_run s = record s { mode = Run; table = start s.tick s.table; progress = map (
 abbrev pub to_program : State → State
 to_program s = record s { mode = Program; table = stop s.table; progress = map dropped s.progress }
 
--- the mask of one task, or of none
-abbrev pub mask_of : Option ℕ → ℕ
-mask_of None = 0
-mask_of (Some t) = 2 ^ t
-
--- Its outcome tells that the continuous task was released.
+-- Its outcome tells the continuous task, if it was released.
 abbrev pub ran : State → Acted
-ran s = record { state = to_run s; outcome = record { reply = reply.Done; fault = None; released = mask_of (continuous_task s.table) } }
+ran s = record { state = to_run s; outcome = record { reply = reply.Done; fault = None; released = mask_of (released_at_run s.table) } }
 
 -- From Faulted no change of mode is taken but `clear`, and a change to the present mode is refused.
 abbrev pub mode_run_from : Mode → State → Acted

@@ -1,5 +1,5 @@
 -- Online edits of rungs (1756-PM008).
-use Rattle.std.specs.Prelude.{ℕ, ◌+◌, Bool, true, false, not, List, [], ◌∷◌, ◌++◌, map, length, nat_lt, nat_le, nat_eq, if◌then◌else◌, Option, Some, None, is_some, Result, Ok, Err, sum_by, flat_map, filter_map, slice_set, slice_index_or}
+use Rattle.std.specs.Prelude.{ℕ, ◌+◌, Bool, true, false, List, [], ◌∷◌, ◌++◌, map, length, nat_lt, nat_le, nat_eq, if◌then◌else◌, Option, Some, None, Result, Ok, Err, sum_by, flat_map, filter_map, slice_set, slice_index_or}
 use Rattle.std.specs.List.{list_any, position_from, enumerate_from}
 use Rattle.spec_base.specs.declared.limits.TheConstants.{MAX_PROGRAM_INSTRUCTIONS}
 use Rattle.lgx_num.specs.Name.{same}
@@ -10,7 +10,7 @@ use Rattle.spec_machine.specs.Commands.{AcceptCommand}
 use Rattle.spec_machine.specs.declared.event.Action.{Action}
 use Rattle.spec_machine.specs.declared.event.Action.TheVariants.{Accept, Test, Untest, Assemble, Cancel}
 use Rattle.spec_machine.specs.declared.reply.EditFault.{EditFault}
-use Rattle.spec_machine.specs.declared.reply.EditFault.TheVariants.{E1, E2, E3, E4, E5, E6, E7, E8, E9, E10, E11, E12}
+use Rattle.spec_machine.specs.declared.reply.EditFault.TheVariants.{E1, E2, E3, E5, E6, E7, E8, E9, E10, E11, E12}
 use Rattle.spec_machine.specs.declared.reply.Reply.{Reply}
 use Rattle.spec_machine.specs.declared.reply.Reply.TheVariants.{Done, Version}
 use Rattle.spec_language.specs.declared.names.TaskName.{TaskName}
@@ -177,13 +177,13 @@ abbrev pub with_changes : ℕ → ℕ → List Change → List Source → Rungs 
 with_changes client r changes source rungs b =
     record b { merged = slice_set b.merged r (record (routine_at b.merged r) { source = source; checked = rungs }); accepted = b.accepted ++ map (λ c. record { routine = r; change = c }) changes; newest = b.newest + 1; owner = Some client }
 
--- An accept on a routine's book. Refused are another client's program; a program under test; the first edit of a rung
--- that isn't there; the first that replaces or deletes a rung a second time; the first whose text is refused; a merged
--- routine that is refused; and a merged program with too many instructions.
+-- An accept on a routine's book; it may be tested, and stays so: then the new merged rungs are selected. Refused are
+-- another client's program; the first edit of a rung that isn't there; the first that replaces or deletes a rung a second
+-- time; the first whose text is refused; a merged routine that is refused; and a merged program with too many
+-- instructions.
 abbrev pub accept_in : CheckScope → ℕ → ℕ → List RungEdit → Book → Result Book EditFault
 accept_in scope client r edits b = do
   _ ← none_or (other_owner b client) E3
-  _ ← unless (not b.testing) E4
   _ ← none_or (position_from (is_misplaced (length (routine_at b.base r).source)) 0 edits) E5
   _ ← none_or (first_again 0 (flat_map taken_by (changes_in b r)) edits) E6
   changes ← changes_of 0 edits
@@ -207,6 +207,9 @@ accept tags tasks books client command = do
     b' ← accept_in (scope_of tags tasks n b) client r command.edits b
     Ok (record { books = slice_set books n b'; reply = Version b'.newest })
 
+abbrev pub has_accepted : Book → Bool
+has_accepted b = nat_lt 0 (length b.accepted)
+
 -- The other four are refused if the program isn't there, if it is another client's, if nothing is accepted, and
 -- then by a cause of their own.
 abbrev pub on_accepted : (Book → Result Book EditFault) → List Book → ℕ → List ℕ → Result Edited EditFault
@@ -214,7 +217,7 @@ on_accepted change books client name = do
   n ← program_named books name
   let b = book_at books n in do
     _ ← none_or (other_owner b client) E3
-    _ ← unless (is_some b.owner) E10
+    _ ← unless (has_accepted b) E10
     b' ← change b
     Ok (record { books = slice_set books n b'; reply = Done })
 

@@ -12,3 +12,6 @@ pub mod Machine
 pub mod Report
 pub mod TaskLaws
 pub mod ExecutableLaws
+pub mod ValidProject
+pub mod TickLaws
+pub mod ReleaseLaws

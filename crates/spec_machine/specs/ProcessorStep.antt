@@ -15,7 +15,7 @@ use Rattle.spec_scan.specs.Scan.{Advanced, advance}
 use Rattle.spec_tables.specs.Tasks.{Table, chosen, finish, region_up, region_down, region_clear, set_copy}
 use Rattle.spec_machine.specs.Edits.{book_at, selected, selected_number}
 use Rattle.spec_machine.specs.State.{State, Scan, Progress, progress_of, programs_of, dropped, with_fault}
-use Rattle.spec_machine.specs.Releases.{Released, program_fault, major_fault, release_or_overlap}
+use Rattle.spec_machine.specs.Releases.{AfterRelease, program_fault, major_fault, release_task}
 
 -- the state after a step, and what is told of it
 pub record Stepped : Type 0 where
@@ -67,7 +67,8 @@ scan_ended t p s =
 
 -- ---- a step of the scan in progress
 
-abbrev pub triggered : What → ℕ → Released → Stepped
+-- the moment has the mark whatever the release is answered
+abbrev pub triggered : What → ℕ → AfterRelease → Stepped
 triggered what t r = told r.state what (mark.Trigger t) r.fault
 
 -- what the effect of a scan's step does to the tasks and to the list of faults; s has its image, flags and position
@@ -81,7 +82,7 @@ after_effect s t p n effect = go effect
     go Ran = plainly s ran
     go Up = told (with_table (region_up t s.table) s) ran mark.Up None
     go Down = told (with_table (region_down t s.table) s) ran mark.Down None
-    go (Trigger other) = triggered ran other (release_or_overlap other s)
+    go (Trigger other) = triggered ran other (release_task other s)
     go (CopyStart sync) = told (with_table (set_copy t sync s.table) s) ran (mark.CopyStart sync) None
     go (Copied true sync) = told (with_table (set_copy t false s.table) s) (what.Copied t n) (mark.CopyEnd sync) None
     go (Copied false sync) = plainly s (what.Copied t n)

@@ -1,8 +1,8 @@
 -- Laws of the tasks in every state that a journal leads to.
-use Rattle.std.specs.Prelude.{◌≡◌, ℕ, ◌<◌, IsTrue, List, Some}
+use Rattle.std.specs.Prelude.{◌≡◌, ℕ, ◌<◌, true, false, IsTrue, List, Some}
 use Rattle.spec_machine.specs.declared.event.Event.{Event}
 use Rattle.spec_machine.specs.declared.reply.Mode.TheVariants.{Run}
-use Rattle.spec_tables.specs.Tasks.{TaskState, state_of, is_up, is_open}
+use Rattle.spec_tables.specs.Tasks.{TaskState, task, state_of, is_up, is_open}
 use Rattle.spec_machine.specs.Project.{Project}
 use Rattle.spec_machine.specs.State.{State}
 use Rattle.spec_machine.specs.ProcessorStep.{processor_step, task_of}
@@ -20,6 +20,10 @@ OpenIsUp = (s : State) (t : ℕ) → IsTrue (is_open (state_of s.table t)) → I
 -- Tasks are up in Run alone, so outside Run nothing is open.
 abbrev pub UpInRun : Type 0
 UpInRun = (project : Project) (journal : List Event) (t : ℕ) → IsTrue (is_up (run project journal).table t) → (run project journal).mode ≡ Run
+
+-- An inhibited task is never up.
+abbrev pub InhibitedStayDown : Type 0
+InhibitedStayDown = (project : Project) (journal : List Event) (t : ℕ) → (task (run project journal).table t).inhibited ≡ true → is_up (run project journal).table t ≡ false
 
 -- The ranks of tasks that are up differ, and each is below the next rank.
 abbrev pub RanksDiffer : Type 0

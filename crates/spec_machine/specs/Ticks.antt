@@ -1,14 +1,15 @@
 -- The tick: one stands for a millisecond (profile).
 use Rattle.std.specs.Prelude.{ℕ, ◌+◌, ◌^◌, length, if◌then◌else◌, Option, Some, None, fold}
 use Rattle.std.specs.List.{range_with_len}
-use Rattle.spec_tables.specs.declared.fault.Fault.{Fault}
 use Rattle.spec_tables.specs.declared.fault.Severity.TheVariants.{Major}
 use Rattle.spec_machine.specs.declared.reply.Mode.{Mode}
 use Rattle.spec_machine.specs.declared.reply.Mode.TheVariants.{Run}
 use Rattle.spec_machine.specs.declared.answer.TickReport.{TickReport}
+use Rattle.spec_tables.specs.declared.task.Release.{Release}
+use Rattle.spec_tables.specs.declared.task.Release.TheVariants.{Released, Overlap, Inhibited}
 use Rattle.spec_tables.specs.Tasks.{rotate, expired, due}
 use Rattle.spec_machine.specs.State.{State}
-use Rattle.spec_machine.specs.Releases.{task_fault, major_fault, release_or_overlap}
+use Rattle.spec_machine.specs.Releases.{AfterRelease, task_fault, major_fault, release_task}
 
 -- the state after a tick, and its report: the task whose watchdog ran out, and masks of the tasks that were released and
 -- of those that overlapped, bit t standing for task t
@@ -19,14 +20,17 @@ pub record Ticked : Type 0 where
 abbrev pub quiet : TickReport
 quiet = record { watchdog = None; released = 0; overlapped = 0 }
 
--- task t was released, or it overlapped with this fault
-abbrev pub noted : ℕ → TickReport → State → Option Fault → Ticked
-noted t report s None = record { state = s; report = record report { released = report.released + 2 ^ t } }
-noted t report s (Some f) = record { state = s; report = record report { overlapped = report.overlapped + 2 ^ t } }
+-- the report with the answer of a task's release
+abbrev pub noted : ℕ → TickReport → Release → TickReport
+noted t report Released = record report { released = report.released + 2 ^ t }
+noted t report Overlap = record report { overlapped = report.overlapped + 2 ^ t }
+noted t report Inhibited = report
+
+abbrev pub after_release : ℕ → TickReport → AfterRelease → Ticked
+after_release t report r = record { state = r.state; report = noted t report r.answer }
 
 abbrev pub release_if_due : Ticked → ℕ → Ticked
-release_if_due x t =
-    let r = release_or_overlap t x.state in if due t x.state.tick x.state.table then noted t x.report r.state r.fault else x
+release_if_due x t = if due t x.state.tick x.state.table then after_release t x.report (release_task t x.state) else x
 
 -- each due task, in project order
 abbrev pub release_due : State → Ticked
@@ -45,6 +49,6 @@ in_mode Run s = in_run s
 in_mode _ s = record { state = s; report = quiet }
 
 -- The tick number grows by one. In Run, in this order: the chosen task takes the next rank, unless it has something
--- open; the first task whose watchdog ran out is at fault; each due periodic task is released or overlaps.
+-- open; the first task whose watchdog ran out is at fault; each due periodic task is released, or overlaps, or is inhibited.
 abbrev pub tick : State → Ticked
 tick s = in_mode s.mode (record s { tick = s.tick + 1 })

@@ -3,15 +3,14 @@ use lgx_rung::{CheckFault, TextFault};
 use spec_tables::{ConnFault, ForceFault};
 
 /// Why an edit is refused: no program (E1), no routine (E2), another client owns the program's edits (E3, with the owner),
-/// it is tested (E4), the edit of a rung that isn't there (E5, with the edit's place from 0), of a rung that an edit replaced
-/// or deleted before (E6, likewise), with a text that is no rung (E7, likewise), a merged routine that is refused (E8), more
-/// than `MAX_PROGRAM_INSTRUCTIONS` (E9), nothing accepted (E10), already tested (E11), not tested (E12).
+/// the edit of a rung that isn't there (E5, with the edit's place from 0), of a rung that an edit replaced or deleted before
+/// (E6, likewise), with a text that is no rung (E7, likewise), a merged routine that is refused (E8), more than
+/// `MAX_PROGRAM_INSTRUCTIONS` (E9), nothing accepted (E10), already tested (E11), not tested (E12).
 #[derive(Clone, Copy, PartialEq, Eq, Debug)]
 pub enum EditFault {
     E1,
     E2,
     E3(u32),
-    E4,
     E5(u32),
     E6(u32),
     E7(u32, TextFault),

@@ -1,1 +1,5 @@
 pub mod KeptKinds
+pub mod CallOperands
+pub mod RowControls
+pub mod KeptReturns
+pub mod TriggeredTasks

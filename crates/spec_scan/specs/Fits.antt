@@ -1,12 +1,12 @@
 -- When operands are such as the table of operands wants them, as far as an instruction rests on it: what is written, counted
 -- in, filled, called or triggered is of its kind. Both before and after the operands' places are worked out.
-use Rattle.std.specs.Prelude.{◌≡◌, ℕ, ◌+◌, ◌⊎◌, List, [], ◌∷◌, slice_index_or}
+use Rattle.std.specs.Prelude.{◌≡◌, ℕ, ◌+◌, ◌⊎◌, IsTrue, List, [], ◌∷◌, length, slice_index_or, ℤ, Option, Some, None, is_some}
 use Rattle.lgx_num.specs.declared.place.Operand.{Operand}
 use Rattle.lgx_num.specs.declared.place.Operand.TheVariants as operand
 use Rattle.lgx_rung.specs.declared.op.Op.{Op}
 use Rattle.lgx_rung.specs.declared.operands.OperandKind.{OperandKind}
-use Rattle.lgx_rung.specs.declared.operands.OperandKind.TheVariants.{BoolPlace, IntegerPlace, WholeTimer, WholeCounter, TimerOrCounter, FillTarget, RoutineName, EventTask}
-use Rattle.lgx_rung.specs.OperandTable.{operand_kinds}
+use Rattle.lgx_rung.specs.declared.operands.OperandKind.TheVariants.{BoolPlace, IntegerPlace, WholeTimer, WholeCounter, TimerOrCounter, FillTarget, RoutineName, ParameterCount, EventTask}
+use Rattle.lgx_rung.specs.OperandTable.{as_count, fixed_kinds, operand_kinds}
 use Rattle.spec_scan.specs.declared.bound.Arg.{Arg}
 use Rattle.spec_scan.specs.declared.bound.Arg.TheVariants as bound
 use Rattle.spec_scan.specs.Arguments.{arg}
@@ -41,6 +41,11 @@ abbrev pub IsRoutine : Operand → Type 0
 IsRoutine (operand.Routine n) = Unit {0}
 IsRoutine _ = ⊥
 
+-- the number of a call's inputs
+abbrev pub IsCount : Operand → Type 0
+IsCount (operand.Number n) = IsTrue (is_some (as_count n))
+IsCount _ = ⊥
+
 abbrev pub IsTask : Operand → Type 0
 IsTask (operand.Task n) = Unit {0}
 IsTask _ = ⊥
@@ -53,16 +58,29 @@ Fits WholeCounter o = IsCounter o
 Fits TimerOrCounter o = IsTimer o ⊎ IsCounter o
 Fits FillTarget o = IsIntegers o
 Fits RoutineName o = IsRoutine o
+Fits ParameterCount o = IsCount o
 Fits EventTask o = IsTask o
 Fits _ o = Unit {0}
 
--- the operands from number i on are of these kinds
-abbrev pub FitFrom : ℕ → List OperandKind → List Operand → Type 0
-FitFrom i [] operands = Unit {0}
-FitFrom i (kind ∷ kinds) operands = Fits kind (operand_at operands i) × FitFrom (i + 1) kinds operands
+-- each operand is of the kind beside it, and there is none without a kind and no kind without an operand
+abbrev pub AllFit : List OperandKind → List Operand → Type 0
+AllFit [] [] = Unit {0}
+AllFit [] (o ∷ os) = ⊥
+AllFit (kind ∷ kinds) [] = ⊥
+AllFit (kind ∷ kinds) (o ∷ os) = Fits kind o × AllFit kinds os
 
+abbrev pub FitSome : Option (List OperandKind) → List Operand → Type 0
+FitSome None operands = ⊥
+FitSome (Some kinds) operands = AllFit kinds operands
+
+-- the number that an operand is, if it is one
+abbrev pub number_told : Operand → Option ℤ
+number_told (operand.Number n) = Some n
+number_told _ = None
+
+-- there are as many operands as the mnemonic wants, each of the kind that it wants
 abbrev pub OperandsFit : Op → List Operand → Type 0
-OperandsFit op operands = FitFrom 0 (operand_kinds op) operands
+OperandsFit op operands = FitSome (operand_kinds op (number_told (operand_at operands 1)) (length operands)) operands
 
 -- ---- operands with their places worked out
 
@@ -96,5 +114,6 @@ abbrev pub ArgsFitFrom : ℕ → List OperandKind → List Arg → Type 0
 ArgsFitFrom i [] args = Unit {0}
 ArgsFitFrom i (kind ∷ kinds) args = ArgFits kind (arg args i) × ArgsFitFrom (i + 1) kinds args
 
+-- the operands that an instruction always has are of their kinds
 abbrev pub ArgsFit : Op → List Arg → Type 0
-ArgsFit op args = ArgsFitFrom 0 (operand_kinds op) args
+ArgsFit op args = ArgsFitFrom 0 (fixed_kinds op) args

@@ -7,8 +7,12 @@ pub mod Comparisons
 pub mod Arithmetic
 pub mod Copies
 pub mod Position
+pub mod Next
+pub mod Parameters
 pub mod Instructions
 pub mod Fits
 pub mod Executable
+pub mod KnownTasks
+pub mod Returns
 pub mod Scan
 pub mod Prescan

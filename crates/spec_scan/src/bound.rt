@@ -1,12 +1,12 @@
 // Operands whose places are worked out, a copy in progress, and what a step of the engine did.
 ghost use Rattle.std.specs.Prelude.{◌≡◌, ◌<◌, ◌≤◌, ◌++◌, [], ◌∷◌, ◌==◌, length};
-ghost use Rattle.spec_base.specs.declared.limits.TheConstants.{MAX_OPERANDS};
+ghost use Rattle.spec_base.specs.declared.limits.TheConstants.{MAX_BOUND_OPERANDS};
 ghost use Rattle.spec_scan.specs.Arguments.{arg, place_of, byte_of, size_of, room_of};
 ghost use Rattle.spec_scan.specs.Fits.{IsPlace};
 
 use arrayvec::ArrayVec;
 use lgx_num::{Flag, Place};
-use spec_base::limits::MAX_OPERANDS;
+use spec_base::limits::MAX_BOUND_OPERANDS;
 use std::marker::Model;
 
 /// An operand with its place worked out.
@@ -75,22 +75,23 @@ impl Arg {
     }
 }
 
-/// The operands of an instruction with their places worked out, at most three, in order. It takes no memory.
+/// The operands of an instruction with their places worked out, at most [`MAX_BOUND_OPERANDS`], in order: JSR, SBR and RET,
+/// which may have more, have theirs worked out one by one. It takes no memory.
 #[derive(Drop)]
 pub struct Bound {
-    list: ArrayVec<Arg, MAX_OPERANDS>,
+    list: ArrayVec<Arg, MAX_BOUND_OPERANDS>,
 }
 
 impl Model for Bound {
     ghost use Rattle.std.specs.Prelude.{List, ◌≤◌, length};
-    ghost use Rattle.spec_base.specs.declared.limits.TheConstants.{MAX_OPERANDS};
+    ghost use Rattle.spec_base.specs.declared.limits.TheConstants.{MAX_BOUND_OPERANDS};
     ghost use Rattle.spec_scan.specs.declared.bound.Arg.{Arg};
 
     ghost Value = { List Arg };
 
     ghost view = { λ b. b.list.items };
 
-    ghost invariant = { λ b. length b.list.items ≤ MAX_OPERANDS };
+    ghost invariant = { λ b. length b.list.items ≤ MAX_BOUND_OPERANDS };
 }
 
 impl Bound {
@@ -105,7 +106,7 @@ impl Bound {
 
     /// Adds an operand behind the others. There must be room.
     pub fn push(&mut self, arg: Arg)
-        requires { length self.old < MAX_OPERANDS }
+        requires { length self.old < MAX_BOUND_OPERANDS }
         ensures { self.new ≡ self.old ++ arg ∷ [] }
     {
         self.list.push(arg);
@@ -124,7 +125,7 @@ impl Bound {
     /// The operands, in order.
     pub fn as_slice(&self) -> &[Arg]
         ensures value { result.now ≡ self.now }
-        ensures room { length result.now ≤ MAX_OPERANDS }
+        ensures room { length result.now ≤ MAX_BOUND_OPERANDS }
     {
         self.list.as_slice()
     }
@@ -132,7 +133,7 @@ impl Bound {
     /// The number of operands.
     pub fn len(&self) -> usize
         ensures value { result ≡ length self.now }
-        ensures room { result ≤ MAX_OPERANDS }
+        ensures room { result ≤ MAX_BOUND_OPERANDS }
     {
         self.list.len()
     }

@@ -3,5 +3,7 @@
 #![tactic(auto)]
 
 mod bound;
+mod scan_laws;
 
 pub use bound::{Arg, Bound, Copying, Effect};
+pub use scan_laws::steps_keep_returns;

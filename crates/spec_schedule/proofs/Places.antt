@@ -1,5 +1,5 @@
 -- Lists cut at places: what stands before, at and after an element with a property.
-use Rattle.std.specs.Prelude.{◌≡◌, ℕ, ◌+◌, suc, Bool, true, false, not, cond, ◌&&◌, ◌||◌, List, [], ◌∷◌, ◌++◌, take, drop, take_while, filter_map, Option, Some, None, refl, nat_eq}
+use Rattle.std.specs.Prelude.{◌≡◌, ℕ, Bool, true, false, cond, ◌||◌, List, [], ◌∷◌, ◌++◌, drop, take_while, filter_map, Option, Some, None, refl, nat_eq}
 use Rattle.std.specs.List.{AllByRecursion as Each, cons_option, list_any, prefix_len}
 use Rattle.std.proofs.Common.{ap, sym, subst, ◌∙◌, eqb-true, eq-eqb}
 use Rattle.std.proofs.Math.Numerals.{one-add}

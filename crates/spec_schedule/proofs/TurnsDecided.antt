@@ -1,9 +1,9 @@
 -- The test of turns decides their law.
-use Rattle.std.specs.Prelude.{◌≡◌, ℕ, ◌+◌, suc, Bool, true, false, not, cond, ◌||◌, ◌∷◌, ◌++◌, [], List, take_while, drop, filter_map, Option, Some, None, refl, nat_eq, if◌then◌else◌}
+use Rattle.std.specs.Prelude.{◌≡◌, ℕ, ◌+◌, Bool, true, false, not, cond, ◌∷◌, ◌++◌, [], List, take_while, drop, filter_map, Option, Some, None, refl, nat_eq, if◌then◌else◌}
 use Rattle.std.specs.List.{AllByRecursion as Each, list_any, prefix_len}
 use Rattle.std.proofs.Common.{ap, sym, subst, ◌∙◌, eqb-true, eq-eqb}
 use Rattle.std.proofs.Math.Numerals.{one-add}
-use Rattle.std.proofs.lemmas.Bool.{and_from, or_right, not-true, not-false, not_from_false, true_from_ne_false}
+use Rattle.std.proofs.lemmas.Bool.{and_from, not-true, not-false, not_from_false, true_from_ne_false}
 use Rattle.std.proofs.lemmas.List.{append_assoc}
 use Rattle.spec_base.proofs.Lists.{each_map}
 use Rattle.spec_schedule.specs.declared.trace.Table.{Table}

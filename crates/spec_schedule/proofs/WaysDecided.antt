@@ -2,7 +2,7 @@
 use Rattle.std.specs.Prelude.{◌≡◌, ℕ, Bool, true, false, not, ◌&&◌, ◌||◌, ◌∷◌, ◌++◌, [], List, take_while, Option, Some, None, refl, nat_eq}
 use Rattle.std.specs.List.{AllByRecursion as Each, list_any, list_all}
 use Rattle.std.proofs.Common.{ap, sym, subst, ◌∙◌, eqb-true, eq-eqb}
-use Rattle.std.proofs.lemmas.Bool.{and_from, and_parts, or_parts, or_from, not-true, not_from_true, not_from_false, false_from_ne_true}
+use Rattle.std.proofs.lemmas.Bool.{and_from, and_parts, or_parts, or_from, not-true, not_from_false, false_from_ne_true}
 use Rattle.std.proofs.lemmas.List.{append_assoc, take-append-drop}
 use Rattle.spec_base.proofs.Lists.{each_map}
 use Rattle.spec_schedule.specs.declared.trace.TraceEvent.{TraceEvent}

@@ -1,6 +1,6 @@
 -- What is counted along a trace: which tasks are up, their regions and synchronous copies, and the numbers that the
 -- accepted edits select. Ranks, queues and positions don't occur.
-use Rattle.std.specs.Prelude.{ℕ, ◌+◌, ◌-◌, List, [], ◌∷◌, map, replicate, Bool, true, false, ◌||◌, nat_lt, nat_eq, if◌then◌else◌, Option, Some, None}
+use Rattle.std.specs.Prelude.{ℕ, ◌+◌, ◌-◌, List, [], ◌∷◌, map, replicate, Bool, true, false, not, ◌&&◌, ◌||◌, nat_lt, nat_eq, if◌then◌else◌, Option, Some, None}
 use Rattle.std.specs.Int.{bit_at}
 use Rattle.std.specs.List.{enumerate_from, zip}
 use Rattle.spec_schedule.specs.declared.trace.TraceMark.{TraceMark}
@@ -48,7 +48,8 @@ marked SyncEnd c = record c { cps_open = false }
 marked _ c = c
 
 -- A program has ended, and the region with it. A task goes down with its last program; a continuous one is released
--- again in the same moment.
+-- again in the same moment, also if the table says that it is inhibited. Of a run such a task never steps, so this is of
+-- traces alone that are no run's.
 abbrev pub after_last_program : AuditTask → Counted → Counted
 after_last_program d c = if d.continuous then released (gone_down c) else gone_down c
 
@@ -62,15 +63,16 @@ stops (Tick _ _ (Some t)) = true
 stops (Act _ Program _ Done _) = true
 stops _ = false
 
--- a task is released by its bit in the mask of a tick or an action, or by a trigger in a step without a fault
+-- a task is released by its bit in the mask of a tick or an action, or by a trigger in a step without a fault, unless it
+-- is inhibited
 abbrev pub has_bit : ℕ → ℕ → Bool
 has_bit mask t = nat_eq (bit_at mask t) 1
 
-abbrev pub releases : TraceEvent → ℕ → Bool
-releases (Step _ _ (Trigger u) NoFault) t = nat_eq u t
-releases (Tick mask _ _) t = has_bit mask t
-releases (Act _ _ _ _ mask) t = has_bit mask t
-releases _ t = false
+abbrev pub releases : AuditTask → TraceEvent → ℕ → Bool
+releases d (Step _ _ (Trigger u) NoFault) t = nat_eq u t && not d.inhibited
+releases d (Tick mask _ _) t = has_bit mask t
+releases d (Act _ _ _ _ mask) t = has_bit mask t
+releases d _ t = false
 
 -- the task of a processor step, unless it is idle
 abbrev pub stepping : TraceEvent → Option ℕ
@@ -96,7 +98,7 @@ stepped d _ c = c
 -- what an event does to the counts of task t
 abbrev pub counted : AuditTask → ℕ → TraceEvent → Counted → Counted
 counted d t e c =
-    if stops e then gone_down c else (let c' = if steps_here e t then stepped d e c else c in if releases e t then released c' else c')
+    if stops e then gone_down c else (let c' = if steps_here e t then stepped d e c else c in if releases d e t then released c' else c')
 
 -- a task by its number, with what the laws ask of it and its counts
 pub record CountedTask : Type 0 where
@@ -113,25 +115,25 @@ counted_all tasks e counts = map (λ x. counted x.task x.number e x.counts) (cou
 
 -- ---- versions
 
--- A program's numbers by the answers to its edits: the base text's, the last accept's, and whether the program is
+-- A program's numbers by the answers to its edits: the base text's, the merged text's, and whether the program is
 -- testing. The merged text has the last accept's number, and an assemble makes it the base.
 pub record Numbers : Type 0 where
   pub base : ℕ
-  pub newest : ℕ
+  pub merged : ℕ
   pub testing : Bool
 
 abbrev pub unedited : Numbers
-unedited = record { base = 0; newest = 0; testing = false }
+unedited = record { base = 0; merged = 0; testing = false }
 
--- the number of the text that is selected
+-- the number of the text that is selected: an accept while testing selects its own
 abbrev pub selected_number : Numbers → ℕ
-selected_number n = if n.testing then n.newest else n.base
+selected_number n = if n.testing then n.merged else n.base
 
 abbrev pub edited : Verb → TraceAnswer → Numbers → Numbers
-edited Accept (Number k) n = record n { newest = k }
+edited Accept (Number k) n = record n { merged = k }
 edited Test Done n = record n { testing = true }
 edited Untest Done n = record n { testing = false }
-edited Assemble Done n = record n { base = n.newest; testing = false }
+edited Assemble Done n = record n { base = n.merged; testing = false }
 edited Cancel Done n = record n { testing = false }
 edited _ _ n = n
 

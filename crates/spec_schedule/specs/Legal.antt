@@ -1,6 +1,6 @@
 -- The legal schedule, by counting along a trace: the priority law, the turn law, and the version law as far as it
 -- speaks of numbers.
-use Rattle.std.specs.Prelude.{ℕ, ◌+◌, List, [], ◌∷◌, drop, slice_index_or, take_while, filter_map, Bool, true, false, not, ◌&&◌, ◌||◌, nat_lt, nat_eq, if◌then◌else◌, Option, Some, None, IsTrue}
+use Rattle.std.specs.Prelude.{ℕ, List, [], ◌∷◌, drop, slice_index_or, take_while, filter_map, Bool, true, false, not, ◌&&◌, ◌||◌, nat_lt, nat_eq, if◌then◌else◌, Option, Some, None, IsTrue}
 use Rattle.std.specs.List.{list_any, list_all, prefix_len, enumerate_from}
 use Rattle.spec_schedule.specs.declared.trace.TraceEvent.{TraceEvent}
 use Rattle.spec_schedule.specs.declared.trace.TraceEvent.TheVariants.{Idle, Began, Step, Left, Tick, Act}
@@ -9,7 +9,7 @@ use Rattle.spec_schedule.specs.declared.trace.Table.{Table}
 use Rattle.spec_schedule.specs.Counting.{Counted, uncounted, is_open, unedited, selected_number, stepping, steps_here, CountedTask, counted_tasks, CountedEvent, counted_events}
 
 abbrev pub no_task : AuditTask
-no_task = record { continuous = false; priority = 0; programs = 0 }
+no_task = record { continuous = false; priority = 0; programs = 0; inhibited = false }
 
 abbrev pub priority_of : Table → ℕ → ℕ
 priority_of table t = (slice_index_or table.tasks t no_task).priority
@@ -41,13 +41,18 @@ keeps_priority table x = check x.event
     check (Left t _ _) = may_step table x t
     check _ = true
 
--- An open region isn't interrupted, and neither is an open CPS: while a task has one, no other task steps. The priority
--- law alone leaves this open for a task of higher priority.
+-- ---- the law of regions
+
+-- An open region isn't interrupted, and neither is an open CPS: while a task has one, no other task steps, of whatever
+-- priority. The priority law alone leaves this open for a task of higher priority and, after a tick, of equal priority.
 abbrev pub another_open : ℕ → List Counted → Bool
 another_open t counts = list_any (λ u. is_open u.1 && not (nat_eq u.0 t)) (enumerate_from 0 counts)
 
 abbrev pub keeps_region : CountedEvent → Bool
 keeps_region x = elim (stepping x.event) [ None ↦ true | Some t ↦ not (another_open t x.tasks) ]
+
+abbrev pub KeepsRegions : Table → List TraceEvent → Type 0
+KeepsRegions table trace = IsTrue (list_all keeps_region (counted_events table trace))
 
 -- each of a list with those after it
 abbrev pub each_from : {A : Type 0} → (A → List A → Bool) → List A → Bool

@@ -18,7 +18,7 @@ use Rattle.spec_machine.specs.declared.reply.ModeFault.TheVariants.{M1, M2, M3}
 use Rattle.spec_tables.specs.declared.conn.ConnFault.TheVariants.{N1, N2, N3}
 use Rattle.spec_tables.specs.declared.force.ForceFault.TheVariants.{F1, F2, F3}
 use Rattle.spec_machine.specs.declared.reply.EditFault.{EditFault}
-use Rattle.spec_machine.specs.declared.reply.EditFault.TheVariants.{E1, E2, E3, E4, E5, E6, E8, E9, E10, E11, E12}
+use Rattle.spec_machine.specs.declared.reply.EditFault.TheVariants.{E1, E2, E3, E5, E6, E8, E9, E10, E11, E12}
 use Rattle.spec_machine.specs.declared.reply.Reply.{Reply}
 use Rattle.spec_machine.specs.declared.reply.Reply.TheVariants.{Held, Mode, Conn, Force, Edit}
 use Rattle.spec_tables.specs.Tasks.{held}
@@ -97,7 +97,7 @@ owner_cause b lane = option_map (λ owner. Edit (E3 owner)) (other_owner b lane)
 -- `test` and its kin: no such program; another client's; nothing accepted
 abbrev pub accepted_causes : State → ℕ → List ℕ → List (Option Reply)
 accepted_causes s lane name =
-    let b = book_named s name in no_program s name ∷ owner_cause b lane ∷ when (is_none b.owner) (Edit E10) ∷ []
+    let b = book_named s name in no_program s name ∷ owner_cause b lane ∷ when (nat_eq (length b.accepted) 0) (Edit E10) ∷ []
 
 -- the first edit whose text is refused
 abbrev pub text_cause : Result (List Change) EditFault → Option Reply
@@ -119,7 +119,7 @@ abbrev pub if_read : Result (List Change) EditFault → (List Change → List (O
 if_read (Err f) causes = []
 if_read (Ok changes) causes = causes changes
 
--- `accept`: no such program, no such routine, another client's program, testing; the first edit of a rung that isn't
+-- `accept`: no such program, no such routine, another client's program; the first edit of a rung that isn't
 -- there, the first of a rung that accepted or earlier edits replace or delete, the first whose text is refused; the
 -- merged routine is refused; too many instructions
 abbrev pub accept_causes : State → ℕ → AcceptCommand → List (Option Reply)
@@ -140,7 +140,7 @@ accept_causes s lane a = for (position_from (λ r. same r.name a.routine) 0 b.ba
 
     for : Option ℕ → List (Option Reply)
     for None = no_program s a.program ∷ Some (Edit E2) ∷ []
-    for (Some r) = no_program s a.program ∷ owner_cause b lane ∷ when b.testing (Edit E4) ∷ edits_causes r
+    for (Some r) = no_program s a.program ∷ owner_cause b lane ∷ edits_causes r
 
 -- ---- all of them
 

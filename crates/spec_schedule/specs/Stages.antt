@@ -16,6 +16,7 @@ use Rattle.spec_scan.specs.Position.{ProgramRungs}
 use Rattle.spec_machine.specs.Edits.{Book, Edited, edit, book_at, selected}
 use Rattle.spec_machine.specs.ProcessorStep.{task_of}
 use Rattle.spec_machine.specs.Project.{Project}
+use Rattle.spec_machine.specs.ValidProject.{IsValidProject}
 use Rattle.spec_machine.specs.State.{State, Scan, progress_of, start}
 use Rattle.spec_schedule.specs.Counting.{is_task}
 use Rattle.spec_schedule.specs.Legal.{each_from}
@@ -123,9 +124,10 @@ keeps_copy x xs = elim (sync_start x.entry) [
 ]
 
 -- Where a CPS has copied its last element and its ranges share no byte, the destination's bytes are the source's as they
--- were right after the step that started it.
+-- were right after the step that started it. Without a valid project it is false: a copy past the image's end writes
+-- nothing there.
 abbrev pub CopiesAreWhole : Project → Type 0
-CopiesAreWhole p = (journal : List Event) → IsTrue (each_from keeps_copy (stages p journal))
+CopiesAreWhole p = IsValidProject p → (journal : List Event) → IsTrue (each_from keeps_copy (stages p journal))
 
 -- ---- the refusal law
 

@@ -1,5 +1,5 @@
 -- A trace of the machine as numbers alone.
-use Rattle.std.specs.Prelude.{ℕ, List, [], ◌∷◌, map, length, true, false, Option, Some, None}
+use Rattle.std.specs.Prelude.{ℕ, List, map, length, true, false, Option, Some, None}
 use Rattle.std.specs.List.{position_from, zip}
 use Rattle.lgx_num.specs.Name.{same}
 use Rattle.spec_tables.specs.declared.fault.Fault.{Fault}
@@ -35,7 +35,7 @@ use Rattle.spec_machine.specs.Machine.{TraceEntry, OfStep, OfTick, OfAction, tra
 -- ---- the table of tasks
 
 abbrev pub audit_task : TaskDef → List ℕ → AuditTask
-audit_task d programs = record { continuous = is_continuous d.kind; priority = d.priority; programs = length programs }
+audit_task d programs = record { continuous = is_continuous d.kind; priority = d.priority; programs = length programs; inhibited = d.inhibited }
 
 abbrev pub audit_tasks : List TaskDef → List (List ℕ) → List AuditTask
 audit_tasks tasks schedule = map (λ x. audit_task x.0 x.1) (zip tasks schedule)

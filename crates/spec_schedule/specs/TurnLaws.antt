@@ -1,5 +1,5 @@
 -- The turn law in its own words: relations over places of a counted trace. `Legal` has the tests that decide them.
-use Rattle.std.specs.Prelude.{◌≡◌, ℕ, true, false, not, List, ◌∷◌, ◌++◌, Some, ◌↔◌}
+use Rattle.std.specs.Prelude.{◌≡◌, ℕ, true, false, List, ◌∷◌, ◌++◌, Some, ◌↔◌}
 use Rattle.std.specs.List.{AllByRecursion as Each}
 use Rattle.spec_schedule.specs.declared.trace.Table.{Table}
 use Rattle.spec_schedule.specs.Counting.{CountedTask, counted_tasks, CountedEvent, stepping}

@@ -79,12 +79,13 @@ pub enum TraceEvent {
 }
 
 /// What the laws ask of a task: whether it is continuous, its priority (1 is the highest, and the continuous task
-/// has `LEAST_PRIORITY`), and the number of its programs.
+/// has `LEAST_PRIORITY`), the number of its programs, and whether it is inhibited.
 #[derive(Clone, Copy)]
 pub struct AuditTask {
     pub continuous: bool,
     pub priority: u8,
     pub programs: u32,
+    pub inhibited: bool,
 }
 
 /// The tasks, and the number of programs in the project.

@@ -1,11 +1,13 @@
 -- The table of tasks: which are up, which one is chosen, and how they come up and go down (1756-PM005).
-use Rattle.std.specs.Prelude.{ℕ, ◌+◌, ◌-◌, ◌%◌, Bool, true, false, ◌&&◌, ◌||◌, List, [], ◌∷◌, ◌++◌, map, nat_lt, nat_le, nat_eq, if◌then◌else◌, Option, Some, None, is_some, slice_set, slice_index_or}
+use Rattle.std.specs.Prelude.{ℕ, ◌+◌, ◌-◌, ◌%◌, Bool, true, false, ◌&&◌, ◌||◌, List, [], ◌∷◌, ◌++◌, map, nat_lt, nat_le, nat_eq, if◌then◌else◌, Option, Some, None, is_some, option_and_then, slice_set, slice_index_or}
 use Rattle.std.specs.List.{list_any, position_from, zip}
 -- the first of two that is there
 pub use Rattle.std.specs.Option.{option_or as or_else}
 use Rattle.spec_tables.specs.declared.task.TaskKind.{TaskKind}
 use Rattle.spec_tables.specs.declared.task.TaskKind.TheVariants.{Continuous, Periodic, Event}
 use Rattle.spec_tables.specs.declared.task.TaskDef.{TaskDef}
+use Rattle.spec_tables.specs.declared.task.Release.{Release}
+use Rattle.spec_tables.specs.declared.task.Release.TheVariants.{Released, Overlap, Inhibited}
 
 -- what the table keeps of a task that is up: the tick of its start, its rank, the number of its open regions, and
 -- whether it has a CPS in progress
@@ -23,7 +25,7 @@ pub record Table : Type 0 where
   pub run_since : ℕ
 
 abbrev pub no_task : TaskDef
-no_task = record { kind = Event; priority = 0; watchdog = 0 }
+no_task = record { kind = Event; priority = 0; watchdog = 0; inhibited = false }
 
 abbrev pub task : Table → ℕ → TaskDef
 task s t = slice_index_or s.defs t no_task
@@ -87,32 +89,55 @@ chosen s = or_else (position_from is_open 0 s.states) (least (candidates 0 s.def
 abbrev pub put_up : ℕ → ℕ → Table → Table
 put_up t now s = record s { states = slice_set s.states t (Some (record { start = now; rank = s.next; region_count = 0; cps_open = false })); next = s.next + 1 }
 
--- A release puts a task up that is down. A task that is up overlaps, and stays as it is.
+-- every release is answered by this: an inhibited task is never released, and of the others one that is up overlaps
+abbrev pub release_answer : Table → ℕ → Release
+release_answer s t = if (task s t).inhibited then Inhibited else (if is_up s t then Overlap else Released)
+
+abbrev pub put_up_if : Release → ℕ → ℕ → Table → Table
+put_up_if Released t now s = put_up t now s
+put_up_if Overlap t now s = s
+put_up_if Inhibited t now s = s
+
+-- A release puts a task up if its answer is `Released`, and changes nothing else.
 abbrev pub release : ℕ → ℕ → Table → Table
-release t now s = if is_up s t then s else put_up t now s
+release t now s = put_up_if (release_answer s t) t now s
+
+-- the release of a task, if there is one
+abbrev pub release_some : Option ℕ → ℕ → Table → Table
+release_some None now s = s
+release_some (Some t) now s = release t now s
 
 abbrev pub is_continuous : TaskKind → Bool
 is_continuous Continuous = true
 is_continuous _ = false
 
+abbrev pub continuous_task : Table → Option ℕ
+continuous_task s = position_from (λ d. is_continuous d.kind) 0 s.defs
+
 -- every task down
 abbrev pub stop : Table → Table
 stop s = record s { states = map (λ u. None) s.states }
 
-abbrev pub put_up_if : Option ℕ → ℕ → Table → Table
-put_up_if None now s = s
-put_up_if (Some t) now s = put_up t now s
-
-abbrev pub continuous_task : Table → Option ℕ
-continuous_task s = position_from (λ d. is_continuous d.kind) 0 s.defs
-
 -- The change to Run puts every task down and releases the continuous one. Ranks go on.
 abbrev pub start : ℕ → Table → Table
-start now s = put_up_if (continuous_task s) now (record (stop s) { run_since = now })
+start now s = release_some (continuous_task s) now (record (stop s) { run_since = now })
+
+abbrev pub if_released : Release → ℕ → Option ℕ
+if_released Released t = Some t
+if_released Overlap t = None
+if_released Inhibited t = None
+
+-- the task that the change to Run releases, by the answer
+abbrev pub released_at_run : Table → Option ℕ
+released_at_run s = option_and_then (λ t. if_released (release_answer (stop s) t) t) (continuous_task s)
+
+-- the task, if it is a continuous one
+abbrev pub if_continuous : Table → ℕ → Option ℕ
+if_continuous s t = if is_continuous (task s t).kind then Some t else None
 
 -- After its last program a task goes down; the continuous task is released again at once.
 abbrev pub finish : ℕ → ℕ → Table → Table
-finish t now s = put_up_if (if is_continuous (task s t).kind then Some t else None) now (record s { states = slice_set s.states t None })
+finish t now s = release_some (if_continuous s t) now (record s { states = slice_set s.states t None })
 
 -- ---- regions and copies of a task
 

@@ -10,4 +10,4 @@ mod task;
 pub use conn::{ConnDef, ConnFault, Slot};
 pub use fault::{Fault, Severity};
 pub use force::ForceFault;
-pub use task::{TaskDef, TaskKind};
+pub use task::{Release, TaskDef, TaskKind};

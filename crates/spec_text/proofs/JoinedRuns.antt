@@ -2,9 +2,10 @@
 use Rattle.std.proofs.Common.{◌≡◌, ℕ, ◌+◌, List, [], ◌∷◌, ◌++◌, Bool, true, false, cond, replicate, refl, sym, ap, ◌∙◌, add-one, true≢false}
 use Rattle.spec_machine.specs.declared.event.Event.{Event}
 use Rattle.spec_machine.specs.declared.event.Event.TheVariants.{Cpu, Tick, Act}
-use Rattle.spec_text.specs.JournalText.{EventRun, events_of, runs_on, before_runs, joined}
+use Rattle.spec_text.specs.declared.script.EventRun.{EventRun}
+use Rattle.spec_text.specs.JournalText.{events_of, runs_on, before_runs, joined}
 
-same_event : (e f : Event) → runs_on e f ≡ true → f ≡ e
+pub same_event : (e f : Event) → runs_on e f ≡ true → f ≡ e
 same_event Cpu Cpu h = refl
 same_event Tick Tick h = refl
 same_event Cpu Tick h = absurd (true≢false (sym h))

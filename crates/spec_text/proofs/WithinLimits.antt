@@ -11,7 +11,8 @@ use Rattle.spec_text.specs.declared.script.JournalCode.TheVariants.{J1, J2, J4}
 use Rattle.spec_text.specs.declared.script.JournalFault.{JournalFault}
 use Rattle.spec_machine.specs.Events.{is_step, is_tick, is_action}
 use Rattle.spec_text.specs.TextLines.{lines, is_skipped}
-use Rattle.spec_text.specs.JournalText.{EventRun, events_of, run_of, lane_of, is_end, is_line, is_lane, is_allowed, Tally, with_run, no_events, IsWithin, read_line, runs_from, before_rest, refused, journal_runs, journal_of, all_events}
+use Rattle.spec_text.specs.declared.script.EventRun.{EventRun}
+use Rattle.spec_text.specs.JournalText.{events_of, run_of, lane_of, is_end, is_line, is_lane, is_allowed, Tally, with_run, no_events, IsWithin, read_line, runs_from, before_rest, refused, journal_runs, journal_of, all_events}
 use Rattle.std.proofs.lemmas.Bool.{and_parts}
 use Rattle.spec_text.proofs.KeptScripts.{unless_keeps, some_keeps, some_plain}
 
@@ -48,7 +49,7 @@ runs_keep n t (l ∷ ls) k = skip_keeps n t l ls (λ t' k'. runs_keep (n + 1) t'
 
 -- ---- tallies of events
 
-counted : (p : Event → Bool) (r : EventRun) (rs : List EventRun) (m : ℕ) → cond (p r.event) 1 0 ≡ m → count_by p (events_of (r ∷ rs)) ≡ r.count * m + count_by p (events_of rs)
+pub counted : (p : Event → Bool) (r : EventRun) (rs : List EventRun) (m : ℕ) → cond (p r.event) 1 0 ≡ m → count_by p (events_of (r ∷ rs)) ≡ r.count * m + count_by p (events_of rs)
 counted p r rs m e =
     sum_by-append (λ x. cond (p x) 1 0) (replicate r.count r.event) (events_of rs) ∙ ap (λ k. k + count_by p (events_of rs)) (sum_by-replicate (λ x. cond (p x) 1 0) r.count r.event ∙ ap (λ k. r.count * k) e)
 
@@ -57,17 +58,17 @@ total f p h [] t = search (arith)
 total f p h (r ∷ rs) t =
     total f p h rs (with_run t r) ∙ ap (λ k. k + count_by p (events_of rs)) (h t r.event r.count) ∙ add_assoc (f t) (r.count * cond (p r.event) 1 0) (count_by p (events_of rs)) ∙ ap (λ k. f t + k) (sym (counted p r rs (cond (p r.event) 1 0) refl))
 
-of_steps : (t : Tally) (e : Event) (n : ℕ) → (with_run t (record { event = e; count = n })).steps ≡ t.steps + n * cond (is_step e) 1 0
+pub of_steps : (t : Tally) (e : Event) (n : ℕ) → (with_run t (record { event = e; count = n })).steps ≡ t.steps + n * cond (is_step e) 1 0
 of_steps t Cpu n = search (arith)
 of_steps t Tick n = search (arith)
 of_steps t (Act l a) n = search (arith)
 
-of_ticks : (t : Tally) (e : Event) (n : ℕ) → (with_run t (record { event = e; count = n })).ticks ≡ t.ticks + n * cond (is_tick e) 1 0
+pub of_ticks : (t : Tally) (e : Event) (n : ℕ) → (with_run t (record { event = e; count = n })).ticks ≡ t.ticks + n * cond (is_tick e) 1 0
 of_ticks t Cpu n = search (arith)
 of_ticks t Tick n = search (arith)
 of_ticks t (Act l a) n = search (arith)
 
-of_actions : (t : Tally) (e : Event) (n : ℕ) → (with_run t (record { event = e; count = n })).actions ≡ t.actions + n * cond (is_action e) 1 0
+pub of_actions : (t : Tally) (e : Event) (n : ℕ) → (with_run t (record { event = e; count = n })).actions ≡ t.actions + n * cond (is_action e) 1 0
 of_actions t Cpu n = search (arith)
 of_actions t Tick n = search (arith)
 of_actions t (Act l a) n = search (arith)

@@ -7,6 +7,7 @@ use Rattle.spec_base.specs.declared.limits.TheConstants.{MAX_JOURNAL_STEPS, MAX_
 use Rattle.spec_machine.specs.declared.event.Action.{Action}
 use Rattle.spec_machine.specs.declared.event.Event.{Event}
 use Rattle.spec_machine.specs.declared.event.Event.TheVariants.{Cpu, Tick, Act}
+use Rattle.spec_text.specs.declared.script.EventRun.{EventRun}
 use Rattle.spec_text.specs.declared.script.JournalCode.{JournalCode}
 use Rattle.spec_text.specs.declared.script.JournalCode.TheVariants.{J1, J2, J4}
 use Rattle.spec_text.specs.declared.script.JournalFault.{JournalFault}
@@ -14,11 +15,6 @@ use Rattle.spec_machine.specs.Events.{is_step, is_tick, is_action}
 use Rattle.spec_base.specs.FirstCause.{◌>>=◌, unless, some_or}
 use Rattle.spec_text.specs.TextLines.{lines, is_skipped, words, first_word, after_word, spaced, line_of, unsigned_of}
 use Rattle.spec_text.specs.ActionText.{at_word, action_of, action_words}
-
--- an event and how often it stands there; an action stands there once
-pub record EventRun : Type 0 where
-  pub event : Event
-  pub count : ℕ
 
 abbrev pub events_of : List EventRun → List Event
 events_of runs = flat_map (λ r. replicate r.count r.event) runs

@@ -6,14 +6,14 @@ use Rattle.lgx_rung.specs.declared.fault.TextCode.{TextCode}
 use Rattle.lgx_rung.specs.declared.fault.TextCode.TheVariants.{T1, T2, T3, T4, T5}
 use Rattle.lgx_rung.specs.declared.fault.CheckFault.{CheckFault}
 use Rattle.lgx_rung.specs.declared.fault.CheckCode.{CheckCode}
-use Rattle.lgx_rung.specs.declared.fault.CheckCode.TheVariants.{C1, C2, C3, C4, C5, C6, C7, C8, C9, C10, C11, C12, C13, C14, C15, C16}
+use Rattle.lgx_rung.specs.declared.fault.CheckCode.TheVariants.{C1, C2, C3, C4, C5, C6, C7, C8, C9, C10, C11, C12, C13, C14, C15, C16, C17}
 use Rattle.spec_tables.specs.declared.fault.Severity.{Severity}
 use Rattle.spec_tables.specs.declared.fault.Severity.TheVariants.{Minor, Major}
 use Rattle.spec_tables.specs.declared.fault.Fault.{Fault as Faults}
 use Rattle.spec_machine.specs.declared.reply.Mode.{Mode as Modes}
 use Rattle.spec_machine.specs.declared.reply.Mode.TheVariants.{Program, Run, Faulted}
 use Rattle.spec_machine.specs.declared.reply.EditFault.{EditFault}
-use Rattle.spec_machine.specs.declared.reply.EditFault.TheVariants.{E1, E2, E3, E4, E5, E6, E7, E8, E9, E10, E11, E12}
+use Rattle.spec_machine.specs.declared.reply.EditFault.TheVariants.{E1, E2, E3, E5, E6, E7, E8, E9, E10, E11, E12}
 use Rattle.spec_tables.specs.declared.conn.ConnFault.{ConnFault}
 use Rattle.spec_tables.specs.declared.conn.ConnFault.TheVariants.{N1, N2, N3}
 use Rattle.spec_tables.specs.declared.force.ForceFault.{ForceFault}
@@ -68,6 +68,7 @@ check_code C13 = codes "C13"
 check_code C14 = codes "C14"
 check_code C15 = codes "C15"
 check_code C16 = codes "C16"
+check_code C17 = codes "C17"
 
 -- the code and the place of a fault of a text
 abbrev pub text_fault : TextFault → List (List ℕ)
@@ -82,7 +83,6 @@ abbrev pub edit_cause : EditFault → List (List ℕ)
 edit_cause E1 = codes "E1" ∷ []
 edit_cause E2 = codes "E2" ∷ []
 edit_cause (E3 owner) = codes "E3" ∷ decimal owner ∷ []
-edit_cause E4 = codes "E4" ∷ []
 edit_cause (E5 k) = codes "E5" ∷ decimal k ∷ []
 edit_cause (E6 k) = codes "E6" ∷ decimal k ∷ []
 edit_cause (E7 k f) = codes "E7" ∷ decimal k ∷ text_fault f

@@ -5,4 +5,4 @@ mod journal_laws;
 mod script;
 
 pub use journal_laws::{journals_are_within_limits, runs_expand, scripts_are_kept};
-pub use script::{JournalCode, JournalFault, Script, Timed};
+pub use script::{EventRun, JournalCode, JournalFault, Script, Timed};

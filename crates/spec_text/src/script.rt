@@ -1,6 +1,6 @@
-// Scripts: what each lane does, and when; and the causes for which a text is no journal or script.
+// Runs of equal events; scripts: what each lane does, and when; and the causes for which a text is no journal or script.
 use lgx_num::Items;
-use spec_machine::Action;
+use spec_machine::{Action, Event};
 use std::marker::Model;
 
 /// An action and the tick from which on it may be made.
@@ -8,6 +8,13 @@ use std::marker::Model;
 pub struct Timed {
     pub at: u32,
     pub action: Action,
+}
+
+/// An event and how often it stands there; an action stands there once.
+#[derive(Drop)]
+pub struct EventRun {
+    pub event: Event,
+    pub count: u32,
 }
 
 /// What a run has to do: at least so many processor steps, a tick after every `pace`-th of them, and for each lane

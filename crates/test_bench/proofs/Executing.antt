@@ -1,6 +1,6 @@
 -- If the instructions in the code of a program's routines can be executed, the program can.
 use Rattle.spec_base.proofs.Lists.{each_parts}
-use Rattle.std.proofs.Common.{◌≡◌, ℕ, suc, ◌+◌, ◌<◌, List, [], ◌∷◌, ◌++◌, length, get_or, drop, flat_map, sym, ap, ◌∙◌, subst, arith}
+use Rattle.std.proofs.Common.{◌≡◌, ℕ, suc, ◌+◌, ◌<◌, List, [], ◌∷◌, length, get_or, drop, flat_map, sym, ap, ◌∙◌, subst, arith}
 use Rattle.std.proofs.lemmas.List.{drop_more}
 use Rattle.std.specs.List.{AllByRecursion as Each}
 use Rattle.lgx_rung.specs.Tree.{instructions}

@@ -81,7 +81,7 @@ impl Bench {
         ensures same_flags { self.new.flags ≡ self.old.flags }
         ensures same_program { self.new.program ≡ self.old.program }
     {
-        self.position = Position::start(&self.program);
+        self.position.restart(&self.program);
     }
 
     /// Makes a step of the scan, at a tick, in a first scan or not.

@@ -1,16 +1,16 @@
 // Whether instructions can be executed: a test, made when a program is loaded, of what the engine asks of them.
-ghost use Rattle.std.specs.Prelude.{◌≡◌, ◌<◌, true, ℕ, [], ◌∷◌};
+ghost use Rattle.std.specs.Prelude.{◌≡◌, ◌%◌, ◌<◌, true, ℕ, [], ◌∷◌};
 ghost use Rattle.std.specs.List.{All, AllByRecursion as Each};
-ghost use Rattle.lgx_num.specs.Image.{InBoundsAt, IsByteAligned, bits_of};
+ghost use Rattle.lgx_num.specs.Image.{InBounds, InBoundsAt, IsByteAligned, bits_of};
 ghost use Rattle.lgx_num.specs.Paths.{PathInBounds, BytesInBounds, OperandInBounds};
 ghost use Rattle.lgx_prog.specs.Executes.{executes};
 ghost use Rattle.lgx_prog.specs.FlatProgram.{routine_at};
 ghost use Rattle.spec_scan.specs.Executable.{IsExecutable, EndsIn};
-ghost use Rattle.spec_scan.specs.Fits.{Fits, OperandsFit, IsCell, IsTimer, IsCounter, IsIntegers, IsRoutine, IsTask, operand_at};
+ghost use Rattle.spec_scan.specs.Fits.{Fits, AllFit, OperandsFit, IsCount, IsIntegers, number_told, operand_at};
 
-use lgx_num::{Kind, Operand, Path};
+use lgx_num::{Index, Kind, Operand, Path};
 use lgx_prog::{Code, FlatProgram, Ins};
-use lgx_rung::{Op, OperandKind};
+use lgx_rung::{Op, OperandKind, as_count};
 use spec_base::limits::{COUNTER_BYTES, MAX_OPERANDS, TIMER_BYTES};
 
 /// Whether every instruction in the code of a program's routines can be executed over an image of `len` bytes. There are `count`
@@ -43,12 +43,13 @@ fn piece_is_executable(piece: &Code, len: u32) -> bool
     ensures { result ≡ true → Each (IsExecutable len) (executes (piece.now ∷ [])) }
 {
     match piece {
-        Code::Execute(ins) => is_executable(ins, len),
+        Code::Execute(prepared) => is_executable(prepared.ins(), len),
         _ => true,
     }
 }
 
-/// Whether an instruction can be executed over an image of `len` bytes; never if an operand has a variable subscript.
+/// Whether an instruction can be executed over an image of `len` bytes; never if an operand has a variable subscript, but for
+/// one into an array of DINTs.
 pub fn is_executable(ins: &Ins, len: u32) -> bool
     ensures { result ≡ true → IsExecutable len ins.now }
 {
@@ -87,13 +88,36 @@ fn is_in_bounds(operand: &Operand, len: u32) -> bool
     }
 }
 
-/// Whether a path without subscripts leads to a number in the image.
+/// Whether a path leads to a number in the image for every subscript in range.
 fn cell_is_in_bounds(path: &Path, len: u32) -> bool
     ensures { result ≡ true → PathInBounds path.now len (λ to. InBoundsAt path.now.kind to len) }
 {
-    path.steps.is_empty()
-        && is_byte_aligned(path.kind, path.at)
-        && u64::from(path.at) + bits_of(path.kind) <= 8 * u64::from(len)
+    match path.steps.as_slice() {
+        [] => place_is_in_bounds(path.kind, path.at, len),
+        [index] => {
+            index_is_in_bounds(*index, len)
+                && path.at % 8 == 0
+                && u64::from(path.at) + 32 * u64::from(index.length) + bits_of(path.kind)
+                    <= 8 * u64::from(len) + 32
+        }
+        _ => false,
+    }
+}
+
+/// Whether a subscript goes over DINTs by a number in the image.
+fn index_is_in_bounds(index: Index, len: u32) -> bool
+    ensures { result ≡ true → (index.stride ≡ 32) × (index.of.at % 8 ≡ 0) × InBounds index.of len }
+{
+    index.stride == 32
+        && index.of.at % 8 == 0
+        && place_is_in_bounds(index.of.kind, index.of.at, len)
+}
+
+/// Whether a number of a kind that begins at a bit lies in the image.
+fn place_is_in_bounds(kind: Kind, at: u32, len: u32) -> bool
+    ensures { result ≡ true → InBoundsAt kind at len }
+{
+    is_byte_aligned(kind, at) && u64::from(at) + bits_of(kind) <= 8 * u64::from(len)
 }
 
 fn is_byte_aligned(kind: Kind, at: u32) -> bool
@@ -125,58 +149,61 @@ fn bytes_are_in_bounds(path: &Path, size: u32, end: u32) -> bool
         && u64::from(path.at) + 8 * u64::from(size) <= 8 * u64::from(end)
 }
 
-/// Whether each operand is of the kind that the mnemonic wants there, as far as an instruction rests on it.
+/// Whether there are as many operands as the mnemonic wants, each of the kind that it wants there, as far as an instruction
+/// rests on it.
 fn operands_fit(op: Op, args: &[Operand]) -> bool
     ensures { result ≡ true → OperandsFit op args.now }
 {
-    for (number, kind) in op.operand_kinds().iter().enumerate() {
-        if !fits(*kind, args, number) {
-            return false;
-        }
+    match op.operand_kinds(second_number(args), args.len()) {
+        Some(kinds) => all_fit(kinds.as_slice(), args),
+        None => false,
     }
-    true
 }
 
-/// Whether the operand of this number is of this kind.
-fn fits(kind: OperandKind, args: &[Operand], number: usize) -> bool
-    ensures { result ≡ true → Fits kind (operand_at args.now number) }
+/// The number that the second operand is, if it is one.
+fn second_number(args: &[Operand]) -> Option<i32>
+    ensures { result ≡ number_told (operand_at args.now 1) }
+{
+    match args.get(1) {
+        Some(Operand::Number(number)) => Some(*number),
+        _ => None,
+    }
+}
+
+/// Whether each operand is of the kind beside it.
+fn all_fit(kinds: &[OperandKind], args: &[Operand]) -> bool
+    ensures { result ≡ true → AllFit kinds.now args.now }
+{
+    match (kinds, args) {
+        ([], []) => true,
+        ([kind, kinds @ ..], [arg, args @ ..]) => fits(*kind, arg) && all_fit(kinds, args),
+        _ => false,
+    }
+}
+
+/// Whether an operand is of this kind.
+fn fits(kind: OperandKind, arg: &Operand) -> bool
+    ensures { result ≡ true → Fits kind arg.now }
 {
     match kind {
-        OperandKind::BoolPlace | OperandKind::IntegerPlace => is_cell(args, number),
-        OperandKind::WholeTimer => is_timer(args, number),
-        OperandKind::WholeCounter => is_counter(args, number),
-        OperandKind::TimerOrCounter => is_timer(args, number) || is_counter(args, number),
-        OperandKind::FillTarget => is_integers(args, number),
-        OperandKind::RoutineName => is_routine(args, number),
-        OperandKind::EventTask => is_task(args, number),
+        OperandKind::BoolPlace | OperandKind::IntegerPlace => matches!(arg, Operand::Cell(_)),
+        OperandKind::WholeTimer => matches!(arg, Operand::Timer(_)),
+        OperandKind::WholeCounter => matches!(arg, Operand::Counter(_)),
+        OperandKind::TimerOrCounter => matches!(arg, Operand::Timer(_) | Operand::Counter(_)),
+        OperandKind::FillTarget => is_integers(arg),
+        OperandKind::RoutineName => matches!(arg, Operand::Routine(_)),
+        OperandKind::ParameterCount => is_count(arg),
+        OperandKind::EventTask => matches!(arg, Operand::Task(_)),
         _ => true,
     }
 }
 
-fn is_cell(args: &[Operand], i: usize) -> bool
-    ensures { result ≡ true → IsCell (operand_at args.now i) }
-{
-    matches!(args.get(i), Some(Operand::Cell(_)))
-}
-
-fn is_timer(args: &[Operand], i: usize) -> bool
-    ensures { result ≡ true → IsTimer (operand_at args.now i) }
-{
-    matches!(args.get(i), Some(Operand::Timer(_)))
-}
-
-fn is_counter(args: &[Operand], i: usize) -> bool
-    ensures { result ≡ true → IsCounter (operand_at args.now i) }
-{
-    matches!(args.get(i), Some(Operand::Counter(_)))
-}
-
 /// Whether it is a block of integers.
-fn is_integers(args: &[Operand], i: usize) -> bool
-    ensures { result ≡ true → IsIntegers (operand_at args.now i) }
+fn is_integers(arg: &Operand) -> bool
+    ensures { result ≡ true → IsIntegers arg.now }
 {
-    match args.get(i) {
-        Some(Operand::Block(block)) => {
+    match arg {
+        Operand::Block(block) => {
             let size = block.size;
             size == 1 || size == 2 || size == 4
         }
@@ -184,14 +211,12 @@ fn is_integers(args: &[Operand], i: usize) -> bool
     }
 }
 
-fn is_routine(args: &[Operand], i: usize) -> bool
-    ensures { result ≡ true → IsRoutine (operand_at args.now i) }
+/// Whether it is the count of a call's inputs.
+fn is_count(arg: &Operand) -> bool
+    ensures { result ≡ true → IsCount arg.now }
 {
-    matches!(args.get(i), Some(Operand::Routine(_)))
-}
-
-fn is_task(args: &[Operand], i: usize) -> bool
-    ensures { result ≡ true → IsTask (operand_at args.now i) }
-{
-    matches!(args.get(i), Some(Operand::Task(_)))
+    match arg {
+        Operand::Number(number) => as_count(*number).is_some(),
+        _ => false,
+    }
 }

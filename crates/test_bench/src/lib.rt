@@ -16,6 +16,7 @@ mod words;
 pub use bench::Bench;
 pub use errors::Refusal;
 pub use executable::{is_executable, is_executable_program};
+pub use lgx_engine::Effect;
 pub use row::judge_row;
 pub use rungs::read_program;
 pub use tags::{LEN, bit, dint, operand};

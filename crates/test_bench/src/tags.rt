@@ -4,7 +4,7 @@
 // u and v of 4 DINTs, from 76 on the TIMERs t0 and t1, from 108 on the COUNTERs c0 and c1.
 ghost use Rattle.std.specs.Prelude.{◌≡◌, ◌+◌, ◌*◌, ◌<◌, IfSome};
 
-use lgx_num::{Block, Flag, Kind, Operand, Path, Place, Steps};
+use lgx_num::{Block, Flag, Index, Kind, Operand, Path, Place, Steps};
 use lgx_rung::{Op, OperandKind};
 
 /// The number of bytes of the tests' tags.
@@ -65,7 +65,7 @@ pub(crate) fn place_of(name: &[u8]) -> Option<u8>
 
 /// The operand of this number, counted from 0, that a text names to an instruction. None if tests have nothing of that name.
 ///
-/// An array's element is named as u0; if an instruction copies, u0 is the array from that element on. After S, L and T
+/// An array's element is named as u0, one of u as u[d0] too; if an instruction copies, u0 is the array from that element on. After S, L and T
 /// stand the number of a routine, of the rung in which a label stands, and of a task.
 pub fn operand(op: Op, number: usize, text: &[u8]) -> Option<Operand> {
     match text {
@@ -90,6 +90,7 @@ pub fn operand(op: Op, number: usize, text: &[u8]) -> Option<Operand> {
         [b'S', digits @ ..] => Some(Operand::Routine(value(digits)?)),
         [b'L', digits @ ..] => Some(Operand::Label(u64::from(value(digits)?))),
         [b'T', digits @ ..] => Some(Operand::Task(value(digits)?)),
+        [b'u', b'[', b'd', digit @ b'0'..=b'9', b']'] => Some(indexed(U, *digit - b'0')),
         [b'd', digits @ ..] => Some(integer(
             op,
             number,
@@ -116,10 +117,27 @@ fn integer(op: Op, number: usize, at: u32, end: u32) -> Operand {
     }
 }
 
+/// The element of an array of 4 DINTs that a DINT tells.
+fn indexed(start: u32, number: u8) -> Operand
+    requires { number < 10 }
+{
+    let mut steps = Steps::new();
+    steps.push(Index {
+        of: dint(number),
+        stride: 32,
+        length: 4,
+    });
+    Operand::Cell(Path {
+        kind: Kind::Dint,
+        at: start,
+        steps,
+    })
+}
+
 /// Whether an instruction copies from or to the operand of this number.
 fn is_copied(op: Op, number: usize) -> bool {
     matches!(
-        op.operand_kinds().get(number),
+        op.fixed_kinds().get(number),
         Some(OperandKind::CopySource | OperandKind::CopyTarget | OperandKind::FillTarget)
     )
 }

@@ -89,7 +89,7 @@ abbrev pub code_alone : SourceIns → Option CheckCode
 code_alone i = option_map (λ f. f.code) (result_err (alone i))
 
 abbrev pub WrongCounts : Type 0
-WrongCounts = map code_alone (ins Xic [] ∷ ins Xic (codes "only" ∷ codes "zz" ∷ []) ∷ ins Ton (codes "t" ∷ codes "?" ∷ []) ∷ ins Jsr [] ∷ ins Jsr (codes "M" ∷ codes "0" ∷ codes "i" ∷ []) ∷ ins Nop (codes "zz" ∷ []) ∷ ins Lbl (codes "a" ∷ codes "b" ∷ []) ∷ [])
+WrongCounts = map code_alone (ins Xic [] ∷ ins Xic (codes "only" ∷ codes "zz" ∷ []) ∷ ins Ton (codes "t" ∷ codes "?" ∷ []) ∷ ins Jsr [] ∷ ins Jsr (codes "M" ∷ codes "2" ∷ codes "i" ∷ []) ∷ ins Nop (codes "zz" ∷ []) ∷ ins Lbl (codes "a" ∷ codes "b" ∷ []) ∷ [])
     ≡ replicate 7 (Some C1)
 
 -- C2: what was found isn't what is wanted; a number or a flag where neither stands; a text that is no name
@@ -100,7 +100,7 @@ WrongTypes = map code_alone (
     ∷ ins Ton (codes "c" ∷ codes "?" ∷ codes "?" ∷ []) ∷ ins Ton (codes "5" ∷ codes "?" ∷ codes "?" ∷ []) ∷ ins Ton (codes "t" ∷ codes "5" ∷ codes "?" ∷ []) ∷ ins Ton (codes "t" ∷ codes "?" ∷ codes "i" ∷ []) ∷ ins Ton (codes "t" ∷ codes "99999999999" ∷ codes "?" ∷ [])
     ∷ ins Ctu (codes "cells[0].c" ∷ codes "?" ∷ codes "?" ∷ []) ∷ ins Res (codes "i" ∷ [])
     ∷ ins Cop (codes "5" ∷ codes "arr" ∷ codes "1" ∷ []) ∷ ins Cop (codes "S:V" ∷ codes "arr" ∷ codes "1" ∷ []) ∷ ins Cop (codes "bits" ∷ codes "arr" ∷ codes "1" ∷ []) ∷ ins Cop (codes "arr" ∷ codes "only" ∷ codes "1" ∷ []) ∷ ins Fll (codes "1" ∷ codes "cells" ∷ codes "1" ∷ [])
-    ∷ ins Jsr (codes "1x" ∷ []) ∷ ins Jsr (codes "M" ∷ codes "1" ∷ []) ∷ ins Jsr (codes "Z" ∷ codes "00" ∷ []) ∷ ins Jmp (codes "5" ∷ []) ∷ ins Lbl (codes "S:V" ∷ []) ∷ ins Event (codes "?" ∷ [])
+    ∷ ins Jsr (codes "1x" ∷ []) ∷ ins Jsr (codes "M" ∷ codes "9" ∷ []) ∷ ins Jsr (codes "Z" ∷ codes "?" ∷ []) ∷ ins Jmp (codes "5" ∷ []) ∷ ins Lbl (codes "S:V" ∷ []) ∷ ins Event (codes "?" ∷ [])
     ∷ [])
     ≡ replicate 26 (Some C2)
 

@@ -32,6 +32,33 @@ SelectedAtBegin = replay two_moves (lines (codes "mode run"
     ∷ codes "end 0 9 run lost 0"
     ∷ [])
 
+-- An accept while the program is tested leaves it so: the new merged rungs run from the next begin on.
+abbrev pub AcceptWhileTesting : Type 0
+AcceptWhileTesting = replay two_moves (lines (codes "mode run"
+    ∷ codes "cpu 2"
+    ∷ codes "@0 accept P M r 1 MOV(3,n);"
+    ∷ codes "@0 test P"
+    ∷ codes "cpu 4"
+    ∷ codes "@0 accept P M r 0 MOV(8,n);"
+    ∷ codes "cpu 5"
+    ∷ codes "end"
+    ∷ []))
+    ≡ lines (codes "0 0 reply 31 ok"
+    ∷ codes "0 1 begin T P 0"
+    ∷ codes "0 2 set n 1"
+    ∷ codes "0 2 reply 0 ok 1"
+    ∷ codes "0 2 reply 0 ok"
+    ∷ codes "0 3 set n 2"
+    ∷ codes "0 5 begin T P 1"
+    ∷ codes "0 6 set n 1"
+    ∷ codes "0 6 reply 0 ok 2"
+    ∷ codes "0 7 set n 3"
+    ∷ codes "0 9 begin T P 2"
+    ∷ codes "0 10 set n 8"
+    ∷ codes "0 11 set n 3"
+    ∷ codes "end 0 11 run lost 0"
+    ∷ [])
+
 -- What is accepted is one client's until it is cancelled; a refused accept leaves nothing.
 abbrev pub owners : Project
 owners = plain (dint (codes "n") ∷ bool (codes "x") ∷ []) (continuous (codes "MOV(1,n);" ∷ codes "MOV(2,n);" ∷ []) ∷ []) [] (codes "n" ∷ [])
@@ -101,7 +128,7 @@ EditRefusals = replay two_moves (lines (codes "@0 accept Q M r 0 NOP();"
     ∷ codes "0 0 reply 0 refused E12"
     ∷ codes "0 0 reply 0 ok"
     ∷ codes "0 0 reply 0 refused E11"
-    ∷ codes "0 0 reply 0 refused E4"
+    ∷ codes "0 0 reply 0 ok 2"
     ∷ codes "0 0 reply 0 ok"
     ∷ codes "0 0 reply 1 refused E10"
     ∷ codes "end 0 0 program lost 0"

@@ -11,10 +11,13 @@ use Rattle.spec_schedule.specs.declared.trace.AuditTask.{AuditTask}
 use Rattle.spec_schedule.specs.declared.trace.Table.{Table}
 
 abbrev pub continuous : AuditTask
-continuous = record { continuous = true; priority = LEAST_PRIORITY; programs = 1 }
+continuous = record { continuous = true; priority = LEAST_PRIORITY; programs = 1; inhibited = false }
 
 abbrev pub of_priority : ℕ → AuditTask
-of_priority p = record { continuous = false; priority = p; programs = 1 }
+of_priority p = record { continuous = false; priority = p; programs = 1; inhibited = false }
+
+abbrev pub inhibited : AuditTask → AuditTask
+inhibited t = record t { inhibited = true }
 
 abbrev pub table_of : List AuditTask → Table
 table_of tasks = record { tasks = tasks; programs = 2 }
@@ -90,8 +93,8 @@ abbrev pub queued : List TraceEvent
 queued = begun ++ quiet ∷ step 0 ∷ quiet ∷ step 1 ∷ Left 1 1 true ∷ Began 1 1 0 ∷ []
 
 -- a task goes on at a tick, and at the tick after it
-abbrev pub goes_on : List TraceEvent
-goes_on = begun ++ quiet ∷ step 1 ∷ []
+abbrev pub continues : List TraceEvent
+continues = begun ++ quiet ∷ step 1 ∷ []
 
 -- two tasks alternate between ticks
 abbrev pub alternates : List TraceEvent
@@ -100,6 +103,29 @@ alternates = begun ++ quiet ∷ quiet ∷ step 1 ∷ step 0 ∷ step 1 ∷ []
 -- the turn isn't given if another tick follows, and not if the task has a region open
 abbrev pub keeps_it : List TraceEvent
 keeps_it = begun ++ Step 1 1 Up NoFault ∷ quiet ∷ step 1 ∷ Step 1 1 Down NoFault ∷ Left 1 1 true ∷ step 0 ∷ []
+
+-- ---- inhibited tasks
+
+abbrev pub one_inhibited : Table
+one_inhibited = table_of (continuous ∷ inhibited (of_priority 5) ∷ [])
+
+-- a trigger of it without a fault releases nothing, so that the other task goes on
+abbrev pub not_triggered : List TraceEvent
+not_triggered = mode_run 1 ∷ Began 0 0 0 ∷ Step 0 0 (Trigger 1) NoFault ∷ step 0 ∷ []
+
+-- it steps after the trigger
+abbrev pub triggered : List TraceEvent
+triggered = mode_run 1 ∷ Began 0 0 0 ∷ Step 0 0 (Trigger 1) NoFault ∷ Began 1 1 0 ∷ []
+
+-- a continuous task that the table says is inhibited, and that steps all the same: at its end it is counted up again
+abbrev pub all_inhibited : Table
+all_inhibited = table_of (inhibited continuous ∷ [])
+
+abbrev pub ends_and_begins : List TraceEvent
+ends_and_begins = mode_run 1 ∷ Began 0 0 0 ∷ Left 0 0 true ∷ Began 0 0 0 ∷ []
+
+abbrev pub ends_and_idles : List TraceEvent
+ends_and_idles = mode_run 1 ∷ Began 0 0 0 ∷ Left 0 0 true ∷ Idle ∷ []
 
 -- ---- edits are selected in mid-scan
 
@@ -114,6 +140,16 @@ edited =
 abbrev pub assembled : List TraceEvent
 assembled =
     mode_run 1 ∷ Act 0 Accept (Some 0) (Number 1) 0 ∷ Act 1 Test (Some 0) No 0 ∷ Act 0 Test (Some 1) Done 0 ∷ Began 0 0 0 ∷ Left 0 0 true ∷ Act 0 Assemble (Some 0) Done 0 ∷ Began 0 0 1 ∷ Act 0 Accept (Some 0) (Number 2) 0 ∷ Act 0 Cancel (Some 0) Done 0 ∷ Left 0 0 true ∷ Began 0 0 1 ∷ []
+
+-- an accept while testing is selected at the next begin
+abbrev pub accepted_again : List TraceEvent
+accepted_again =
+    mode_run 1 ∷ Act 0 Accept (Some 0) (Number 1) 0 ∷ Act 0 Test (Some 0) Done 0 ∷ Began 0 0 1 ∷ Act 0 Accept (Some 0) (Number 2) 0 ∷ Left 0 0 true ∷ Began 0 0 2 ∷ []
+
+-- as if it ended testing
+abbrev pub untested : List TraceEvent
+untested =
+    mode_run 1 ∷ Act 0 Accept (Some 0) (Number 1) 0 ∷ Act 0 Test (Some 0) Done 0 ∷ Began 0 0 1 ∷ Act 0 Accept (Some 0) (Number 2) 0 ∷ Left 0 0 true ∷ Began 0 0 0 ∷ []
 
 -- the new rungs before their begin was asked for, and the old ones after it
 abbrev pub early : List TraceEvent

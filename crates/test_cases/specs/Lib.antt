@@ -5,9 +5,11 @@ pub mod LayoutCases
 pub mod ShopTags
 pub mod ResolutionCases
 pub mod CheckCases
+pub mod ParameterCases
 pub mod JournalCases
 pub mod LegalCases
 pub mod LadderRuns
+pub mod ParameterRuns
 pub mod TimerRuns
 pub mod ArithmeticRuns
 pub mod CopyRuns
@@ -16,3 +18,4 @@ pub mod EditRuns
 pub mod WordRuns
 pub mod ConveyorRun
 pub mod LawRuns
+pub mod ProjectCases

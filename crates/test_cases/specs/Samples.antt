@@ -71,6 +71,7 @@ pub record TaskLines : Type 0 where
   pub kind : TaskKind
   pub priority : ℕ
   pub watchdog : ℕ
+  pub inhibited : Bool
   pub programs : List ProgramLines
 
 abbrev pub routine : List ℕ → List (List ℕ) → RoutineLines
@@ -84,10 +85,13 @@ abbrev pub program : List ℕ → List (List ℕ) → ProgramLines
 program name texts = routines name (routine (codes "M") texts ∷ [])
 
 abbrev pub task : List ℕ → TaskKind → ℕ → List ProgramLines → TaskLines
-task name kind priority programs = record { name = name; kind = kind; priority = priority; watchdog = 500; programs = programs }
+task name kind priority programs = record { name = name; kind = kind; priority = priority; watchdog = 500; inhibited = false; programs = programs }
 
 abbrev pub with_watchdog : ℕ → TaskLines → TaskLines
 with_watchdog ticks t = record t { watchdog = ticks }
+
+abbrev pub inhibited : TaskLines → TaskLines
+inhibited t = record t { inhibited = true }
 
 -- the continuous task T with the program P
 abbrev pub continuous : List (List ℕ) → TaskLines
@@ -101,7 +105,7 @@ abbrev pub task_name : TaskLines → TaskName
 task_name t = record { name = t.name; event = is_event t.kind }
 
 abbrev pub task_def : TaskLines → TaskDef
-task_def t = record { kind = t.kind; priority = t.priority; watchdog = t.watchdog }
+task_def t = record { kind = t.kind; priority = t.priority; watchdog = t.watchdog; inhibited = t.inhibited }
 
 -- the programs of all tasks, and for each task the numbers of its own, from number n on
 abbrev pub programs_of : List TaskLines → List ProgramLines

@@ -4,7 +4,7 @@ use Rattle.spec_base.specs.declared.limits.TheConstants.{LEAST_PRIORITY}
 use Rattle.spec_language.specs.declared.types.Base.TheVariants.{Dint}
 use Rattle.spec_tables.specs.declared.task.TaskKind.TheVariants.{Continuous, Periodic, Event as EventTask}
 use Rattle.spec_machine.specs.Project.{Project}
-use Rattle.test_cases.specs.Samples.{array, bool, continuous, program, task, with_watchdog, plain, with_words, with_trigger, input, is_initially, lines, replay}
+use Rattle.test_cases.specs.Samples.{array, bool, continuous, program, task, with_watchdog, inhibited, plain, with_words, with_trigger, input, is_initially, lines, replay}
 
 -- A periodic task goes before the continuous one, which then goes on where it stood.
 abbrev pub preemption : Project
@@ -201,4 +201,58 @@ ThreeInTurn = replay three_in_turn (lines (codes "mode run"
     ∷ codes "2 10 begin B PB 0"
     ∷ codes "2 12 begin C PC 0"
     ∷ codes "end 2 14 run lost 0"
+    ∷ [])
+
+-- An inhibited periodic task never comes up: the continuous one goes on.
+abbrev pub inhibited_periodic : Project
+inhibited_periodic = plain (bool (codes "a") ∷ bool (codes "b") ∷ bool (codes "q") ∷ []) (continuous (codes "XIC(a)OTE(b);" ∷ []) ∷ inhibited (task (codes "F") (Periodic 2) 5 (program (codes "Q") (codes "OTL(q);" ∷ []) ∷ [])) ∷ []) (is_initially (codes "a") (pos 1) ∷ []) (codes "b" ∷ codes "q" ∷ [])
+
+abbrev pub InhibitedPeriodic : Type 0
+InhibitedPeriodic = replay inhibited_periodic (lines (codes "mode run"
+    ∷ codes "cpu 2"
+    ∷ codes "tick 2"
+    ∷ codes "cpu 4"
+    ∷ codes "end"
+    ∷ []))
+    ≡ lines (codes "0 0 reply 31 ok"
+    ∷ codes "0 1 begin T P 0"
+    ∷ codes "2 3 set b 1"
+    ∷ codes "2 5 begin T P 0"
+    ∷ codes "end 2 6 run lost 0"
+    ∷ [])
+
+-- An inhibited event task is triggered twice by EVENT and once by a word, without a release or an overlap; it was
+-- prescanned, so that its one-shot's storage is set.
+abbrev pub inhibited_event : Project
+inhibited_event = with_words (array (codes "x") Dint 1 ∷ bool (codes "s") ∷ bool (codes "q") ∷ []) (continuous (codes "EVENT(E)EVENT(E);" ∷ []) ∷ inhibited (task (codes "E") EventTask 3 (program (codes "Q") (codes "ONS(s)OTL(q);" ∷ []) ∷ [])) ∷ []) (with_trigger 1 (input (codes "I") (codes "x")) ∷ []) [] (codes "s" ∷ codes "q" ∷ [])
+
+abbrev pub InhibitedEvent : Type 0
+InhibitedEvent = replay inhibited_event (lines (codes "mode run"
+    ∷ codes "cpu 3"
+    ∷ codes "in I 0 1"
+    ∷ codes "cpu 2"
+    ∷ codes "end"
+    ∷ []))
+    ≡ lines (codes "0 0 reply 31 ok"
+    ∷ codes "0 0 set s 1"
+    ∷ codes "0 1 begin T P 0"
+    ∷ codes "0 3 reply 31 ok"
+    ∷ codes "0 5 begin T P 0"
+    ∷ codes "end 0 5 run lost 0"
+    ∷ [])
+
+-- An inhibited continuous task isn't released by the change to Run: the processor is idle until another task is due.
+abbrev pub inhibited_continuous : Project
+inhibited_continuous = plain (bool (codes "q") ∷ []) (inhibited (continuous (codes "OTL(q);" ∷ [])) ∷ task (codes "F") (Periodic 2) 5 (program (codes "Q") [] ∷ []) ∷ []) [] (codes "q" ∷ [])
+
+abbrev pub InhibitedContinuous : Type 0
+InhibitedContinuous = replay inhibited_continuous (lines (codes "mode run"
+    ∷ codes "cpu 2"
+    ∷ codes "tick 2"
+    ∷ codes "cpu 3"
+    ∷ codes "end"
+    ∷ []))
+    ≡ lines (codes "0 0 reply 31 ok"
+    ∷ codes "2 3 begin F Q 0"
+    ∷ codes "end 2 5 run lost 0"
     ∷ [])

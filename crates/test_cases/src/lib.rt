@@ -5,6 +5,7 @@
 mod journal_cases;
 mod law_runs;
 mod legal_cases;
+mod project_cases;
 mod runs;
 mod text_cases;
 
@@ -16,11 +17,13 @@ pub use law_runs::{
     copies_and_refusals, runs_are_legal, scans_keep_rungs, scripts_are_not_run, scripts_are_run,
 };
 pub use legal_cases::{laws_are_broken, laws_hold};
+pub use project_cases::{project_is_valid, projects_are_invalid};
 pub use runs::{
-    arithmetic_runs, conveyor_run, copy_runs, edit_runs, ladder_runs, routine_runs, task_runs,
-    timer_runs, word_runs,
+    arithmetic_runs, conveyor_run, copy_runs, edit_runs, inhibited_runs, ladder_runs,
+    parameter_runs, routine_runs, task_runs, timer_runs, word_runs,
 };
 pub use text_cases::{
     cause_cases, check_code_cases, conveyor_checked, conveyor_layout, conveyor_places,
-    declare_cases, layout_cases, operand_cases, resolution_cases, routine_cases, type_fault_cases,
+    declare_cases, layout_cases, operand_cases, parameter_cases, resolution_cases, routine_cases,
+    type_fault_cases,
 };

@@ -3,9 +3,10 @@
 ghost use Rattle.test_cases.specs.ArithmeticRuns.{FlagsAtRun, Limits, OverflowAndZeroDivisor, Results, SubscriptOutOfRange};
 ghost use Rattle.test_cases.specs.ConveyorRun.{ConveyorRun};
 ghost use Rattle.test_cases.specs.CopyRuns.{FillToTheEnd, HeldCommands, ShortSource, TornCopy, WholeCopy};
-ghost use Rattle.test_cases.specs.EditRuns.{EditRefusals, EditsInMidScan, LostLabel, MergedOrder, Owners, SelectedAtBegin};
+ghost use Rattle.test_cases.specs.EditRuns.{AcceptWhileTesting, EditRefusals, EditsInMidScan, LostLabel, MergedOrder, Owners, SelectedAtBegin};
 ghost use Rattle.test_cases.specs.LadderRuns.{CallAndReturn, CallDepth, DisabledZone, EmptyLeg, EmptyLegFirst, EmptyProgram, FalseConditions, JumpInZone, OneBitForBoth, OneRung, OneShotAfterPrescan, OneShots, Prescanned};
-ghost use Rattle.test_cases.specs.TaskRuns.{NestedRegions, OpenAtTick, OpenLoop, Preemption, RegionAtScanEnd, ReleasedAgain, ThreeInTurn, TurnsAtTicks, TwoPrograms, Watchdog};
+ghost use Rattle.test_cases.specs.ParameterRuns.{LeftOver, MostParameters, NothingBack, PlaceAtCall, ReadFirst, Recursion, SubscriptFirst, ThereAndBack, TooFewInputs, TooFewReturned};
+ghost use Rattle.test_cases.specs.TaskRuns.{InhibitedContinuous, InhibitedEvent, InhibitedPeriodic, NestedRegions, OpenAtTick, OpenLoop, Preemption, RegionAtScanEnd, ReleasedAgain, ThreeInTurn, TurnsAtTicks, TwoPrograms, Watchdog};
 ghost use Rattle.test_cases.specs.TimerRuns.{CountDown, CounterRollover, NegativePreset, OffDelay, RetentiveTimer, TimeBackwards, TimerOverTicks};
 ghost use Rattle.test_cases.specs.WordRuns.{ForcedInput, ForcedWords, LateTrigger, Modes};
 
@@ -28,6 +29,20 @@ pub fn routine_runs()
     ensures jump { JumpInZone }
     ensures call { CallAndReturn }
     ensures depth { CallDepth }
+{}
+
+/// Calls that hand numbers over.
+pub fn parameter_runs()
+    ensures there_and_back { ThereAndBack }
+    ensures most { MostParameters }
+    ensures left_over { LeftOver }
+    ensures nothing_back { NothingBack }
+    ensures too_few_inputs { TooFewInputs }
+    ensures too_few_returned { TooFewReturned }
+    ensures subscript_first { SubscriptFirst }
+    ensures place_at_call { PlaceAtCall }
+    ensures read_first { ReadFirst }
+    ensures recursion { Recursion }
 {}
 
 /// Timers and counters.
@@ -73,6 +88,13 @@ pub fn task_runs()
     ensures released_again { ReleasedAgain }
 {}
 
+/// Inhibited tasks: due, triggered, and continuous.
+pub fn inhibited_runs()
+    ensures periodic { InhibitedPeriodic }
+    ensures event { InhibitedEvent }
+    ensures continuous { InhibitedContinuous }
+{}
+
 /// Online edits: when they count, whose they are, what is merged, and each refusal.
 pub fn edit_runs()
     ensures selected { SelectedAtBegin }
@@ -81,6 +103,7 @@ pub fn edit_runs()
     ensures order { MergedOrder }
     ensures label { LostLabel }
     ensures refusals { EditRefusals }
+    ensures while_testing { AcceptWhileTesting }
 {}
 
 /// I/O words, forces and modes.

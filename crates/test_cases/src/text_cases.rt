@@ -3,6 +3,7 @@ ghost use Rattle.test_cases.specs.ConveyorCases.{ConveyorStructures, ConveyorSiz
 ghost use Rattle.test_cases.specs.LayoutCases.{CellSizes, CellMembers, MarkMembers, TimerMembers, CounterMembers, NameFaults, FaultOrder, Rings, Lengths};
 ghost use Rattle.test_cases.specs.ResolutionCases.{ShopBytes, ShopScopes, ShopElements, ShopSubscripts, NoForms, UnknownTags, UnknownMembers, OutOfRange, NoSubscripts, FifthSubscript, FixedCauses, DeclareFaults, SealFaults, SealOrder};
 ghost use Rattle.test_cases.specs.CheckCases.{Numbers, FlagOperands, WholeOperands, Named, WrongCounts, WrongTypes, NoPlaces, NoTags, OutsideNumbers, NoNames, LeastCodes, FirstFaults, LabelFaults, LongRoutines};
+ghost use Rattle.test_cases.specs.ParameterCases.{EntryFaults, NoCounts, Parameters, WrongParameterCounts, WrongParameters};
 
 /// The conveyor's structures and the image that its tags fill.
 pub fn conveyor_layout()
@@ -92,4 +93,13 @@ pub fn routine_cases()
     ensures order { FirstFaults }
     ensures labels { LabelFaults }
     ensures length { LongRoutines }
+{}
+
+/// Calls with parameters, their faults, and where an SBR may stand.
+pub fn parameter_cases()
+    ensures parameters { Parameters }
+    ensures counts { WrongParameterCounts }
+    ensures no_count { NoCounts }
+    ensures wrong { WrongParameters }
+    ensures entry { EntryFaults }
 {}

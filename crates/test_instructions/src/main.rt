@@ -1,7 +1,7 @@
 //! Judges the rows of a table of single instructions and of prescans on standard input.
 //!
 //! A row is `KIND WHAT / BEFORE / AFTER`; of what form its parts are, the function of the kind says. Lines that begin
-//! with `#` say why a row is so. What differs is printed, and at the end how many rows there were.
+//! with `--` say why a row is so. What differs is printed, and at the end how many rows there were.
 #![tactic(auto)]
 
 mod counts;
@@ -15,28 +15,10 @@ use lgx_rung::Op;
 use std::alloc::Global;
 use std::io;
 use test_bench::Refusal;
+use test_rows::judge_rows;
 
 fn main(rt: HostRuntime) -> io::Result<()> {
-    let mut rows = 0u32;
-    let mut differ = 0u32;
-    for line in rt.lines(rt.alloc()) {
-        let line = line?;
-        let row = line.as_str().trim();
-        if is_row(row) {
-            rows = rows.saturating_add(1);
-            if let Some(found) = found(rt.alloc(), row)? {
-                differ = differ.saturating_add(1);
-                println!(rt; "{row}")?;
-                println!(rt; "    {found}")?;
-            }
-        }
-    }
-    println!(rt; "{rows} rows, {differ} differ")
-}
-
-/// Whether a line is a row.
-fn is_row(line: &str) -> bool {
-    !line.is_empty() && !line.starts_with('#')
+    judge_rows(rt, found)
 }
 
 /// What comes out in place of what the row says, if that differs.

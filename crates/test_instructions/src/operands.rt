@@ -9,6 +9,7 @@ use lgx_image::{Bound, Image};
 use lgx_num::{Block, Flag, Items, Kind, Operand, Path, Place, Steps};
 use lgx_prog::Ins;
 use lgx_rung::Op;
+use spec_base::limits::MAX_BOUND_OPERANDS;
 use std::alloc::Global;
 use test_bench::{Refusal, is_executable};
 
@@ -94,10 +95,11 @@ pub fn bound(ins: &Ins, image: &Image) -> Result<Bound, Refusal>
     ensures lie { IfOk result (λ bound. ArgsInBounds bound (length image.now.bytes)) }
     ensures ends { IfOk result (λ bound. ArgsEndIn (length image.now.bytes) bound) }
 {
-    if !is_executable(ins, image.len()) {
+    let args = ins.args.as_slice();
+    if args.len() > MAX_BOUND_OPERANDS || !is_executable(ins, image.len()) {
         return Err(Refusal::NotExecutable);
     }
-    match image.bind(ins.args.as_slice()) {
+    match image.bind(args) {
         Some(bound) => Ok(bound),
         None => Err(Refusal::NotExecutable),
     }

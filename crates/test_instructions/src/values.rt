@@ -28,8 +28,8 @@ pub fn bit_row(alloc: Global, op: Op, text: &str) -> Result<String, Refusal> {
         z: flags.contains('Z'),
         n: flags.contains('N'),
     };
-    let goes_on = run_bits(ins.op, &args, true, flags.contains("first"), on, &mut image);
-    truth(alloc, goes_on)
+    let condition = run_bits(ins.op, &args, true, flags.contains("first"), on, &mut image);
+    truth(alloc, condition)
 }
 
 /// `math ADD / SINT=100 27 SINT=12 / 127`: the number at the destination, and the flags. All flags are on before.

@@ -13,12 +13,3 @@ use Rattle.lgx_tags.specs.declared.error.TagError.{TagError}
 pub by_answer : {A : Type 0} (P : A → Type 0) (r : Result (Unit {0}) TagError) (new ok old : A) → OnOk r (new ≡ ok) → OnErr r (new ≡ old) → P ok → P old → P new
 by_answer P (Ok x) new ok old p q a b = subst P (sym p) a
 by_answer P (Err e) new ok old p q a b = subst P (sym q) b
-
-pub few_tag : (d : Declarations) (s : Scope) (name : List ℕ) (of : DataType) → length (aliases (declared_as d s name (tag of))) ≡ length (aliases d)
-few_tag d s name of =
-    ap length (filter_map-append (λ (e : Entry). option_map (λ target. (e.scope, target)) (target_of e.meaning)) d.entries (record { scope = s; name = name; meaning = tag of } ∷ []) ∙ append-nil (aliases d))
-
-pub few_alias : (d : Declarations) (s : Scope) (name target : List ℕ) → length (aliases (declared_as d s name (alias target))) ≡ length (aliases d) + 1
-few_alias d s name target =
-    ap length (filter_map-append (λ (e : Entry). option_map (λ target. (e.scope, target)) (target_of e.meaning)) d.entries (record { scope = s; name = name; meaning = alias target } ∷ []))
-    ∙ length-append (aliases d) ((s, target) ∷ [])

@@ -12,8 +12,8 @@ use std::alloc::{AllocError, Global};
 
 /// `conns | CONNECTION, CONNECTION ? CALL; .. | ..`: what the calls answer.
 ///
-/// A connection is `NAME in BYTE WORDS TASK` or the same with `out`. A call is `in NAME WORD`, `out NAME WORD` or `io
-/// NAME WORD`; a slot is its byte, its number and its task.
+/// A connection is `NAME in BYTE WORDS TASK` or the same with `out`. A call is `in NAME WORD`, `out NAME WORD`, `io NAME
+/// WORD` or `words NAME WORD`; a slot is its byte, its number and its task, and `words` answers how many words there are.
 pub fn conns_row(alloc: Global, text: &str) -> Result<String, Trouble> {
     let (defs, calls) = text.split_once('?').ok_or(Trouble::Form)?;
     let (first, second) = defs.split_once(',').ok_or(Trouble::Form)?;
@@ -62,6 +62,7 @@ fn run(alloc: Global, said: &mut Said, conns: &Conns, call: &str) -> Result<(), 
         "in" => say_slot(alloc, said, conns.word_in(&name, number))?,
         "out" => say_slot(alloc, said, conns.word_out(&name, number))?,
         "io" => said.or_none(conns.io_word(&name, number))?,
+        "words" => said.number(i64::from(conns.words()))?,
         _ => return Err(Trouble::Form),
     }
     Ok(())

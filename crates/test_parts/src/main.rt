@@ -13,7 +13,6 @@ mod num;
 mod prog;
 mod rung;
 mod sched;
-mod slow;
 mod tags;
 mod trouble;
 mod types;
@@ -21,29 +20,11 @@ mod words;
 
 use std::alloc::Global;
 use std::io;
+use test_rows::judge_rows;
 use trouble::Trouble;
 
 fn main(rt: HostRuntime) -> io::Result<()> {
-    let mut rows = 0u32;
-    let mut differ = 0u32;
-    for line in rt.lines(rt.alloc()) {
-        let line = line?;
-        let row = line.as_str().trim();
-        if is_row(row) {
-            rows = rows.saturating_add(1);
-            if let Some(found) = found(rt.alloc(), row)? {
-                differ = differ.saturating_add(1);
-                println!(rt; "{row}")?;
-                println!(rt; "    {found}")?;
-            }
-        }
-    }
-    println!(rt; "{rows} rows, {differ} differ")
-}
-
-/// Whether a line is a row.
-fn is_row(line: &str) -> bool {
-    !line.is_empty() && !line.starts_with("--")
+    judge_rows(rt, found)
 }
 
 /// What comes out in place of what the row says, if that differs.
@@ -84,17 +65,11 @@ fn said(alloc: Global, kind: &str, given: &str) -> Result<String, Trouble> {
 fn said_of_tables(alloc: Global, kind: &str, given: &str) -> Result<String, Trouble> {
     match kind {
         "types" => types::types_row(alloc, given),
-        "chain" => types::chain_row(alloc, given),
         "tags" => tags::tags_row(alloc, given),
-        "operand" => tags::operand_row(alloc, given),
-        "fixed" => tags::fixed_row(alloc, given),
-        "long" => tags::long_row(alloc, given),
-        "many" => tags::many_row(alloc, given),
         "code" => prog::code_row(alloc, given),
         "program" => prog::program_row(alloc, given),
         "log" => fault::log_row(alloc, given),
         "tasks" => sched::tasks_row(alloc, given),
-        "calls" => sched::calls_row(alloc, given),
         "conns" => conn::conns_row(alloc, given),
         "forces" => force::forces_row(alloc, given),
         _ => Err(Trouble::Form),

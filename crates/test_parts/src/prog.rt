@@ -41,7 +41,7 @@ fn letters(alloc: Global, code: &[Code]) -> Result<Vec<u8>, Memory> {
 fn letter(piece: &Code) -> u8 {
     match piece {
         Code::RungStart => b'R',
-        Code::Execute(ins) => match ins.op {
+        Code::Execute(ins) => match ins.op() {
             Op::Xic => b'a',
             Op::Xio => b'b',
             Op::Jsr => b'j',

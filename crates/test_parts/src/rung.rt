@@ -6,7 +6,7 @@ use lgx_rung::{Op, TextFault};
 use spec_base::limits::MAX_FILE_BYTES;
 use std::alloc::{AllocError, Global};
 
-/// `op | LETTERS | ..`: the mnemonic that they are, its family and the kinds of its operands, or `no`.
+/// `op | LETTERS | ..`: the mnemonic that they are, its family and the kinds of the operands that it always has, or `no`.
 pub fn op_row(alloc: Global, text: &str) -> Result<String, Trouble> {
     let mut said = Said::new(alloc);
     match Op::read(text.as_bytes()) {
@@ -20,13 +20,13 @@ fn say_op(alloc: Global, said: &mut Said, op: Op) -> Result<(), AllocError> {
     said.bytes(op.text())?;
     let family = op.family();
     said.word(format!(in alloc; "{family:?}")?.as_str())?;
-    for kind in op.operand_kinds() {
+    for kind in op.fixed_kinds() {
         said.word(format!(in alloc; "{kind:?}")?.as_str())?;
     }
     Ok(())
 }
 
-/// `rung | TEXT | ..`: the canonical text of the rung that the text spells, or the code and the place of its first
+/// `rung | TEXT | ..`: the canonical text of a copy of the rung that the text spells, or the code and the place of its first
 /// fault.
 ///
 /// In the text, `\s`, `\t`, `\r`, `\n`, `\0` and `\f` are the blank, the tab, CR, LF and the bytes 0 and 255.
@@ -37,7 +37,7 @@ pub fn rung_row(alloc: Global, text: &str) -> Result<String, Trouble> {
     }
     let mut said = Said::new(alloc);
     match read_rung(alloc, &bytes) {
-        Ok(rung) => said.bytes(&write_rung(alloc, &rung)?)?,
+        Ok(rung) => said.bytes(&write_rung(alloc, &rung.copied(alloc)?)?)?,
         Err(RungError::Text(fault)) => say_fault(alloc, &mut said, fault)?,
         Err(RungError::Memory) => return Err(Trouble::Memory),
     }

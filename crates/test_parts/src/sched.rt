@@ -3,7 +3,6 @@ ghost use Rattle.std.specs.Prelude.{◌≡◌, ◌<◌, ◌≤◌, length, IfOk}
 ghost use Rattle.spec_base.specs.declared.limits.TheConstants.{LEAST_PRIORITY};
 ghost use Rattle.test_parts.specs.Periods.{HasTicks};
 
-use crate::slow::Slow;
 use crate::trouble::Trouble;
 use crate::words::{Said, number, word};
 use lgx_num::Memory;
@@ -21,7 +20,8 @@ struct Tasks {
 
 /// `tasks | TASK TASK TASK TASK ? CALL; .. | ..`: what the calls answer at a table of four tasks.
 ///
-/// A task is `E3`, `C` or `P5:10`: its kind, its priority and its period; its watchdog is 500 ticks. `finish NOW`,
+/// A task is `E3`, `C` or `P5:10`: its kind, its priority and its period; its watchdog is 500 ticks. One after `-`
+/// is inhibited. `finish NOW`,
 /// `up`, `down`, `empty`, `cps` and `cop` are calls for the task that is chosen: they answer nothing.
 pub fn tasks_row(alloc: Global, text: &str) -> Result<String, Trouble> {
     let (defs, calls) = text.split_once('?').ok_or(Trouble::Form)?;
@@ -47,11 +47,21 @@ fn task(words: &mut SplitWhitespace<'_>) -> Result<TaskDef, Trouble>
     ensures { IfOk result (λ d. (0 < d.priority) × (d.priority ≤ LEAST_PRIORITY) × HasTicks d.kind) }
 {
     let text = word(words)?;
+    match text.strip_prefix('-') {
+        Some(text) => task_of(text, true),
+        None => task_of(text, false),
+    }
+}
+
+fn task_of(text: &str, inhibited: bool) -> Result<TaskDef, Trouble>
+    ensures { IfOk result (λ d. (0 < d.priority) × (d.priority ≤ LEAST_PRIORITY) × HasTicks d.kind) }
+{
     if text == "C" {
         return Ok(TaskDef {
             kind: TaskKind::Continuous,
             priority: LEAST_PRIORITY,
             watchdog: 500,
+            inhibited,
         });
     }
     if let Some(priority) = text.strip_prefix('E') {
@@ -59,6 +69,7 @@ fn task(words: &mut SplitWhitespace<'_>) -> Result<TaskDef, Trouble>
             kind: TaskKind::Event,
             priority: priority_of(priority)?,
             watchdog: 500,
+            inhibited,
         });
     }
     let text = text.strip_prefix('P').ok_or(Trouble::Form)?;
@@ -71,6 +82,7 @@ fn task(words: &mut SplitWhitespace<'_>) -> Result<TaskDef, Trouble>
         kind: TaskKind::Periodic(period),
         priority: priority_of(priority)?,
         watchdog: 500,
+        inhibited,
     })
 }
 
@@ -146,6 +158,7 @@ fn say_release(said: &mut Said, tasks: &mut Tasks, task: u32, now: u32) -> Resul
     Ok(said.word(match tasks.table.release(task, now) {
         Release::Released => "released",
         Release::Overlap => "overlap",
+        Release::Inhibited => "inhibited",
     })?)
 }
 
@@ -196,75 +209,4 @@ fn region_up(tasks: &mut Tasks) -> Result<(), Trouble> {
     }
     tasks.table.region_up(task);
     Ok(())
-}
-
-/// `calls | COUNT | ..`: after how many of so many calls, picked by a fixed series of numbers, the table and a plain
-/// one choose differently, or `never`.
-pub fn calls_row(alloc: Global, text: &str) -> Result<String, Trouble> {
-    let count = number(&mut text.split_whitespace())?;
-    let mut words = "E3 E3 E5 C".split_whitespace();
-    let words = &mut words;
-    let mut tasks = table(
-        alloc,
-        task(words)?,
-        task(words)?,
-        task(words)?,
-        task(words)?,
-    )?;
-    let mut slow = Slow::new([3, 3, 5, LEAST_PRIORITY]);
-    let mut said = Said::new(alloc);
-    let mut seed: u32 = 1;
-    for i in 0..count {
-        seed = seed.wrapping_mul(1_664_525).wrapping_add(1_013_904_223);
-        call_both(&mut tasks, &mut slow, seed / 65_536, i);
-        if as_place(tasks.table.chosen()) != slow.chosen() {
-            said.number(i64::from(i))?;
-            return Ok(said.into_text());
-        }
-    }
-    said.word("never")?;
-    Ok(said.into_text())
-}
-
-fn as_place(task: Option<u32>) -> Option<usize> {
-    match task {
-        Some(task) => Some(task as usize),
-        None => None,
-    }
-}
-
-/// One call, picked by a number, of the table and of the plain one.
-fn call_both(tasks: &mut Tasks, slow: &mut Slow, pick: u32, now: u32) {
-    let task = pick / 8 % 4;
-    match pick % 8 {
-        0 | 1 | 2 => {
-            let _ = tasks.table.release(task, now);
-            slow.release(task as usize);
-        }
-        3 | 4 => {
-            tasks.table.rotate();
-            slow.rotate();
-        }
-        5 => finish_both(tasks, slow, now),
-        6 => copy_both(tasks, slow, false),
-        _ => copy_both(tasks, slow, true),
-    }
-}
-
-fn finish_both(tasks: &mut Tasks, slow: &mut Slow, now: u32) {
-    if let Some(task) = tasks.table.chosen() {
-        tasks.table.finish(task, now);
-        slow.finish(task as usize);
-        // the continuous task starts again at once
-        if task == 3 {
-            slow.release(3);
-        }
-    }
-}
-
-fn copy_both(tasks: &mut Tasks, slow: &mut Slow, sync: bool) {
-    if let Some(task) = tasks.table.chosen() {
-        tasks.table.set_copy(task, sync);
-        slow.set_region(task as usize, u32::from(sync));
-    }
 }

@@ -123,7 +123,7 @@ fn run(alloc: Global, said: &mut Said, table: &TypeTable, call: &str) -> Result<
     Ok(())
 }
 
-pub fn say_base(alloc: Global, said: &mut Said, base: Base) -> Result<(), AllocError> {
+fn say_base(alloc: Global, said: &mut Said, base: Base) -> Result<(), AllocError> {
     said.word(format!(in alloc; "{base:?}")?.as_str())
 }
 
@@ -142,22 +142,4 @@ fn say_fault(alloc: Global, said: &mut Said, fault: TypeFault) -> Result<(), All
     said.word(format!(in alloc; "{code:?}")?.as_str())?;
     said.number(i64::from(decl))?;
     said.or_none(member)
-}
-
-/// `chain | LENGTH | ..`: the count of a table of so many structures, at most 99, each of which holds the next, and the
-/// last a DINT, and the size of the first.
-pub fn chain_row(alloc: Global, text: &str) -> Result<String, Trouble> {
-    let length = number(&mut text.split_whitespace())?;
-    let mut decls = Vec::new(alloc);
-    for i in 0..length.saturating_sub(1) {
-        let next = i.saturating_add(1);
-        decls.push(structure_of(alloc, format!(in alloc; "S{i}: x S{next}")?.as_str())?)?;
-    }
-    let last = length.saturating_sub(1);
-    decls.push(structure_of(alloc, format!(in alloc; "S{last}: x DINT")?.as_str())?)?;
-    let table = build(alloc, &decls).ok().ok_or(Trouble::Form)?;
-    let mut said = Said::new(alloc);
-    said.count(table.structures().len())?;
-    run(alloc, &mut said, &table, "size S0 0")?;
-    Ok(said.into_text())
 }

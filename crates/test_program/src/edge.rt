@@ -1,9 +1,9 @@
 // What no row can say: the files of the system, and readers and writers that give and take few bytes at once.
-use lgx_io::{FileFault, Files, HostFiles, read_to_end, write_all};
+use lgx_io::{FileFault, Files, Gathered, HostFiles, Sink, read_to_end, write_all};
 use spec_base::limits::MAX_FILE_BYTES;
 use std::alloc::{AllocError, Global};
 use std::fs;
-use std::io::{self, ErrorKind, Read, Write};
+use std::io::{self, BufWriter, ErrorKind, Read, Write};
 use std::test::Fail;
 
 #[test]
@@ -84,6 +84,34 @@ fn short_and_interrupted_calls(rt: HostRuntime) -> Result<(), Fail> {
     for (fails_at, whole, held) in [(0, true, "seven b"), (5, false, "seve")] {
         let mut writer = Dribble::new(alloc, "", fails_at)?;
         assert_eq!(rt; write_all(&mut writer, b"seven b"), whole);
+        assert_eq!(rt; writer.bytes.as_slice(), held.as_bytes());
+    }
+    Ok(())
+}
+
+/// Whether three puts and the end succeed on a sink that gathers four bytes.
+fn put_gathered(alloc: Global, writer: &mut Dribble) -> io::Result<[bool; 4]> {
+    let mut sink = Gathered::over(BufWriter::with_capacity(alloc, 4, writer)?);
+    Ok([
+        sink.put(b"abc").is_ok(),
+        sink.put(b"defgh").is_ok(),
+        sink.put(b"i").is_ok(),
+        sink.finish().is_ok(),
+    ])
+}
+
+#[test]
+fn gathered_puts(rt: HostRuntime) -> Result<(), Fail> {
+    let alloc = rt.alloc();
+    let cases = [
+        (0, [true, true, true, true], "abcdefghi"),
+        (1, [true, false, false, false], "abc"),
+        (5, [true, false, false, false], "abc"),
+        (7, [true, true, true, false], "abcdefghi"),
+    ];
+    for (fails_at, answers, held) in cases {
+        let mut writer = Dribble::new(alloc, "", fails_at)?;
+        assert_eq!(rt; put_gathered(alloc, &mut writer)?, answers);
         assert_eq!(rt; writer.bytes.as_slice(), held.as_bytes());
     }
     Ok(())

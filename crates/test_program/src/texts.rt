@@ -29,7 +29,7 @@ impl Texts {
     /// The contents that a word stands for.
     fn contents(&self, word: &str) -> Result<Vec<u8>, AllocError> {
         if let Some(count) = word.strip_prefix("*") {
-            return blanks(self.alloc, number_of(count));
+            return blanks(self.alloc, unsigned_of(count));
         }
         for text in &self.texts {
             if text.0.as_str() == word {
@@ -85,7 +85,7 @@ pub(crate) fn escaped(alloc: Global, bytes: &[u8]) -> Result<String, AllocError>
     Ok(text)
 }
 
-fn number_of(digits: &str) -> u32 {
+fn unsigned_of(digits: &str) -> u32 {
     digits.parse::<u32>().unwrap_or(0)
 }
 
@@ -94,7 +94,7 @@ pub(crate) fn failing_reads(alloc: Global, list: &str) -> Result<Vec<u32>, Alloc
     let mut numbers = Vec::new(alloc);
     for word in list.split_whitespace() {
         if let Some(number) = word.strip_prefix("read=") {
-            numbers.push(number_of(number))?;
+            numbers.push(unsigned_of(number))?;
         }
     }
     Ok(numbers)
@@ -106,7 +106,7 @@ pub(crate) fn failing_puts(alloc: Global, list: &str) -> Result<Vec<(u32, u32)>,
     for word in list.split_whitespace() {
         if let Some(pair) = word.strip_prefix("put=") {
             let (number, kept) = pair.split_once(':').unwrap_or((pair, ""));
-            numbers.push((number_of(number), number_of(kept)))?;
+            numbers.push((unsigned_of(number), unsigned_of(kept)))?;
         }
     }
     Ok(numbers)

@@ -1,10 +1,13 @@
-use Rattle.std.proofs.Common.{List, length, sym, subst}
-use Rattle.std.specs.List.{All}
-use Rattle.lgx_num.specs.declared.place.Operand.{Operand}
-use Rattle.spec_scan.specs.Executable.{EndsIn}
+use Rattle.std.proofs.Common.{length}
+use Rattle.lgx_image.proofs.BoundKinds.{bound_lie}
+use Rattle.spec_scan.proofs.KeptKinds.{args_fit, args_end}
 use Rattle.lgx_engine.proofs.row.run_row.Goals as goal
 
+pub execute-requires-clause-fit : goal.execute-requires-clause-fit
+execute-requires-clause-fit c = rw c.ins.ensures (args_fit c.args.image.now.bytes c.args.prepared.now.args c.in-Some.bound.now c.args.prepared.now.op (c.in-Some.ensures c.args.image.now.bytes) c.requires.executable.fit)
+
+pub execute-requires-clause-lie : goal.execute-requires-clause-lie
+execute-requires-clause-lie c = bound_lie c.args.image.now.bytes c.args.prepared.now.args c.in-Some.bound.now (c.in-Some.ensures c.args.image.now.bytes) c.requires.executable.lie
+
 pub execute-requires-clause-ends : goal.execute-requires-clause-ends
-execute-requires-clause-ends c =
-    c.in-Some.ensures.ends (length c.args.image.now.bytes)
-    (subst (λ (operands : List Operand). All (EndsIn (length c.args.image.now.bytes)) operands) (sym c.as_slice.ensures) c.requires.executable.ends)
+execute-requires-clause-ends c = args_end c.args.image.now.bytes c.args.prepared.now.args c.in-Some.bound.now (length c.args.image.now.bytes) (c.in-Some.ensures c.args.image.now.bytes) c.requires.executable.ends

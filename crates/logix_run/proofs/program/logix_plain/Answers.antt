@@ -1,3 +1,5 @@
+use Rattle.std.proofs.Common.{◌≡◌, ◌≢◌}
+use Rattle.logix_run.specs.declared.status.Status.TheVariants as status
 use Rattle.logix_run.specs.Call.{Call, Adds, AddsFailure}
 use Rattle.logix_run.specs.Request.{Ended}
 use Rattle.logix_run.specs.Causes.{IsAnswered}
@@ -5,8 +7,8 @@ use Rattle.logix_run.proofs.Endings.{ended_adds, ended_failures, ended_rose}
 use Rattle.logix_run.proofs.Exactly.{only_usage, is_usage, only_project, is_project_status, only_script, is_script_status, only_ok, is_ok_status, is_project_too_long, is_journal_too_long}
 use Rattle.logix_run.proofs.program.logix_plain.Goals as goal
 
-answered : (call : Call) → Ended call → IsAnswered call
-answered call ended =
+answered : (call : Call) → Ended call → (call.answer ≢ status.WriteFault → call.faults.new ≡ call.faults.old) → IsAnswered call
+answered call ended unfailed =
     let adds : Adds call = ended_adds call call.answer ended in
     let failures : AddsFailure call = ended_failures call call.answer ended in
     let rose = ended_rose call call.answer ended in
@@ -14,6 +16,7 @@ answered call ended =
       adds = adds;
       failures = failures;
       write_fault = rose;
+      no_write_fault = unfailed;
       only_usage = only_usage call adds failures rose;
       usage = is_usage call adds failures rose;
       only_project = only_project call adds failures rose;
@@ -27,4 +30,4 @@ answered call ended =
     }
 
 pub returns : goal.returns
-returns g c = answered _ c.read_and_write.ensures
+returns g c = answered _ c.read_and_write.ensures.ended c.read_and_write.ensures.unfailed

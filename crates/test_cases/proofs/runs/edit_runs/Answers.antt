@@ -26,3 +26,7 @@ returns-clause-label c = refl
 pub returns-clause-refusals : goal.returns-clause-refusals
 unfolding digits
 returns-clause-refusals c = refl
+
+pub returns-clause-while_testing : goal.returns-clause-while_testing
+unfolding digits
+returns-clause-while_testing c = refl

@@ -8,4 +8,4 @@ pub returns-in-Some-clause-ends : goal.returns-in-Some-clause-ends
 returns-in-Some-clause-ends c =
     let executable : IsExecutable (length c.args.image.now.bytes) c.args.ins.now = subst (λ (n : ℕ). IsExecutable n c.args.ins.now) c.len.ensures.value (c.if-not-is_executable.ensures refl) in
     c.in-Some.ensures.ends (length c.args.image.now.bytes)
-    (subst (λ (operands : List Operand). All (EndsIn (length c.args.image.now.bytes)) operands) (sym c.as_slice.ensures) executable.ends)
+    (subst (λ (operands : List Operand). All (EndsIn (length c.args.image.now.bytes)) operands) (sym c.as_slice-args.ensures) executable.ends)

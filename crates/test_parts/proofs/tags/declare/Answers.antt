@@ -2,7 +2,8 @@ use Rattle.std.proofs.Common.{◌≡◌, ◌≤◌, ◌+◌, false, length, arit
 use Rattle.spec_language.specs.Declarations.{tag, declared_as}
 use Rattle.spec_language.specs.Resolution.{aliases}
 use Rattle.lgx_tags.specs.Tables.{Table}
-use Rattle.test_parts.proofs.Declaring.{by_answer, few_tag}
+use Rattle.lgx_tags.proofs.Declares.{tag_count_same}
+use Rattle.test_parts.proofs.Declaring.{by_answer}
 use Rattle.test_parts.proofs.tags.declare.Goals as goal
 
 pub invariant_of-declared : goal.invariant_of-declared
@@ -13,5 +14,5 @@ invariant_of-declared c =
     record {
       unsealed = by_answer (λ (t : Table). t.sealed ≡ false) c.declare.result c.declare.new.self ok old c.declare.ensures.ok c.declare.ensures.err refl known.unsealed;
       scopes = by_answer (λ (t : Table). t.declarations.programs ≡ known.programs) c.declare.result c.declare.new.self ok old c.declare.ensures.ok c.declare.ensures.err known.scopes known.scopes;
-      few = by_answer (λ (t : Table). length (aliases t.declarations) ≤ c.args.declared.now.count) c.declare.result c.declare.new.self ok old c.declare.ensures.ok c.declare.ensures.err (omega (arith, known.few, few_tag old.declarations c.args.scope c.as_bytes.result.now c.args.of)) (omega (arith, known.few));
+      few = by_answer (λ (t : Table). length (aliases t.declarations) ≤ c.args.declared.now.count) c.declare.result c.declare.new.self ok old c.declare.ensures.ok c.declare.ensures.err (omega (arith, known.few, tag_count_same old.declarations c.args.scope c.as_bytes.result.now c.args.of)) (omega (arith, known.few));
     }

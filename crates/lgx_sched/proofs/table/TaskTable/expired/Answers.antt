@@ -6,8 +6,8 @@ use Rattle.lgx_sched.specs.Represents.{Represents}
 use Rattle.lgx_sched.proofs.Calls.{first_run_out, represents-expired}
 use Rattle.lgx_sched.proofs.table.TaskTable.expired.Goals as goal
 
-pub returns : goal.returns
-returns c = λ s h.
-    c.first_expired.ensures ∙ (ap (λ (xs : List TaskDef). first_run_out c.args.now xs c.deref.result.now) c.as_slice.ensures
+pub returns-clause-represents : goal.returns-clause-represents
+returns-clause-represents c = λ s h.
+    c.first_expired.ensures.value ∙ (ap (λ (xs : List TaskDef). first_run_out c.args.now xs c.deref.result.now) c.as_slice.ensures
     ∙ (ap (λ (us : List (Option ActiveTask)). first_run_out c.args.now c.self.inside.defs us) c.deref.ensures.value
     ∙ represents-expired _ s c.args.now (subst (λ v. Represents v s) (sym c.self.view_is) h)))

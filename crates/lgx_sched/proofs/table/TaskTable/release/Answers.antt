@@ -1,18 +1,33 @@
--- A task that is down is up, last in its queue.
-use Rattle.std.proofs.Common.{None, length, ◌<◌, ap, ◌∙◌, subst, sym, arith}
-use Rattle.lgx_sched.specs.TableView.{TableView, enqueued}
-use Rattle.lgx_sched.specs.Represents.{Represents}
+-- A task that may be released is up, last in its queue; else the table stays as it was.
+use Rattle.std.proofs.Common.{◌∙◌, subst, sym}
+use Rattle.spec_tables.specs.declared.task.Release.TheVariants.{Released, Overlap, Inhibited}
 use Rattle.spec_tables.specs.Tasks.{release}
-use Rattle.std.proofs.lemmas.List.{get_or_read}
-use Rattle.lgx_sched.proofs.Calls.{none_of}
-use Rattle.lgx_sched.proofs.Tables.{represents-release}
+use Rattle.lgx_sched.specs.TableView.{TableView, def_of, up_of}
+use Rattle.lgx_sched.specs.Represents.{Represents}
+use Rattle.lgx_sched.proofs.Tables.{answer_is, released_down, represents-release}
 use Rattle.lgx_sched.proofs.table.TaskTable.release.Goals as goal
 
-pub returns-clause-represents : goal.returns-clause-represents
-returns-clause-represents c = λ s h.
-    let same = c.self.invariant.0.as_many in
-    let l = subst (λ (v : TableView). c.args.t < length v.defs) (sym c.self.view_is) c.requires.task in
-    subst (λ (v : TableView). Represents v (release c.args.t c.args.now s)) (sym (c.put_up.ensures ∙ ap (λ (v : TableView). enqueued c.args.t c.args.now v) (sym c.self.view_is)))
-    (represents-release _ s c.args.t c.args.now c.self.invariant.0 (subst (λ v. Represents v s) (sym c.self.view_is) h)
-    (subst (λ (v : TableView). c.args.t < length v.defs) (sym c.self.view_is) c.requires.task)
-    (sym (get_or_read c.self.inside.ups.items c.args.t _ (omega arith) c.index.ensures None) ∙ none_of _ (sym c.if-is_some.ensures)))
+pub put_up-requires-clause-down : goal.put_up-requires-clause-down
+put_up-requires-clause-down c = released_down (def_of c.args.self.now c.args.t) (up_of c.args.self.now c.args.t) (sym c.in-Released.is ∙ c.answer-answer.ensures.value)
+
+pub returns-in-Released-clause-represents : goal.returns-in-Released-clause-represents
+returns-in-Released-clause-represents c = λ s h.
+    subst (λ (v : TableView). Represents v (release c.args.t c.args.now s)) (sym c.put_up.ensures)
+    (represents-release c.args.self.now s c.args.t c.args.now Released c.answer-answer.ensures.table.0 h c.requires.task (sym c.in-Released.is ∙ c.answer-answer.ensures.value))
+
+pub returns-in-Overlap-clause-represents : goal.returns-in-Overlap-clause-represents
+returns-in-Overlap-clause-represents c = λ s h.
+    represents-release c.args.self.now s c.args.t c.args.now Overlap c.answer-answer.ensures.table.0 h c.requires.task (sym c.in-Overlap.is ∙ c.answer-answer.ensures.value)
+
+pub returns-in-Inhibited-clause-represents : goal.returns-in-Inhibited-clause-represents
+returns-in-Inhibited-clause-represents c = λ s h.
+    represents-release c.args.self.now s c.args.t c.args.now Inhibited c.answer-answer.ensures.table.0 h c.requires.task (sym c.in-Inhibited.is ∙ c.answer-answer.ensures.value)
+
+pub returns-in-Released-clause-answer : goal.returns-in-Released-clause-answer
+returns-in-Released-clause-answer c = λ s h. c.answer-answer.ensures.value ∙ answer_is c.args.self.now s c.args.t h
+
+pub returns-in-Overlap-clause-answer : goal.returns-in-Overlap-clause-answer
+returns-in-Overlap-clause-answer c = λ s h. c.answer-answer.ensures.value ∙ answer_is c.args.self.now s c.args.t h
+
+pub returns-in-Inhibited-clause-answer : goal.returns-in-Inhibited-clause-answer
+returns-in-Inhibited-clause-answer c = λ s h. c.answer-answer.ensures.value ∙ answer_is c.args.self.now s c.args.t h

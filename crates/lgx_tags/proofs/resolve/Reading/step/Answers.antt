@@ -5,7 +5,7 @@ pub enter_member-requires : goal.enter_member-requires
 enter_member-requires g c = at_within c.args.types.now (g.N.Names.bytes c.args.names.now) c.args.self.found c.requires.room c.requires.placed.found
 
 pub index_element-requires-clause-size : goal.index_element-requires-clause-size
-index_element-requires-clause-size g c = has_size c.args.types.now (g.N.Names.bytes c.args.names.now) c.args.self.found c.requires.placed.found
+index_element-requires-clause-size g c = has_size c.args.types.now (g.N.Names.bytes c.args.names.now) c.args.self.found c.requires.placed.found.lies
 
 pub index_element-requires-clause-room : goal.index_element-requires-clause-room
 index_element-requires-clause-room g c = within c.args.types.now (g.N.Names.bytes c.args.names.now) c.args.self.found c.requires.room c.requires.placed.found

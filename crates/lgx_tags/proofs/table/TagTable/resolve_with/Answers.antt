@@ -1,5 +1,7 @@
 use Rattle.std.proofs.Common.{◌≡◌, ◌∙◌, ap, sym, subst}
-use Rattle.std.specs.Prelude.{List, []}
+use Rattle.std.specs.Prelude.{List, [], IfOk}
+use Rattle.std.proofs.lemmas.Result.{IfOk-weaker}
+use Rattle.spec_language.specs.Layout.{single}
 use Rattle.spec_language.specs.declared.types.TypeDecl.{TypeDecl}
 use Rattle.spec_language.specs.Declarations.{Declarations, bytes}
 use Rattle.spec_language.specs.Resolution.{in_form, named}
@@ -10,6 +12,8 @@ use Rattle.lgx_tags.specs.TextReading.{Answers, subscripts_of}
 use Rattle.lgx_tags.proofs.Declares.{AreInScopes, all_placed}
 use Rattle.lgx_tags.proofs.ResolvedChains.{resolved_named}
 use Rattle.lgx_tags.proofs.ResolvePasses.{names_in_bounds}
+use Rattle.lgx_tags.proofs.ReadingBounds.{has_size}
+use Rattle.lgx_types.specs.Tables.{HasSize}
 use Rattle.lgx_tags.proofs.TagSpans.{form_same}
 use Rattle.lgx_tags.proofs.table.TagTable.resolve_with.Goals as goal
 use Rattle.spec_language.specs.LayoutLaws.{SoundTypes}
@@ -33,3 +37,13 @@ returns-clause-answer c =
     let placed : AreInScopes d.programs d.entries = all_placed d.types d.programs d.entries c.types-types.ensures.admitted in
     let same : in_form (subscripts_of c.args.subscripts) c.types-types.result.now (named_by d.entries c.as_slice-known.result.now c.args.scope) c.args.text.now ≡ in_form (subscripts_of c.args.subscripts) d.types (named d c.args.scope) c.args.text.now = ap (λ (types : List TypeDecl). in_form (subscripts_of c.args.subscripts) types (named_by d.entries c.as_slice-known.result.now c.args.scope) c.args.text.now) c.types-types.ensures.value ∙ form_same (subscripts_of c.args.subscripts) d.types (named_by d.entries c.as_slice-known.result.now c.args.scope) (named d c.args.scope) c.args.text.now (λ name. sym (resolved_named d c.as_slice-known.result.now placed all_resolved c.args.scope name)) in
     subst (λ (d : Declarations). Answers (in_form (subscripts_of c.args.subscripts) d.types (named d c.args.scope) c.args.text.now) c.resolve_text.result) back (subst (λ (meant : Answer). Answers meant c.resolve_text.result) same c.resolve_text.ensures.answer)
+
+pub returns-clause-sized : goal.returns-clause-sized
+returns-clause-sized c =
+    let d : Declarations = c.self.inside.declared in
+    let types : List TypeDecl = c.types-types.result.now in
+    let same : types ≡ c.args.self.now.declarations.types =
+    c.types-types.ensures.value ∙ ap (λ (t : Table). t.declarations.types) c.self.view_is in
+    let sized : IfOk c.resolve_text.result (λ f. HasSize types (single f.of.base)) =
+    IfOk-weaker c.resolve_text.result (LiesIn types (bytes d)) (λ f. HasSize types (single f.of.base)) (has_size types (bytes d)) c.resolve_text.ensures.lies in
+    subst (λ (ts : List TypeDecl). IfOk c.resolve_text.result (λ f. HasSize ts (single f.of.base))) same sized

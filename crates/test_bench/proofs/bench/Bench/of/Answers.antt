@@ -19,6 +19,7 @@ invariant_of-result c =
           executable = subst (λ (n : ℕ). IsExecutableProgram n rungs) c.len.ensures.value executable;
           position = c.start-position.ensures rungs flat;
           copy = tt;
+          returns = (tt, tt);
         },
       ),
       ap length c.in_ok-image.ensures.bytes ∙ length-replicate {A = ℕ} 132 0,

@@ -1,0 +1,17 @@
+pub mod ActionsBack
+pub mod AddedRuns
+pub mod Digits
+pub mod EditsBack
+pub mod LineSplits
+pub mod LinesBack
+pub mod Numerals
+pub mod Parts
+pub mod Prefixes
+pub mod ReadLanes
+pub mod SafeLines
+pub mod Spelled
+pub mod Splits
+pub mod TextsBack
+pub mod Trimmed
+pub mod Verbs
+pub mod WordSplits

@@ -1,0 +1,4 @@
+pub mod Journals
+pub mod Lines
+pub mod Reading
+pub mod Written

@@ -1,0 +1,23 @@
+//! Journals and scripts: what a run is given and what it records, read with the first cause and written canonically.
+#![tactic(auto)]
+
+mod actions;
+mod edits;
+mod error;
+mod journal;
+mod laws;
+mod lines;
+mod read;
+mod script;
+mod words;
+mod write;
+
+pub use error::JournalError;
+pub use journal::Journal;
+pub use laws::lines_have_one_reading;
+pub use read::read_journal;
+pub use script::read_script;
+pub use spec_machine::{Accept, Action, EditFault, Event, Mode, ModeFault, Reply, RungEdit, Text};
+pub use spec_tables::{ConnFault, ForceFault};
+pub use spec_text::{JournalCode, JournalFault, Script, Timed};
+pub use write::{write_event, write_journal};

@@ -1,0 +1,221 @@
+// Reads a journal.
+ghost use Rattle.std.specs.Prelude.{◌≡◌, ℕ, ◌+◌, ◌≤◌, ◌∷◌, [], false, nat_le, Ok, Err, IfOk, IfErr, IfSome, IsTrue};
+ghost use Rattle.spec_base.specs.declared.limits.TheConstants.{OWN_LANE};
+ghost use Rattle.spec_text.specs.TextLines.{words};
+ghost use Rattle.spec_text.specs.ActionText.{action_of};
+ghost use Rattle.spec_text.specs.JournalText.{counted_run, action_run, lane_run, run_of, is_lane, is_allowed, with_run, no_events, read_line, journal_of};
+ghost use Rattle.lgx_journal.specs.Journals.{is_run};
+ghost use Rattle.lgx_journal.specs.Lines.{has_byte, is_plain};
+ghost use Rattle.lgx_journal.specs.Reading.{IfLine, IfCode, is_single};
+
+use crate::actions::action_of;
+use crate::error::{JournalError, LineError, at_line};
+use crate::journal::Journal;
+use crate::lines::{is_end, is_skipped, lane_of, next_line};
+use crate::words::{next_word, split_word, unsigned_of};
+use lgx_num::Memory;
+use spec_base::limits::{MAX_ACTIONS, MAX_JOURNAL_STEPS, MAX_LINE_BYTES, OWN_LANE};
+use spec_machine::Event;
+use spec_text::{EventRun, JournalCode, JournalFault};
+use std::alloc::Global;
+use std::marker::Model;
+
+/// How many processor steps, ticks and actions stand in a text so far; they are within their limits.
+#[derive(Drop)]
+struct Tally {
+    steps: u32,
+    ticks: u32,
+    actions: u32,
+}
+
+impl Model for Tally {
+    ghost use Rattle.std.specs.Prelude.{IsTrue};
+    ghost use Rattle.spec_text.specs.JournalText.{Tally as Counts, is_allowed};
+    ghost use Rattle.lgx_journal.specs.Reading.{counts};
+
+    ghost Value = { Counts };
+
+    ghost view = { λ t. counts t.steps t.ticks t.actions };
+
+    ghost invariant = { λ t. IsTrue (is_allowed (counts t.steps t.ticks t.actions)) };
+}
+
+/// Adds to a total, unless it would pass the most that it may be.
+fn add_within(total: &mut u32, more: u32, most: u32) -> bool
+    requires { total.old ≤ most }
+    ensures within { result ≡ nat_le (total.old + more) most }
+    ensures added { IsTrue result → total.new ≡ total.old + more }
+    ensures same { result ≡ false → total.new ≡ total.old }
+{
+    if more > most - *total {
+        return false;
+    }
+    *total += more;
+    true
+}
+
+impl Tally {
+    /// No event.
+    fn new() -> Tally
+        ensures { result ≡ no_events }
+    {
+        Tally {
+            steps: 0,
+            ticks: 0,
+            actions: 0,
+        }
+    }
+
+    /// Counts a run, unless a limit would be passed.
+    fn take(&mut self, run: &EventRun) -> bool
+        ensures allowed { result ≡ is_allowed (with_run self.old run.now) }
+        ensures counted { IsTrue result → self.new ≡ with_run self.old run.now }
+        ensures same { result ≡ false → self.new ≡ self.old }
+    {
+        match run.event {
+            Event::Cpu => add_within(&mut self.steps, run.count, MAX_JOURNAL_STEPS),
+            Event::Tick => add_within(&mut self.ticks, run.count, MAX_JOURNAL_STEPS),
+            Event::Act(_, _) => add_within(&mut self.actions, run.count, MAX_ACTIONS as u32),
+        }
+    }
+}
+
+/// A count of processor steps or of ticks.
+#[tactic(auto, using(crate::proofs::Verbs::run_steps, crate::proofs::Verbs::run_ticks))]
+fn counted_run(line: &[u8]) -> Option<EventRun>
+    ensures run { result ≡ counted_run (words line.now) }
+    ensures form { IfSome result (λ r. IsTrue (is_single r)) }
+{
+    let (verb, after) = next_word(line)?;
+    let (count, after) = next_word(after)?;
+    if next_word(after).is_some() {
+        return None;
+    }
+    if verb == b"cpu".as_slice() {
+        return Some(EventRun {
+            event: Event::Cpu,
+            count: unsigned_of(count)?,
+        });
+    }
+    if verb == b"tick".as_slice() {
+        return Some(EventRun {
+            event: Event::Tick,
+            count: unsigned_of(count)?,
+        });
+    }
+    None
+}
+
+/// An action of a lane.
+fn action_run(alloc: Global, lane: u32, text: &[u8]) -> Result<Option<EventRun>, Memory>
+    requires { IsTrue (is_plain text.now) }
+    ensures run { IfOk result (λ o. o ≡ action_run lane (action_of text.now)) }
+    ensures form { IfOk result (λ o. IfSome o (λ r. IsTrue (is_single r))) }
+{
+    let Some(action) = action_of(alloc, text)? else {
+        return Ok(None);
+    };
+    Ok(Some(EventRun {
+        event: Event::Act(lane, action),
+        count: 1,
+    }))
+}
+
+/// An action of a lane that the line names.
+#[tactic(auto, using(crate::proofs::Parts::plain_after_word))]
+fn lane_run(alloc: Global, line: &[u8], lane: Option<u32>) -> Result<Option<EventRun>, Memory>
+    requires { IsTrue (is_plain line.now) }
+    ensures run { IfOk result (λ o. o ≡ lane_run line.now lane) }
+    ensures form { IfOk result (λ o. IfSome o (λ r. IsTrue (is_single r))) }
+{
+    let Some(lane) = lane else {
+        return Ok(None);
+    };
+    let (_, after) = split_word(line);
+    action_run(alloc, lane, after)
+}
+
+/// What a line of a journal says.
+fn run_of(alloc: Global, line: &[u8]) -> Result<Option<EventRun>, Memory>
+    requires { IsTrue (is_plain line.now) }
+    ensures run { IfOk result (λ o. o ≡ run_of line.now) }
+    ensures form { IfOk result (λ o. IfSome o (λ r. IsTrue (is_single r))) }
+{
+    if let Some(run) = counted_run(line) {
+        return Ok(Some(run));
+    }
+    match lane_run(alloc, line, lane_of(line))? {
+        Some(run) => Ok(Some(run)),
+        None => action_run(alloc, OWN_LANE, line),
+    }
+}
+
+/// Whether a lane that a line names, if it names one, is below the journal's own.
+fn is_lane(lane: Option<u32>) -> bool
+    ensures { result ≡ is_lane lane }
+{
+    match lane {
+        None => true,
+        Some(lane) => lane < OWN_LANE,
+    }
+}
+
+/// What a line says after a text with this tally, which then counts it, or its first cause.
+#[tactic(auto, using(crate::proofs::Parts::line_is_plain))]
+fn read_line(alloc: Global, tally: &mut Tally, line: &[u8]) -> Result<EventRun, LineError>
+    requires { has_byte 10 line.now ≡ false }
+    ensures run { IfOk result (λ run. read_line tally.old line.now ≡ Ok run) }
+    ensures counted { IfOk result (λ run. tally.new ≡ with_run tally.old run) }
+    ensures allowed { IfOk result (λ run. IsTrue (is_allowed (with_run tally.old run))) }
+    ensures form { IfOk result (λ run. IsTrue (is_run run)) }
+    ensures code { IfErr result (λ e. IfCode e (λ code. read_line tally.old line.now ≡ Err code)) }
+{
+    if line.len() > MAX_LINE_BYTES {
+        return Err(LineError::Code(JournalCode::J1));
+    }
+    let Some(run) = run_of(alloc, line)? else {
+        return Err(LineError::Code(JournalCode::J1));
+    };
+    if !is_lane(lane_of(line)) {
+        return Err(LineError::Code(JournalCode::J2));
+    }
+    if run.count == 0 {
+        return Err(LineError::Code(JournalCode::J4));
+    }
+    if !tally.take(&run) {
+        return Err(LineError::Code(JournalCode::J4));
+    }
+    Ok(run)
+}
+
+/// The journal that a text is, or its first line with a cause and the line's first cause.
+pub fn read_journal(alloc: Global, bytes: &[u8]) -> Result<Journal, JournalError>
+    ensures journal { IfOk result (λ journal. journal_of bytes.now ≡ Ok journal.events) }
+    ensures fault { IfErr result (λ e. IfLine e (λ fault. journal_of bytes.now ≡ Err fault)) }
+{
+    let mut journal = Journal::new(alloc);
+    let mut tally = Tally::new();
+    let mut number = 0u64;
+    let mut rest = bytes;
+    while let Some((line, after)) = next_line(rest) {
+        number += 1;
+        rest = after;
+        if is_skipped(line) {
+            continue;
+        }
+        if line.len() <= MAX_LINE_BYTES && is_end(line) {
+            return Ok(journal);
+        }
+        match read_line(alloc, &mut tally, line) {
+            Ok(run) => {
+                journal.reserve(1)?;
+                journal.add_run(run);
+            }
+            Err(error) => return Err(at_line(error, number)),
+        }
+    }
+    Err(JournalError::Line(JournalFault {
+        code: JournalCode::J1,
+        line: number + 1,
+    }))
+}

@@ -1,0 +1,35 @@
+//! The loop of a program that judges rows.
+#![tactic(auto)]
+
+use std::alloc::Global;
+use std::io;
+
+/// Judges each row on standard input: prints what differs, with what was found in its place, and at the end how many rows
+/// there were. Empty lines, and lines that begin with `--`, are no rows.
+pub fn judge_rows<F: Fn(Global, &str) -> io::Result<Option<String>>>(
+    rt: HostRuntime,
+    found: F,
+) -> io::Result<()>
+    requires { F.IsAlwaysCallable found }
+{
+    let mut rows = 0u32;
+    let mut differ = 0u32;
+    for line in rt.lines(rt.alloc()) {
+        let line = line?;
+        let row = line.as_str().trim();
+        if is_row(row) {
+            rows = rows.saturating_add(1);
+            if let Some(found) = found(rt.alloc(), row)? {
+                differ = differ.saturating_add(1);
+                println!(rt; "{row}")?;
+                println!(rt; "    {found}")?;
+            }
+        }
+    }
+    println!(rt; "{rows} rows, {differ} differ")
+}
+
+/// Whether a line is a row.
+fn is_row(line: &str) -> bool {
+    !line.is_empty() && !line.starts_with("--")
+}
