@@ -19,7 +19,7 @@ fn host_edge(rt: HostRuntime) -> Result<(), Fail> {
     fs::remove_file(&rt, "long")?;
     assert_eq!(rt; short?.as_slice(), b"a file\n".as_slice());
     assert!(rt; matches!(nowhere, Err(FileFault::Failed)));
-    assert!(rt; matches!(long, Err(FileFault::TooLong { .. })));
+    assert!(rt; matches!(long, Err(FileFault::TooLong { taken: 16_777_217 })));
     Ok(())
 }
 
