@@ -33,11 +33,8 @@ pub fn types_row(alloc: Global, text: &str) -> Result<String, Trouble> {
 
 /// The table of structures without a fault.
 pub fn table(alloc: Global, text: &str) -> Result<TypeTable, Trouble> {
-    match build(alloc, &structures_of(alloc, text)?) {
-        Ok(table) => Ok(table),
-        Err(TypeError::Fault(_)) => Err(Trouble::Form),
-        Err(TypeError::Memory) => Err(Trouble::Memory),
-    }
+    let decls = structures_of(alloc, text)?;
+    Ok(build(alloc, &decls)?)
 }
 
 /// The structures of a text, with `;` between them.
