@@ -96,7 +96,7 @@ pub(crate) fn run_row(
 /// The operands of a bit instruction, if it is one and their places are the same in every scan.
 #[inline(always)]
 pub(crate) fn bit_operands(ins: &Prepared) -> Option<&Bound>
-    ensures fixed { AreFixed ins.now.args (option_map (λ bound. bound.now) result) }
+    ensures fixed { IfSome result (λ bound. AreFixed ins.now.args (Some bound.now)) }
     ensures bit { IsSome result → family_of ins.now.op ≡ Family.Bit }
 {
     match ins.op().family() {

@@ -5,10 +5,10 @@ use Rattle.std.proofs.lemmas.Bool.{cases_lt, false≢true}
 use Rattle.lgx_num.specs.declared.number.Kind.{Kind}
 use Rattle.lgx_num.specs.declared.number.Kind.TheVariants.{Bool as KBool, Sint, Int, Dint}
 use Rattle.lgx_num.specs.declared.place.Place.{Place}
-use Rattle.lgx_num.specs.Number.{signed_bytes, signed_of}
+use Rattle.lgx_num.specs.Number.{signed_bytes, signed_of, bytes_in}
 use Rattle.lgx_num.specs.Image.{number_of, write, write_of, piece, splice, InBoundsAt, InBounds}
 use Rattle.lgx_num.proofs.Images.{splice_before, splice_behind, length-splice, piece-same, write_keeps_length}
-use Rattle.lgx_image.specs.Grains.{ImageView, grain_of, grains_in, bytes_in, is_marked, mark_range, ChangesOnlyMarked}
+use Rattle.lgx_image.specs.Grains.{ImageView, grain_of, grains_in, is_marked, mark_range, ChangesOnlyMarked}
 use Rattle.lgx_image.specs.Laws.{NoChangeNeedsMarks, ChangesFollowOneAnother, UnmarkedPlacesStay}
 use Rattle.lgx_image.proofs.Marks.{grain_of-below, mark_range-stays, piece_is_marked}
 use Rattle.lgx_image.proofs.Pieces.{length-piece}

@@ -5,7 +5,8 @@ use Rattle.std.proofs.lemmas.List.{get_or_past}
 use Rattle.lgx_num.specs.declared.number.Kind.{Kind}
 use Rattle.lgx_num.specs.declared.number.Kind.TheVariants.{Bool as KBool, Sint, Int, Dint}
 use Rattle.lgx_image.specs.declared.grain.TheConstants.{GRAIN}
-use Rattle.lgx_image.specs.Grains.{grain_of, grains_in, bytes_in, is_marked, mark_range}
+use Rattle.lgx_num.specs.Number.{bytes_in}
+use Rattle.lgx_image.specs.Grains.{grain_of, grains_in, is_marked, mark_range}
 use Rattle.lgx_image.specs.Laws.{PieceIsMarked, OtherMarksStay, AlignedPlaceInOneGrain}
 
 -- ---- grains

@@ -1,8 +1,6 @@
 -- An image to its callers: its bytes, and a mark for each grain that was written. A grain is a run of bytes, counted from 0.
 -- How many bytes a grain has is said in `grain_of` alone; all else goes by the grains that hold bytes.
 use Rattle.std.specs.Prelude.{◌≡◌, ℕ, zero, suc, ◌+◌, ◌/◌, ◌<◌, ◌≤◌, Bool, true, false, List, length, slice_index, slice_index_or, slice_set, Option, Some, None}
-use Rattle.lgx_num.specs.declared.number.Kind.{Kind}
-use Rattle.lgx_num.specs.declared.number.Kind.TheVariants.{Bool as KBool, Sint, Int, Dint}
 use Rattle.lgx_image.specs.declared.grain.TheConstants.{GRAIN}
 
 -- the bytes of all tags, and for each grain whether it is marked
@@ -20,13 +18,6 @@ grain_of byte = byte / GRAIN
 unfoldable pub grains_in : ℕ → ℕ
 grains_in zero = 0
 grains_in (suc last) = suc (grain_of last)
-
--- how many bytes hold the bits of a kind
-abbrev pub bytes_in : Kind → ℕ
-bytes_in KBool = 1
-bytes_in Sint = 1
-bytes_in Int = 2
-bytes_in Dint = 4
 
 -- ---- marks
 

@@ -2,7 +2,8 @@
 use Rattle.std.specs.Prelude.{◌≡◌, ℕ, ◌/◌, ◌%◌, ◌+◌, ◌<◌, ◌≤◌, true, false, List, Bool, length}
 use Rattle.lgx_num.specs.declared.place.Place.{Place}
 use Rattle.lgx_num.specs.Image.{number}
-use Rattle.lgx_image.specs.Grains.{ImageView, ChangesOnlyMarked, grain_of, bytes_in, is_marked, mark_range}
+use Rattle.lgx_num.specs.Number.{bytes_in}
+use Rattle.lgx_image.specs.Grains.{ImageView, ChangesOnlyMarked, grain_of, is_marked, mark_range}
 
 -- no change keeps what every change keeps, and so do two, one after another
 abbrev pub NoChangeNeedsMarks : Type 0

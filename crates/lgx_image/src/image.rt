@@ -8,13 +8,14 @@ ghost use Rattle.spec_scan.specs.Arguments.{bind, bind_one, value_of, is_one, bi
 ghost use Rattle.spec_scan.specs.Executable.{EndsIn, ArgsEndIn};
 ghost use Rattle.spec_scan.specs.Fits.{OperandsFit, ArgsFit};
 ghost use Rattle.lgx_rung.specs.declared.op.Op.{Op};
-ghost use Rattle.lgx_image.specs.Grains.{grains_in, bytes_in, mark_range, NextMarked, ChangesOnlyMarked};
+ghost use Rattle.lgx_num.specs.Number.{bytes_in};
+ghost use Rattle.lgx_image.specs.Grains.{grains_in, mark_range, NextMarked, ChangesOnlyMarked};
 ghost use Rattle.lgx_image.specs.Args.{place_at, CellInBounds, OperandsInBounds, ArgInBounds, ArgsInBounds};
 
 use crate::bytes::{bit_at, copy_piece, first_bit, number_at, write_at, write_bit};
 use crate::grain::{Marks, grains_in};
 use crate::operands::{bind_all, bind_one};
-use lgx_num::{Kind, Memory, Operand, Path, Place};
+use lgx_num::{Kind, Memory, Operand, Path, Place, bytes_in};
 use spec_scan::{Arg, Bound};
 use std::alloc::Global;
 use std::marker::Model;
@@ -187,16 +188,5 @@ impl Image {
         ensures marks { self.new.marks ≡ replicate (length self.old.marks) false }
     {
         self.marks.clear();
-    }
-}
-
-/// How many bytes hold the bits of a kind.
-fn bytes_in(kind: Kind) -> u32
-    ensures { result ≡ bytes_in kind }
-{
-    match kind {
-        Kind::Bool | Kind::Sint => 1,
-        Kind::Int => 2,
-        Kind::Dint => 4,
     }
 }

@@ -9,14 +9,13 @@ use Rattle.std.proofs.lemmas.List.Folds.{list_any-append}
 use Rattle.std.proofs.lemmas.Slice.Eq.{bytes_eq-Decides}
 use Rattle.lgx_rung.specs.Tokens.{is_blank}
 use Rattle.spec_base.specs.declared.limits.TheConstants.{MAX_LINE_BYTES, MAX_EDITS}
-use Rattle.spec_base.specs.Pieces.{pieces, is_empty}
+use Rattle.spec_base.specs.Pieces.{pieces, is_empty, has_byte}
 use Rattle.spec_machine.specs.Commands.{is_edit_count}
 use Rattle.spec_machine.specs.EditText.{trimmed, is_edit_text}
 use Rattle.spec_machine.specs.declared.event.RungEdit.{RungEdit}
 use Rattle.spec_machine.specs.declared.event.RungEdit.TheVariants.{Replace, Insert, Delete}
 use Rattle.spec_text.specs.TextLines.{words, after_word, spaced, unsigned_of}
 use Rattle.spec_text.specs.ActionText.{text_edit_of, delete_of, edit_of, each_some, edits_of, text_word, edit_words, edits_text}
-use Rattle.lgx_journal.specs.Lines.{has_byte}
 use Rattle.lgx_journal.specs.Written.{is_u32, is_kept_edit}
 use Rattle.lgx_journal.proofs.Prefixes.{none_left, none_of_front, front_more}
 use Rattle.lgx_journal.proofs.Trimmed.{no_suffix}

@@ -10,7 +10,6 @@ pub mod Prefixes
 pub mod ReadLanes
 pub mod SafeLines
 pub mod Spelled
-pub mod Splits
 pub mod TextsBack
 pub mod Trimmed
 pub mod Verbs

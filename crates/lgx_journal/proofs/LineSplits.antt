@@ -7,11 +7,11 @@ use Rattle.std.proofs.lemmas.Bool.Decides.{nat_tests}
 use Rattle.std.proofs.lemmas.List.Folds.{list_any-append}
 use Rattle.std.proofs.lemmas.List.Sums.{suffix_len-take_no, suffix_len-take_yes}
 use Rattle.std.proofs.lemmas.Slice.Eq.{bytes_eq-Decides}
-use Rattle.spec_base.specs.Pieces.{pieces, cut, is_empty}
+use Rattle.spec_base.specs.Pieces.{pieces, cut, is_empty, has_byte}
 use Rattle.spec_text.specs.TextLines.{lines, lines_of_pieces, without_return, words, spaced}
 use Rattle.spec_text.specs.JournalText.{is_end}
-use Rattle.lgx_journal.specs.Lines.{has_byte}
 use Rattle.lgx_journal.proofs.Trimmed.{none_in_take}
+use Rattle.std.proofs.lemmas.Bool.{false_from_ne_true}
 
 abbrev pub is_return : ℕ → Bool
 is_return c = nat_eq c 13
@@ -95,10 +95,6 @@ end_not_none line e = ap (λ ws. bytes_eq (spaced ws) (codes "end")) e
 pub end_alone : (line word : List ℕ) → words line ≡ word ∷ [] → is_end line ≡ bytes_eq word (codes "end")
 end_alone line word e = ap (λ ws. bytes_eq (spaced ws) (codes "end")) e
 
-not_true_is_false : (b : Bool) → (b ≡ true → ⊥) → b ≡ false
-not_true_is_false true h = absurd (h refl)
-not_true_is_false false h = refl
-
 or_true : (b : Bool) → (b || true) ≡ true
 or_true true = refl
 or_true false = refl
@@ -109,4 +105,4 @@ spaced_space w x ws = list_any-append (λ c. nat_eq c 32) w (32 ∷ spaced (x �
 pub end_not_more : (line after w x : List ℕ) (ws : List (List ℕ)) → words line ≡ w ∷ words after → words after ≡ x ∷ ws → is_end line ≡ false
 end_not_more line after w x ws e f =
     ap (λ vs. bytes_eq (spaced vs) (codes "end")) (e ∙ ap (λ vs. w ∷ vs) f)
-    ∙ not_true_is_false (bytes_eq (spaced (w ∷ x ∷ ws)) (codes "end")) (λ h. true≢false (sym (spaced_space w x ws) ∙ ap (has_byte 32) ((bytes_eq-Decides (spaced (w ∷ x ∷ ws)) (codes "end")).0 h)))
+    ∙ false_from_ne_true (bytes_eq (spaced (w ∷ x ∷ ws)) (codes "end")) (λ h. true≢false (sym (spaced_space w x ws) ∙ ap (has_byte 32) ((bytes_eq-Decides (spaced (w ∷ x ∷ ws)) (codes "end")).0 h)))

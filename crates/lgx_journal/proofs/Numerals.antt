@@ -9,13 +9,13 @@ use Rattle.std.proofs.lemmas.Bool.{and_from, and_parts, or_parts, le-leb, lt-ltb
 use Rattle.std.proofs.lemmas.Bool.Decides.{nat_tests}
 use Rattle.std.proofs.lemmas.Fmt.{decimal_nonempty, length-decimal-le, digits_decimal, digits_value-decimal}
 use Rattle.std.proofs.lemmas.Str.Parse.{IsNumeralModel, numerals_by_fold, tells_all_ascii_digits}
-use Rattle.lgx_num.specs.Name.{is_name, is_start, is_name_byte, goes_on, has_double, ends_open, is_spelled}
+use Rattle.lgx_num.specs.Name.{is_name, is_name_byte}
 use Rattle.spec_base.specs.declared.limits.TheConstants.{MAX_NAME_BYTES}
-use Rattle.spec_base.specs.Pieces.{is_empty}
+use Rattle.spec_base.specs.Pieces.{is_empty, has_byte}
 use Rattle.spec_text.specs.TextLines.{value_of, is_digits, unsigned_of, as_i32, value_when, signed_of}
-use Rattle.lgx_journal.specs.Lines.{has_byte}
 use Rattle.lgx_journal.specs.Written.{is_i32}
 use Rattle.lgx_journal.proofs.Spelled.{is_word}
+use Rattle.lgx_num.proofs.Names.{name_bytes}
 
 -- ---- digits
 
@@ -116,17 +116,6 @@ foreign_byte m h (c ∷ cs) k =
         let same : c ≡ m = grind (arith, nat_tests) in
         absurd (true≢false (sym d ∙ ap is_name_byte same ∙ h))
     by_case false e d i = ap (λ b. b || has_byte m cs) e ∙ i
-
-starts_name : (c : ℕ) → is_start c ≡ true → is_name_byte c ≡ true
-starts_name c h = ap (λ b. b || (nat_le 48 c && nat_le c 57)) h
-
-name_bytes : (w : List ℕ) → is_name w ≡ true → list_all is_name_byte w ≡ true
-name_bytes [] h = refl
-name_bytes (c ∷ cs) h =
-    let spelled = (and_parts (nat_le (length (c ∷ cs)) MAX_NAME_BYTES) (is_spelled (c ∷ cs)) h).1 in
-    let two = and_parts (is_start c) (goes_on c cs) spelled in
-    let rest = and_parts (list_all is_name_byte cs && not (has_double (c ∷ cs))) (not (ends_open (c ∷ cs))) two.1 in
-    and_from _ _ (starts_name c two.0) (and_parts (list_all is_name_byte cs) (not (has_double (c ∷ cs))) rest.0).0
 
 pub clean_name : (m : ℕ) (w : List ℕ) → is_name_byte m ≡ false → is_name w ≡ true → has_byte m w ≡ false
 clean_name m w h k = foreign_byte m h w (name_bytes w k)

@@ -1,18 +1,20 @@
 -- The parts of a text between marks, and the edits that they are.
-use Rattle.std.proofs.Common.{◌≡◌, ℕ, ◌≤◌, ◌<◌, List, [], ◌∷◌, ◌++◌, length, length-append, length-drop, drop, map, Bool, true, false, cond, not, ◌||◌, nat_le, nat_eq, Option, Some, None, option_map, IsTrue, IfSome, refl, sym, ap, ◌∙◌, append_assoc, arith, true≢false}
+use Rattle.std.proofs.Common.{◌≡◌, ℕ, ◌≤◌, ◌<◌, List, [], ◌∷◌, ◌++◌, length, length-append, length-drop, drop, map, Bool, true, false, cond, not, ◌||◌, nat_le, nat_eq, Option, Some, None, option_map, IsTrue, IfSome, refl, sym, ap, ◌∙◌, arith, true≢false}
 use Rattle.std.specs.List.{list_any, prefix_len}
 use Rattle.std.proofs.lemmas.Bool.{and_from, and_parts, leb-true, le-leb, not-true, not_from_false}
 use Rattle.std.proofs.lemmas.List.{length-map}
 use Rattle.std.proofs.lemmas.List.Folds.{list_any-append}
 use Rattle.spec_base.specs.declared.limits.TheConstants.{MAX_LINE_BYTES, MAX_EDITS}
-use Rattle.spec_base.specs.Pieces.{pieces}
+use Rattle.spec_base.specs.Pieces.{pieces, has_byte}
 use Rattle.std.proofs.lemmas.Bool.Decides.{nat_tests}
 use Rattle.spec_machine.specs.Commands.{is_edit_count}
 use Rattle.spec_machine.specs.declared.event.RungEdit.{RungEdit}
 use Rattle.spec_text.specs.ActionText.{each_some, edit_of, edits_of}
 use Rattle.spec_text.specs.TextLines.{is_space, word_len, after_word}
 use Rattle.lgx_journal.proofs.Trimmed.{none_in_drop}
-use Rattle.lgx_journal.specs.Lines.{has_byte, is_plain, is_part}
+use Rattle.lgx_journal.specs.Lines.{is_plain, is_part}
+use Rattle.spec_base.proofs.Options.{front_more}
+use Rattle.std.proofs.lemmas.Bool.{or_parts}
 
 -- ---- the parts of a plain text
 
@@ -24,14 +26,6 @@ foreign_none (c ∷ cs) h k = by_case (nat_eq c 10) (nat_eq c 124) (has_byte 10 
     by_case true b x y z h k i = absurd (true≢false h)
     by_case false true x y z h k i = absurd (true≢false k)
     by_case false false x y z h k i = i h k
-
-or_left_false : (a b : Bool) → (a || b) ≡ false → a ≡ false
-or_left_false true b h = absurd (true≢false h)
-or_left_false false b h = refl
-
-or_right_false : (a b : Bool) → (a || b) ≡ false → b ≡ false
-or_right_false true b h = absurd (true≢false h)
-or_right_false false b h = h
 
 pub part_whole : (text : List ℕ) → IsTrue (is_plain text) → has_byte 124 text ≡ false → IsTrue (is_part text)
 part_whole text is clean =
@@ -49,9 +43,9 @@ sides mark text before after e is =
     let fits = leb-true (length text) MAX_LINE_BYTES both.0 in
     let size = ap length e ∙ length-append before (mark ∷ after) in
     let none = sym (ap (has_byte 10) e ∙ list_any-append (λ c. nat_eq c 10) before (mark ∷ after)) ∙ not-true _ both.1 in
-    let later = or_right_false (nat_eq mark 10) (has_byte 10 after) (or_right_false (has_byte 10 before) (nat_eq mark 10 || has_byte 10 after) none) in
+    let later = (or_parts (nat_eq mark 10) (has_byte 10 after) (or_parts (has_byte 10 before) (nat_eq mark 10 || has_byte 10 after) none).1).1 in
     record {
-      before = and_from _ _ (le-leb (length before) MAX_LINE_BYTES (omega arith)) (not_from_false _ (or_left_false (has_byte 10 before) _ none));
+      before = and_from _ _ (le-leb (length before) MAX_LINE_BYTES (omega arith)) (not_from_false _ (or_parts (has_byte 10 before) (nat_eq mark 10 || has_byte 10 after) none).0);
       after = and_from _ _ (le-leb (length after) MAX_LINE_BYTES (omega arith)) (not_from_false _ later);
     }
 
@@ -84,10 +78,6 @@ each_length {A = A} (Some x ∷ os) = onto (each_some os) (each_length os)
     onto : (o : Option (List A)) → IfSome o (λ xs. length xs ≡ length os) → IfSome (option_map (λ xs. x ∷ xs) o) (λ xs. length xs ≡ length (Some x ∷ os))
     onto None h = tt
     onto (Some xs) h = omega arith
-
-front_more : {A : Type 0} (done : List A) (x : A) (o : Option (List A)) → option_map (λ xs. (done ++ x ∷ []) ++ xs) o ≡ option_map (λ xs. done ++ xs) (option_map (λ xs. x ∷ xs) o)
-front_more done x None = refl
-front_more done x (Some xs) = ap Some (append_assoc done (x ∷ []) xs)
 
 -- the edits of the parts from here on, after others
 abbrev pub edits_after : List RungEdit → List (List ℕ) → Option (List RungEdit)

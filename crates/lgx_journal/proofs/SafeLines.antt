@@ -21,7 +21,7 @@ use Rattle.spec_text.specs.TextLines.{spaced}
 use Rattle.spec_text.specs.ActionText.{text_word, edit_words, edits_text, action_words}
 use Rattle.spec_text.specs.JournalText.{lane_words, event_words}
 use Rattle.lgx_journal.specs.Journals.{is_run}
-use Rattle.lgx_journal.specs.Lines.{has_byte}
+use Rattle.spec_base.specs.Pieces.{has_byte}
 use Rattle.lgx_journal.specs.Written.{is_u32, is_i32, is_kept_edit, is_kept_action, is_kept_run, is_placed, is_written}
 use Rattle.lgx_journal.proofs.EditsBack.{is_trimmed, no_end, edit_text_clean}
 use Rattle.lgx_journal.proofs.LineSplits.{is_return}

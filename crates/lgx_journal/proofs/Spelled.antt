@@ -4,9 +4,8 @@ use Rattle.std.specs.List.{list_all, prefix_len}
 use Rattle.std.proofs.Math.Seq.{take-append_seam, drop-append_seam}
 use Rattle.std.proofs.lemmas.Bool.{and_parts, or_parts, not-true}
 use Rattle.std.proofs.lemmas.Bool.Decides.{nat_tests}
-use Rattle.spec_base.specs.Pieces.{pieces, cut, is_empty}
+use Rattle.spec_base.specs.Pieces.{pieces, cut, is_empty, has_byte}
 use Rattle.spec_text.specs.TextLines.{is_space, words, from_word, word_len, first_word, after_word, spaced}
-use Rattle.lgx_journal.specs.Lines.{has_byte}
 
 pub same_number : (n : ℕ) → nat_eq n n ≡ true
 same_number n = grind (arith, nat_tests)

@@ -12,12 +12,9 @@ use Rattle.spec_machine.specs.EditText.{trimmed, is_edit_text}
 use Rattle.spec_text.specs.TextLines.{is_space, from_word, word_len, after_word}
 use Rattle.lgx_journal.specs.Lines.{is_part}
 use Rattle.lgx_journal.proofs.Prefixes.{none_left, none_of_front}
+use Rattle.std.proofs.lemmas.Bool.{or_parts}
 
 -- ---- what a text hasn't, a part of it hasn't
-
-rest_none : (a b : Bool) → (a || b) ≡ false → b ≡ false
-rest_none true b h = absurd (true≢false h)
-rest_none false b h = h
 
 with_first : (a b c : Bool) → (a || b) ≡ false → c ≡ false → (a || c) ≡ false
 with_first true b c h k = absurd (true≢false h)
@@ -26,12 +23,12 @@ with_first false b c h k = k
 pub none_in_drop : (p : ℕ → Bool) (n : ℕ) (xs : List ℕ) → list_any p xs ≡ false → list_any p (drop n xs) ≡ false
 none_in_drop p zero xs h = h
 none_in_drop p (suc n) [] h = refl
-none_in_drop p (suc n) (x ∷ xs) h = none_in_drop p n xs (rest_none (p x) (list_any p xs) h)
+none_in_drop p (suc n) (x ∷ xs) h = none_in_drop p n xs (or_parts (p x) (list_any p xs) h).1
 
 pub none_in_take : (p : ℕ → Bool) (n : ℕ) (xs : List ℕ) → list_any p xs ≡ false → list_any p (take n xs) ≡ false
 none_in_take p zero xs h = refl
 none_in_take p (suc n) [] h = refl
-none_in_take p (suc n) (x ∷ xs) h = with_first (p x) (list_any p xs) (list_any p (take n xs)) h (none_in_take p n xs (rest_none (p x) (list_any p xs) h))
+none_in_take p (suc n) (x ∷ xs) h = with_first (p x) (list_any p xs) (list_any p (take n xs)) h (none_in_take p n xs (or_parts (p x) (list_any p xs) h).1)
 
 abbrev foreign : ℕ → Bool
 foreign c = nat_eq c 10 || nat_eq c 124

@@ -11,10 +11,7 @@ use Rattle.spec_text.specs.declared.script.EventRun.{EventRun}
 use Rattle.spec_text.specs.TextLines.{unsigned_of}
 use Rattle.spec_text.specs.JournalText.{times, counted_run}
 use Rattle.spec_text.specs.ActionText.{at_word, name_of, one_word_of}
-
-or_none : {A : Type 0} (o : Option A) → option_or o None ≡ o
-or_none None = refl
-or_none (Some x) = refl
+use Rattle.spec_base.proofs.Options.{or_none}
 
 is_verb : (verb wanted : List ℕ) → bytes_eq verb wanted ≡ true → verb ≡ wanted
 is_verb verb wanted h = (bytes_eq-Decides verb wanted).0 h

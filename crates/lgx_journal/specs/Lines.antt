@@ -1,10 +1,8 @@
 -- What is known of a line of a text, and of a part of it.
 use Rattle.std.specs.Prelude.{ℕ, List, length, Bool, not, ◌&&◌, ◌||◌, nat_le, nat_eq}
 use Rattle.std.specs.List.{list_any}
+use Rattle.spec_base.specs.Pieces.{has_byte}
 use Rattle.spec_base.specs.declared.limits.TheConstants.{MAX_LINE_BYTES}
-
-abbrev pub has_byte : ℕ → List ℕ → Bool
-has_byte mark text = list_any (λ c. nat_eq c mark) text
 
 -- no line feed stands in it, and it has not too many bytes
 abbrev pub is_plain : List ℕ → Bool

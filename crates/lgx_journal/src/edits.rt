@@ -10,8 +10,8 @@ ghost use Rattle.spec_text.specs.TextLines.{words};
 ghost use Rattle.spec_text.specs.ActionText.{text_edit_of, delete_of, edit_of, each_some, edits_of};
 ghost use Rattle.lgx_journal.specs.Lines.{is_plain, is_part};
 
-use crate::words::{next_word, split_first, split_word, unsigned_of};
-use lgx_num::{Items, Memory};
+use crate::words::{next_word, split_word, unsigned_of};
+use lgx_num::{Items, Memory, split_first};
 use spec_base::limits::MAX_EDITS;
 use spec_machine::{RungEdit, Text};
 use std::alloc::Global;

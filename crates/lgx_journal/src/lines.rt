@@ -2,9 +2,10 @@
 ghost use Rattle.std.specs.Prelude.{◌≡◌, ◌<◌, [], ◌∷◌, false, length, IsNone, IfSome};
 ghost use Rattle.spec_text.specs.TextLines.{lines, without_return, is_skipped};
 ghost use Rattle.spec_text.specs.JournalText.{lane_of, is_end};
-ghost use Rattle.lgx_journal.specs.Lines.{has_byte};
+ghost use Rattle.spec_base.specs.Pieces.{has_byte};
 
-use crate::words::{next_word, split_first, split_word, unsigned_of};
+use crate::words::{next_word, split_word, unsigned_of};
+use lgx_num::split_first;
 
 /// A line without a carriage return at its end.
 #[tactic(auto, using(crate::proofs::LineSplits::return_dropped, crate::proofs::LineSplits::return_missing, crate::proofs::LineSplits::empty_kept))]

@@ -5,7 +5,8 @@ ghost use Rattle.spec_text.specs.TextLines.{words};
 ghost use Rattle.spec_text.specs.ActionText.{action_of};
 ghost use Rattle.spec_text.specs.JournalText.{counted_run, action_run, lane_run, run_of, is_lane, is_allowed, with_run, no_events, read_line, journal_of};
 ghost use Rattle.lgx_journal.specs.Journals.{is_run};
-ghost use Rattle.lgx_journal.specs.Lines.{has_byte, is_plain};
+ghost use Rattle.spec_base.specs.Pieces.{has_byte};
+ghost use Rattle.lgx_journal.specs.Lines.{is_plain};
 ghost use Rattle.lgx_journal.specs.Reading.{IfLine, IfCode, is_single};
 
 use crate::actions::action_of;

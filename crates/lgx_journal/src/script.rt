@@ -5,7 +5,8 @@ ghost use Rattle.spec_text.specs.TextLines.{lines, words};
 ghost use Rattle.spec_text.specs.declared.script.Timed.{Timed};
 ghost use Rattle.spec_text.specs.Scripts.{is_out, actions_in, is_script};
 ghost use Rattle.spec_text.specs.ScriptText.{bare, header_of, read_header, lane_action_of, with_lane_action, at_or_zero, read_lane_line, lanes_from, script_of};
-ghost use Rattle.lgx_journal.specs.Lines.{has_byte, is_plain};
+ghost use Rattle.spec_base.specs.Pieces.{has_byte};
+ghost use Rattle.lgx_journal.specs.Lines.{is_plain};
 ghost use Rattle.lgx_journal.specs.Reading.{IfLine, IfCode, lane_action, lane_fault, first_read};
 ghost use Rattle.spec_base.specs.declared.limits.TheConstants.{MAX_ACTIONS};
 

@@ -1,27 +1,8 @@
 // Lines, words and parts of a text, and numbers.
 ghost use Rattle.std.specs.Prelude.{◌≡◌, ◌++◌, false, ◌<◌, ◌≤◌, ◌^◌, [], ◌∷◌, length, not, if◌then◌else◌, Some, None, IsNone, IfSome};
 ghost use Rattle.std.specs.List.{prefix_len};
-ghost use Rattle.spec_base.specs.Pieces.{pieces};
-ghost use Rattle.lgx_journal.specs.Lines.{has_byte};
+ghost use Rattle.spec_base.specs.Pieces.{pieces, has_byte};
 ghost use Rattle.spec_text.specs.TextLines.{is_space, words, first_word, after_word, value_of, is_digits, unsigned_of, signed_of, as_i32};
-
-/// What stands before the first mark, and after it.
-#[tactic(auto, using(crate::proofs::Splits::pieces_at_mark, crate::proofs::Splits::pieces_whole, crate::proofs::Splits::cut_at_mark, crate::proofs::Splits::clean_before, crate::proofs::Splits::clean_whole))]
-pub(crate) fn split_first(text: &[u8], mark: u8) -> Option<(&[u8], &[u8])>
-    ensures some { IfSome result (λ r. pieces mark text.now ≡ r.0.now ∷ pieces mark r.1.now) }
-    ensures whole { IfSome result (λ r. text.now ≡ r.0.now ++ mark ∷ r.1.now) }
-    ensures clean { IfSome result (λ r. has_byte mark r.0.now ≡ false) }
-    ensures shorter { IfSome result (λ r. length r.1.now < length text.now) }
-    ensures none { IsNone result → pieces mark text.now ≡ text.now ∷ [] }
-    ensures none_clean { IsNone result → has_byte mark text.now ≡ false }
-{
-    for (i, byte) in text.iter().enumerate() {
-        if *byte == mark {
-            return Some((&text[..i], &text[i + 1..]));
-        }
-    }
-    None
-}
 
 /// The number of spaces before the first byte that is none.
 #[tactic(auto, using(crate::proofs::Prefixes::prefix_stops, crate::proofs::Prefixes::prefix_whole))]

@@ -1,5 +1,5 @@
 // Names in order, and the number of the first of each spelling.
-ghost use Rattle.std.specs.Prelude.{◌≡◌, ◌<◌, ◌≤◌, [], ◌∷◌, ◌++◌, length, map, if◌then◌else◌, option_map, position, slice_index, take, vec_len, vec_capacity, IfSome, OnErr, OnOk};
+ghost use Rattle.std.specs.Prelude.{◌^◌, ◌≡◌, ◌<◌, ◌≤◌, [], ◌∷◌, ◌++◌, length, map, if◌then◌else◌, option_map, position, slice_index, take, vec_len, vec_capacity, IfSome, OnErr, OnOk};
 ghost use Rattle.std.specs.Char.{to_ascii_lowercase};
 ghost use Rattle.lgx_num.specs.Name.{same};
 ghost use Rattle.spec_base.specs.declared.limits.TheConstants.{MAX_NAME_BYTES};
@@ -55,7 +55,7 @@ impl NameIndex {
 
     /// Adds a name after the others, also if it is the same as one of them.
     pub fn push(&mut self, name: &Name) -> Result<(), Memory>
-        requires { length self.old < 4294967296 }
+        requires { length self.old < 2 ^ 32 }
         ensures ok { OnOk result (self.new ≡ self.old ++ name.now ∷ []) }
         ensures err { OnErr result (self.new ≡ self.old) }
     {

@@ -8,7 +8,7 @@ use Rattle.lgx_rung.specs.Sizes.{tree_size, list_size}
 use Rattle.lgx_rung.specs.Text.{canon, canon_token, canon_tokens, list_tokens, leg_tokens, operands}
 use Rattle.lgx_rung.specs.Tokens.{Token, Mnemonic, CloseFork, OpenParen, CloseParen, Semicolon}
 use Rattle.lgx_rung.specs.Tree.{end, fork_of, legs_of, Source}
-use Rattle.lgx_rung.proofs.Walks.{element_size, element_falls, leg_falls}
+use Rattle.lgx_rung.proofs.Walks.{leg_falls}
 use Rattle.lgx_neutral.specs.Writing.{element_tokens, legs_tokens}
 
 canon-append : (xs ys : List Token) → canon_tokens (xs ++ ys) ≡ canon_tokens xs ++ canon_tokens ys
@@ -96,11 +96,6 @@ legs_written (t ∷ ts) i first old begun now some is h b w =
     ∙ ap (λ x. old ++ x) (sym (canon-append (list_tokens t) (leg_tokens (legs_of ts))))
 
 -- ---- what falls
-
-pub element_of : (es : List Element) (i : ℕ) (e : Element) (r : Source) → tree_of es ≡ r → i < length es → e ≡ get_or es i e → element_size e < tree_size r
-element_of es i e r t h is =
-    let falls : element_size (get_or es i e) < tree_size (tree_of es) = element_falls es i e h in
-    subst (λ x. element_size e < tree_size x) t (subst (λ x. element_size x < tree_size (tree_of es)) (sym is) falls)
 
 pub first_of_legs : (legs : List Source) (t : Source) → 0 < length legs → t ≡ get_or legs 0 t → tree_size t < list_size legs
 first_of_legs legs t h is = subst (λ x. tree_size x < list_size legs) (sym is) (leg_falls legs 0 t h)

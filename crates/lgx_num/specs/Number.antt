@@ -35,6 +35,13 @@ greatest Sint = pos 127
 greatest Int = pos 32767
 greatest Dint = pos 2147483647
 
+-- how many bytes hold the bits of a kind
+abbrev pub bytes_in : Kind → ℕ
+bytes_in KBool = 1
+bytes_in Sint = 1
+bytes_in Int = 2
+bytes_in Dint = 4
+
 -- a value is in a kind's range
 abbrev pub fits : Kind → ℤ → Bool
 fits k v = int_le (least k) v && int_le v (greatest k)

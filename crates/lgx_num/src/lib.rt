@@ -11,10 +11,12 @@ mod memory;
 mod name;
 mod number;
 mod place;
+mod text;
 
 pub use laws::{law_of_bytes, law_of_low_bits, law_of_names, law_of_subscripts, law_of_writes};
 pub use list::Items;
 pub use memory::Memory;
-pub use name::{Name, same};
-pub use number::{Kind, bytes_of, dint_of, fits, store_low};
+pub use name::{Name, is_name, is_name_byte, same};
+pub use number::{Kind, bytes_in, bytes_of, dint_of, fits, store_low};
 pub use place::{Block, Flag, Flags, Index, Operand, Path, Place, Steps};
+pub use text::split_first;

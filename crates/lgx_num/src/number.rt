@@ -1,6 +1,6 @@
 // Numbers of the kinds of value that a tag holds, and their bytes.
 ghost use Rattle.std.specs.Prelude.{◌≡◌};
-ghost use Rattle.lgx_num.specs.Number.{store_low, fits, bytes_of, dint_of};
+ghost use Rattle.lgx_num.specs.Number.{store_low, fits, bytes_in, bytes_of, dint_of};
 
 /// What a place of the image holds.
 #[derive(Clone, Copy, Default, PartialEq, Eq, Debug)]
@@ -28,6 +28,17 @@ pub fn store_low(kind: Kind, value: i64) -> i32
         Kind::Sint => i32::from((value.rem_euclid(256) as u8).cast_signed()),
         Kind::Int => i32::from((value.rem_euclid(65536) as u16).cast_signed()),
         Kind::Dint => (value.rem_euclid(4294967296) as u32).cast_signed(),
+    }
+}
+
+/// How many bytes hold the bits of a kind: 1 for a bit.
+pub fn bytes_in(kind: Kind) -> u32
+    ensures { result ≡ bytes_in kind }
+{
+    match kind {
+        Kind::Bool | Kind::Sint => 1,
+        Kind::Int => 2,
+        Kind::Dint => 4,
     }
 }
 

@@ -10,6 +10,7 @@ use Rattle.spec_scan.specs.Position.{Rungs, ProgramRungs, routine_rungs}
 use Rattle.spec_scan.specs.Prescan.{calls, is_called, reached_by, reached}
 use Rattle.lgx_prog.specs.Search.{Found, with_found}
 use Rattle.lgx_prog.proofs.Searching.{Has, any_at, any_from, into_filter, from_filter, into_range, from_range, filter_same, has_end, has_before, place_of}
+use Rattle.spec_base.proofs.Numbers.{le_cases}
 
 -- ---- marks
 
@@ -67,9 +68,6 @@ module _ (program : ProgramRungs) where
 
   pub level_call : (k r n : ℕ) → n < number → Has r (reached_by k program) → Has n (callees r) → Has n (reached_by (suc k) program)
   level_call k r n h p c = into_level k n h (or_right (list_any (nat_eq n) (reached_by k program)) _ (any_at (λ m. list_any (nat_eq n) (callees m)) (reached_by k program) r p c))
-
-  le_cases : (m k : ℕ) → m ≤ suc k → (m ≤ k) ⊎ (m ≡ suc k)
-  le_cases m k h = grind arith
 
   pub level_later : (k m n : ℕ) → m ≤ k → n < number → Has n (reached_by m program) → Has n (reached_by k program)
   level_later zero m n h b r =

@@ -2,7 +2,7 @@
 use Rattle.std.specs.Prelude.{ℕ, Bool, true, false, not, ◌&&◌, nat_lt, if◌then◌else◌, List, [], ◌∷◌, ◌++◌, length, slice_index_or, slice_set, slice_get, fold, Option, Some, None}
 use Rattle.spec_scan.specs.Position.{Rungs}
 use Rattle.lgx_prog.specs.Flat.{Flat, IsFlat}
-use Rattle.lgx_prog.specs.FlatProgram.{no_code}
+use Rattle.lgx_prog.specs.FlatProgram.{Program, IsFlatProgram, no_code}
 use Rattle.lgx_prog.specs.Executes.{called_in}
 
 -- for each routine whether it was found, and those that were, in order
@@ -32,6 +32,11 @@ AreFlat [] [] = Unit {0}
 AreFlat [] (r ∷ rs) = ⊥
 AreFlat (f ∷ fs) [] = ⊥
 AreFlat (f ∷ fs) (r ∷ rs) = IsFlat f r × AreFlat fs rs
+
+-- whichever rungs these codes are of, the program is that of the rungs
+abbrev pub IsMadeOf : Program → List Flat → ℕ → Type 0
+IsMadeOf program flats main =
+    (rungs : List Rungs) → AreFlat flats rungs → IsFlatProgram program (record { routines = rungs; main = main })
 
 abbrev pub option_list : Option ℕ → List ℕ
 option_list None = []

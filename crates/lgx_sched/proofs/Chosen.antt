@@ -13,6 +13,7 @@ use Rattle.lgx_sched.specs.declared.table.ActiveTask.{ActiveTask}
 use Rattle.lgx_sched.specs.TableView.{TableView, up_of, queue_at, has_open, front_of, next_task}
 use Rattle.lgx_sched.specs.Represents.{Ascends, rank_of, without_rank, IsUpAt, Represents, IsSound, is_it}
 use Rattle.lgx_sched.proofs.Queues.{in_cons}
+use Rattle.spec_base.proofs.Numbers.{one_on, one_more}
 
 -- ---- the least of candidates
 
@@ -71,17 +72,14 @@ least-beats a (c ∷ cs) i bs = ap (λ (x : Candidate). Some x.task) (least_of-b
 abbrev pub up_candidate : ℕ → TaskDef → TaskState → Candidate
 up_candidate t d u = record { task = t; priority = d.priority; rank = u.rank }
 
-shift : (n k : ℕ) → n + suc k ≡ n + 1 + k
-shift n k = omega arith
-
 Beats-candidates : (a : Candidate) (n : ℕ) (ds : List TaskDef) (us : List (Option TaskState)) → ((k : ℕ) (u : TaskState) → get_or us k None ≡ Some u → Wins a (up_candidate (n + k) (get_or ds k no_task) u)) → Beats a (candidates n ds us)
 Beats-candidates a n [] us h = tt
 Beats-candidates a n (d ∷ ds) [] h = tt
 Beats-candidates a n (d ∷ ds) (None ∷ us) h =
-    Beats-candidates a (n + 1) ds us (λ k u e. subst (λ m. Wins a (up_candidate m (get_or ds k no_task) u)) (shift n k) (h (suc k) u e))
+    Beats-candidates a (n + 1) ds us (λ k u e. subst (λ m. Wins a (up_candidate m (get_or ds k no_task) u)) (one_on n k) (h (suc k) u e))
 Beats-candidates a n (d ∷ ds) (Some x ∷ us) h = (
   subst (λ m. Wins a (up_candidate m d x)) (zero_more n) (h 0 x refl),
-  Beats-candidates a (n + 1) ds us (λ k u e. subst (λ m. Wins a (up_candidate m (get_or ds k no_task) u)) (shift n k) (h (suc k) u e)),
+  Beats-candidates a (n + 1) ds us (λ k u e. subst (λ m. Wins a (up_candidate m (get_or ds k no_task) u)) (one_on n k) (h (suc k) u e)),
 )
   where
     zero_more : (m : ℕ) → m + 0 ≡ m
@@ -92,14 +90,14 @@ Among-candidates n [] us k u l e = absurd (omega arith)
 Among-candidates n (d ∷ ds) [] k u l e = absurd (cc)
 Among-candidates n (d ∷ ds) (None ∷ us) zero u l e = absurd (cc)
 Among-candidates n (d ∷ ds) (None ∷ us) (suc k) u l e =
-    subst (λ m. Among (up_candidate m (get_or ds k no_task) u) (candidates (n + 1) ds us)) (sym (shift n k)) (Among-candidates (n + 1) ds us k u (omega arith) e)
+    subst (λ m. Among (up_candidate m (get_or ds k no_task) u) (candidates (n + 1) ds us)) (sym (one_on n k)) (Among-candidates (n + 1) ds us k u (omega arith) e)
 Among-candidates n (d ∷ ds) (Some x ∷ us) zero u l e =
     inl (candidate_is n d x u (omega arith) e)
   where
     candidate_is : (m : ℕ) (d' : TaskDef) (y z : TaskState) → m + 0 ≡ m → Some y ≡ Some z → up_candidate (m + 0) d' z ≡ up_candidate m d' y
     candidate_is m d' y z e' o = let same : y ≡ z = cc in ap (λ i. up_candidate i d' z) e' ∙ ap (λ w. up_candidate m d' w) (sym same)
 Among-candidates n (d ∷ ds) (Some x ∷ us) (suc k) u l e =
-    inr (subst (λ m. Among (up_candidate m (get_or ds k no_task) u) (candidates (n + 1) ds us)) (sym (shift n k)) (Among-candidates (n + 1) ds us k u (omega arith) e))
+    inr (subst (λ m. Among (up_candidate m (get_or ds k no_task) u) (candidates (n + 1) ds us)) (sym (one_on n k)) (Among-candidates (n + 1) ds us k u (omega arith) e))
 
 candidates-none : (n : ℕ) (ds : List TaskDef) (us : List (Option TaskState)) → ((k : ℕ) → get_or us k None ≡ None) → candidates n ds us ≡ []
 candidates-none n [] us h = refl
@@ -148,7 +146,7 @@ position-is_it test d (x ∷ xs) n (Some zero) shut h =
     zero_more m = omega arith
 position-is_it test d (x ∷ xs) n (Some (suc m)) shut h =
     ap (λ b. cond b (Some n) (position_from test (n + 1) xs)) (h 0 ∙ ne_eqb (suc m) 0 (λ e. suc_zero m e))
-    ∙ (position-is_it test d xs (n + 1) (Some m) shut (λ k. h (suc k) ∙ eq_suc m k) ∙ ap (λ (i : ℕ). Some i) (sym (shift n m)))
+    ∙ (position-is_it test d xs (n + 1) (Some m) shut (λ k. h (suc k) ∙ eq_suc m k) ∙ ap (λ (i : ℕ). Some i) (sym (one_on n m)))
   where
     suc_zero : (i : ℕ) → suc i ≡ 0 → ⊥
     suc_zero i e = omega arith
@@ -177,9 +175,6 @@ placed v s sound h k w =
     let l : k < length v.defs = subst (λ n. k < n) (same_length v s sound h ∙ sym (ap (λ (xs : List TaskDef). length xs) h.defs)) (within s.states k w) in
     let positive : 0 < (task s k).priority = subst (λ (xs : List TaskDef). 0 < (get_or xs k no_task).priority) h.defs ((sound.priorities k l).0) in
     one_more ((task s k).priority) positive
-  where
-    one_more : (n : ℕ) → 0 < n → n ≡ n - 1 + 1
-    one_more n l = omega arith
 
 pub in_queue : (v : TableView) (s : Table) → IsSound v → Represents v s → (k : ℕ) → IsTrue (is_some (state_of s k)) → Contains (queue_at v ((task s k).priority - 1)) k
 in_queue v s sound h k w = (h.queues ((task s k).priority - 1)).all k (w, placed v s sound h k w)

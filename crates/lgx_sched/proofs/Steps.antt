@@ -13,6 +13,7 @@ use Rattle.lgx_sched.specs.TableView.{TableView, up_of, def_of, queue_at, place_
 use Rattle.lgx_sched.specs.Represents.{rank_of, without_rank, IsUpAt, IsQueueOf, Represents, IsSound}
 use Rattle.lgx_sched.proofs.Queues.{same_queue, other_queue, queue-push, queue-pop}
 use Rattle.lgx_sched.proofs.Chosen.{same_length, state_as_up}
+use Rattle.spec_base.proofs.Numbers.{one_more}
 
 abbrev pub IsUp : Option TaskState → Type 0
 IsUp o = IsTrue (is_some o)
@@ -33,9 +34,6 @@ pub priority_is : (v : TableView) (s : Table) → IsSound v → Represents v s �
 priority_is v s sound h t l =
     let positive : 0 < (task s t).priority = subst (λ (xs : List TaskDef). 0 < (get_or xs t no_task).priority) h.defs ((sound.priorities t l).0) in
     one_more ((task s t).priority) positive ∙ ap (λ n. n + 1) (sym (place_is v s h t))
-  where
-    one_more : (n : ℕ) → 0 < n → n ≡ n - 1 + 1
-    one_more n l' = omega arith
 
 pub place_fits : (v : TableView) → IsSound v → (t : ℕ) → t < length v.defs → place_of v t < length v.queues
 place_fits v sound t l = subst (λ n. place_of v t < n) (sym sound.queue_each) (below ((def_of v t).priority) (sound.priorities t l))

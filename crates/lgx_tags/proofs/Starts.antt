@@ -16,6 +16,7 @@ pub use Rattle.lgx_tags.specs.Starts.{begin_in, programs_from, laid_before, star
 use Rattle.lgx_tags.proofs.Spans.{padded_size, padded_total, words, next_at, ordered, end_is}
 use Rattle.std.proofs.lemmas.Bool.{ne_eqb}
 use Rattle.std.proofs.lemmas.Grind.{flat_map-append}
+use Rattle.spec_base.proofs.Options.{or_none}
 
 -- the first entry of a name, with its number
 abbrev pub next : ℕ × Entry → ℕ × Entry
@@ -134,10 +135,6 @@ after_out es Controller programs = programs_out es Controller (range_with_len 0 
 after_out es (Program p) programs = programs_out es (Program p) (range_with_len (p + 1) (programs - (p + 1))) (range_out p (p + 1) (programs - (p + 1)) (λ i l m e. omega arith))
 
 -- ---- where an entry begins
-
-or_none : {A : Type 0} (o : Option A) → option_or o None ≡ o
-or_none None = refl
-or_none (Some x) = refl
 
 pub entry_is : (d : Declarations) (s : Scope) (name : List ℕ) → IsScopeOf d.programs s → entry_of d s name ≡ option_map (λ x. (start_of d s x.0, x.1)) (seek s name d.entries)
 entry_is d s name h =

@@ -1,5 +1,5 @@
 -- Where the tags lie: their numbers among the entries, scope by scope, and what is known of each entry when they are laid.
-use Rattle.std.specs.Prelude.{ℕ, suc, ◌+◌, ◌*◌, ◌<◌, cond, List, [], ◌∷◌, ◌++◌, map, flat_map, fold, replicate, slice_set, slice_index_or, Result, Ok, Err}
+use Rattle.std.specs.Prelude.{◌^◌, ℕ, suc, ◌+◌, ◌*◌, ◌<◌, cond, List, [], ◌∷◌, ◌++◌, map, flat_map, fold, replicate, slice_set, slice_index_or, Result, Ok, Err}
 use Rattle.std.specs.List.{range_with_len}
 use Rattle.spec_language.specs.declared.types.TypeDecl.{TypeDecl}
 use Rattle.spec_language.specs.declared.tag.Scope.{Scope}
@@ -54,7 +54,7 @@ placed_tags d = place_tags d.types 0 (order_of d)
 
 -- a tag's entry is one of so many, and its first bit's number is a small one
 abbrev pub IsOfEntries : ℕ → PlacedTag → Type 0
-IsOfEntries count l = (l.entry < count) × (8 * l.start < 4294967296)
+IsOfEntries count l = (l.entry < count) × (8 * l.start < 2 ^ 32)
 
 -- a tag is a place from the beginning; of an alias it isn't known where its chain ends
 abbrev pub place_of : PlacedTag → FixedPlace

@@ -1,5 +1,5 @@
 -- A sealed table, and the tags that it tells of.
-use Rattle.std.specs.Prelude.{◌≡◌, ℕ, ◌+◌, ◌<◌, Bool, List, length, map, filter, None}
+use Rattle.std.specs.Prelude.{◌^◌, ◌≡◌, ℕ, ◌+◌, ◌<◌, Bool, List, length, map, filter, None}
 use Rattle.spec_language.specs.declared.types.TypeDecl.{TypeDecl}
 use Rattle.spec_language.specs.Declarations.{Entry, Declarations, entry_size, laid}
 use Rattle.spec_language.specs.Resolution.{seal_fault}
@@ -33,6 +33,6 @@ tag_names d = map (λ x. x.1.name) (tags_of d)
 -- what a sealed table keeps: its tags as they are laid, and what each entry stands for
 pub record IsSealOf (d : Declarations) (laid : List PlacedTag) (known : List Resolved) : Type 0 where
   pub tags : laid ≡ placed_tags d
-  pub few : length laid < 4294967296
+  pub few : length laid < 2 ^ 32
   pub all_resolved : AllResolved d known
   pub faultless : seal_fault d ≡ None

@@ -1,5 +1,5 @@
 -- A table of tags: what it holds, what is asked of it, and what it answers.
-use Rattle.std.specs.Prelude.{◌≡◌, ℕ, ◌<◌, ◌≤◌, Bool, List, map, length, ⊤}
+use Rattle.std.specs.Prelude.{◌^◌, ◌≡◌, ℕ, ◌<◌, ◌≤◌, Bool, List, map, length, ⊤}
 use Rattle.std.specs.List.{AllByRecursion as Each}
 use Rattle.spec_base.specs.declared.limits.TheConstants.{MAX_IMAGE_BYTES, MAX_TAG_NAME_BYTES}
 use Rattle.spec_language.specs.declared.types.TypeDecl.{TypeDecl}
@@ -36,4 +36,4 @@ pub record Represents (d : Declarations) (keys : List Key) (count : ℕ) : Type 
   pub keyed : keys ≡ keys_of d.entries
   pub counted : count ≡ bytes d
   pub room : count ≤ MAX_IMAGE_BYTES
-  pub few : length (aliases d) < 4294967296
+  pub few : length (aliases d) < 2 ^ 32

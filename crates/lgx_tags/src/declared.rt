@@ -1,5 +1,5 @@
 // Tags and aliases in the order in which they are declared.
-ghost use Rattle.std.specs.Prelude.{◌≡◌, ℕ, ◌<◌, ◌≤◌, List, [], ◌∷◌, ◌++◌, None, Some, slice_get, length, vec_len, vec_capacity, position, IfOk, IfSome, IfErr, IsNone, OnOk, OnErr};
+ghost use Rattle.std.specs.Prelude.{◌^◌, ◌-◌, ◌≡◌, ℕ, ◌<◌, ◌≤◌, List, [], ◌∷◌, ◌++◌, None, Some, slice_get, length, vec_len, vec_capacity, position, IfOk, IfSome, IfErr, IsNone, OnOk, OnErr};
 ghost use Rattle.spec_base.specs.Causes.{IsFaultOf};
 ghost use Rattle.spec_base.specs.declared.limits.TheConstants.{MAX_IMAGE_BYTES, MAX_TAG_NAME_BYTES};
 ghost use Rattle.spec_language.specs.declared.tag.Scope.{Scope as In};
@@ -19,9 +19,9 @@ use crate::entry::Entry;
 use crate::error::TagError;
 use crate::key::Key;
 use crate::layout::{PlacedTag, Resolved, by_scope, in_order, place_tags, round_up};
-use crate::tag_name::{is_name, is_tag_name};
+use crate::tag_name::is_tag_name;
 use indexmap::IndexSet;
-use lgx_num::Memory;
+use lgx_num::{Memory, is_name};
 use lgx_types::TypeTable;
 use spec_base::limits::{MAX_IMAGE_BYTES, MAX_TAG_NAME_BYTES};
 use spec_language::{DataType, Scope, TagCode};
@@ -127,7 +127,7 @@ impl Declared {
         requires free { position (is_named entry.scope entry.name) self.old.entries ≡ None }
         requires counted { count ≡ bytes (record self.old { entries = self.old.entries ++ entry ∷ [] }) }
         requires room { count ≤ MAX_IMAGE_BYTES }
-        requires few { length (aliases (record self.old { entries = self.old.entries ++ entry ∷ [] })) < 4294967296 }
+        requires few { length (aliases (record self.old { entries = self.old.entries ++ entry ∷ [] })) < 2 ^ 32 }
         ensures ok { OnOk result (self.new ≡ record self.old { entries = self.old.entries ++ entry ∷ [] }) }
         ensures err { OnErr result (self.new ≡ self.old) }
     {
@@ -169,7 +169,7 @@ impl Declared {
     /// Declares an alias: G1 or G2. If it is refused or out of memory, the declarations are as before.
     pub(crate) fn alias(&mut self, scope: Scope, name: &[u8], target: &[u8]) -> Result<(), TagError>
         requires scope { IsScopeOf self.old.programs scope }
-        requires few { length (aliases self.old) < 4294967295 }
+        requires few { length (aliases self.old) < 2 ^ 32 - 1 }
         ensures ok { OnOk result (self.new ≡ declared_as self.old scope name.now (alias target.now)) }
         ensures faultless { OnOk result (alias_fault self.old scope name.now ≡ None) }
         ensures fault { IfErr result (λ e. IsFaultOf (alias_fault self.old scope name.now) (fault_of e)) }
@@ -201,7 +201,7 @@ impl Declared {
     pub(crate) fn entries(&self) -> &[Entry]
         ensures value { result.now ≡ self.now.entries }
         ensures admitted { Each (IsAdmitted self.now.types self.now.programs) self.now.entries }
-        ensures few { length (aliases self.now) < 4294967296 }
+        ensures few { length (aliases self.now) < 2 ^ 32 }
     {
         &self.entries
     }

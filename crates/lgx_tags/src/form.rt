@@ -5,7 +5,8 @@ ghost use Rattle.spec_language.specs.OperandForm.{form};
 ghost use Rattle.lgx_tags.specs.Parts.{part_of};
 
 use crate::part::{OperandPart, are_digits, first_part, split_word};
-use crate::tag_name::{is_name, is_tag_name};
+use crate::tag_name::is_tag_name;
+use lgx_num::is_name;
 
 /// An operand form as far as it is read: how many brackets are open, and whether the number of a bit was read last, after
 /// which only a bracket may close.

@@ -5,6 +5,7 @@
 //! text names is the definition `found` of `spec_language`.
 #![tactic(auto)]
 
+pub mod data_type;
 mod declared;
 mod entry;
 mod error;

@@ -10,10 +10,11 @@ ghost use Rattle.lgx_types.specs.Tables.{HasSize};
 ghost use Rattle.lgx_tags.specs.Parts.{part_of, ElementIsDigits};
 ghost use Rattle.lgx_tags.specs.TextReading.{subscripts_of, Answers, NamesInBounds, dotted_at, element_at, open_at, close_at, step, end_after, AllInImage, AreSized};
 
+use crate::data_type::is_array;
 use crate::error::TagError;
 use crate::form::is_form;
 use crate::part::{OperandPart, first_part, split_word};
-use crate::subscript::{find_dotted, find_indexed, find_numbered, is_array};
+use crate::subscript::{find_dotted, find_indexed, find_numbered};
 use lgx_types::TypeTable;
 use spec_language::{Found, TagCode};
 use std::alloc::Global;

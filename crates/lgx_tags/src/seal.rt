@@ -1,5 +1,5 @@
 // What the aliases stand for: their chains are resolved once, when the table is sealed.
-ghost use Rattle.std.specs.Prelude.{◌≡◌, ◌<◌, ◌≤◌, length, slice_index_or, Err, IfOk, IfSome, OnOk};
+ghost use Rattle.std.specs.Prelude.{◌^◌, ◌≡◌, ◌<◌, ◌≤◌, length, slice_index_or, Err, IfOk, IfSome, OnOk};
 ghost use Rattle.std.specs.List.{AllByRecursion as Each};
 ghost use Rattle.spec_language.specs.declared.tag.TagCode.TheVariants.{G7};
 ghost use Rattle.spec_language.specs.Resolution.{numbers_alone, in_form};
@@ -233,7 +233,7 @@ pub(crate) fn resolve_all(declared: &Declared, known: &mut Vec<Resolved>) -> Res
 /// The first alias of which a fault is known, with its number among the aliases.
 pub(crate) fn first_bad(entries: &[Entry], known: &[Resolved]) -> Option<(TagCode, u32)>
     requires long { length known.now ≡ length entries.now }
-    requires few { count_aliases entries.now < 4294967296 }
+    requires few { count_aliases entries.now < 2 ^ 32 }
     ensures { result ≡ bad_from known.now 0 0 entries.now }
 {
     let mut alias = 0;

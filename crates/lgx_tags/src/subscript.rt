@@ -1,60 +1,19 @@
 // Members, elements and bits of what was found.
-ghost use Rattle.std.specs.Prelude.{◌≡◌, ◌+◌, ◌*◌, ◌≤◌, min, IsTrue, Ok};
+ghost use Rattle.std.specs.Prelude.{◌^◌, ◌-◌, ◌≡◌, ◌+◌, ◌*◌, ◌≤◌, min, IsTrue, Ok};
 ghost use Rattle.std.specs.Char.{is_digit, digit_value};
 ghost use Rattle.spec_base.specs.declared.limits.TheConstants.{MAX_IMAGE_BYTES};
 ghost use Rattle.spec_language.specs.Layout.{single};
 ghost use Rattle.spec_language.specs.OperandForm.{are_digits, digits_number};
-ghost use Rattle.spec_language.specs.Resolution.{is_array, is_integer, integer_bits, kind_of, stride, may_index, index_by, find_member, find_element, find_bit, find_indexed};
+ghost use Rattle.spec_language.specs.Resolution.{stride, may_index, index_by, find_member, find_element, find_bit, find_indexed};
 ghost use Rattle.spec_language.specs.ResolutionLaws.{width};
 ghost use Rattle.lgx_types.specs.Tables.{HasSize};
 ghost use Rattle.lgx_tags.specs.TextReading.{find_dotted};
 
+use crate::data_type::{integer_bits, is_array, is_integer, kind_of, single};
 use crate::part::are_digits;
-use lgx_num::{Index, Kind, Name, Place};
+use lgx_num::{Index, Name, Place};
 use lgx_types::TypeTable;
-use spec_language::{Base, DataType, Found, TagCode};
-
-/// Whether the type is an array.
-pub(crate) fn is_array(of: DataType) -> bool
-    ensures { result ≡ is_array of }
-{
-    of.dim != 0
-}
-
-/// The bits that can be picked by number.
-fn integer_bits(base: Base) -> u32
-    ensures { result ≡ integer_bits base }
-{
-    match base {
-        Base::Sint => 8,
-        Base::Int => 16,
-        Base::Dint => 32,
-        Base::Bool | Base::Timer | Base::Counter | Base::User(_) => 0,
-    }
-}
-
-fn is_integer(of: DataType) -> bool
-    ensures { result ≡ is_integer of }
-{
-    !is_array(of) && integer_bits(of.base) > 0
-}
-
-fn kind_of(base: Base) -> Kind
-    ensures { result ≡ kind_of base }
-{
-    match base {
-        Base::Bool => Kind::Bool,
-        Base::Sint => Kind::Sint,
-        Base::Int => Kind::Int,
-        Base::Dint | Base::Timer | Base::Counter | Base::User(_) => Kind::Dint,
-    }
-}
-
-fn single(base: Base) -> DataType
-    ensures { result ≡ single base }
-{
-    DataType { base, dim: 0 }
-}
+use spec_language::{Base, Found, TagCode};
 
 /// The bits from one element of an array to the next: a BOOL's are packed.
 fn stride(types: &TypeTable, base: Base) -> u32
@@ -70,7 +29,7 @@ fn stride(types: &TypeTable, base: Base) -> u32
 /// A number with one more digit, or the greatest number if that is greater.
 fn with_digit(number: u32, digit: u8) -> u32
     requires { IsTrue (is_digit digit 10) }
-    ensures { result ≡ min (number * 10 + digit_value digit) 4294967295 }
+    ensures { result ≡ min (number * 10 + digit_value digit) (2 ^ 32 - 1) }
 {
     number
         .saturating_mul(10)
@@ -81,7 +40,7 @@ fn with_digit(number: u32, digit: u8) -> u32
 /// The number that digits make, or the greatest number if that is greater: no subscript or bit is as great.
 fn capped_number(digits: &[u8]) -> u32
     requires { IsTrue (are_digits 10 digits.now) }
-    ensures { result ≡ min (digits_number 10 digits.now) 4294967295 }
+    ensures { result ≡ min (digits_number 10 digits.now) (2 ^ 32 - 1) }
 {
     let mut number = 0;
     for digit in digits {

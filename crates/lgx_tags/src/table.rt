@@ -1,5 +1,5 @@
 // The table of tags.
-ghost use Rattle.std.specs.Prelude.{◌≡◌, ◌<◌, ◌≤◌, [], true, false, length, map, slice_get, option_map, None, Some, IfOk, IfErr, IfSome, OnOk, OnErr};
+ghost use Rattle.std.specs.Prelude.{◌^◌, ◌-◌, ◌≡◌, ◌<◌, ◌≤◌, [], true, false, length, map, slice_get, option_map, None, Some, IfOk, IfErr, IfSome, OnOk, OnErr};
 ghost use Rattle.spec_base.specs.Causes.{IsFaultOf};
 ghost use Rattle.spec_base.specs.declared.limits.TheConstants.{MAX_IMAGE_BYTES};
 ghost use Rattle.spec_language.specs.Layout.{single};
@@ -100,7 +100,7 @@ impl TagTable {
     pub fn alias(&mut self, scope: Scope, name: &[u8], target: &[u8]) -> Result<(), TagError>
         requires unsealed { self.old.sealed ≡ false }
         requires scope { IsScopeOf self.old.declarations.programs scope }
-        requires few { length (aliases self.old.declarations) < 4294967295 }
+        requires few { length (aliases self.old.declarations) < 2 ^ 32 - 1 }
         ensures ok { OnOk result (self.new ≡ record { declarations = declared_as self.old.declarations scope name.now (alias target.now); sealed = false }) }
         ensures faultless { OnOk result (alias_fault self.old.declarations scope name.now ≡ None) }
         ensures fault { IfErr result (λ e. IsFaultOf (alias_fault self.old.declarations scope name.now) (fault_of e)) }

@@ -1,13 +1,13 @@
 // Which texts are names of tags.
-ghost use Rattle.std.specs.Prelude.{◌≡◌, ◌-◌, ◌∷◌, [], IfSome, IsNone};
+ghost use Rattle.std.specs.Prelude.{◌≡◌, ◌-◌};
 ghost use Rattle.std.specs.List.{list_all};
-ghost use Rattle.lgx_num.specs.Name.{is_name, is_name_byte};
+ghost use Rattle.lgx_num.specs.Name.{is_name_byte};
 ghost use Rattle.spec_base.specs.Pieces.{pieces};
 ghost use Rattle.spec_base.specs.declared.limits.TheConstants.{MAX_TAG_NAME_PARTS};
 ghost use Rattle.spec_language.specs.OperandForm.{is_part, may_lead, is_joined, is_tag_name};
 ghost use Rattle.lgx_tags.specs.TagNames.{are_parts};
 
-use lgx_num::{Name, same};
+use lgx_num::{is_name, is_name_byte, same, split_first};
 use spec_base::limits::{MAX_NAME_BYTES, MAX_TAG_NAME_BYTES, MAX_TAG_NAME_PARTS};
 
 /// The parts that may stand after the first.
@@ -25,7 +25,7 @@ pub(crate) fn is_tag_name(text: &[u8]) -> bool
 fn is_joined(text: &[u8]) -> bool
     ensures { result ≡ is_joined (pieces 58 text.now) }
 {
-    match split_colon(text) {
+    match split_first(text, b':') {
         Some((first, parts)) => may_lead(first) && are_parts(parts),
         None => is_name(text),
     }
@@ -38,23 +38,13 @@ fn may_lead(part: &[u8]) -> bool
     is_name(part) && !same(part, b"S") && !same(part, b"Program")
 }
 
-/// Whether a text is a name.
-pub(crate) fn is_name(text: &[u8]) -> bool
-    ensures { result ≡ is_name text.now }
-{
-    match Name::read(text) {
-        Some(_) => true,
-        None => false,
-    }
-}
-
 /// What stands after the first colon: one to three parts.
 fn are_parts(text: &[u8]) -> bool
     ensures { result ≡ are_parts (MAX_TAG_NAME_PARTS - 1) (pieces 58 text.now) }
 {
     let mut rest = text;
     for _ in 0..MAX_FURTHER_PARTS {
-        let Some((part, after)) = split_colon(rest) else {
+        let Some((part, after)) = split_first(rest, b':') else {
             return is_part(rest);
         };
         if !is_part(part) {
@@ -75,24 +65,4 @@ fn are_name_bytes(part: &[u8]) -> bool
     ensures { result ≡ list_all is_name_byte part.now }
 {
     part.iter().all(|byte| is_name_byte(*byte))
-}
-
-fn is_name_byte(byte: u8) -> bool
-    ensures { result ≡ is_name_byte byte }
-{
-    byte.is_ascii_alphanumeric() || byte == b'_'
-}
-
-/// What stands before the first colon, and after it.
-#[tactic(auto, using(crate::proofs::TagNames::pieces_at, crate::proofs::TagNames::pieces_whole))]
-fn split_colon(text: &[u8]) -> Option<(&[u8], &[u8])>
-    ensures some { IfSome result (λ r. pieces 58 text.now ≡ r.0.now ∷ pieces 58 r.1.now) }
-    ensures none { IsNone result → pieces 58 text.now ≡ text.now ∷ [] }
-{
-    for (i, byte) in text.iter().enumerate() {
-        if *byte == b':' {
-            return Some((&text[..i], &text[i + 1..]));
-        }
-    }
-    None
 }

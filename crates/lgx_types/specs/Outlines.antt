@@ -1,5 +1,5 @@
 -- Declarations with each member's type found.
-use Rattle.std.specs.Prelude.{◌≡◌, ℕ, ◌<◌, ◌%◌, Bool, true, false, not, ◌&&◌, ◌==◌, List, [], ◌++◌, map, length, flat_map, Option, Some, None, is_none, if◌then◌else◌}
+use Rattle.std.specs.Prelude.{◌^◌, ◌≡◌, ℕ, ◌<◌, ◌%◌, Bool, true, false, not, ◌&&◌, ◌==◌, List, [], ◌++◌, map, length, flat_map, Option, Some, None, is_none, if◌then◌else◌}
 use Rattle.std.specs.List.{AllByRecursion as Each, enumerate_from}
 use Rattle.spec_language.specs.declared.types.Base.{Base}
 use Rattle.spec_language.specs.declared.types.DataType.{DataType}
@@ -45,7 +45,7 @@ name_faults types = flat_map (structure_faults types) (enumerate_from 0 types)
 
 -- declarations whose names and members are in order, with the names of each one's members, and their types
 pub record IsResolved (types : List TypeDecl) (members : List (List (List ℕ))) (outlines : List (List DataType)) : Type 0 where
-  pub few : length types < 4294967296
+  pub few : length types < 2 ^ 32
   pub full : Each HasMembers types
   pub named : members ≡ map (λ d. member_names d.members) types
   pub typed : outlines ≡ outlines_of types

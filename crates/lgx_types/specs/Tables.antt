@@ -1,5 +1,5 @@
 -- What is asked of the table of types, and what it answers.
-use Rattle.std.specs.Prelude.{◌≡◌, ℕ, ◌+◌, ◌*◌, ◌<◌, ◌≤◌, List, [], ◌∷◌, slice_index, length, map, Option, Some, None, ⊤}
+use Rattle.std.specs.Prelude.{◌^◌, ◌≡◌, ℕ, ◌+◌, ◌*◌, ◌<◌, ◌≤◌, List, [], ◌∷◌, slice_index, length, map, Option, Some, None, ⊤}
 use Rattle.std.specs.List.{AllByRecursion as Each}
 use Rattle.spec_language.specs.declared.types.Base.{Base}
 use Rattle.spec_language.specs.declared.types.Base.TheVariants.{Bool as OneBit, Sint, Int, Dint, Timer, Counter, User}
@@ -36,7 +36,7 @@ pub record HasSize (types : List TypeDecl) (t : DataType) : Type 0 where
 
 -- how many members a declaration has
 abbrev pub HasMembers : TypeDecl → Type 0
-HasMembers d = (0 < length d.members) × (length d.members < 4294967296)
+HasMembers d = (0 < length d.members) × (length d.members < 2 ^ 32)
 
 -- an error's fault
 abbrev pub fault : TypeError → Option TypeFault
@@ -60,7 +60,7 @@ pub record IsLarge (bytes : List ℕ) (i : ℕ) : Type 0 where
 
 -- what a table keeps: declarations without a fault, their sizes, and where their members lie
 pub record IsTable (types : List TypeDecl) (bytes : List ℕ) (places : List (List Member)) : Type 0 where
-  pub few : length types < 4294967296
+  pub few : length types < 2 ^ 32
   pub members : Each HasMembers types
   pub faultless : type_fault types ≡ None
   pub sized : bytes ≡ sizes types

@@ -1,5 +1,5 @@
 // The types of all members, found by their names, and what is wrong with names and members.
-ghost use Rattle.std.specs.Prelude.{◌≡◌, ◌<◌, [], length, position, IfOk, IfErr};
+ghost use Rattle.std.specs.Prelude.{◌^◌, ◌≡◌, ◌<◌, [], length, position, IfOk, IfErr};
 ghost use Rattle.std.specs.List.{AllByRecursion as Each};
 ghost use Rattle.spec_base.specs.Causes.{IsFaultOf};
 ghost use Rattle.spec_base.specs.FirstCause.{first};
@@ -42,7 +42,7 @@ impl Model for Resolved {
 
 impl Resolved {
     pub fn new(alloc: Global, decls: &[TypeDecl]) -> Result<Resolved, TypeError>
-        requires few { length decls.now < 4294967296 }
+        requires few { length decls.now < 2 ^ 32 }
         requires members { Each HasMembers decls.now }
         ensures value { IfOk result (λ resolved. resolved ≡ decls.now) }
         ensures in_order { IfOk result (λ resolved. name_faults decls.now ≡ []) }
@@ -70,7 +70,7 @@ impl Resolved {
 
     pub fn decls(&self) -> &[TypeDecl]
         ensures value { result.now ≡ self.now }
-        ensures few { length self.now < 4294967296 }
+        ensures few { length self.now < 2 ^ 32 }
     {
         self.structures.decls()
     }
@@ -98,7 +98,7 @@ impl Resolved {
     pub fn types_at(&self, i: u32) -> &[DataType]
         requires { i < length self.now }
         ensures value { result.now ≡ types_at self.now i }
-        ensures few { length result.now < 4294967296 }
+        ensures few { length result.now < 2 ^ 32 }
     {
         self.outlines[i as usize].as_slice()
     }
@@ -121,7 +121,7 @@ fn members_of(
     i: u32,
     members: &[MemberDecl],
 ) -> Result<(NameIndex, Items<DataType>), TypeError>
-    requires { length members.now < 4294967296 }
+    requires { length members.now < 2 ^ 32 }
     ensures names { IfOk result (λ r. r.0 ≡ member_names members.now) }
     ensures types { IfOk result (λ r. r.1 ≡ outline structures.now members.now) }
     ensures in_order { IfOk result (λ r. faults_in structures.now i members.now ≡ []) }

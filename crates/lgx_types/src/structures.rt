@@ -1,5 +1,5 @@
 // The declared structures, found by their names.
-ghost use Rattle.std.specs.Prelude.{◌≡◌, ◌<◌, length, nat_lt, ◌||◌, false, is_some, option_map, slice_get, Some, IfOk};
+ghost use Rattle.std.specs.Prelude.{◌^◌, ◌≡◌, ◌<◌, length, nat_lt, ◌||◌, false, is_some, option_map, slice_get, Some, IfOk};
 ghost use Rattle.std.specs.Option.{option_or, option_map_or};
 ghost use Rattle.spec_language.specs.declared.types.Base.TheVariants.{User};
 ghost use Rattle.spec_language.specs.declared.types.TypeDecl.{TypeDecl};
@@ -34,7 +34,7 @@ impl Model for Structures {
 
 impl Structures {
     pub fn new(alloc: Global, decls: &[TypeDecl]) -> Result<Structures, Memory>
-        requires { length decls.now < 4294967296 }
+        requires { length decls.now < 2 ^ 32 }
         ensures { IfOk result (λ structures. structures ≡ decls.now) }
     {
         let mut kept = Vec::with_capacity(alloc, decls.len())?;

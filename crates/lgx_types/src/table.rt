@@ -1,5 +1,5 @@
 // The table of types.
-ghost use Rattle.std.specs.Prelude.{◌≡◌, ◌*◌, ◌<◌, ◌≤◌, None, [], length, map, take, IfSome, IfNone, IfErr, IfOk, OnOk};
+ghost use Rattle.std.specs.Prelude.{◌^◌, ◌≡◌, ◌*◌, ◌<◌, ◌≤◌, None, [], length, map, take, IfSome, IfNone, IfErr, IfOk, OnOk};
 ghost use Rattle.std.specs.List.{AllByRecursion as Each};
 ghost use Rattle.spec_language.specs.declared.types.TypeCode.{TypeCode};
 ghost use Rattle.spec_base.specs.Causes.{IsFaultOf};
@@ -54,7 +54,7 @@ impl TypeTable {
     /// one that is too large. It takes time in proportion to the declarations and members. Only if structures reach
     /// themselves, it takes this time once more for each structure before the first that does.
     pub fn build(alloc: Global, decls: &[TypeDecl]) -> Result<TypeTable, TypeError>
-        requires few { length decls.now < 4294967296 }
+        requires few { length decls.now < 2 ^ 32 }
         requires members { Each HasMembers decls.now }
         ensures value { IfOk result (λ table. table ≡ decls.now) }
         ensures ok { OnOk result (type_fault decls.now ≡ None) }
@@ -117,7 +117,7 @@ impl TypeTable {
         ensures faultless { type_fault self.now ≡ None }
         ensures sound { SoundTypes self.now }
         ensures members { Each HasMembers self.now }
-        ensures few { length self.now < 4294967296 }
+        ensures few { length self.now < 2 ^ 32 }
     {
         sizes_are_settled();
         self.resolved.decls()
@@ -136,7 +136,7 @@ fn fault_of(code: TypeCode, i: u32) -> TypeError
 
 /// The first structure that is too large.
 fn too_large(sizes: &[u32]) -> Option<u32>
-    requires { length sizes.now < 4294967296 }
+    requires { length sizes.now < 2 ^ 32 }
     ensures some { IfSome result (λ i. IsLarge sizes.now i) }
     ensures none { IfNone result (Each IsSmall sizes.now) }
 {

@@ -5,17 +5,15 @@ use Rattle.lgx_num.specs.declared.number.Kind.{Kind}
 use Rattle.lgx_num.specs.declared.number.Kind.TheVariants.{Bool as KBool, Sint, Int, Dint}
 use Rattle.lgx_num.specs.declared.place.Place.{Place}
 use Rattle.lgx_image.specs.declared.grain.TheConstants.{GRAIN}
-use Rattle.lgx_image.specs.Grains.{grain_of, bytes_in, is_marked}
+use Rattle.lgx_num.specs.Number.{bytes_in}
+use Rattle.lgx_image.specs.Grains.{grain_of, is_marked}
 use Rattle.lgx_image.proofs.Marks.{grain_of-is}
 use Rattle.lgx_image.proofs.Changes.{unmarked_place_stays}
 use Rattle.lgx_watch.specs.Watches.{LiesIn, last_grain, spans, UnmarkedWatchesStay}
+use Rattle.std.proofs.lemmas.Bool.{false_from_ne_true}
 
 pub unmarked_watches_stay : UnmarkedWatchesStay
-unmarked_watches_stay compared now p changes none = unmarked_place_stays compared now p changes (λ byte above below. unmarked (is_marked now.marks (grain_of byte)) (λ is. none (grain_of byte) is (byte, above, below, refl)))
-  where
-    unmarked : (b : Bool) → (b ≡ true → ⊥) → b ≡ false
-    unmarked true not_so = absurd (not_so refl)
-    unmarked false not_so = refl
+unmarked_watches_stay compared now p changes none = unmarked_place_stays compared now p changes (λ byte above below. false_from_ne_true (is_marked now.marks (grain_of byte)) (λ is. none (grain_of byte) is (byte, above, below, refl)))
 
 -- a kind has a byte
 some_byte : (k : Kind) → 0 < bytes_in k

@@ -2,7 +2,8 @@
 use Rattle.std.specs.Prelude.{◌≡◌, ℕ, ◌+◌, ◌-◌, ◌/◌, Bool, true, false, ◌&&◌, List, Option, nat_le, slice_index_or}
 use Rattle.lgx_num.specs.declared.place.Place.{Place}
 use Rattle.lgx_num.specs.Image.{number}
-use Rattle.lgx_image.specs.Grains.{ImageView, ChangesOnlyMarked, NextMarked, grain_of, bytes_in, is_marked}
+use Rattle.lgx_num.specs.Number.{bytes_in}
+use Rattle.lgx_image.specs.Grains.{ImageView, ChangesOnlyMarked, NextMarked, grain_of, is_marked}
 use Rattle.lgx_image.specs.Laws.{HoldsByte}
 
 -- whether a set has a number, and its least member that isn't below another number, or none

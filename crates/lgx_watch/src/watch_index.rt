@@ -1,7 +1,8 @@
 // The watched places of each grain of the image.
 ghost use Rattle.std.specs.Prelude.{◌≡◌, ℕ, ◌+◌, ◌/◌, ◌^◌, ◌<◌, ◌≤◌, true, length, slice_get, Some, IfOk};
 ghost use Rattle.lgx_num.specs.declared.place.Place.{Place};
-ghost use Rattle.lgx_image.specs.Grains.{bytes_in, grain_of};
+ghost use Rattle.lgx_num.specs.Number.{bytes_in};
+ghost use Rattle.lgx_image.specs.Grains.{grain_of};
 ghost use Rattle.lgx_watch.specs.declared.bits.TheConstants.{MAX_WATCHES};
 ghost use Rattle.lgx_watch.specs.Watches.{is_member, LiesIn, last_grain};
 ghost use Rattle.lgx_watch.specs.Index.{NumberAdded};
@@ -9,7 +10,7 @@ ghost use Rattle.lgx_watch.specs.Index.{NumberAdded};
 use crate::bits::{WORDS, no_bits, set_bit};
 use crate::watch_set::WatchSet;
 use lgx_image::grain_of;
-use lgx_num::{Kind, Memory, Place};
+use lgx_num::{Memory, Place, bytes_in};
 use std::alloc::Global;
 use std::marker::Model;
 
@@ -95,15 +96,4 @@ fn last_grain(place: Place) -> u32
     ensures small { result < 2 ^ 29 }
 {
     grain_of(place.at / 8 + bytes_in(place.kind) - 1)
-}
-
-/// How many bytes hold the bits of a kind.
-fn bytes_in(kind: Kind) -> u32
-    ensures { result ≡ bytes_in kind }
-{
-    match kind {
-        Kind::Bool | Kind::Sint => 1,
-        Kind::Int => 2,
-        Kind::Dint => 4,
-    }
 }

@@ -1,13 +1,13 @@
 -- The lines of a journal.
-use Rattle.std.proofs.Common.{◌≡◌, ℕ, List, [], ◌∷◌, ◌++◌, length, Bool, true, false, eqb, cond, codes, Option, Some, None, option_map, option_and_then, bytes_eq, refl, sym, ap, ◌∙◌, append-nil, arith}
+use Rattle.std.proofs.Common.{◌≡◌, ℕ, List, [], ◌∷◌, ◌++◌, length, Bool, true, false, eqb, nat_eq, cond, codes, Option, Some, None, option_map, option_and_then, bytes_eq, refl, sym, ap, ◌∙◌, append-nil, arith}
 use Rattle.std.proofs.lemmas.Bool.Decides.{nat_tests}
 use Rattle.logix_run.specs.declared.journal.Entry.{Entry}
-use Rattle.logix_run.specs.Pieces.{pieces, onto_first}
-use Rattle.logix_run.proofs.Split.{first_piece}
-use Rattle.logix_run.proofs.Elements.{front_more}
+use Rattle.spec_base.specs.Pieces.{cut, pieces}
+use Rattle.spec_base.proofs.Splits.{some_piece}
+use Rattle.spec_base.proofs.Options.{front_more}
 use Rattle.logix_run.specs.Journal.{entry_of, is_last, entries_of}
 
-last_of : (b : Bool) (c : ℕ) (qs : List (List ℕ)) → ((p : List ℕ) × (ps : List (List ℕ)) × (qs ≡ p ∷ ps)) → is_last (cond b ([] ∷ qs) (onto_first c qs)) ≡ false
+last_of : (b : Bool) (c : ℕ) (qs : List (List ℕ)) → ((p : List ℕ) × (ps : List (List ℕ)) × (qs ≡ p ∷ ps)) → is_last (cut b c qs) ≡ false
 last_of true c qs f = rw f.2 refl
 last_of false c [] f = refl
 last_of false c (q ∷ []) f = refl
@@ -18,7 +18,7 @@ pub is_last-pieces : (text : List ℕ) → is_last (pieces 10 text) ≡ eqb (len
 is_last-pieces [] = refl
 is_last-pieces (c ∷ cs) =
     let more : eqb (length (c ∷ cs)) 0 ≡ false = grind (arith, nat_tests) in
-    last_of (eqb c 10) c (pieces 10 cs) (first_piece 10 cs) ∙ sym more
+    last_of (nat_eq c 10) c (pieces 10 cs) (some_piece 10 cs) ∙ sym more
 
 abbrev onto_none : Entry → Option (List Entry)
 onto_none e = option_map (λ es. e ∷ es) None

@@ -1,4 +1,3 @@
-pub mod Split
 pub mod MemberKeys
 pub mod Items
 pub mod Elements

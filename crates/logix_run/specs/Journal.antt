@@ -6,7 +6,8 @@ use Rattle.lgx_core.specs.declared.event.Event.TheVariants as event
 use Rattle.logix_run.specs.declared.limits.TheConstants.{MAX_STEPS, MAX_CHANGES}
 use Rattle.logix_run.specs.declared.journal.Entry.{Entry}
 use Rattle.logix_run.specs.declared.journal.Entry.TheVariants.{ModeRun, Cpu}
-use Rattle.logix_run.specs.Pieces.{pieces, unsigned_of}
+use Rattle.spec_base.specs.Pieces.{pieces}
+use Rattle.logix_run.specs.Pieces.{unsigned_of}
 
 -- a line: `mode run`, or `cpu` and a number
 unfoldable pub entry_of : List ℕ → Option Entry

@@ -6,7 +6,7 @@ use Rattle.logix_run.specs.declared.limits.TheConstants.{MAX_RUNG_BYTES}
 use Rattle.lgx_core.specs.declared.project.BitOp.{BitOp}
 use Rattle.lgx_core.specs.declared.project.BitOp.TheVariants.{Xic, Xio, Ote}
 use Rattle.lgx_core.specs.declared.project.Ins.{Ins}
-use Rattle.logix_run.specs.Pieces.{pieces}
+use Rattle.spec_base.specs.Pieces.{pieces}
 
 -- the number of the tag that a text names
 unfoldable pub tag_at : List (List ℕ) → List ℕ → Option ℕ

@@ -2,11 +2,11 @@
 ghost use Rattle.std.specs.Prelude.{◌≡◌, ◌≤◌, ◌+◌, length, option_map, IfOk, IfSome};
 ghost use Rattle.logix_run.specs.declared.limits.TheConstants.{MAX_STEPS, MAX_CHANGES};
 ghost use Rattle.logix_run.specs.Journal.{entry_of, entries_of, is_within_limits, journal_entries, events_of};
-ghost use Rattle.logix_run.specs.Pieces.{pieces};
+ghost use Rattle.spec_base.specs.Pieces.{pieces};
 
 use crate::limits::{MAX_CHANGES, MAX_STEPS};
-use crate::pieces::{split_first, unsigned_of};
-use lgx_num::{Items, Memory};
+use crate::pieces::unsigned_of;
+use lgx_num::{Items, Memory, split_first};
 use std::alloc::Global;
 
 /// A line of a journal: a change to Run, or so many processor steps.

@@ -4,10 +4,9 @@ ghost use Rattle.lgx_core.specs.Project.{rung_fits};
 ghost use Rattle.logix_run.specs.Rung.{tag_at, op_of, element, rung_of};
 
 use crate::limits::MAX_RUNG_BYTES;
-use crate::pieces::split_first;
 use lgx_core::{BitOp, Ins};
 use lgx_names::NameIndex;
-use lgx_num::Memory;
+use lgx_num::{Memory, split_first};
 use std::alloc::Global;
 
 /// The number of the tag that a text names.
@@ -47,7 +46,7 @@ fn element(names: &NameIndex, text: &[u8]) -> Option<Ins>
 }
 
 /// The instructions of a rung.
-#[tactic(auto, using(crate::proofs::Elements::elements_more, crate::proofs::Elements::front_more), unfolding(crate::specs::Rung::rung_of))]
+#[tactic(auto, using(crate::proofs::Elements::elements_more, spec_base::proofs::Options::front_more), unfolding(crate::specs::Rung::rung_of))]
 pub(crate) fn rung_of(
     alloc: Global,
     names: &NameIndex,

@@ -12,6 +12,7 @@ use Rattle.spec_language.specs.OperandForm.{is_part, may_lead, is_joined, is_tag
 use Rattle.spec_language.specs.FormLaws.{SpellsForm, ReadsForms}
 use Rattle.spec_language.proofs.FormsSpelled.{form_spelled}
 use Rattle.spec_language.proofs.FoundBounds.{and_left, and_right}
+use Rattle.lgx_num.proofs.Names.{name_bytes}
 
 -- ---- plain bytes
 
@@ -98,13 +99,6 @@ name_some w p = go w (and_right (nat_le (length w) MAX_NAME_BYTES) _ p)
         no_digit : (b : Bool) → is_digit c 10 ≡ b → (is_digit c 10 && list_all (λ k. is_digit k 10) cs) ≡ false
         no_digit true e = absurd (omega (arith, digit_bound c e, start_bound c (and_left (is_start c) _ q)))
         no_digit false e = rw e refl
-
-pub name_bytes : (w : List ℕ) → is_name w ≡ true → list_all is_name_byte w ≡ true
-name_bytes w p = go w (and_right (nat_le (length w) MAX_NAME_BYTES) _ p)
-  where
-    go : (v : List ℕ) → is_spelled v ≡ true → list_all is_name_byte v ≡ true
-    go [] q = refl
-    go (c ∷ cs) q = rw (or_left (is_start c) (is_digit_byte c) (and_left (is_start c) _ q)) (and_left _ _ (and_left _ _ (and_right (is_start c) _ q)))
 
 -- ---- tag names
 

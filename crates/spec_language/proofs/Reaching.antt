@@ -17,6 +17,7 @@ use Rattle.spec_base.proofs.Lists.{each_flat}
 use Rattle.spec_language.specs.LayoutLaws.{OrderedHasNoRings}
 use Rattle.spec_language.specs.TypeFaults.{reaches_itself}
 use Rattle.spec_language.proofs.TypesFit.{looked_up_has}
+use Rattle.spec_base.proofs.Numbers.{le_cases}
 
 -- ---- sets
 
@@ -100,9 +101,6 @@ reach_more types m u i j p q = among_kept _ (range_with_len 0 (length types)) j 
 
 pub reach_still : (types : List TypeDecl) (m u j : ℕ) → j < length types → among (reached_to m types u) j ≡ true → among (reached_to (suc m) types u) j ≡ true
 reach_still types m u j h p = among_kept _ (range_with_len 0 (length types)) j (among_numbers 0 (length types) j (omega arith) (omega (arith, h))) (or_left (among (reached_to m types u) j) _ p)
-
-pub le_cases : (m k : ℕ) → m ≤ suc k → (m ≤ k) ⊎ (m ≡ suc k)
-le_cases m k h = grind arith
 
 pub reach_later : (types : List TypeDecl) (k m u j : ℕ) → m ≤ k → j < length types → among (reached_to m types u) j ≡ true → among (reached_to k types u) j ≡ true
 reach_later types zero m u j h b p =

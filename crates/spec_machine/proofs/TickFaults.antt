@@ -54,10 +54,10 @@ bit_added m k l =
 none_added : (m k : ℕ) → m < 2 ^ k → tasks_in m (suc k) ≡ tasks_in m k
 none_added m k l = ap (λ b. tasks_in m k ++ (if nat_eq b 1 then k ∷ [] else [])) (bit_at_above m k k l (omega arith)) ∙ append-nil (tasks_in m k)
 
-wider : (m k : ℕ) → m < 2 ^ k → m < 2 ^ suc k
+pub wider : (m k : ℕ) → m < 2 ^ k → m < 2 ^ suc k
 wider m k l = let e = two-pow-succ k in omega arith
 
-wide_sum : (m k : ℕ) → m < 2 ^ k → m + 2 ^ k < 2 ^ suc k
+pub wide_sum : (m k : ℕ) → m < 2 ^ k → m + 2 ^ k < 2 ^ suc k
 wide_sum m k l = let e = two-pow-succ k in omega arith
 
 -- ---- the walk

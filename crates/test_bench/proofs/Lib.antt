@@ -1,3 +1,1 @@
-pub mod Depths
-pub mod Executing
-pub mod Subscripts
+pub mod Declaring

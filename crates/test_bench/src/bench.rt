@@ -8,13 +8,12 @@ ghost use Rattle.lgx_engine.specs.Represents.{IsRunOf, Represents};
 ghost use Rattle.lgx_engine.specs.Steps.{MatchesStep};
 
 use crate::errors::Refusal;
-use crate::executable::is_executable_program;
-use crate::rungs::read_program;
+use crate::program::{Routines, read_program};
 use crate::tags::{LEN, bit, dint, name_of, place_of};
 use lgx_engine::{Effect, Position, advance};
 use lgx_image::Image;
 use lgx_num::{Flags, Kind};
-use lgx_prog::{FlatProgram, Rungs};
+use lgx_prog::FlatProgram;
 use std::alloc::{AllocError, Global};
 use std::marker::Model;
 
@@ -44,22 +43,19 @@ impl Model for Bench {
 impl Bench {
     /// The program of this text at the start of a scan, with every tag 0. Its first routine is the main one.
     pub fn load(alloc: Global, text: &str) -> Result<Bench, Refusal> {
-        let routines = read_program(alloc, text)?;
-        Bench::of(alloc, &routines)
+        Bench::of(alloc, &read_program(alloc, text)?)
     }
 
     /// The program of these routines at the start of a scan, with every tag 0. The first is the main one.
-    pub fn of(alloc: Global, routines: &[Rungs]) -> Result<Bench, Refusal>
+    pub fn of(alloc: Global, routines: &Routines) -> Result<Bench, Refusal>
         ensures { IfOk result (λ bench. IsFlatProgram bench.program (record { routines = routines.now; main = 0 })) }
     {
-        if routines.is_empty() {
+        let rungs = routines.as_slice();
+        if rungs.is_empty() {
             return Err(Refusal::NotExecutable);
         }
-        let program = FlatProgram::build(alloc, routines, 0)?;
+        let program = FlatProgram::build(alloc, rungs, 0)?;
         let image = Image::new(alloc, LEN)?;
-        if !is_executable_program(&program, routines.len(), image.len()) {
-            return Err(Refusal::NotExecutable);
-        }
         let position = Position::start(&program);
         let flags = Flags {
             v: false,
@@ -119,8 +115,8 @@ impl Bench {
     }
 
     fn store(&mut self, name: &[u8], value: &str) -> Result<(), Refusal> {
-        let place = place_of(name).ok_or(Refusal::Operand)?;
-        let value = value.parse::<i32>().ok().ok_or(Refusal::Operand)?;
+        let place = place_of(name).ok_or(Refusal::Form)?;
+        let value = value.parse::<i32>().ok().ok_or(Refusal::Form)?;
         self.put(place, value);
         Ok(())
     }

@@ -1,25 +1,28 @@
-// The tags that tests have, and the operands that name them.
+// The tags that tests have.
 //
-// The image is 132 bytes: from byte 0 on the BOOLs a to z, from 4 on the DINTs d0 to d9, from 44 and from 60 on the arrays
-// u and v of 4 DINTs, from 76 on the TIMERs t0 and t1, from 108 on the COUNTERs c0 and c1.
+// The image is 132 bytes: from byte 0 on the BOOLs a to z, but for u, from 4 on the DINTs d0 to d9, from 44 and from 60 on the
+// arrays u and v of 4 DINTs, from 76 on the TIMERs t0 and t1, from 108 on the COUNTERs c0 and c1. An array's element is named as
+// u0, one of u as u[d0] too; if an instruction copies, u0 is the array from that element on, and d0 is the array of all DINTs.
 ghost use Rattle.std.specs.Prelude.{◌≡◌, ◌+◌, ◌*◌, ◌<◌, IfSome};
 
-use lgx_num::{Block, Flag, Index, Kind, Operand, Path, Place, Steps};
-use lgx_rung::{Op, OperandKind};
+use lgx_num::{Kind, Place};
 
 /// The number of bytes of the tests' tags.
 pub const LEN: u32 = 132;
 
-// the first bits of the integers
+/// The first bit of the DINTs.
 const DINTS: u32 = 32;
 
-const U: u32 = 352;
-
-const V: u32 = 480;
-
-const TIMERS: u32 = 608;
-
-const COUNTERS: u32 = 864;
+/// The tags, and the aliases for bits and elements of them.
+pub(crate) const TAGS: [&str; 7] = [
+    "bits DINT; ds DINT 10; u DINT 4; vs DINT 4; t0 TIMER; t1 TIMER; c0 COUNTER; c1 COUNTER",
+    "a = bits.0; b = bits.1; c = bits.2; d = bits.3; e = bits.4; f = bits.5; g = bits.6; h = bits.7; i = bits.8",
+    "j = bits.9; k = bits.10; l = bits.11; m = bits.12; n = bits.13; o = bits.14; p = bits.15; q = bits.16",
+    "r = bits.17; s = bits.18; t = bits.19; v = bits.21; w = bits.22; x = bits.23; y = bits.24; z = bits.25",
+    "d0 = ds[0]; d1 = ds[1]; d2 = ds[2]; d3 = ds[3]; d4 = ds[4]; d5 = ds[5]; d6 = ds[6]; d7 = ds[7]",
+    "d8 = ds[8]; d9 = ds[9]; u0 = u[0]; u1 = u[1]; u2 = u[2]; u3 = u[3]",
+    "v0 = vs[0]; v1 = vs[1]; v2 = vs[2]; v3 = vs[3]",
+];
 
 /// The BOOL of this number, from 0 for a to 25 for z.
 pub fn bit(number: u8) -> Place
@@ -61,124 +64,4 @@ pub(crate) fn place_of(name: &[u8]) -> Option<u8>
         [b'v', digit @ b'0'..=b'3'] => Some(14 + (*digit - b'0')),
         _ => None,
     }
-}
-
-/// The operand of this number, counted from 0, that a text names to an instruction. None if tests have nothing of that name.
-///
-/// An array's element is named as u0, one of u as u[d0] too; if an instruction copies, u0 is the array from that element on. After S, L and T
-/// stand the number of a routine, of the rung in which a label stands, and of a task.
-pub fn operand(op: Op, number: usize, text: &[u8]) -> Option<Operand> {
-    match text {
-        b"?" => Some(Operand::Blank),
-        b"S:FS" => Some(Operand::FlagOf(Flag::First)),
-        b"S:V" => Some(Operand::FlagOf(Flag::Overflow)),
-        b"S:Z" => Some(Operand::FlagOf(Flag::Zero)),
-        b"S:N" => Some(Operand::FlagOf(Flag::Negative)),
-        [b'-', digits @ ..] => Some(Operand::Number(negative(value(digits)?)?)),
-        [letter] if letter.is_ascii_lowercase() => Some(Operand::Cell(path(
-            Kind::Bool,
-            u32::from(*letter - b'a'),
-        ))),
-        [b't', digits @ ..] => Some(Operand::Timer(path(
-            Kind::Dint,
-            element(TIMERS, 128, 2, digits)?,
-        ))),
-        [b'c', digits @ ..] => Some(Operand::Counter(path(
-            Kind::Dint,
-            element(COUNTERS, 96, 2, digits)?,
-        ))),
-        [b'S', digits @ ..] => Some(Operand::Routine(value(digits)?)),
-        [b'L', digits @ ..] => Some(Operand::Label(u64::from(value(digits)?))),
-        [b'T', digits @ ..] => Some(Operand::Task(value(digits)?)),
-        [b'u', b'[', b'd', digit @ b'0'..=b'9', b']'] => Some(indexed(U, *digit - b'0')),
-        [b'd', digits @ ..] => Some(integer(
-            op,
-            number,
-            element(DINTS, 32, 10, digits)?,
-            DINTS + 320,
-        )),
-        [b'u', digits @ ..] => Some(integer(op, number, element(U, 32, 4, digits)?, V)),
-        [b'v', digits @ ..] => Some(integer(op, number, element(V, 32, 4, digits)?, TIMERS)),
-        digits => Some(Operand::Number(i32::try_from(value(digits)?).ok()?)),
-    }
-}
-
-/// The DINT at this bit, or, if the instruction copies, the block of DINTs from there to bit `end`.
-fn integer(op: Op, number: usize, at: u32, end: u32) -> Operand {
-    let path = path(Kind::Dint, at);
-    if is_copied(op, number) {
-        Operand::Block(Block {
-            path,
-            size: 4,
-            stop: end / 8,
-        })
-    } else {
-        Operand::Cell(path)
-    }
-}
-
-/// The element of an array of 4 DINTs that a DINT tells.
-fn indexed(start: u32, number: u8) -> Operand
-    requires { number < 10 }
-{
-    let mut steps = Steps::new();
-    steps.push(Index {
-        of: dint(number),
-        stride: 32,
-        length: 4,
-    });
-    Operand::Cell(Path {
-        kind: Kind::Dint,
-        at: start,
-        steps,
-    })
-}
-
-/// Whether an instruction copies from or to the operand of this number.
-fn is_copied(op: Op, number: usize) -> bool {
-    matches!(
-        op.fixed_kinds().get(number),
-        Some(OperandKind::CopySource | OperandKind::CopyTarget | OperandKind::FillTarget)
-    )
-}
-
-/// A path without subscripts.
-fn path(kind: Kind, at: u32) -> Path {
-    Path {
-        kind,
-        at,
-        steps: Steps::new(),
-    }
-}
-
-/// The first bit of an element of an array of so many elements of so many bits, by the digits of its number.
-fn element(start: u32, bits: u32, count: u32, digits: &[u8]) -> Option<u32> {
-    let number = value(digits)?;
-    if number < count {
-        start.checked_add(bits.checked_mul(number)?)
-    } else {
-        None
-    }
-}
-
-/// The number that decimal digits spell, of which there is one at least.
-fn value(digits: &[u8]) -> Option<u32> {
-    if digits.is_empty() {
-        return None;
-    }
-    let mut number = 0u32;
-    for byte in digits {
-        if !byte.is_ascii_digit() {
-            return None;
-        }
-        number = number
-            .checked_mul(10)?
-            .checked_add(u32::from(*byte - b'0'))?;
-    }
-    Some(number)
-}
-
-/// The opposite of a number.
-fn negative(number: u32) -> Option<i32> {
-    i32::try_from(-i64::from(number)).ok()
 }

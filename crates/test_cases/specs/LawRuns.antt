@@ -1,7 +1,7 @@
 -- Runs of the machine, as the laws of the schedule and scripts see them.
-use Rattle.std.specs.Prelude.{ℕ, List, [], ◌∷◌, ◌++◌, Bool, Option, option_map, codes, pos}
+use Rattle.std.specs.Prelude.{ℕ, List, [], ◌∷◌, ◌++◌, map, Bool, if◌then◌else◌, Option, None, option_map, codes, pos}
 use Rattle.spec_base.specs.declared.limits.TheConstants.{OWN_LANE}
-use Rattle.spec_machine.specs.declared.event.Action.TheVariants.{WordIn, Test, ModeRun, ModeProgram}
+use Rattle.spec_machine.specs.declared.event.Action.TheVariants.{WordIn, Test, ModeRun, ModeProgram, Clear}
 use Rattle.spec_machine.specs.declared.event.RungEdit.TheVariants.{Replace}
 use Rattle.spec_machine.specs.declared.event.Event.{Event}
 use Rattle.spec_machine.specs.declared.event.Event.TheVariants.{Act}
@@ -9,12 +9,15 @@ use Rattle.spec_text.specs.Scripts.{Script, script}
 use Rattle.spec_scan.specs.Position.{ProgramRungs}
 use Rattle.spec_machine.specs.Project.{Project}
 use Rattle.spec_machine.specs.State.{start}
-use Rattle.spec_machine.specs.Machine.{run}
+use Rattle.spec_machine.specs.Machine.{OfAction, run}
+use Rattle.spec_machine.specs.declared.reply.Reply.{Reply}
 use Rattle.test_cases.specs.JournalCases.{cpu, tick, timed, accept}
 use Rattle.test_cases.specs.Samples.{plain, continuous}
 use Rattle.spec_schedule.specs.Legal.{verdicts}
 use Rattle.spec_schedule.specs.TraceView.{table_of, view}
-use Rattle.spec_schedule.specs.Stages.{scan_in_progress, stages, begun_by}
+use Rattle.spec_schedule.specs.Counting.{is_task}
+use Rattle.spec_schedule.specs.Stages.{Stage, scan_in_progress, stages, begun_by, sync_end}
+use Rattle.test_cases.specs.CopyRuns.{whole_copy}
 
 -- the verdicts on a run of the machine
 abbrev pub verdicts_on : Project → List Event → List Bool
@@ -54,6 +57,21 @@ word k v = Act 0 (WordIn (codes "In1") k (pos v))
 
 abbrev pub held_copy : List Event
 held_copy = run_mode ∷ cpu 3 ++ word 0 7 ∷ Act 0 ModeProgram ∷ cpu 1 ++ word 0 7 ∷ word 1 8 ∷ cpu 5
+
+-- ---- doctored runs
+
+-- the last element of the copy isn't copied
+abbrev pub torn_stage : Stage → Stage
+torn_stage x = if is_task 0 (sync_end x.entry) then record x { after = record x.after { image = x.before.image } } else x
+
+abbrev pub torn : List Stage
+torn = map torn_stage (stages whole_copy held_copy)
+
+-- `clear` in Program is refused by M3; here with this reply, and with this tick after it
+abbrev pub cleared : Reply → ℕ → Stage
+cleared r tick =
+    let s = start one_nop in
+    record { before = s; entry = OfAction 0 Clear (record { reply = r; fault = None; released = 0 }); after = record s { tick = tick } }
 
 -- ---- scripts
 

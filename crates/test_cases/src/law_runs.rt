@@ -8,10 +8,12 @@ ghost use Rattle.test_cases.specs.LadderRuns.{one_rung};
 ghost use Rattle.test_cases.specs.TaskRuns.{preemption, nested_regions, turns_at_ticks};
 ghost use Rattle.test_cases.specs.EditRuns.{two_moves, owners};
 ghost use Rattle.test_cases.specs.CopyRuns.{torn_copy, whole_copy};
+ghost use Rattle.spec_machine.specs.declared.reply.ModeFault.TheVariants.{M2, M3};
+ghost use Rattle.spec_machine.specs.declared.reply.Reply.TheVariants.{Mode};
 ghost use Rattle.spec_schedule.specs.Partial.{IsPartial, IsComplete, is_paced, is_held_over};
 ghost use Rattle.spec_schedule.specs.Legal.{each_from};
 ghost use Rattle.spec_schedule.specs.Stages.{stages, keeps_copy, KeepsState};
-ghost use Rattle.test_cases.specs.LawRuns.{verdicts_on, run_mode, preempted, nested, turning, rungs_at, begun_at, held_copy, laneless, one_word, word, word_at_end, one_nop, emptied};
+ghost use Rattle.test_cases.specs.LawRuns.{torn, cleared, verdicts_on, run_mode, preempted, nested, turning, rungs_at, begun_at, held_copy, laneless, one_word, word, word_at_end, one_nop, emptied};
 
 /// The laws that a trace shows by itself hold of runs with preemption, nested regions, turns at ticks, edits in
 /// mid-scan and a synchronous copy.
@@ -34,6 +36,16 @@ pub fn copies_and_refusals()
     ensures copy { IsTrue (each_from keeps_copy (stages whole_copy held_copy)) }
     ensures held { AllByRecursion KeepsState (stages whole_copy held_copy) }
     ensures refused { AllByRecursion KeepsState (stages owners clients) }
+{}
+
+/// Doctored runs break a law: a scan that began after a test has the base's rungs; the last element of a copy isn't
+/// copied; a refusal has another cause than the first; a refusal changes the state.
+pub fn doctored_runs_break_laws()
+    ensures rungs { begun_at one_nop emptied ≡ rungs_at one_nop (take 5 emptied) → ⊥ }
+    ensures copy { each_from keeps_copy torn ≡ false }
+    ensures refused { KeepsState (cleared (Mode M3) 0) }
+    ensures cause { KeepsState (cleared (Mode M2) 0) → ⊥ }
+    ensures changed { KeepsState (cleared (Mode M3) 1) → ⊥ }
 {}
 
 /// Journals of scripts, partial and complete.

@@ -14,7 +14,8 @@ pub use journal_cases::{
     scripts_are_refused,
 };
 pub use law_runs::{
-    copies_and_refusals, runs_are_legal, scans_keep_rungs, scripts_are_not_run, scripts_are_run,
+    copies_and_refusals, doctored_runs_break_laws, runs_are_legal, scans_keep_rungs,
+    scripts_are_not_run, scripts_are_run,
 };
 pub use legal_cases::{laws_are_broken, laws_hold};
 pub use project_cases::{project_is_valid, projects_are_invalid};

@@ -13,7 +13,7 @@ use test_bench::{LEN, Refusal};
 pub fn count_row(alloc: Global, what: &str, before: &str) -> Result<String, Refusal> {
     let mut words = what.split_whitespace();
     let mnemonic = words.next().unwrap_or("");
-    let op = Op::read(mnemonic.as_bytes()).ok_or(Refusal::Operand)?;
+    let op = Op::read(mnemonic.as_bytes()).ok_or(Refusal::Form)?;
     let on = words.next() == Some("on");
     let now = count(words.next().unwrap_or("0"))?;
     let mut image = read_tags(alloc, before)?;
@@ -44,6 +44,6 @@ fn run(op: Op, on: bool, now: u32, image: &mut Image) -> Result<Option<(i32, i32
             reset(false, COUNTER, on, image);
             Ok(None)
         }
-        _ => Err(Refusal::Operand),
+        _ => Err(Refusal::Form),
     }
 }

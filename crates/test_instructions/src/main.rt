@@ -5,6 +5,7 @@
 #![tactic(auto)]
 
 mod counts;
+mod executable;
 mod numbers;
 mod operands;
 mod prescans;
@@ -45,11 +46,11 @@ fn said(alloc: Global, row: &str, before: &str) -> Result<String, Refusal> {
         "copy" => values::copy_row(alloc, op(what)?, before),
         "prescan" => prescans::prescan_row(alloc, what, before),
         "subscript" => prescans::subscript_row(alloc, before),
-        _ => Err(Refusal::Operand),
+        _ => Err(Refusal::Form),
     }
 }
 
 /// The instruction of this mnemonic.
 fn op(mnemonic: &str) -> Result<Op, Refusal> {
-    Op::read(mnemonic.trim().as_bytes()).ok_or(Refusal::Operand)
+    Op::read(mnemonic.trim().as_bytes()).ok_or(Refusal::Form)
 }

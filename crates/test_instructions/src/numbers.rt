@@ -8,12 +8,12 @@ use test_bench::Refusal;
 
 /// The number that a text is.
 pub fn number(text: &str) -> Result<i32, Refusal> {
-    text.parse::<i32>().ok().ok_or(Refusal::Operand)
+    text.parse::<i32>().ok().ok_or(Refusal::Form)
 }
 
 /// The number, not negative, that a text is.
 pub fn count(text: &str) -> Result<u32, Refusal> {
-    text.parse::<u32>().ok().ok_or(Refusal::Operand)
+    text.parse::<u32>().ok().ok_or(Refusal::Form)
 }
 
 /// The number at a place; 0 if the place doesn't lie in the image.

@@ -4,6 +4,7 @@ ghost use Rattle.spec_scan.specs.Fits.{ArgsFit};
 ghost use Rattle.spec_scan.specs.Executable.{ArgsEndIn};
 ghost use Rattle.lgx_image.specs.Args.{ArgsInBounds};
 
+use crate::executable::is_executable;
 use crate::numbers::{count, number, put};
 use lgx_image::{Bound, Image};
 use lgx_num::{Block, Flag, Items, Kind, Operand, Path, Place, Steps};
@@ -11,7 +12,7 @@ use lgx_prog::Ins;
 use lgx_rung::Op;
 use spec_base::limits::MAX_BOUND_OPERANDS;
 use std::alloc::Global;
-use test_bench::{Refusal, is_executable};
+use test_bench::Refusal;
 
 /// The bytes of the image.
 pub const LEN: u32 = 16;
@@ -58,7 +59,7 @@ fn other_operand(word: &str) -> Result<Operand, Refusal> {
 }
 
 fn block(at: u32, rest: &str) -> Result<Operand, Refusal> {
-    let (size, stop) = rest.split_once(':').ok_or(Refusal::Operand)?;
+    let (size, stop) = rest.split_once(':').ok_or(Refusal::Form)?;
     Ok(Operand::Block(Block {
         path: path(Kind::Sint, bit(at)),
         size: count(size)?,
@@ -72,7 +73,7 @@ fn kind_of(name: &str) -> Result<Kind, Refusal> {
         "SINT" => Ok(Kind::Sint),
         "INT" => Ok(Kind::Int),
         "DINT" => Ok(Kind::Dint),
-        _ => Err(Refusal::Operand),
+        _ => Err(Refusal::Form),
     }
 }
 

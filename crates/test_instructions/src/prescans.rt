@@ -1,19 +1,18 @@
 // Prescans of programs, and of a bit that a subscript names.
-ghost use Rattle.std.specs.Prelude.{◌≡◌, true, length, IfOk};
+ghost use Rattle.std.specs.Prelude.{◌≡◌, length, IfOk};
 ghost use Rattle.lgx_num.specs.Paths.{OperandInBounds};
-ghost use Rattle.spec_scan.specs.Executable.{EndsIn, IsExecutable, AreExecutable, IsExecutableProgram};
+ghost use Rattle.spec_scan.specs.Executable.{EndsIn, IsExecutable, AreExecutable};
 ghost use Rattle.spec_scan.specs.Fits.{IsCell};
-ghost use Rattle.lgx_prog.specs.FlatProgram.{IsFlatProgram};
 
 use crate::numbers::{get, number, put};
 use crate::tags::{read_tags, shown};
 use lgx_image::Image;
 use lgx_num::{Index, Items, Kind, Memory, Operand, Path, Place, Steps};
 use lgx_prescan::prescan;
-use lgx_prog::{FlatProgram, Ins, Node, Rung, Rungs};
+use lgx_prog::{FlatProgram, Ins, Node, Rung};
 use lgx_rung::Op;
 use std::alloc::Global;
-use test_bench::{Refusal, is_executable_program, read_program};
+use test_bench::{LEN, Refusal, Routines, read_program};
 
 /// `prescan ONS(a);JSR(S1);|TON(t0,?,?); / t0.acc=5 / a`: the bench's tags after the prescan of the program. Its
 /// routines have `|` between them, and the first is the main one.
@@ -24,24 +23,14 @@ pub fn prescan_row(alloc: Global, program: &str, before: &str) -> Result<String,
     Ok(shown(alloc, &image)?)
 }
 
-fn run(alloc: Global, routines: &[Rungs], image: &mut Image) -> Result<(), Refusal> {
-    if routines.is_empty() {
+fn run(alloc: Global, routines: &Routines, image: &mut Image) -> Result<(), Refusal> {
+    let rungs = routines.as_slice();
+    if rungs.is_empty() || image.len() != LEN {
         return Err(Refusal::NotExecutable);
     }
-    let program = FlatProgram::build(alloc, routines, 0)?;
-    if !can_run(&program, routines, image.len()) {
-        return Err(Refusal::NotExecutable);
-    }
+    let program = FlatProgram::build(alloc, rungs, 0)?;
     prescan(&program, image);
     Ok(())
-}
-
-/// Whether the program of these routines can be executed over an image of `len` bytes.
-fn can_run(program: &FlatProgram, routines: &[Rungs], len: u32) -> bool
-    requires { IsFlatProgram program.now (record { routines = routines.now; main = 0 }) }
-    ensures { result ≡ true → IsExecutableProgram len (record { routines = routines.now; main = 0 }) }
-{
-    is_executable_program(program, routines.len(), len)
 }
 
 /// `subscript / 3 / 119`: the first byte, all of whose bits are 1, after the prescan of an OTE of the bit that the

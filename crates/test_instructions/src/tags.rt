@@ -51,7 +51,7 @@ fn member(name: &str) -> Result<Place, Refusal> {
             return Ok(Place { kind, at });
         }
     }
-    Err(Refusal::Operand)
+    Err(Refusal::Form)
 }
 
 fn put_letters(image: &mut Image, letters: &[u8]) {

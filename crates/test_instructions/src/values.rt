@@ -38,7 +38,7 @@ pub fn math_row(alloc: Global, op: Op, text: &str) -> Result<String, Refusal> {
     let ins = read_ins(alloc, op, text, &mut image)?;
     let args = bound(&ins, &image)?;
     if ins.op.family() != Family::Arithmetic {
-        return Err(Refusal::Operand);
+        return Err(Refusal::Form);
     }
     let mut flags = Flags {
         v: true,
@@ -74,7 +74,7 @@ pub fn compare_row(alloc: Global, op: Op, text: &str) -> Result<String, Refusal>
     let ins = read_ins(alloc, op, text, &mut image)?;
     let args = bound(&ins, &image)?;
     if ins.op.family() != Family::Comparison {
-        return Err(Refusal::Operand);
+        return Err(Refusal::Form);
     }
     truth(alloc, compare(ins.op, &args, &image))
 }
@@ -93,7 +93,7 @@ pub fn copy_row(alloc: Global, op: Op, text: &str) -> Result<String, Refusal> {
     let ins = read_ins(alloc, op, text, &mut image)?;
     let args = bound(&ins, &image)?;
     if ins.op.family() != Family::Copy {
-        return Err(Refusal::Operand);
+        return Err(Refusal::Form);
     }
     let steps = copy(ins.op, &args, &mut image);
     let mut said = format!(in alloc; "{steps}:")?;

@@ -20,7 +20,7 @@ mod words;
 
 use std::alloc::Global;
 use std::io;
-use test_rows::judge_rows;
+use test_rows::{judge_rows, parts};
 use trouble::Trouble;
 
 fn main(rt: HostRuntime) -> io::Result<()> {
@@ -35,13 +35,6 @@ fn found(alloc: Global, row: &str) -> io::Result<Option<String>> {
         Ok(said) => Ok(Some(said)),
         Err(trouble) => Ok(Some(format!(in alloc; "{trouble:?}")?)),
     }
-}
-
-/// The kind of a row, what is given, and what is to come out.
-fn parts(row: &str) -> (&str, &str, &str) {
-    let (kind, row) = row.split_once('|').unwrap_or((row, ""));
-    let (given, wanted) = row.split_once('|').unwrap_or((row, ""));
-    (kind.trim(), given.trim(), wanted.trim())
 }
 
 fn said(alloc: Global, kind: &str, given: &str) -> Result<String, Trouble> {

@@ -6,8 +6,9 @@ use lgx_num::{
     same, store_low,
 };
 use spec_base::limits::MAX_SUBSCRIPTS;
-use std::alloc::{AllocError, Global};
+use std::alloc::Global;
 use std::str::SplitWhitespace;
+use test_bench::say_operand;
 
 /// `name | TEXT | ..`: the name that it is, or `no`.
 pub fn name_row(alloc: Global, text: &str) -> Result<String, Trouble> {
@@ -139,81 +140,4 @@ fn index(words: &mut SplitWhitespace<'_>) -> Result<Index, Trouble> {
         stride: number(words)?,
         length: number(words)?,
     })
-}
-
-fn say_operand(said: &mut Said, operand: &Operand) -> Result<(), AllocError> {
-    match operand {
-        Operand::Number(number) => {
-            said.word("number")?;
-            said.number(i64::from(*number))
-        }
-        Operand::Cell(path) => say_path(said, "cell", path),
-        Operand::Timer(path) => say_path(said, "timer", path),
-        Operand::Counter(path) => say_path(said, "counter", path),
-        Operand::Block(block) => say_block(said, block),
-        Operand::FlagOf(flag) => say_flag(said, *flag),
-        Operand::Routine(routine) => say_number(said, "routine", u64::from(*routine)),
-        Operand::Label(rung) => say_number(said, "label", *rung),
-        Operand::Task(task) => say_number(said, "task", u64::from(*task)),
-        Operand::Blank => said.word("blank"),
-    }
-}
-
-fn say_number(said: &mut Said, word: &str, number: u64) -> Result<(), AllocError> {
-    said.word(word)?;
-    match i64::try_from(number) {
-        Ok(number) => said.number(number),
-        Err(_) => said.word("large"),
-    }
-}
-
-fn say_flag(said: &mut Said, flag: Flag) -> Result<(), AllocError> {
-    said.word("flag")?;
-    said.word(match flag {
-        Flag::First => "S:FS",
-        Flag::Overflow => "S:V",
-        Flag::Zero => "S:Z",
-        Flag::Negative => "S:N",
-    })
-}
-
-fn say_block(said: &mut Said, block: &Block) -> Result<(), AllocError> {
-    said.word("block")?;
-    let size = block.size;
-    let stop = block.stop;
-    said.number(i64::from(size))?;
-    say_place(said, stop, &block.path)
-}
-
-/// A number, and then a path.
-fn say_place(said: &mut Said, stop: u32, path: &Path) -> Result<(), AllocError> {
-    said.number(i64::from(stop))?;
-    say_steps(said, path)
-}
-
-fn say_path(said: &mut Said, word: &str, path: &Path) -> Result<(), AllocError> {
-    said.word(word)?;
-    say_steps(said, path)
-}
-
-fn say_steps(said: &mut Said, path: &Path) -> Result<(), AllocError> {
-    said.word(match path.kind {
-        Kind::Bool => "BOOL",
-        Kind::Sint => "SINT",
-        Kind::Int => "INT",
-        Kind::Dint => "DINT",
-    })?;
-    let at = path.at;
-    said.number(i64::from(at))?;
-    for index in path.steps.as_slice() {
-        say_index(said, *index)?;
-    }
-    Ok(())
-}
-
-fn say_index(said: &mut Said, index: Index) -> Result<(), AllocError> {
-    said.word("by")?;
-    said.number(i64::from(index.of.at))?;
-    said.number(i64::from(index.stride))?;
-    said.number(i64::from(index.length))
 }

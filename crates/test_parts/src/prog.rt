@@ -13,8 +13,8 @@ use test_bench::read_program;
 /// `R` is a rung's start, `a` a XIC and `b` a XIO, `(` a branch's start and `<` that of one that passes its condition
 /// on, `,` a leg's end and `)` a branch's end.
 pub fn code_row(alloc: Global, text: &str) -> Result<String, Trouble> {
-    let routines = read_program(alloc, text)?;
-    let rungs = routines.first().ok_or(Trouble::Form)?;
+    let program = read_program(alloc, text)?;
+    let rungs = program.as_slice().first().ok_or(Trouble::Form)?;
     let routine = flatten(alloc, rungs.as_slice())?;
     let mut said = Said::new(alloc);
     said.bytes(&letters(alloc, routine.code())?)?;
@@ -60,22 +60,23 @@ pub fn program_row(alloc: Global, text: &str) -> Result<String, Trouble> {
     let (main, rungs) = text.split_once('?').ok_or(Trouble::Form)?;
     let main = number(&mut main.split_whitespace())?;
     let text = with_bars(alloc, rungs)?;
-    let routines = read_program(alloc, text.as_str())?;
+    let program = read_program(alloc, text.as_str())?;
+    let routines = program.as_slice();
     if main as usize >= routines.len() {
         return Err(Trouble::Form);
     }
-    let program = FlatProgram::build(alloc, &routines, main)?;
+    let flat = FlatProgram::build(alloc, routines, main)?;
     let mut said = Said::new(alloc);
-    said.number(i64::from(program.main()))?;
+    said.number(i64::from(flat.main()))?;
     said.word("reaches")?;
-    for routine in program.reached() {
+    for routine in flat.reached() {
         said.count(*routine)?;
     }
     for routine in 0..routines.len() {
-        said.bytes(&letters(alloc, program.code(routine))?)?;
-        said.count(program.place(routine, 1))?;
+        said.bytes(&letters(alloc, flat.code(routine))?)?;
+        said.count(flat.place(routine, 1))?;
     }
-    said.count(program.code(routines.len()).len())?;
+    said.count(flat.code(routines.len()).len())?;
     Ok(said.into_text())
 }
 

@@ -1,35 +1,9 @@
 // Tags and aliases.
-ghost use Rattle.std.specs.Prelude.{◌≡◌, ◌≤◌, false, true, length, IsTrue, IfOk};
-ghost use Rattle.spec_language.specs.Resolution.{aliases};
-ghost use Rattle.lgx_tags.specs.Scopes.{IsScopeOf};
-ghost use Rattle.lgx_types.specs.Tables.{HasSize};
-
 use crate::trouble::Trouble;
-use crate::types::table as type_table;
 use crate::words::{Said, number, word};
-use lgx_tags::{Found, Scope, SealError, TagCode, TagError, TagTable};
-use lgx_types::TypeTable;
-use spec_base::limits::MAX_ELEMENTS;
-use spec_language::{Base, DataType};
+use lgx_tags::{Found, Scope, SealError, TagCode, TagError};
 use std::alloc::{AllocError, Global};
-
-/// A table that isn't sealed, of so many programs, with at most so many aliases.
-#[derive(Drop)]
-struct Declared {
-    table: TagTable,
-    programs: u32,
-    count: u32,
-    ghost unsealed: { table.sealed ≡ false },
-    ghost scopes: { table.declarations.programs ≡ programs },
-    ghost few: { length (aliases table.declarations) ≤ count },
-}
-
-/// A table that is sealed.
-#[derive(Drop)]
-struct Sealed {
-    table: TagTable,
-    ghost sealed: { table.sealed ≡ true },
-}
+use test_bench::{Declared, Sealed, declare_text, scoped};
 
 /// `tags | TYPES ? PROGRAMS; DECLARATION; .. ? CALL; .. | ..`: which declarations are refused, and for what; the answer
 /// of sealing, if it is refused; and else what the calls answer.
@@ -42,8 +16,8 @@ pub fn tags_row(alloc: Global, text: &str) -> Result<String, Trouble> {
     let (declarations, calls) = text.split_once('?').ok_or(Trouble::Form)?;
     let mut said = Said::new(alloc);
     let declared = declare_all(alloc, &mut said, types, declarations)?;
-    said.number(i64::from(declared.table.bytes()))?;
-    match seal(declared) {
+    said.number(i64::from(declared.bytes()))?;
+    match declared.seal() {
         Ok(sealed) => {
             for call in calls.split(';') {
                 run(alloc, &mut said, &sealed, call)?;
@@ -58,12 +32,6 @@ pub fn tags_row(alloc: Global, text: &str) -> Result<String, Trouble> {
     Ok(said.into_text())
 }
 
-fn seal(declared: Declared) -> Result<Sealed, SealError> {
-    let Declared { mut table, .. } = declared;
-    table.seal()?;
-    Ok(Sealed { table })
-}
-
 fn declare_all(
     alloc: Global,
     said: &mut Said,
@@ -72,11 +40,7 @@ fn declare_all(
 ) -> Result<Declared, Trouble> {
     let (programs, declarations) = declarations.split_once(';').ok_or(Trouble::Form)?;
     let programs = number(&mut programs.split_whitespace())?;
-    let mut declared = Declared {
-        table: TagTable::new(alloc, type_table(alloc, types)?, programs)?,
-        programs,
-        count: 0,
-    };
+    let mut declared = Declared::new(alloc, types, programs)?;
     for declaration in declarations.split(';') {
         match declare_text(&mut declared, declaration)? {
             Ok(()) => {}
@@ -85,87 +49,6 @@ fn declare_all(
         }
     }
     Ok(declared)
-}
-
-fn declare_text(declared: &mut Declared, text: &str) -> Result<Result<(), TagError>, Trouble> {
-    let mut words = text.split_whitespace();
-    let (name, scope) = scoped(word(&mut words)?)?;
-    let what = word(&mut words)?;
-    if what == "=" {
-        return alias(declared, scope, name, word(&mut words)?);
-    }
-    let base = base(declared.table.types(), what)?;
-    let dim = match words.next() {
-        Some(word) => word.parse::<u32>().ok().ok_or(Trouble::Form)?,
-        None => 0,
-    };
-    declare(declared, scope, name, DataType { base, dim })
-}
-
-/// A name and its scope.
-fn scoped(text: &str) -> Result<(&str, Scope), Trouble> {
-    match text.split_once('@') {
-        Some((name, program)) => {
-            let program = program.parse::<u32>().ok().ok_or(Trouble::Form)?;
-            Ok((name, Scope::Program(program)))
-        }
-        None => Ok((text, Scope::Controller)),
-    }
-}
-
-fn base(types: &TypeTable, word: &str) -> Result<Base, Trouble> {
-    let name = lgx_num::Name::read(word.as_bytes()).ok_or(Trouble::Form)?;
-    types.find(&name).ok_or(Trouble::Form)
-}
-
-/// Whether a table of so many programs has the scope.
-fn is_scope(scope: Scope, programs: u32) -> bool
-    ensures { IsTrue result → IsScopeOf programs scope }
-{
-    match scope {
-        Scope::Program(program) => program < programs,
-        Scope::Controller => true,
-    }
-}
-
-/// Whether the type has a size.
-fn has_size(types: &TypeTable, of: DataType) -> bool
-    ensures { IsTrue result → HasSize types.now of }
-{
-    let fits = match of.base {
-        Base::User(i) => (i as usize) < types.structures().len(),
-        Base::Bool => of.dim % 32 == 0,
-        _ => true,
-    };
-    fits && of.dim <= MAX_ELEMENTS
-}
-
-fn declare(
-    declared: &mut Declared,
-    scope: Scope,
-    name: &str,
-    of: DataType,
-) -> Result<Result<(), TagError>, Trouble> {
-    if !is_scope(scope, declared.programs) || !has_size(declared.table.types(), of) {
-        return Err(Trouble::Form);
-    }
-    Ok(declared.table.declare(scope, name.as_bytes(), of))
-}
-
-fn alias(
-    declared: &mut Declared,
-    scope: Scope,
-    name: &str,
-    target: &str,
-) -> Result<Result<(), TagError>, Trouble> {
-    if declared.count > 1000 || !is_scope(scope, declared.programs) {
-        return Err(Trouble::Form);
-    }
-    let answer = declared
-        .table
-        .alias(scope, name.as_bytes(), target.as_bytes());
-    declared.count += 1;
-    Ok(answer)
 }
 
 fn run(alloc: Global, said: &mut Said, sealed: &Sealed, call: &str) -> Result<(), Trouble> {

@@ -1,6 +1,5 @@
 // Why nothing can be said of a row.
 use lgx_num::Memory;
-use lgx_types::TypeError;
 use std::alloc::{AllocError, AllocFailed};
 use test_bench::Refusal;
 
@@ -36,15 +35,6 @@ impl From<Refusal> for Trouble {
         match refusal {
             Refusal::Memory => Trouble::Memory,
             _ => Trouble::Form,
-        }
-    }
-}
-
-impl From<TypeError> for Trouble {
-    fn from(error: TypeError) -> Self {
-        match error {
-            TypeError::Fault(_) => Trouble::Form,
-            TypeError::Memory => Trouble::Memory,
         }
     }
 }

@@ -1,6 +1,9 @@
-//! The loop of a program that judges rows.
+//! The loop of a program that judges rows, and what such a program says of one.
 #![tactic(auto)]
 
+mod said;
+
+pub use said::Said;
 use std::alloc::Global;
 use std::io;
 
@@ -32,4 +35,11 @@ pub fn judge_rows<F: Fn(Global, &str) -> io::Result<Option<String>>>(
 /// Whether a line is a row.
 fn is_row(line: &str) -> bool {
     !line.is_empty() && !line.starts_with("--")
+}
+
+/// The kind of a row, what is given, and what is to come out: `KIND | GIVEN | WANTED`.
+pub fn parts(row: &str) -> (&str, &str, &str) {
+    let (kind, row) = row.split_once('|').unwrap_or((row, ""));
+    let (given, wanted) = row.split_once('|').unwrap_or((row, ""));
+    (kind.trim(), given.trim(), wanted.trim())
 }

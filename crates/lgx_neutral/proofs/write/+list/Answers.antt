@@ -3,7 +3,8 @@ use Rattle.lgx_rung.specs.Sizes.{tree_size, list_size}
 use Rattle.lgx_rung.specs.Text.{canon_tokens, list_tokens}
 use Rattle.lgx_rung.proofs.Walks.{element_size}
 use Rattle.lgx_neutral.specs.Writing.{legs_tokens}
-use Rattle.lgx_neutral.proofs.Writing.{fork_text, element_written, leg_written, legs_written, others_of, element_of, other_of_legs}
+use Rattle.lgx_rung.proofs.Walks.{element_of}
+use Rattle.lgx_neutral.proofs.Writing.{fork_text, element_written, leg_written, legs_written, others_of, other_of_legs}
 use Rattle.lgx_neutral.proofs.write.+list.Goals as goal
 
 pub write_fork-returns : goal.write_fork-returns

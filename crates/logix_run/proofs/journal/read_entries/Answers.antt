@@ -1,6 +1,6 @@
 use Rattle.std.proofs.Common.{◌≡◌, [], ◌∷◌, ◌++◌, length, Bool, true, false, eqb, cond, codes, Some, None, Option, option_map, bytes_eq, sym, ap, ◌∙◌, List}
 use Rattle.logix_run.specs.declared.journal.Entry.{Entry}
-use Rattle.logix_run.specs.Pieces.{pieces}
+use Rattle.spec_base.specs.Pieces.{pieces}
 use Rattle.logix_run.specs.Journal.{entry_of, entries_of}
 use Rattle.logix_run.proofs.JournalLines.{entries_go_on, entries_end}
 use Rattle.logix_run.proofs.journal.read_entries.Goals as goal

@@ -1,5 +1,5 @@
 use Rattle.std.proofs.Common.{◌≡◌, ◌++◌, length, option_map}
-use Rattle.logix_run.specs.Pieces.{pieces}
+use Rattle.spec_base.specs.Pieces.{pieces}
 use Rattle.logix_run.specs.Journal.{entries_of}
 use Rattle.logix_run.proofs.journal.read_entries.Given as goal
 

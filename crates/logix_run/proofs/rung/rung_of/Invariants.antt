@@ -1,6 +1,6 @@
 use Rattle.std.proofs.Common.{◌≡◌, ◌++◌, length, option_map, IsTrue}
 use Rattle.lgx_core.specs.Project.{rung_fits}
-use Rattle.logix_run.specs.Pieces.{pieces}
+use Rattle.spec_base.specs.Pieces.{pieces}
 use Rattle.logix_run.specs.Rung.{elements}
 use Rattle.logix_run.proofs.rung.rung_of.Given as goal
 

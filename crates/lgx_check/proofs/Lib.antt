@@ -1,0 +1,7 @@
+pub mod Digits
+pub mod Marks
+pub mod Names
+pub mod Labels
+pub mod Judging
+pub mod Walking
+pub mod Laws

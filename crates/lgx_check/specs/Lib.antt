@@ -1,0 +1,9 @@
+pub mod Numbers
+pub mod Scopes
+pub mod Answers
+pub mod LabelLists
+pub mod Labels
+pub mod Spots
+pub mod Judging
+pub mod Checkers
+pub mod Trees

@@ -1,0 +1,313 @@
+// The checker of one routine, and what an instruction's operands stand for.
+ghost use Rattle.std.specs.Prelude.{◌^◌, ◌≡◌, ◌<◌, ◌≤◌, ◌++◌, ◌∷◌, [], not, ◌&&◌, Some, None, Result, length, map, filter_map, get_or, option_and_then, option_map, true, IfOk, IfErr, OnOk};
+ghost use Rattle.std.specs.List.{zip};
+ghost use Rattle.std.specs.Result.{result_ok, result_err};
+ghost use Rattle.lgx_num.specs.declared.place.Operand.{Operand as AnyOperand};
+ghost use Rattle.lgx_num.specs.declared.place.Operand.TheVariants as operand;
+ghost use Rattle.lgx_rung.specs.declared.fault.CheckCode.{CheckCode as AnyCode};
+ghost use Rattle.spec_base.specs.declared.limits.TheConstants.{MAX_ROUTINE_INSTRUCTIONS};
+ghost use Rattle.spec_language.specs.Checked.{code_number, instruction_of, is_entry, label_name, label_of, labels, least, lesser, operand_of, operands_of, other_faults, stands_elsewhere};
+ghost use Rattle.spec_language.specs.Operands.{paired};
+ghost use Rattle.lgx_check.specs.Answers.{Answers, AnswersOperand};
+ghost use Rattle.lgx_check.specs.Checkers.{IsReady, check_of, checked_scope};
+ghost use Rattle.lgx_check.specs.Judging.{Judges, lesser_of};
+ghost use Rattle.lgx_check.specs.Labels.{elsewhere};
+ghost use Rattle.lgx_check.specs.Scopes.{scope_of};
+ghost use Rattle.lgx_check.specs.Spots.{spot_of};
+
+use crate::error::{CheckError, OperandError};
+use crate::label::{LabelPlace, LabelTable};
+use crate::name::{is_label, label_name};
+use crate::number::second_number;
+use crate::operand::{count_operand, data_operand, event_task, name_operand};
+use crate::scope::CheckScope;
+use crate::spot::Spot;
+use lgx_names::NameIndex;
+use lgx_num::{Items, Memory, Name, Operand};
+use lgx_rung::{CheckCode, CheckFault, Ins, Op, OperandKind, SourceRung, Texts};
+use spec_base::limits::MAX_ROUTINE_INSTRUCTIONS;
+use std::alloc::Global;
+
+/// What the instructions of a routine are checked against: the scope with an index of its routines, and the routine's
+/// labels.
+#[derive(Drop)]
+pub(crate) struct Checker<'a> {
+    pub(crate) alloc: Global,
+    scope: &'a CheckScope<'a>,
+    routines: NameIndex,
+    labels: LabelTable,
+}
+
+/// What the operands of an instruction stand for, and the least code of those that stand for nothing.
+#[derive(Drop)]
+struct Judged {
+    args: Vec<Operand>,
+    code: Option<CheckCode>,
+}
+
+/// The number of a code.
+fn code_number(code: CheckCode) -> u32
+    ensures { result ≡ code_number code }
+{
+    match code {
+        CheckCode::C1 => 1,
+        CheckCode::C2 => 2,
+        CheckCode::C3 => 3,
+        CheckCode::C4 => 4,
+        CheckCode::C5 => 5,
+        CheckCode::C6 => 6,
+        CheckCode::C7 => 7,
+        CheckCode::C8 => 8,
+        CheckCode::C9 => 9,
+        CheckCode::C10 => 10,
+        CheckCode::C11 => 11,
+        CheckCode::C12 => 12,
+        CheckCode::C13 => 13,
+        CheckCode::C14 => 14,
+        CheckCode::C15 => 15,
+        CheckCode::C16 => 16,
+        CheckCode::C17 => 17,
+    }
+}
+
+/// The lesser of two codes, if there is one.
+fn lesser_of(code: Option<CheckCode>, other: Option<CheckCode>) -> Option<CheckCode>
+    ensures { result ≡ lesser_of code other }
+{
+    match (code, other) {
+        (None, _) => other,
+        (Some(_), None) => code,
+        (Some(a), Some(b)) => {
+            if code_number(a) <= code_number(b) {
+                code
+            } else {
+                other
+            }
+        }
+    }
+}
+
+/// Whether it is an SBR.
+fn is_entry(op: Op) -> bool
+    ensures { result ≡ is_entry op }
+{
+    matches!(op, Op::Sbr)
+}
+
+/// The kind at a place.
+#[tactic(auto, using(crate::proofs::Judging::self_at))]
+fn kind_at(kinds: &[OperandKind], i: usize) -> OperandKind
+    requires { i < length kinds.now }
+    ensures { result ≡ get_or kinds.now i result }
+{
+    kinds[i]
+}
+
+/// Whether a label that was found stands elsewhere.
+fn stands_elsewhere(spot: Spot, found: Option<LabelPlace>) -> bool
+    ensures { result ≡ elsewhere (spot_of spot) found }
+{
+    match found {
+        Some(first) => !(first.rung == spot.place.rung && first.ins == spot.place.ins),
+        None => false,
+    }
+}
+
+/// An index of names.
+fn index_of(alloc: Global, names: &[Name]) -> Result<NameIndex, Memory>
+    requires { length names.now < 2 ^ 32 }
+    ensures { IfOk result (λ index. index ≡ names.now) }
+{
+    let mut index = NameIndex::new(alloc);
+    for name in names {
+        index.push(name)?;
+    }
+    Ok(index)
+}
+
+impl Judged {
+    /// Adds what the next operand stands for.
+    #[tactic(auto, using(crate::proofs::Judging::added_args, crate::proofs::Judging::kept_code, crate::proofs::Judging::kept_args, crate::proofs::Judging::added_code))]
+    fn add(&mut self, answer: Result<Operand, OperandError>) -> Result<(), Memory>
+        ensures args { OnOk result ((meant : Result AnyOperand AnyCode) → AnswersOperand meant answer → self.new.args.items ≡ self.old.args.items ++ filter_map result_ok (meant ∷ [])) }
+        ensures code { OnOk result ((meant : Result AnyOperand AnyCode) → AnswersOperand meant answer → self.new.code ≡ lesser_of self.old.code (least (filter_map result_err (meant ∷ [])))) }
+    {
+        match answer {
+            Ok(operand) => {
+                self.args.push(operand)?;
+                Ok(())
+            }
+            Err(OperandError::Code(code)) => {
+                self.code = lesser_of(self.code, Some(code));
+                Ok(())
+            }
+            Err(OperandError::Memory) => Err(Memory),
+        }
+    }
+}
+
+impl<'a> Checker<'a> {
+    /// The checker of these rungs.
+    pub(crate) fn new(
+        alloc: Global,
+        rungs: &[SourceRung],
+        scope: &'a CheckScope<'a>,
+    ) -> Result<Checker<'a>, Memory>
+        requires sealed { scope.now.tags.now.sealed ≡ true }
+        requires few_routines { length scope.now.routines.now < 2 ^ 32 }
+        requires few_tasks { length scope.now.tasks.now < 2 ^ 32 }
+        ensures ready { IfOk result (λ c. IsReady c) }
+        ensures check { IfOk result (λ c. check_of c ≡ instruction_of (scope_of scope.now) (labels rungs.now)) }
+    {
+        let routines = index_of(alloc, scope.routines)?;
+        let labels = LabelTable::of(alloc, rungs)?;
+        Ok(Checker {
+            alloc,
+            scope,
+            routines,
+            labels,
+        })
+    }
+
+    /// The label of a name, in any case, as an operand.
+    fn find_label(&self, text: &[u8]) -> Option<Operand>
+        ensures { result ≡ option_map (λ l. operand.Label l.rung) (label_of self.now.labels text.now) }
+    {
+        match self.labels.find(text) {
+            Some(place) => Some(Operand::Label(place.rung)),
+            None => None,
+        }
+    }
+
+    /// What an operand stands for where an operand of the kind is wanted.
+    fn check_operand(
+        &self,
+        spot: Spot,
+        kind: OperandKind,
+        text: &[u8],
+    ) -> Result<Operand, OperandError>
+        requires { IsReady self.now }
+        ensures { AnswersOperand (operand_of (checked_scope self.now) self.now.labels (spot_of spot) (kind, text.now)) result }
+    {
+        match kind {
+            OperandKind::RoutineName => {
+                let routine = self
+                    .routines
+                    .find(text)
+                    .map(|number| Operand::Routine(number));
+                Ok(name_operand(text, routine, CheckCode::C11)?)
+            }
+            OperandKind::ParameterCount => Ok(count_operand(text)?),
+            OperandKind::JumpLabel => {
+                let label = self.find_label(text);
+                Ok(name_operand(text, label, CheckCode::C12)?)
+            }
+            OperandKind::OwnLabel => {
+                let label = Some(Operand::Label(spot.place.rung));
+                Ok(name_operand(text, label, CheckCode::C2)?)
+            }
+            OperandKind::EventTask => {
+                let task = event_task(self.scope.tasks, text).map(|number| Operand::Task(number));
+                Ok(name_operand(text, task, CheckCode::C15)?)
+            }
+            OperandKind::QuestionMark if text == b"?".as_slice() => Ok(Operand::Blank),
+            _ => data_operand(self.alloc, self.scope, kind, text),
+        }
+    }
+
+    /// What operands of these kinds stand for.
+    fn judge(
+        &self,
+        spot: Spot,
+        kinds: &[OperandKind],
+        texts: &[Items<u8>],
+    ) -> Result<Judged, Memory>
+        requires ready { IsReady self.now }
+        requires same { length kinds.now ≡ length texts.now }
+        ensures { IfOk result (λ judged. Judges (map (operand_of (checked_scope self.now) self.now.labels (spot_of spot)) (zip kinds.now texts.now)) judged) }
+    {
+        let mut judged = Judged {
+            args: Vec::new(self.alloc),
+            code: None,
+        };
+        for (i, text) in texts.iter().enumerate() {
+            let kind = kind_at(kinds, i);
+            let answer = self.check_operand(spot, kind, text.as_slice());
+            judged.add(answer)?;
+        }
+        Ok(judged)
+    }
+
+    /// What the operands of an instruction stand for; C1 alone if their number isn't the mnemonic's.
+    fn check_operands(&self, spot: Spot, op: Op, texts: &[Items<u8>]) -> Result<Judged, Memory>
+        requires { IsReady self.now }
+        ensures { IfOk result (λ judged. Judges (operands_of (checked_scope self.now) self.now.labels (spot_of spot) (paired op texts.now)) judged) }
+    {
+        match op.operand_kinds(second_number(texts), texts.len()) {
+            Some(kinds) => self.judge(spot, kinds.as_slice(), texts),
+            None => Ok(Judged {
+                args: Vec::new(self.alloc),
+                code: Some(CheckCode::C1),
+            }),
+        }
+    }
+
+    /// Whether an LBL's name is that of a label before it.
+    fn repeats_label(&self, spot: Spot, op: Op, texts: &[Items<u8>]) -> bool
+        ensures { result ≡ stands_elsewhere (spot_of spot) (option_and_then (label_of self.now.labels) (label_name op texts.now)) }
+    {
+        match label_name(op, texts) {
+            Some(name) => stands_elsewhere(spot, self.labels.find(name.bytes())),
+            None => false,
+        }
+    }
+
+    /// The least code of what is wrong beside the operands: C13, C14, C16, C17.
+    #[tactic(auto, using(crate::proofs::Judging::first_of))]
+    fn other_fault(&self, spot: Spot, op: Op, texts: &[Items<u8>]) -> Option<CheckCode>
+        requires { spot.place.before ≤ MAX_ROUTINE_INSTRUCTIONS }
+        ensures least { result ≡ least (other_faults self.now.labels (spot_of spot) (record { op = op; texts = texts.now })) }
+        ensures room { result ≡ None → spot.place.before < MAX_ROUTINE_INSTRUCTIONS }
+    {
+        if self.repeats_label(spot, op, texts) {
+            Some(CheckCode::C13)
+        } else if is_label(op) && !spot.leads {
+            Some(CheckCode::C14)
+        } else if spot.place.before as usize == MAX_ROUTINE_INSTRUCTIONS {
+            Some(CheckCode::C16)
+        } else if is_entry(op) && !(spot.place.rung == 0 && spot.leads) {
+            Some(CheckCode::C17)
+        } else {
+            None
+        }
+    }
+
+    /// An instruction with what its operands stand for, or the least code of what is wrong with it.
+    pub(crate) fn check_instruction(
+        &self,
+        spot: Spot,
+        op: Op,
+        texts: &Texts,
+    ) -> Result<Ins, CheckError>
+        requires ready { IsReady self.now }
+        requires room { spot.place.before ≤ MAX_ROUTINE_INSTRUCTIONS }
+        ensures answer { Answers (check_of self.now (spot_of spot) (record { op = op; texts = texts.now })) result }
+        ensures room { OnOk result (spot.place.before < MAX_ROUTINE_INSTRUCTIONS) }
+    {
+        let texts = texts.as_slice();
+        let judged = self.check_operands(spot, op, texts)?;
+        let other = self.other_fault(spot, op, texts);
+        let Judged { args, code } = judged;
+        match lesser_of(code, other) {
+            None => Ok(Ins {
+                op,
+                args: Items::of(args),
+            }),
+            Some(code) => Err(CheckError::Check(CheckFault {
+                code,
+                rung: spot.place.rung,
+                ins: spot.place.ins,
+            })),
+        }
+    }
+}

@@ -1,0 +1,104 @@
+// What an operand stands for.
+ghost use Rattle.std.specs.Prelude.{◌^◌, ◌≡◌, ◌<◌, ◌&&◌, true, length, position};
+ghost use Rattle.lgx_num.specs.Name.{same};
+ghost use Rattle.spec_language.specs.declared.tag.Scope.TheVariants.{Program};
+ghost use Rattle.spec_language.specs.Operands.{count_operand, data_operand, found_as, name_operand};
+ghost use Rattle.spec_language.specs.Resolution.{found};
+ghost use Rattle.lgx_check.specs.Answers.{AnswersOperand};
+
+use crate::error::OperandError;
+use crate::number::{decimal, read_number};
+use crate::place::{cause_of, flag, flag_as, number_as, place_as};
+use crate::scope::CheckScope;
+use lgx_num::{Operand, is_name, same};
+use lgx_rung::{CheckCode, OperandKind, as_count};
+use lgx_tags::{Scope, TagError};
+use spec_language::TaskName;
+use std::alloc::Global;
+
+/// The operand that a name stands for: C2 if the text is no name, the cause if nothing has the name.
+pub(crate) fn name_operand(
+    text: &[u8],
+    named: Option<Operand>,
+    cause: CheckCode,
+) -> Result<Operand, CheckCode>
+    ensures { result ≡ name_operand text.now named cause }
+{
+    if is_name(text) {
+        named.ok_or(cause)
+    } else {
+        Err(CheckCode::C2)
+    }
+}
+
+/// A count of inputs: C2 if the text is no number that may be one.
+pub(crate) fn count_operand(text: &[u8]) -> Result<Operand, CheckCode>
+    ensures { result ≡ count_operand text.now }
+{
+    let Some(number) = decimal(text) else {
+        return Err(CheckCode::C2);
+    };
+    match as_count(number) {
+        Some(count) => Ok(Operand::Number(count as i32)),
+        None => Err(CheckCode::C2),
+    }
+}
+
+/// Whether it is an event task of the name, in any case.
+fn is_event_task(task: &TaskName, text: &[u8]) -> bool
+    ensures { result ≡ (task.now.event && same task.now.name text.now) }
+{
+    task.event && same(task.name.bytes(), text)
+}
+
+/// The number of the first event task of a name, in any case.
+pub(crate) fn event_task(tasks: &[TaskName], text: &[u8]) -> Option<u32>
+    requires { length tasks.now < 2 ^ 32 }
+    ensures { result ≡ position (λ t. t.event && same t.name text.now) tasks.now }
+{
+    for (number, task) in tasks.iter().enumerate() {
+        if is_event_task(task, text) {
+            return Some(number as u32);
+        }
+    }
+    None
+}
+
+/// A flag, a number, or what a text names as an operand of the kind.
+pub(crate) fn data_operand(
+    alloc: Global,
+    scope: &CheckScope,
+    kind: OperandKind,
+    text: &[u8],
+) -> Result<Operand, OperandError>
+    requires { scope.now.tags.now.sealed ≡ true }
+    ensures { AnswersOperand (data_operand scope.now.tags.now.declarations (Program scope.now.program) kind text.now) result }
+{
+    if let Some(flag) = flag(text) {
+        return Ok(flag_as(kind, flag)?);
+    }
+    if let Some(number) = read_number(text) {
+        return Ok(number_as(kind, number)?);
+    }
+    place_operand(alloc, scope, kind, text)
+}
+
+/// What a text names as an operand of the kind.
+fn place_operand(
+    alloc: Global,
+    scope: &CheckScope,
+    kind: OperandKind,
+    text: &[u8],
+) -> Result<Operand, OperandError>
+    requires { scope.now.tags.now.sealed ≡ true }
+    ensures { AnswersOperand (found_as scope.now.tags.now.declarations.types kind (found scope.now.tags.now.declarations (Program scope.now.program) text.now)) result }
+{
+    match scope
+        .tags
+        .resolve(alloc, Scope::Program(scope.program), text)
+    {
+        Ok(found) => Ok(place_as(scope.tags.types(), kind, found)?),
+        Err(TagError::Tag(code)) => Err(OperandError::Code(cause_of(code))),
+        Err(TagError::Memory) => Err(OperandError::Memory),
+    }
+}

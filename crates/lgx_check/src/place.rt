@@ -1,0 +1,185 @@
+// Places, numbers and flags where an operand of a kind is wanted.
+ghost use Rattle.std.specs.Prelude.{◌≡◌, ◌&&◌, not, Ok, Err, if◌then◌else◌};
+ghost use Rattle.lgx_rung.specs.declared.fault.CheckCode.TheVariants.{C2};
+ghost use Rattle.spec_language.specs.Layout.{single};
+ghost use Rattle.spec_language.specs.OperandForm.{flag};
+ghost use Rattle.spec_language.specs.Operands.{block_of, cause_of, flag_as, is_bool, is_counter, is_timer, no_place, number_as, path_of, place_as};
+ghost use Rattle.spec_language.specs.Resolution.{is_array};
+ghost use Rattle.lgx_types.specs.Tables.{HasSize};
+ghost use Rattle.lgx_check.specs.Numbers.{number_of};
+
+use crate::number::Number;
+use lgx_num::{Block, Flag, Operand, Path};
+use lgx_rung::{CheckCode, OperandKind};
+use lgx_tags::data_type::{integer_bits, is_array, is_integer, kind_of, single};
+use lgx_types::TypeTable;
+use spec_language::{Base, Found, TagCode};
+
+fn is_bool(base: Base) -> bool
+    ensures { result ≡ is_bool base }
+{
+    matches!(base, Base::Bool)
+}
+
+fn is_timer(base: Base) -> bool
+    ensures { result ≡ is_timer base }
+{
+    matches!(base, Base::Timer)
+}
+
+fn is_counter(base: Base) -> bool
+    ensures { result ≡ is_counter base }
+{
+    matches!(base, Base::Counter)
+}
+
+/// The path to what was found.
+fn path_of(found: Found) -> Path
+    ensures { result ≡ path_of found }
+{
+    Path {
+        kind: kind_of(found.of.base),
+        at: found.at,
+        steps: found.steps,
+    }
+}
+
+/// What was found as a block, which counts by elements.
+fn block_of(types: &TypeTable, found: Found) -> Block
+    requires { HasSize types.now (single found.of.base) }
+    ensures { result ≡ block_of types.now found }
+{
+    Block {
+        size: types.size_of(single(found.of.base)),
+        stop: found.stop,
+        path: path_of(found),
+    }
+}
+
+/// The path to what was found, if the test holds of it and it is no whole array; C2 if not.
+fn one_place(test: bool, found: Found) -> Result<Path, CheckCode>
+    ensures { result ≡ (if test && not (is_array found.of) then Ok (path_of found) else Err C2) }
+{
+    if test && !is_array(found.of) {
+        Ok(path_of(found))
+    } else {
+        Err(CheckCode::C2)
+    }
+}
+
+/// What was found as a block, if the test holds of it; C2 if not.
+fn block_where(test: bool, types: &TypeTable, found: Found) -> Result<Block, CheckCode>
+    requires { HasSize types.now (single found.of.base) }
+    ensures { result ≡ (if test then Ok (block_of types.now found) else Err C2) }
+{
+    if test {
+        Ok(block_of(types, found))
+    } else {
+        Err(CheckCode::C2)
+    }
+}
+
+/// What was found as an operand of the kind: C2 if it isn't of that kind.
+pub(crate) fn place_as(
+    types: &TypeTable,
+    kind: OperandKind,
+    found: Found,
+) -> Result<Operand, CheckCode>
+    requires { HasSize types.now (single found.of.base) }
+    ensures { result ≡ place_as types.now kind found }
+{
+    let of = found.of;
+    match kind {
+        OperandKind::BoolPlace | OperandKind::BoolOrFlag => {
+            Ok(Operand::Cell(one_place(is_bool(of.base), found)?))
+        }
+        OperandKind::IntegerPlace | OperandKind::IntegerOrNumber => {
+            Ok(Operand::Cell(one_place(is_integer(of), found)?))
+        }
+        OperandKind::WholeTimer => Ok(Operand::Timer(one_place(is_timer(of.base), found)?)),
+        OperandKind::WholeCounter => Ok(Operand::Counter(one_place(is_counter(of.base), found)?)),
+        OperandKind::TimerOrCounter if is_timer(of.base) => {
+            Ok(Operand::Timer(one_place(true, found)?))
+        }
+        OperandKind::TimerOrCounter => Ok(Operand::Counter(one_place(is_counter(of.base), found)?)),
+        OperandKind::CopySource | OperandKind::CopyTarget => {
+            Ok(Operand::Block(block_where(!is_bool(of.base), types, found)?))
+        }
+        OperandKind::FillTarget => {
+            Ok(Operand::Block(block_where(integer_bits(of.base) > 0, types, found)?))
+        }
+        OperandKind::QuestionMark
+        | OperandKind::RoutineName
+        | OperandKind::ParameterCount
+        | OperandKind::JumpLabel
+        | OperandKind::OwnLabel
+        | OperandKind::EventTask => Err(CheckCode::C2),
+    }
+}
+
+/// The code of a number or a flag that isn't taken: C3 if a place is wanted that is written, or a BOOL or an integer.
+fn no_place(kind: OperandKind) -> CheckCode
+    ensures { result ≡ no_place kind }
+{
+    match kind {
+        OperandKind::BoolPlace
+        | OperandKind::IntegerPlace
+        | OperandKind::CopyTarget
+        | OperandKind::FillTarget => CheckCode::C3,
+        _ => CheckCode::C2,
+    }
+}
+
+/// A number as an operand of the kind: C10 if it is outside its range, C2 or C3 if none is taken.
+pub(crate) fn number_as(kind: OperandKind, number: Number) -> Result<Operand, CheckCode>
+    ensures { result ≡ number_as kind (number_of number) }
+{
+    match kind {
+        OperandKind::IntegerOrNumber => match number {
+            Number::Fitting(number) => Ok(Operand::Number(number)),
+            Number::Outside => Err(CheckCode::C10),
+        },
+        _ => Err(no_place(kind)),
+    }
+}
+
+/// A flag as an operand of the kind: C2 or C3 if none is taken.
+pub(crate) fn flag_as(kind: OperandKind, flag: Flag) -> Result<Operand, CheckCode>
+    ensures { result ≡ flag_as kind flag }
+{
+    match kind {
+        OperandKind::BoolOrFlag => Ok(Operand::FlagOf(flag)),
+        _ => Err(no_place(kind)),
+    }
+}
+
+/// The flag that a text is.
+pub(crate) fn flag(text: &[u8]) -> Option<Flag>
+    ensures { result ≡ flag text.now }
+{
+    if b"S:FS".as_slice() == text {
+        Some(Flag::First)
+    } else if b"S:V".as_slice() == text {
+        Some(Flag::Overflow)
+    } else if b"S:Z".as_slice() == text {
+        Some(Flag::Zero)
+    } else if b"S:N".as_slice() == text {
+        Some(Flag::Negative)
+    } else {
+        None
+    }
+}
+
+/// The code of an operand that names nothing.
+pub(crate) fn cause_of(code: TagCode) -> CheckCode
+    ensures { result ≡ cause_of code }
+{
+    match code {
+        TagCode::G3 => CheckCode::C4,
+        TagCode::G4 => CheckCode::C5,
+        TagCode::G5 => CheckCode::C6,
+        TagCode::G6 => CheckCode::C7,
+        TagCode::G9 => CheckCode::C8,
+        _ => CheckCode::C9,
+    }
+}

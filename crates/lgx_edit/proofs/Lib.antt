@@ -1,0 +1,10 @@
+pub mod Merges
+pub mod Tied
+pub mod Commanded
+pub mod OfAll
+pub mod NewPrograms
+pub mod Again
+pub mod Accepted
+pub mod ReadEdits
+pub mod Counts
+pub mod Drafting

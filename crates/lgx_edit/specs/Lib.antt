@@ -1,0 +1,11 @@
+pub mod Texts
+pub mod EditsView
+pub mod Codes
+pub mod Seen
+pub mod ProjectCode
+pub mod Plants
+pub mod Answering
+pub mod Counting
+pub mod Merging
+pub mod Drafts
+pub mod Accepting

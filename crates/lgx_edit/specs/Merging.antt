@@ -1,0 +1,47 @@
+-- The changes of a routine, each where it belongs.
+use Rattle.std.specs.Prelude.{List, [], ◌∷◌, ◌++◌, Option, Some, None, unwrap_or, slice_set, slice_index_or}
+use Rattle.std.specs.Option.{option_or}
+use Rattle.lgx_rung.specs.Tree.{Source}
+use Rattle.spec_machine.specs.Edits.{Change, Replaced, Inserted, Deleted}
+use Rattle.lgx_edit.specs.declared.merge.Instead.{Instead}
+use Rattle.lgx_edit.specs.declared.merge.Instead.TheVariants.{Itself, Nothing, Other}
+
+-- the rungs before a rung, and those in its place, if it was replaced or deleted
+pub record AroundView : Type 0 where
+  pub before : List Source
+  pub instead : Option (List Source)
+
+abbrev pub nothing_around : AroundView
+nothing_around = record { before = []; instead = None }
+
+abbrev pub instead_of : Instead → Option (List Source)
+instead_of Itself = None
+instead_of Nothing = Some []
+instead_of (Other rung) = Some (rung ∷ [])
+
+abbrev pub inserted : Source → AroundView → AroundView
+inserted rung a = record a { before = a.before ++ rung ∷ [] }
+
+-- what was put in place of the rung first stays
+abbrev pub taken : Option (List Source) → AroundView → AroundView
+taken instead a = record a { instead = option_or a.instead instead }
+
+-- the change at the place that it names; behind the last place it does nothing
+abbrev pub with_change : List AroundView → Change → List AroundView
+with_change places (Replaced i new) = slice_set places i (taken (Some (new ∷ [])) (slice_index_or places i nothing_around))
+with_change places (Inserted i new) = slice_set places i (inserted new (slice_index_or places i nothing_around))
+with_change places (Deleted i) = slice_set places i (taken (Some []) (slice_index_or places i nothing_around))
+
+-- all that stands around these rungs, which are one or none
+abbrev pub put_around : List Source → AroundView → List Source
+put_around [] a = a.before
+put_around (rung ∷ rungs) a = a.before ++ unwrap_or a.instead (rung ∷ [])
+
+abbrev pub rest_of : List Source → List Source
+rest_of [] = []
+rest_of (rung ∷ rungs) = rungs
+
+-- each rung with what stands around it, and what stands after the last
+abbrev pub woven : List Source → List AroundView → List Source
+woven base [] = []
+woven base (a ∷ places) = put_around base a ++ woven (rest_of base) places

@@ -1,0 +1,24 @@
+//! The book of online edits (1756-PM008): the rungs of each program, base and merged, the accepted edits with their
+//! owner, and the flat programs that run them.
+#![tactic(auto)]
+
+mod book;
+mod changes;
+mod count;
+mod draft;
+mod edits;
+mod error;
+mod fresh;
+mod judge;
+mod merge;
+mod owner;
+mod plant;
+mod read;
+mod texts;
+
+pub use book::EditBook;
+pub use draft::Against;
+pub use edits::ProgramEdits;
+pub use error::EditError;
+pub use plant::{ConnDefs, Plant, Schedule, TaskDefs, TaskNames, Watch, Watches};
+pub use texts::{ProgramText, ProgramTexts, RoutineText, RoutineTexts, SourceRungs};

@@ -1,0 +1,69 @@
+// A valid project, as a controller takes it.
+use crate::texts::ProgramTexts;
+use lgx_image::Image;
+use lgx_num::{Items, Place};
+use lgx_tags::TagTable;
+use spec_language::TaskName;
+use spec_tables::{ConnDef, TaskDef};
+use std::marker::Model;
+
+/// A watched place: its text as the project has it.
+#[derive(Drop)]
+pub struct Watch {
+    pub text: Items<u8>,
+    pub place: Place,
+}
+
+pub type TaskDefs = Items<TaskDef>;
+
+pub type TaskNames = Items<TaskName>;
+
+/// For each task the numbers of its programs, in the order in which they are scanned.
+pub type Schedule = Items<Items<u32>>;
+
+pub type ConnDefs = Items<ConnDef>;
+
+pub type Watches = Items<Watch>;
+
+/// A project that a controller can run: its sealed tags with their values at the start, its programs, its tasks with their
+/// names and programs, its connections and its watched places. All lists are in project order.
+///
+/// Contracts see the machine's project. Each value is a valid one: whoever makes it shows so.
+#[derive(Drop)]
+pub struct Plant {
+    pub tags: TagTable,
+    pub texts: ProgramTexts,
+    pub tasks: TaskDefs,
+    pub names: TaskNames,
+    pub schedule: Schedule,
+    pub conns: ConnDefs,
+    pub image: Image,
+    pub watches: Watches,
+}
+
+impl Model for Plant {
+    ghost use Rattle.std.specs.Coded.{codes};
+    ghost use Rattle.spec_machine.specs.Project.{Project};
+    ghost use Rattle.lgx_edit.specs.ProjectCode.{project_code};
+
+    ghost Value = { Project };
+
+    ghost coded = { project_code (Prim.hlevel codes) (Prim.hlevel codes) (Prim.hlevel codes) };
+
+    ghost use Rattle.lgx_edit.specs.Plants.{project_of, IsPlant};
+
+    ghost view = { project_of };
+
+    ghost invariant = { IsPlant };
+}
+
+impl Plant {
+    ghost use Rattle.spec_machine.specs.ValidProject.{IsValidProject};
+
+    /// Every project is valid.
+    pub fn law_of_validity(&self)
+        ensures { IsValidProject self.now }
+    {
+        let _ = &self.tags;
+    }
+}

@@ -1,5 +1,0 @@
-use Rattle.lgx_journal.proofs.Splits.{NoMark}
-use Rattle.lgx_journal.proofs.words.split_first.Given as goal
-
-abbrev pub invariant-loop-i : goal.invariant-loop-i
-invariant-loop-i l = NoMark l.mark l.text l.i

@@ -1,0 +1,4 @@
+pub mod Roles
+pub mod View
+pub mod Slots
+pub mod Seen

@@ -1,0 +1,4 @@
+pub mod StartedCopies
+pub mod Standing
+pub mod CopiedBytes
+pub mod WholeCopies

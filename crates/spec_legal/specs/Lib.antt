@@ -1,0 +1,2 @@
+pub mod LegalRuns
+pub mod CountedRuns

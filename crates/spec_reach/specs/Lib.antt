@@ -1,0 +1,10 @@
+pub mod Sizes
+pub mod Scans
+pub mod OpenTasks
+pub mod Programs
+pub mod Bounds
+pub mod Texts
+pub mod Images
+pub mod Positions
+pub mod Words
+pub mod Reachable

@@ -1,0 +1,18 @@
+use Rattle.std.proofs.Common.{◌≡◌, ◌≤◌, ◌+◌, false, length, arith, refl}
+use Rattle.spec_language.specs.Declarations.{tag, declared_as}
+use Rattle.spec_language.specs.Resolution.{aliases}
+use Rattle.lgx_tags.specs.Tables.{Table}
+use Rattle.lgx_tags.proofs.Declares.{tag_count_same}
+use Rattle.test_bench.proofs.Declaring.{by_answer}
+use Rattle.test_bench.proofs.declared.declare.Goals as goal
+
+pub invariant_of-declared : goal.invariant_of-declared
+invariant_of-declared c =
+    let old : Table = c.args.declared.now.table in
+    let ok : Table = record { declarations = declared_as old.declarations c.args.scope c.as_bytes.result.now (tag c.args.of); sealed = false } in
+    let known = c.args.declared.now in
+    record {
+      unsealed = by_answer (λ (t : Table). t.sealed ≡ false) c.declare.result c.declare.new.self ok old c.declare.ensures.ok c.declare.ensures.err refl known.unsealed;
+      scopes = by_answer (λ (t : Table). t.declarations.programs ≡ known.programs) c.declare.result c.declare.new.self ok old c.declare.ensures.ok c.declare.ensures.err known.scopes known.scopes;
+      few = by_answer (λ (t : Table). length (aliases t.declarations) ≤ c.args.declared.now.count) c.declare.result c.declare.new.self ok old c.declare.ensures.ok c.declare.ensures.err (omega (arith, known.few, tag_count_same old.declarations c.args.scope c.as_bytes.result.now c.args.of)) (omega (arith, known.few));
+    }
