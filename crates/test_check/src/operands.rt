@@ -121,7 +121,7 @@ fn wrong_number(alloc: Global, mnemonic: &str, given: usize) -> Result<String, R
             &mut text,
             place,
             match place {
-                0 => "R1",
+                0 => "Sub1",
                 1 => "2",
                 _ => "n",
             },

@@ -46,7 +46,7 @@ pub fn right_text(kind: OperandKind) -> &'static str {
         OperandKind::WholeCounter => "c",
         OperandKind::CopySource | OperandKind::CopyTarget | OperandKind::FillTarget => "arr",
         OperandKind::QuestionMark => "?",
-        OperandKind::RoutineName => "R1",
+        OperandKind::RoutineName => "Sub1",
         OperandKind::ParameterCount => "2",
         OperandKind::JumpLabel => "here",
         OperandKind::OwnLabel => "there",

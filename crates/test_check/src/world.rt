@@ -16,10 +16,10 @@ const TYPES: &str =
 const TAGS: [&str; 3] = [
     "b BOOL; s SINT; i INT; n DINT; bs BOOL 32; arr DINT 4; sa SINT 3; t TIMER; ts TIMER 2; c COUNTER; cs COUNTER 2",
     "cell Cell; cells Cell 3; deep M4 2; one DINT 1; Local:1:I DINT 4; hid DINT; hid@0 BOOL; own@0 DINT",
-    "al = arr[1]; bit = n.3; all = arr; tim = cells[1].t; T1 = n; R1 = n; loc@0 = hid",
+    "al = arr[1]; bit = n.3; all = arr; tim = cells[1].t; T1 = n; Sub1 = n; loc@0 = hid",
 ];
 
-/// The routines R0 to R63.
+/// The routines Sub0 to Sub63.
 const ROUTINES: u32 = 64;
 
 /// The tasks T0 to T31, of which those with an odd number are event tasks.
@@ -73,7 +73,7 @@ impl World {
 fn routine_names(alloc: Global) -> Result<Vec<Name>, Refusal> {
     let mut names = Vec::new(alloc);
     for number in 0..ROUTINES {
-        names.push(name_of(format!(in alloc; "R{number}")?.as_str())?)?;
+        names.push(name_of(format!(in alloc; "Sub{number}")?.as_str())?)?;
     }
     Ok(names)
 }
