@@ -1,3 +1,5 @@
-pub mod Positions
-pub mod Fits
-pub mod Scans
+pub mod Runs
+mod Opened
+mod Replies
+mod Marks
+pub mod Lawful

@@ -1,7 +1,5 @@
-pub mod Project
-pub mod Table
-pub mod Position
-pub mod Machine
-pub mod Place
-pub mod Rows
-pub mod WholeScan
+pub mod ControllerView
+pub mod Codes
+pub mod Represents
+pub mod Gives
+pub mod Lawful

@@ -1,14 +1,12 @@
-//! The controller with one continuous task: one program, whose rungs it walks as lists, over one image of bits.
+//! The controller (1756-PM005): tasks, the ladder engine, I/O words, forces and online edits, one event at a time.
+//!
+//! A [`Controller`] represents a state of the machine of `spec_machine`, as `Represents` of specs/Represents.antt says. Each call answers
+//! what the machine's step answers, and the controller then represents the machine's next state; the readers tell of the state.
 #![tactic(auto)]
 
-mod answer;
+mod actions;
 mod controller;
-mod event;
-mod laws;
-mod project;
+mod readers;
 
-pub use answer::{Mode, ModeFault, Moment, Reply, What};
 pub use controller::Controller;
-pub use event::Event;
-pub use laws::{whole_scan, worked_runs};
-pub use project::{BitOp, Initial, Ins, Project, Watch};
+pub use spec_machine::{Mark, Moment, Outcome, TickReport, What};

@@ -17,6 +17,7 @@ mod read;
 mod texts;
 
 pub use book::EditBook;
+pub use count::left_by_rungs;
 pub use draft::Against;
 pub use edits::ProgramEdits;
 pub use error::EditError;

@@ -11,7 +11,7 @@ use lgx_rung::{CheckFault, TextFault};
 use spec_machine::{EditFault, Reply};
 
 /// Adds the code and the place of a fault of a rung's text.
-fn push_text_fault(text: &mut Vec<u8>, fault: TextFault) -> Result<(), Memory>
+pub fn push_text_fault(text: &mut Vec<u8>, fault: TextFault) -> Result<(), Memory>
     ensures { OnOk result (text.new.items ≡ text.old.items ++ after_spaces (text_fault fault)) }
 {
     push_word(text, text_code(fault.code))?;
@@ -19,7 +19,7 @@ fn push_text_fault(text: &mut Vec<u8>, fault: TextFault) -> Result<(), Memory>
 }
 
 /// Adds the code, the rung and the instruction of a fault of a check.
-fn push_check_fault(text: &mut Vec<u8>, fault: CheckFault) -> Result<(), Memory>
+pub fn push_check_fault(text: &mut Vec<u8>, fault: CheckFault) -> Result<(), Memory>
     ensures { OnOk result (text.new.items ≡ text.old.items ++ after_spaces (check_fault fault)) }
 {
     push_word(text, check_code(fault.code))?;

@@ -26,7 +26,7 @@ fn push_signed(text: &mut Vec<u8>, value: i32) -> Result<(), Memory>
 }
 
 /// Adds a space and a word.
-pub(crate) fn push_word(text: &mut Vec<u8>, word: &[u8]) -> Result<(), Memory>
+pub fn push_word(text: &mut Vec<u8>, word: &[u8]) -> Result<(), Memory>
     ensures { OnOk result (text.new.items ≡ text.old.items ++ 32 ∷ word.now) }
 {
     text.push(b' ')?;
@@ -35,7 +35,7 @@ pub(crate) fn push_word(text: &mut Vec<u8>, word: &[u8]) -> Result<(), Memory>
 }
 
 /// Adds a space and a number.
-pub(crate) fn push_count(text: &mut Vec<u8>, number: u64) -> Result<(), Memory>
+pub fn push_count(text: &mut Vec<u8>, number: u64) -> Result<(), Memory>
     ensures { OnOk result (text.new.items ≡ text.old.items ++ 32 ∷ decimal number) }
 {
     text.push(b' ')?;

@@ -16,7 +16,9 @@ mod texts;
 mod watch_index;
 mod watch_set;
 
+pub use answers::{push_check_fault, push_text_fault};
 pub use bits::MAX_WATCHES;
+pub use digits::{push_count, push_word};
 pub use laws::{law_of_events, law_of_pushes, law_of_watches};
 pub use log::Log;
 pub use names::Names;

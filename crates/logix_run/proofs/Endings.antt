@@ -1,43 +1,51 @@
 -- How a call ends, as its clauses say it.
-use Rattle.std.proofs.Common.{◌≡◌, inl, inr, ℕ, List, Option, Some, None, refl, sym, ◌∙◌, subst}
+use Rattle.std.proofs.Common.{◌≡◌, inl, inr, ℕ, List, Option, Some, None, Result, Ok, Err, refl, sym, ◌∙◌, subst}
 use Rattle.std.specs.Bool.{⊤}
 use Rattle.std.specs.Io.KnownBytes.{Appends}
-use Rattle.lgx_core.specs.Project.{Plan}
-use Rattle.lgx_core.specs.declared.event.Event.{Event}
+use Rattle.std.proofs.KnownBytes.{Appends-nil}
+use Rattle.spec_machine.specs.declared.event.Event.{Event}
+use Rattle.spec_machine.specs.Project.{Project}
+use Rattle.spec_text.specs.declared.script.JournalFault.{JournalFault}
+use Rattle.spec_text.specs.JournalText.{journal_of}
+use Rattle.spec_project.specs.declared.fault.ProjectFault.{ProjectFault}
+use Rattle.spec_project.specs.Projects.{project_of}
 use Rattle.logix_run.specs.declared.status.Status.{Status}
 use Rattle.logix_run.specs.declared.status.Status.TheVariants as status
-use Rattle.logix_run.specs.Project.{project_of}
-use Rattle.logix_run.specs.Journal.{journal_of}
-use Rattle.logix_run.specs.Words.{replay_of}
-use Rattle.logix_run.specs.Output.{Contents, journal_output, replay_output, command_output, output}
+use Rattle.logix_run.specs.declared.words.Verb.{Verb}
+use Rattle.logix_run.specs.Words.{Command, OnProject, Replay, command_of}
+use Rattle.logix_run.specs.Output.{Contents, project_output, journal_output, replay_output, command_output, output}
 use Rattle.logix_run.specs.Call.{Call, AreRead, Adds, AddsFailure, PutFailed, NoPutFailed}
 use Rattle.logix_run.specs.Request.{IsStopped, Writes, Ended}
 use Rattle.logix_run.specs.Causes.{IsOrMemory}
-use Rattle.std.proofs.KnownBytes.{Appends-nil}
 use Rattle.logix_run.proofs.Requests.{told_contents}
 
 -- the statuses of a whole output
-abbrev IsWhole : Status → Type 0
-IsWhole status.Ok = ⊤
-IsWhole status.Usage = ⊤
-IsWhole status.Project = ⊤
-IsWhole status.Script = ⊤
-IsWhole status.ReadFault = ⊥
-IsWhole status.WriteFault = ⊥
-IsWhole status.Memory = ⊥
-IsWhole status.TooLong = ⊥
+abbrev HasWholeOutput : Status → Type 0
+HasWholeOutput status.Ok = ⊤
+HasWholeOutput status.Usage = ⊤
+HasWholeOutput status.Project = ⊤
+HasWholeOutput status.Script = ⊤
+HasWholeOutput status.ReadFault = ⊥
+HasWholeOutput status.WriteFault = ⊥
+HasWholeOutput status.Memory = ⊥
+HasWholeOutput status.TooLong = ⊥
 
-journal_whole : (plan : Plan) (o : Option (List Event)) → IsWhole (journal_output plan o).0
-journal_whole plan None = tt
-journal_whole plan (Some events) = tt
+project_whole : (verb : Verb) (bytes : List ℕ) (r : Result Project ProjectFault) → HasWholeOutput (project_output verb bytes r).0
+project_whole verb bytes (Ok project) = tt
+project_whole verb bytes (Err fault) = tt
 
-replay_whole : (o : Option Plan) (journal : List ℕ) → IsWhole (replay_output o journal).0
-replay_whole None journal = tt
-replay_whole (Some plan) journal = journal_whole plan (journal_of journal)
+journal_whole : (project : Project) (r : Result (List Event) JournalFault) → HasWholeOutput (journal_output project r).0
+journal_whole project (Ok events) = tt
+journal_whole project (Err fault) = tt
 
-whole_output : (contents : Contents) (names : Option (List ℕ × List ℕ)) → IsWhole (command_output contents names).0
+replay_whole : (r : Result Project ProjectFault) (journal : List ℕ) → HasWholeOutput (replay_output r journal).0
+replay_whole (Ok project) journal = journal_whole project (journal_of journal)
+replay_whole (Err fault) journal = tt
+
+whole_output : (contents : Contents) (command : Option Command) → HasWholeOutput (command_output contents command).0
 whole_output contents None = tt
-whole_output contents (Some names) = replay_whole (project_of contents.project) contents.journal
+whole_output contents (Some (OnProject verb p)) = project_whole verb contents.project (project_of contents.project)
+whole_output contents (Some (Replay p j)) = replay_whole (project_of contents.project) contents.journal
 
 module _ (call : Call) where
   adds_whole : (s : Status) (contents : Contents) → AreRead call.told call.words contents → s ≡ (output contents call.words).0 → Appends call.held.old call.held.new (output contents call.words).1 → Adds (record call { answer = s })
@@ -45,10 +53,10 @@ module _ (call : Call) where
   adds_whole status.Usage contents read is all = (contents, read, is, all)
   adds_whole status.Project contents read is all = (contents, read, is, all)
   adds_whole status.Script contents read is all = (contents, read, is, all)
-  adds_whole status.ReadFault contents read is all = absurd (subst IsWhole (sym is) (whole_output contents (replay_of call.words)))
-  adds_whole status.WriteFault contents read is all = absurd (subst IsWhole (sym is) (whole_output contents (replay_of call.words)))
-  adds_whole status.Memory contents read is all = absurd (subst IsWhole (sym is) (whole_output contents (replay_of call.words)))
-  adds_whole status.TooLong contents read is all = absurd (subst IsWhole (sym is) (whole_output contents (replay_of call.words)))
+  adds_whole status.ReadFault contents read is all = absurd (subst HasWholeOutput (sym is) (whole_output contents (command_of call.words)))
+  adds_whole status.WriteFault contents read is all = absurd (subst HasWholeOutput (sym is) (whole_output contents (command_of call.words)))
+  adds_whole status.Memory contents read is all = absurd (subst HasWholeOutput (sym is) (whole_output contents (command_of call.words)))
+  adds_whole status.TooLong contents read is all = absurd (subst HasWholeOutput (sym is) (whole_output contents (command_of call.words)))
 
   adds_written : (s : Status) (contents : Contents) → AreRead call.told call.words contents → Writes call.held call.faults (output contents call.words) s → Adds (record call { answer = s })
   adds_written s contents read (inl w) = adds_whole s contents read w.0 w.1
@@ -60,7 +68,7 @@ module _ (call : Call) where
       subst P (sym w.0) (contents, read.0, w.1)
 
   -- a stop adds nothing
-  adds_nothing : (s : Status) → IsStopped call.told call.failures (replay_of call.words) s → Adds (record call { held = record { old = call.held.old; new = call.held.old }; answer = s })
+  adds_nothing : (s : Status) → IsStopped call.told call.failures (command_of call.words) s → Adds (record call { held = record { old = call.held.old; new = call.held.old }; answer = s })
   adds_nothing status.Ok h = absurd h
   adds_nothing status.Usage h = absurd h
   adds_nothing status.Project h = absurd h
@@ -68,7 +76,7 @@ module _ (call : Call) where
   adds_nothing status.ReadFault h = refl
   adds_nothing status.WriteFault h = absurd h
   adds_nothing status.Memory h =
-      let agree = told_contents call.told (replay_of call.words) in
+      let agree = told_contents call.told (command_of call.words) in
       (agree.0, agree.1, (0, Appends-nil call.held.old))
   adds_nothing status.TooLong h = refl
 
@@ -78,7 +86,7 @@ module _ (call : Call) where
       let P : Option (List ℕ) → Type 0 = λ h. Adds (record call { held = record { old = call.held.old; new = h }; answer = s }) in
       subst P (sym e.1) (adds_nothing s e.0)
 
-  failures_whole : (s : Status) → IsWhole s → call.failures.new ≡ call.failures.old → AddsFailure (record call { answer = s })
+  failures_whole : (s : Status) → HasWholeOutput s → call.failures.new ≡ call.failures.old → AddsFailure (record call { answer = s })
   failures_whole status.Ok whole same = same
   failures_whole status.Usage whole same = same
   failures_whole status.Project whole same = same
@@ -90,13 +98,13 @@ module _ (call : Call) where
 
   failures_written : (s : Status) (contents : Contents) → Writes call.held call.faults (output contents call.words) s → call.failures.new ≡ call.failures.old → AddsFailure (record call { answer = s })
   failures_written s contents (inl w) same =
-      failures_whole s (subst IsWhole (sym w.0) (whole_output contents (replay_of call.words))) same
+      failures_whole s (subst HasWholeOutput (sym w.0) (whole_output contents (command_of call.words))) same
   failures_written s contents (inr (inl w)) same =
       let P : Status → Type 0 = λ s. AddsFailure (record call { answer = s }) in subst P (sym w.0) same
   failures_written s contents (inr (inr w)) same =
       let P : Status → Type 0 = λ s. AddsFailure (record call { answer = s }) in subst P (sym w.0) same
 
-  failures_stopped : (s : Status) → IsStopped call.told call.failures (replay_of call.words) s → AddsFailure (record call { answer = s })
+  failures_stopped : (s : Status) → IsStopped call.told call.failures (command_of call.words) s → AddsFailure (record call { answer = s })
   failures_stopped status.Ok h = absurd h
   failures_stopped status.Usage h = absurd h
   failures_stopped status.Project h = absurd h
@@ -112,14 +120,14 @@ module _ (call : Call) where
 
   rose_written : (s : Status) (contents : Contents) → Writes call.held call.faults (output contents call.words) s → s ≡ status.WriteFault → PutFailed call.faults
   rose_written s contents (inl w) is =
-      absurd (subst IsWhole (sym w.0 ∙ is) (whole_output contents (replay_of call.words)))
+      absurd (subst HasWholeOutput (sym w.0 ∙ is) (whole_output contents (command_of call.words)))
   rose_written s contents (inr (inl w)) is = w.2
   rose_written s contents (inr (inr w)) is = absurd (cc (w.0, is))
 
   pub ended_rose : (s : Status) → Ended (record call { answer = s }) → s ≡ status.WriteFault → PutFailed call.faults
   ended_rose s (inl e) is = rose_written s e.0 e.3 is
   ended_rose s (inr e) is =
-      let P : Status → Type 0 = λ s. IsStopped call.told call.failures (replay_of call.words) s in
+      let P : Status → Type 0 = λ s. IsStopped call.told call.failures (command_of call.words) s in
       absurd (subst P is e.0)
 
   -- the status that what is told calls for, if nothing outside fails

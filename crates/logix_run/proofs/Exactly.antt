@@ -1,74 +1,133 @@
 -- The cause of each status, from what was written, what failed and what is told.
-use Rattle.std.proofs.Common.{◌≡◌, ◌⊎◌, inl, inr, ℕ, ◌<◌, ◌≤◌, length, List, Option, Some, None, IsSome, IfSome, refl, sym, ap, ◌∙◌, subst, arith}
+use Rattle.std.proofs.Common.{◌≡◌, ◌⊎◌, inl, inr, ℕ, ◌<◌, ◌≤◌, length, List, Option, Some, None, Result, Ok, Err, IsOk, IsErr, IfSome, IsSomeAnd, refl, sym, ap, ◌∙◌, subst, arith}
 use Rattle.lgx_io.specs.declared.files.ReadCause.TheVariants as cause
 use Rattle.spec_base.specs.declared.limits.TheConstants.{MAX_FILE_BYTES}
-use Rattle.lgx_core.specs.Project.{Plan}
-use Rattle.lgx_core.specs.declared.event.Event.{Event}
+use Rattle.spec_machine.specs.declared.event.Event.{Event}
+use Rattle.spec_machine.specs.Project.{Project}
+use Rattle.spec_text.specs.declared.script.JournalFault.{JournalFault}
+use Rattle.spec_text.specs.JournalText.{journal_of}
+use Rattle.spec_project.specs.declared.fault.ProjectFault.{ProjectFault}
+use Rattle.spec_project.specs.Projects.{project_of}
 use Rattle.logix_run.specs.declared.status.Status.{Status}
 use Rattle.logix_run.specs.declared.status.Status.TheVariants as status
-use Rattle.logix_run.specs.Project.{project_of}
-use Rattle.logix_run.specs.Journal.{journal_of}
-use Rattle.logix_run.specs.Words.{replay_of}
-use Rattle.logix_run.specs.Output.{Contents, journal_output, replay_output, command_output, output}
+use Rattle.logix_run.specs.declared.words.Verb.{Verb}
+use Rattle.logix_run.specs.Words.{Command, OnProject, Replay, command_of, project_name, journal_name}
+use Rattle.logix_run.specs.Output.{Contents, project_output, journal_output, replay_output, command_output, output}
 use Rattle.logix_run.specs.Call.{Call, AreToldOf, CameWhole, AreRead, Adds, AddsFailure, Gains, PutFailed, OfRead, IsAccepted, IsTooLong}
-use Rattle.logix_run.specs.Causes.{IsNoProject, IsNoJournal, IsJournal, OfNames, OnlyUsage, IsUsage, OnlyProject, IsProject, OnlyScript, IsScript, OnlyOk, IsOk, IsProjectTooLong, IsJournalTooLong}
+use Rattle.logix_run.specs.Causes.{IsNoProject, IsNoJournal, IsJournal, OfCommand, OfNames, IsReadAs, OnlyUsage, IsUsage, OnlyProject, IsProject, OnlyScript, IsScript, OnlyOk, IsComplete, IsProjectTooLong, IsJournalTooLong}
 use Rattle.logix_run.proofs.Endings.{expected, stops}
+
+not_both : {A E : Type 0} (r : Result A E) → IsOk r → IsErr r → ⊥
+not_both (Ok x) ok err = cc
+not_both (Err e) ok err = cc
 
 -- ---- what a status says of the contents
 
-usage_of : (names : Option (List ℕ × List ℕ)) (contents : Contents) → status.Usage ≡ (command_output contents names).0 → names ≡ None
+usage_of : (command : Option Command) (contents : Contents) → status.Usage ≡ (command_output contents command).0 → command ≡ None
 usage_of None contents is = refl
-usage_of (Some names) contents is = absurd (by_project (project_of contents.project) is)
+usage_of (Some (OnProject verb p)) contents is = absurd (by_project (project_of contents.project) is)
   where
-    by_journal : (plan : Plan) (o : Option (List Event)) → status.Usage ≡ (journal_output plan o).0 → ⊥
-    by_journal plan None is = cc
-    by_journal plan (Some events) is = cc
-
-    by_project : (o : Option Plan) → status.Usage ≡ (replay_output o contents.journal).0 → ⊥
-    by_project None is = cc
-    by_project (Some plan) is = by_journal plan (journal_of contents.journal) is
-
-project_of_status : (o : Option Plan) (journal : List ℕ) → status.Project ≡ (replay_output o journal).0 → o ≡ None
-project_of_status None journal is = refl
-project_of_status (Some plan) journal is = absurd (by_journal (journal_of journal) is)
+    by_project : (r : Result Project ProjectFault) → status.Usage ≡ (project_output verb contents.project r).0 → ⊥
+    by_project (Ok project) is = cc
+    by_project (Err fault) is = cc
+usage_of (Some (Replay p j)) contents is = absurd (by_project (project_of contents.project) is)
   where
-    by_journal : (o : Option (List Event)) → status.Project ≡ (journal_output plan o).0 → ⊥
-    by_journal None is = cc
-    by_journal (Some events) is = cc
+    by_journal : (project : Project) (r : Result (List Event) JournalFault) → status.Usage ≡ (journal_output project r).0 → ⊥
+    by_journal project (Ok events) is = cc
+    by_journal project (Err fault) is = cc
 
-script_of_status : (o : Option Plan) (journal : List ℕ) → status.Script ≡ (replay_output o journal).0 → IsSome o × (journal_of journal ≡ None)
-script_of_status None journal is = absurd (cc)
-script_of_status (Some plan) journal is = (refl, by_journal (journal_of journal) is)
-  where
-    by_journal : (o : Option (List Event)) → status.Script ≡ (journal_output plan o).0 → o ≡ None
-    by_journal None is = refl
-    by_journal (Some events) is = absurd (cc)
+    by_project : (r : Result Project ProjectFault) → status.Usage ≡ (replay_output r contents.journal).0 → ⊥
+    by_project (Ok project) is = by_journal project (journal_of contents.journal) is
+    by_project (Err fault) is = cc
 
-ok_of_status : (o : Option Plan) (journal : List ℕ) → status.Ok ≡ (replay_output o journal).0 → IsSome o × IsSome (journal_of journal)
-ok_of_status None journal is = absurd (cc)
-ok_of_status (Some plan) journal is = (refl, by_journal (journal_of journal) is)
+refused_alone : (verb : Verb) (bytes : List ℕ) (r : Result Project ProjectFault) → status.Project ≡ (project_output verb bytes r).0 → IsErr r
+refused_alone verb bytes (Ok project) is = absurd (cc)
+refused_alone verb bytes (Err fault) is = refl
+
+refused_replay : (r : Result Project ProjectFault) (journal : List ℕ) → status.Project ≡ (replay_output r journal).0 → IsErr r
+refused_replay (Err fault) journal is = refl
+refused_replay (Ok project) journal is = absurd (by_journal (journal_of journal) is)
   where
-    by_journal : (o : Option (List Event)) → status.Ok ≡ (journal_output plan o).0 → IsSome o
-    by_journal None is = absurd (cc)
-    by_journal (Some events) is = refl
+    by_journal : (r : Result (List Event) JournalFault) → status.Project ≡ (journal_output project r).0 → ⊥
+    by_journal (Ok events) is = cc
+    by_journal (Err fault) is = cc
+
+refused_of_status : (contents : Contents) (c : Command) → status.Project ≡ (command_output contents (Some c)).0 → IsErr (project_of contents.project)
+refused_of_status contents (OnProject verb p) is = refused_alone verb contents.project (project_of contents.project) is
+refused_of_status contents (Replay p j) is = refused_replay (project_of contents.project) contents.journal is
+
+script_alone : (verb : Verb) (bytes : List ℕ) (r : Result Project ProjectFault) → status.Script ≡ (project_output verb bytes r).0 → ⊥
+script_alone verb bytes (Ok project) is = cc
+script_alone verb bytes (Err fault) is = cc
+
+script_of_journal : (project : Project) (r : Result (List Event) JournalFault) → status.Script ≡ (journal_output project r).0 → IsErr r
+script_of_journal project (Ok events) is = absurd (cc)
+script_of_journal project (Err fault) is = refl
+
+script_of_status : (r : Result Project ProjectFault) (journal : List ℕ) → status.Script ≡ (replay_output r journal).0 → IsOk r × IsErr (journal_of journal)
+script_of_status (Ok project) journal is = (refl, script_of_journal project (journal_of journal) is)
+script_of_status (Err fault) journal is = absurd (cc)
+
+ok_alone : (verb : Verb) (bytes : List ℕ) (r : Result Project ProjectFault) → status.Ok ≡ (project_output verb bytes r).0 → IsOk r
+ok_alone verb bytes (Ok project) is = refl
+ok_alone verb bytes (Err fault) is = absurd (cc)
+
+ok_of_journal : (project : Project) (r : Result (List Event) JournalFault) → status.Ok ≡ (journal_output project r).0 → IsOk r
+ok_of_journal project (Ok events) is = refl
+ok_of_journal project (Err fault) is = absurd (cc)
+
+ok_replay : (r : Result Project ProjectFault) (journal : List ℕ) → status.Ok ≡ (replay_output r journal).0 → IsOk r × IsOk (journal_of journal)
+ok_replay (Ok project) journal is = (refl, ok_of_journal project (journal_of journal) is)
+ok_replay (Err fault) journal is = absurd (cc)
+
+-- the contents of a command's files that aren't refused
+abbrev AreAccepted : Contents → Command → Type 0
+AreAccepted contents c = IsOk (project_of contents.project) × IfSome (journal_name c) (λ j. IsOk (journal_of contents.journal))
+
+ok_of_status : (contents : Contents) (c : Command) → status.Ok ≡ (command_output contents (Some c)).0 → AreAccepted contents c
+ok_of_status contents (OnProject verb p) is = (ok_alone verb contents.project (project_of contents.project) is, tt)
+ok_of_status contents (Replay p j) is = ok_replay (project_of contents.project) contents.journal is
 
 -- ---- and the other way
 
-is_project : (o : Option Plan) (journal : List ℕ) → o ≡ None → (replay_output o journal).0 ≡ status.Project
-is_project None journal is = refl
-is_project (Some plan) journal is = absurd (cc)
-
-is_script : (o : Option Plan) (journal : List ℕ) → IsSome o → journal_of journal ≡ None → (replay_output o journal).0 ≡ status.Script
-is_script None journal some is = absurd (cc)
-is_script (Some plan) journal some is = rw is refl
-
-is_ok : (o : Option Plan) (journal : List ℕ) → IsSome o → IsSome (journal_of journal) → (replay_output o journal).0 ≡ status.Ok
-is_ok None journal some is = absurd (cc)
-is_ok (Some plan) journal some is = by_journal (journal_of journal) is
+refused_status : (contents : Contents) (c : Command) → IsErr (project_of contents.project) → (command_output contents (Some c)).0 ≡ status.Project
+refused_status contents (OnProject verb p) err = by_project (project_of contents.project) err
   where
-    by_journal : (o : Option (List Event)) → IsSome o → (journal_output plan o).0 ≡ status.Ok
-    by_journal None some = absurd (cc)
-    by_journal (Some events) some = refl
+    by_project : (r : Result Project ProjectFault) → IsErr r → (project_output verb contents.project r).0 ≡ status.Project
+    by_project (Ok project) err = absurd (cc)
+    by_project (Err fault) err = refl
+refused_status contents (Replay p j) err = by_project (project_of contents.project) err
+  where
+    by_project : (r : Result Project ProjectFault) → IsErr r → (replay_output r contents.journal).0 ≡ status.Project
+    by_project (Ok project) err = absurd (cc)
+    by_project (Err fault) err = refl
+
+script_status : (contents : Contents) (p j : List ℕ) → IsOk (project_of contents.project) → IsErr (journal_of contents.journal) → (command_output contents (Some (Replay p j))).0 ≡ status.Script
+script_status contents p j ok err = by_project (project_of contents.project) ok
+  where
+    by_journal : (project : Project) (r : Result (List Event) JournalFault) → IsErr r → (journal_output project r).0 ≡ status.Script
+    by_journal project (Ok events) err = absurd (cc)
+    by_journal project (Err fault) err = refl
+
+    by_project : (r : Result Project ProjectFault) → IsOk r → (replay_output r contents.journal).0 ≡ status.Script
+    by_project (Ok project) ok = by_journal project (journal_of contents.journal) err
+    by_project (Err fault) ok = absurd (cc)
+
+ok_status : (contents : Contents) (c : Command) → AreAccepted contents c → (command_output contents (Some c)).0 ≡ status.Ok
+ok_status contents (OnProject verb p) accepted = by_project (project_of contents.project) accepted.0
+  where
+    by_project : (r : Result Project ProjectFault) → IsOk r → (project_output verb contents.project r).0 ≡ status.Ok
+    by_project (Ok project) ok = refl
+    by_project (Err fault) ok = absurd (cc)
+ok_status contents (Replay p j) accepted = by_project (project_of contents.project) accepted.0
+  where
+    by_journal : (project : Project) (r : Result (List Event) JournalFault) → IsOk r → (journal_output project r).0 ≡ status.Ok
+    by_journal project (Ok events) ok = refl
+    by_journal project (Err fault) ok = absurd (cc)
+
+    by_project : (r : Result Project ProjectFault) → IsOk r → (replay_output r contents.journal).0 ≡ status.Ok
+    by_project (Ok project) ok = by_journal project (journal_of contents.journal) accepted.1
+    by_project (Err fault) ok = absurd (cc)
 
 -- ---- what is told
 
@@ -80,145 +139,168 @@ told_has P (Some told) bytes is h = subst P is h
 told_here : (P : List ℕ → Type 0) (o : Option (List ℕ)) (bytes : List ℕ) → o ≡ Some bytes → IfSome o P → P bytes
 told_here P o bytes is h = let Q : Option (List ℕ) → Type 0 = λ o. IfSome o P in subst Q is h
 
-no_some : (bytes : List ℕ) → IsSome (project_of bytes) → project_of bytes ≡ None → ⊥
-no_some bytes some none = let P : Option Plan → Type 0 = λ o. IsSome o in let h : IsSome {T = Plan} None = subst P none some in cc
-
 module _ (call : Call) (adds : Adds call) (failures : AddsFailure call) (rose : call.answer ≡ status.WriteFault → PutFailed call.faults) where
   pub only_usage : OnlyUsage call
   only_usage is =
       let P : Status → Type 0 = λ s. Adds (record call { answer = s }) in
       let a = subst P is adds in
-      usage_of (replay_of call.words) a.0 a.2
+      usage_of (command_of call.words) a.0 a.2
 
   pub only_project : OnlyProject call
   only_project is =
       let P : Status → Type 0 = λ s. Adds (record call { answer = s }) in
       let a = subst P is adds in
-      by_names (replay_of call.words) refl a.0 a.1.0 a.1.1 a.2
+      by_command (command_of call.words) refl a.0 a.1.0 a.1.1 a.2
     where
-      by_names : (names : Option (List ℕ × List ℕ)) → replay_of call.words ≡ names → (contents : Contents) → AreToldOf call.told names contents → CameWhole names contents → status.Project ≡ (command_output contents names).0 → OfNames call.words (λ p j. IfSome (call.told p) IsNoProject)
-      by_names None are contents agree whole is = absurd (cc)
-      by_names (Some names) are contents agree whole is =
-          (names.0, names.1, are, told_has IsNoProject (call.told names.0) contents.project agree.0 (whole.0, project_of_status (project_of contents.project) contents.journal is))
+      by_command : (o : Option Command) → command_of call.words ≡ o → (contents : Contents) → AreToldOf call.told o contents → CameWhole o contents → status.Project ≡ (command_output contents o).0 → OfCommand call.words (λ c. IfSome (call.told (project_name c)) IsNoProject)
+      by_command None are contents agree whole is = absurd (cc)
+      by_command (Some c) are contents agree whole is =
+          (c, are, told_has IsNoProject (call.told (project_name c)) contents.project agree.0 (whole.0, refused_of_status contents c is))
 
   pub only_script : OnlyScript call
   only_script is =
       let P : Status → Type 0 = λ s. Adds (record call { answer = s }) in
       let a = subst P is adds in
-      by_names (replay_of call.words) refl a.0 a.1.0 a.1.1 a.2
+      by_command (command_of call.words) refl a.0 a.1.0 a.1.1 a.2
     where
-      by_names : (names : Option (List ℕ × List ℕ)) → replay_of call.words ≡ names → (contents : Contents) → AreToldOf call.told names contents → CameWhole names contents → status.Script ≡ (command_output contents names).0 → OfNames call.words (λ p j. IfSome (call.told p) IsAccepted × IfSome (call.told j) IsNoJournal)
-      by_names None are contents agree whole is = absurd (cc)
-      by_names (Some names) are contents agree whole is =
+      by_command : (o : Option Command) → command_of call.words ≡ o → (contents : Contents) → AreToldOf call.told o contents → CameWhole o contents → status.Script ≡ (command_output contents o).0 → OfNames call.words (λ p j. IfSome (call.told p) IsAccepted × IfSome (call.told j) IsNoJournal)
+      by_command None are contents agree whole is = absurd (cc)
+      by_command (Some (OnProject verb p)) are contents agree whole is = absurd (script_alone verb contents.project (project_of contents.project) is)
+      by_command (Some (Replay p j)) are contents agree whole is =
           let parts = script_of_status (project_of contents.project) contents.journal is in
-          (names.0, names.1, are, (told_has IsAccepted (call.told names.0) contents.project agree.0 (whole.0, parts.0), told_has IsNoJournal (call.told names.1) contents.journal agree.1 (whole.1 parts.0, parts.1)))
+          (p, j, are, (told_has IsAccepted (call.told p) contents.project agree.0 (whole.0, parts.0), told_has IsNoJournal (call.told j) contents.journal agree.1 (whole.1 parts.0, parts.1)))
+
+  -- what is told of the journal, if there is one
+  told_journal : (c : Command) (contents : Contents) → AreToldOf call.told (Some c) contents → CameWhole (Some c) contents → AreAccepted contents c → IfSome (journal_name c) (λ j. IfSome (call.told j) IsJournal)
+  told_journal (OnProject verb p) contents agree whole accepted = tt
+  told_journal (Replay p j) contents agree whole accepted =
+      told_has IsJournal (call.told j) contents.journal agree.1 (whole.1 accepted.0, accepted.1)
 
   pub only_ok : OnlyOk call
   only_ok is =
       let P : Status → Type 0 = λ s. Adds (record call { answer = s }) in
       let a = subst P is adds in
-      by_names (replay_of call.words) refl a.0 a.1.0 a.1.1 a.2
+      by_command (command_of call.words) refl a.0 a.1.0 a.1.1 a.2
     where
-      by_names : (names : Option (List ℕ × List ℕ)) → replay_of call.words ≡ names → (contents : Contents) → AreToldOf call.told names contents → CameWhole names contents → status.Ok ≡ (command_output contents names).0 → OfNames call.words (λ p j. IfSome (call.told p) IsAccepted × IfSome (call.told j) IsJournal)
-      by_names None are contents agree whole is = absurd (cc)
-      by_names (Some names) are contents agree whole is =
-          let parts = ok_of_status (project_of contents.project) contents.journal is in
-          (names.0, names.1, are, (told_has IsAccepted (call.told names.0) contents.project agree.0 (whole.0, parts.0), told_has IsJournal (call.told names.1) contents.journal agree.1 (whole.1 parts.0, parts.1)))
+      by_command : (o : Option Command) → command_of call.words ≡ o → (contents : Contents) → AreToldOf call.told o contents → CameWhole o contents → status.Ok ≡ (command_output contents o).0 → OfCommand call.words (λ c. IfSome (call.told (project_name c)) IsAccepted × IfSome (journal_name c) (λ j. IfSome (call.told j) IsJournal))
+      by_command None are contents agree whole is = absurd (cc)
+      by_command (Some c) are contents agree whole is =
+          let accepted = ok_of_status contents c is in
+          (c, are, (told_has IsAccepted (call.told (project_name c)) contents.project agree.0 (whole.0, accepted.0), told_journal c contents agree whole accepted))
 
   pub is_usage : IsUsage call
   is_usage none no_put =
-      let P : Option (List ℕ × List ℕ) → Type 0 = λ names. OfRead call.told names (λ name. Gains call.failures name cause.Failed) in
-      let Q : Option (List ℕ × List ℕ) → Type 0 = λ names. OfRead call.told names (λ name. Gains call.failures name cause.TooLong × IfSome (call.told name) IsTooLong) in
-      expected call status.Usage call.answer adds failures rose (λ contents read. rw none refl) (λ h. subst P none h) (λ h. subst Q none h) no_put
+      let P : Option Command → Type 0 = λ o. OfRead call.told o (λ name. Gains call.failures name cause.Failed) in
+      let Q : Option Command → Type 0 = λ o. OfRead call.told o (λ name. Gains call.failures name cause.TooLong × IfSome (call.told name) IsTooLong) in
+      expected call status.Usage call.answer adds failures rose (λ contents read. ap (λ o. (command_output contents o).0) none) (λ h. subst P none h) (λ h. subst Q none h) no_put
 
-  -- the failures of the two files
-  no_failure : (p j : List ℕ) → replay_of call.words ≡ Some (p, j) → (Gains call.failures p cause.Failed → ⊥) → (IfSome (call.told p) IsAccepted → Gains call.failures j cause.Failed → ⊥) → AddsFailure (record call { answer = status.ReadFault }) → ⊥
-  no_failure p j are first second h =
-      let P : Option (List ℕ × List ℕ) → Type 0 = λ names. OfRead call.told names (λ name. Gains call.failures name cause.Failed) in
+  -- the failures of the command's files
+  no_failure : (c : Command) → command_of call.words ≡ Some c → (Gains call.failures (project_name c) cause.Failed → ⊥) → (IfSome (call.told (project_name c)) IsAccepted → IsSomeAnd (journal_name c) (λ j. Gains call.failures j cause.Failed) → ⊥) → AddsFailure (record call { answer = status.ReadFault }) → ⊥
+  no_failure c are first second h =
+      let P : Option Command → Type 0 = λ o. OfRead call.told o (λ name. Gains call.failures name cause.Failed) in
       by_file (subst P are h)
     where
-      by_file : Gains call.failures p cause.Failed ⊎ (IfSome (call.told p) IsAccepted × Gains call.failures j cause.Failed) → ⊥
+      by_file : Gains call.failures (project_name c) cause.Failed ⊎ (IfSome (call.told (project_name c)) IsAccepted × IsSomeAnd (journal_name c) (λ j. Gains call.failures j cause.Failed)) → ⊥
       by_file (inl h) = first h
       by_file (inr h) = second h.0 h.1
 
-  no_long_file : (p j : List ℕ) → replay_of call.words ≡ Some (p, j) → (IfSome (call.told p) IsTooLong → ⊥) → (IfSome (call.told p) IsAccepted → IfSome (call.told j) IsTooLong → ⊥) → AddsFailure (record call { answer = status.TooLong }) → ⊥
-  no_long_file p j are first second h =
-      let P : Option (List ℕ × List ℕ) → Type 0 = λ names. OfRead call.told names (λ name. Gains call.failures name cause.TooLong × IfSome (call.told name) IsTooLong) in
+  no_long_file : (c : Command) → command_of call.words ≡ Some c → (IfSome (call.told (project_name c)) IsTooLong → ⊥) → (IfSome (call.told (project_name c)) IsAccepted → IsSomeAnd (journal_name c) (λ j. Gains call.failures j cause.TooLong × IfSome (call.told j) IsTooLong) → ⊥) → AddsFailure (record call { answer = status.TooLong }) → ⊥
+  no_long_file c are first second h =
+      let P : Option Command → Type 0 = λ o. OfRead call.told o (λ name. Gains call.failures name cause.TooLong × IfSome (call.told name) IsTooLong) in
       by_file (subst P are h)
     where
-      by_file : (Gains call.failures p cause.TooLong × IfSome (call.told p) IsTooLong) ⊎ (IfSome (call.told p) IsAccepted × (Gains call.failures j cause.TooLong × IfSome (call.told j) IsTooLong)) → ⊥
+      by_file : (Gains call.failures (project_name c) cause.TooLong × IfSome (call.told (project_name c)) IsTooLong) ⊎ (IfSome (call.told (project_name c)) IsAccepted × IsSomeAnd (journal_name c) (λ j. Gains call.failures j cause.TooLong × IfSome (call.told j) IsTooLong)) → ⊥
       by_file (inl h) = first h.1
-      by_file (inr h) = second h.0 h.1.1
+      by_file (inr h) = second h.0 h.1
 
   short_told : (name bytes : List ℕ) → call.told name ≡ Some bytes → length bytes ≤ MAX_FILE_BYTES → IfSome (call.told name) IsTooLong → ⊥
   short_told name bytes is short h = let long : MAX_FILE_BYTES < length bytes = told_here IsTooLong (call.told name) bytes is h in omega arith
 
   -- contents that were read are those told
-  read_project : (p j bytes : List ℕ) (contents : Contents) → replay_of call.words ≡ Some (p, j) → call.told p ≡ Some bytes → AreRead call.told call.words contents → contents.project ≡ bytes
-  read_project p j bytes contents are is read =
-      let P : Option (List ℕ × List ℕ) → Type 0 = λ names. AreToldOf call.told names contents in
+  read_project : (c : Command) (bytes : List ℕ) (contents : Contents) → command_of call.words ≡ Some c → call.told (project_name c) ≡ Some bytes → AreRead call.told call.words contents → contents.project ≡ bytes
+  read_project c bytes contents are is read =
+      let P : Option Command → Type 0 = λ o. AreToldOf call.told o contents in
       let Q : List ℕ → Type 0 = λ b. contents.project ≡ b in
-      told_here Q (call.told p) bytes is (subst P are read.0).0
+      told_here Q (call.told (project_name c)) bytes is (subst P are read.0).0
 
-  read_journal : (p j bytes : List ℕ) (contents : Contents) → replay_of call.words ≡ Some (p, j) → call.told j ≡ Some bytes → AreRead call.told call.words contents → contents.journal ≡ bytes
+  read_journal : (p j bytes : List ℕ) (contents : Contents) → command_of call.words ≡ Some (Replay p j) → call.told j ≡ Some bytes → AreRead call.told call.words contents → contents.journal ≡ bytes
   read_journal p j bytes contents are is read =
-      let P : Option (List ℕ × List ℕ) → Type 0 = λ names. AreToldOf call.told names contents in
+      let P : Option Command → Type 0 = λ o. AreToldOf call.told o contents in
       let Q : List ℕ → Type 0 = λ b. contents.journal ≡ b in
       told_here Q (call.told j) bytes is (subst P are read.0).1
 
-  came_whole : (p j : List ℕ) (contents : Contents) → replay_of call.words ≡ Some (p, j) → AreRead call.told call.words contents → CameWhole (Some (p, j)) contents
-  came_whole p j contents are read =
-      let P : Option (List ℕ × List ℕ) → Type 0 = λ names. CameWhole names contents in
+  came_whole : (c : Command) (contents : Contents) → command_of call.words ≡ Some c → AreRead call.told call.words contents → CameWhole (Some c) contents
+  came_whole c contents are read =
+      let P : Option Command → Type 0 = λ o. CameWhole o contents in
       subst P are read.1
 
-  -- the status of a replay of these contents
-  replay_status : (p j : List ℕ) (contents : Contents) (wanted : Status) → replay_of call.words ≡ Some (p, j) → (replay_output (project_of contents.project) contents.journal).0 ≡ wanted → (output contents call.words).0 ≡ wanted
-  replay_status p j contents wanted are is = rw are is
+  -- the status of a command on these contents
+  status_of : (c : Command) (contents : Contents) (wanted : Status) → command_of call.words ≡ Some c → (command_output contents (Some c)).0 ≡ wanted → (output contents call.words).0 ≡ wanted
+  status_of c contents wanted are is = ap (λ o. (command_output contents o).0) are ∙ is
+
+  -- what is told of the project, of the contents that were read
+  project_has : (P : List ℕ → Type 0) (c : Command) (contents : Contents) (read : IsReadAs call (project_name c) P) → command_of call.words ≡ Some c → AreRead call.told call.words contents → P contents.project
+  project_has P c contents first are read = subst P (sym (read_project c first.0 contents are first.1 read)) first.2
+
+  journal_has : (P : List ℕ → Type 0) (p j : List ℕ) (contents : Contents) (read : IsReadAs call j P) → command_of call.words ≡ Some (Replay p j) → AreRead call.told call.words contents → P contents.journal
+  journal_has P p j contents second are read = subst P (sym (read_journal p j second.0 contents are second.1 read)) second.2
 
   pub is_project_status : IsProject call
   is_project_status h no_put =
-      let p = h.0 in let j = h.1 in let are = h.2 in let first = h.3 in
-      let refused : IfSome (call.told p) IsAccepted → ⊥ = λ a. no_some first.0 (told_here IsAccepted (call.told p) first.0 first.1 a).1 first.2.1 in
+      let c = h.0 in let are = h.1 in let first = h.2 in
+      let refused : IfSome (call.told (project_name c)) IsAccepted → ⊥ = λ a. not_both (project_of first.0) (told_here IsAccepted (call.told (project_name c)) first.0 first.1 a).1 first.2.1 in
       expected call status.Project call.answer adds failures rose
-      (λ contents read. replay_status p j contents status.Project are (is_project (project_of contents.project) contents.journal (ap project_of (read_project p j first.0 contents are first.1 read) ∙ first.2.1)))
-      (no_failure p j are first.3 (λ a. absurd (refused a)))
-      (no_long_file p j are (short_told p first.0 first.1 first.2.0) (λ a. absurd (refused a)))
+      (λ contents read. status_of c contents status.Project are (refused_status contents c (project_has IsNoProject c contents first are read).1))
+      (no_failure c are first.3 (λ a. absurd (refused a)))
+      (no_long_file c are (short_told (project_name c) first.0 first.1 first.2.0) (λ a. absurd (refused a)))
       no_put
 
   pub is_script_status : IsScript call
   is_script_status h no_put =
       let p = h.0 in let j = h.1 in let are = h.2 in let first = h.3.0 in let second = h.3.1 in
-      let S : List ℕ → Type 0 = λ b. IsSome (project_of b) in
+      let c = Replay p j in
       expected call status.Script call.answer adds failures rose
-      (λ contents read. replay_status p j contents status.Script are (is_script (project_of contents.project) contents.journal (subst S (sym (read_project p j first.0 contents are first.1 read)) first.2.1) (ap journal_of (read_journal p j second.0 contents are second.1 read) ∙ second.2.1)))
-      (no_failure p j are first.3 (λ a. second.3))
-      (no_long_file p j are (short_told p first.0 first.1 first.2.0) (λ a. short_told j second.0 second.1 second.2.0))
+      (λ contents read. status_of c contents status.Script are (script_status contents p j (project_has IsAccepted c contents first are read).1 (journal_has IsNoJournal p j contents second are read).1))
+      (no_failure c are first.3 (λ a. second.3))
+      (no_long_file c are (short_told p first.0 first.1 first.2.0) (λ a long. short_told j second.0 second.1 second.2.0 long.1))
       no_put
 
-  pub is_ok_status : IsOk call
-  is_ok_status h no_put =
-      let p = h.0 in let j = h.1 in let are = h.2 in let first = h.3.0 in let second = h.3.1 in
-      let S : List ℕ → Type 0 = λ b. IsSome (project_of b) in
-      let J : List ℕ → Type 0 = λ b. IsSome (journal_of b) in
+  -- of a command whose files are accepted
+  accepted : (c : Command) → command_of call.words ≡ Some c → (first : IsReadAs call (project_name c) IsAccepted) → IfSome (journal_name c) (λ j. IsReadAs call j IsJournal) → (contents : Contents) → AreRead call.told call.words contents → AreAccepted contents c
+  accepted (OnProject verb p) are first second contents read = ((project_has IsAccepted (OnProject verb p) contents first are read).1, tt)
+  accepted (Replay p j) are first second contents read =
+      ((project_has IsAccepted (Replay p j) contents first are read).1, (journal_has IsJournal p j contents second are read).1)
+
+  no_second_failure : (c : Command) → IfSome (journal_name c) (λ j. IsReadAs call j IsJournal) → IsSomeAnd (journal_name c) (λ j. Gains call.failures j cause.Failed) → ⊥
+  no_second_failure (OnProject verb p) second h = h
+  no_second_failure (Replay p j) second h = second.3 h
+
+  no_long_second : (c : Command) → IfSome (journal_name c) (λ j. IsReadAs call j IsJournal) → IsSomeAnd (journal_name c) (λ j. Gains call.failures j cause.TooLong × IfSome (call.told j) IsTooLong) → ⊥
+  no_long_second (OnProject verb p) second h = h
+  no_long_second (Replay p j) second h = short_told j second.0 second.1 second.2.0 h.1
+
+  pub is_complete : IsComplete call
+  is_complete h no_put =
+      let c = h.0 in let are = h.1 in let first = h.2.0 in let second = h.2.1 in
       expected call status.Ok call.answer adds failures rose
-      (λ contents read. replay_status p j contents status.Ok are (is_ok (project_of contents.project) contents.journal (subst S (sym (read_project p j first.0 contents are first.1 read)) first.2.1) (subst J (sym (read_journal p j second.0 contents are second.1 read)) second.2.1)))
-      (no_failure p j are first.3 (λ a. second.3))
-      (no_long_file p j are (short_told p first.0 first.1 first.2.0) (λ a. short_told j second.0 second.1 second.2.0))
+      (λ contents read. status_of c contents status.Ok are (ok_status contents c (accepted c are first second contents read)))
+      (no_failure c are first.3 (λ a. no_second_failure c second))
+      (no_long_file c are (short_told (project_name c) first.0 first.1 first.2.0) (λ a. no_long_second c second))
       no_put
 
   pub is_project_too_long : IsProjectTooLong call
   is_project_too_long h =
-      let p = h.0 in let j = h.1 in let are = h.2 in let first = h.3 in
+      let c = h.0 in let are = h.1 in let first = h.2 in
       let long : MAX_FILE_BYTES < length first.0 = first.2 in
       stops call call.answer adds failures
-      (λ contents read. let short = (came_whole p j contents are read).0 in let is = ap length (read_project p j first.0 contents are first.1 read) in omega arith)
-      (no_failure p j are first.3 (λ a. let short = (told_here IsAccepted (call.told p) first.0 first.1 a).0 in omega arith))
+      (λ contents read. let short = (came_whole c contents are read).0 in let is = ap length (read_project c first.0 contents are first.1 read) in omega arith)
+      (no_failure c are first.3 (λ a. let short = (told_here IsAccepted (call.told (project_name c)) first.0 first.1 a).0 in omega arith))
 
   pub is_journal_too_long : IsJournalTooLong call
   is_journal_too_long h =
       let p = h.0 in let j = h.1 in let are = h.2 in let first = h.3.0 in let second = h.3.1 in
-      let S : List ℕ → Type 0 = λ b. IsSome (project_of b) in
+      let c = Replay p j in
       let long : MAX_FILE_BYTES < length second.0 = second.2 in
       stops call call.answer adds failures
-      (λ contents read. let short = (came_whole p j contents are read).1 (subst S (sym (read_project p j first.0 contents are first.1 read)) first.2.1) in let is = ap length (read_journal p j second.0 contents are second.1 read) in omega arith)
-      (no_failure p j are first.3 (λ a. second.3))
+      (λ contents read. let short = (came_whole c contents are read).1 (project_has IsAccepted c contents first are read).1 in let is = ap length (read_journal p j second.0 contents are second.1 read) in omega arith)
+      (no_failure c are first.3 (λ a. second.3))

@@ -1,13 +1,9 @@
-pub mod MemberKeys
-pub mod Items
-pub mod Elements
-pub mod Numbers
-pub mod JournalLines
-pub mod Runs
-pub mod Bounds
-pub mod Reports
-pub mod Values
+pub mod Texts
+pub mod Sums
 pub mod Puts
+pub mod Reports
+pub mod Runs
 pub mod Requests
 pub mod Endings
 pub mod Exactly
+mod Laws

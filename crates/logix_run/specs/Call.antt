@@ -1,14 +1,14 @@
 -- A call of the program: what it says of the files and of the sink, before it and after it.
-use Rattle.std.specs.Prelude.{◌≡◌, ◌⊎◌, ◌<◌, ◌≤◌, ℕ, ⊤, List, [], ◌∷◌, ◌++◌, length, Option, Some, None, IsSome, IfSome}
+use Rattle.std.specs.Prelude.{◌≡◌, ◌⊎◌, ◌<◌, ◌≤◌, ℕ, ⊤, List, [], ◌∷◌, ◌++◌, length, Option, Some, None, IsOk, IfSome, IsSomeAnd}
 use Rattle.std.specs.Io.KnownBytes.{Appends}
 use Rattle.spec_base.specs.declared.limits.TheConstants.{MAX_FILE_BYTES}
+use Rattle.spec_project.specs.Projects.{project_of}
 use Rattle.lgx_io.specs.declared.files.ReadCause.{ReadCause}
 use Rattle.lgx_io.specs.declared.files.ReadCause.TheVariants as cause
 use Rattle.lgx_io.specs.Sink.{FaultsRose, AppendsPart}
 use Rattle.logix_run.specs.declared.status.Status.{Status}
 use Rattle.logix_run.specs.declared.status.Status.TheVariants as status
-use Rattle.logix_run.specs.Project.{project_of}
-use Rattle.logix_run.specs.Words.{replay_of}
+use Rattle.logix_run.specs.Words.{Command, command_of, project_name, journal_name}
 use Rattle.logix_run.specs.Output.{Contents, output}
 
 -- the contents that the files tell by name, if they tell them
@@ -33,21 +33,23 @@ pub record Call : Type 0 where
   pub words : List (List ℕ)
   pub answer : Status
 
--- these are the contents of the two files, if they are told
-abbrev pub AreToldOf : Told → Option (List ℕ × List ℕ) → Contents → Type 0
+-- these are the contents of the command's files, if they are told
+abbrev pub AreToldOf : Told → Option Command → Contents → Type 0
 AreToldOf told None contents = ⊤
-AreToldOf told (Some (p, j)) contents =
-    IfSome (told p) (λ bytes. contents.project ≡ bytes) × IfSome (told j) (λ bytes. contents.journal ≡ bytes)
+AreToldOf told (Some c) contents =
+    IfSome (told (project_name c)) (λ bytes. contents.project ≡ bytes)
+    × IfSome (journal_name c) (λ j. IfSome (told j) (λ bytes. contents.journal ≡ bytes))
 
--- The project came whole, and so did the journal if the project is one: a longer file isn't read.
-abbrev pub CameWhole : Option (List ℕ × List ℕ) → Contents → Type 0
+-- The project came whole, and so did the journal if there is one and the project isn't refused: a longer file isn't read.
+abbrev pub CameWhole : Option Command → Contents → Type 0
 CameWhole None contents = ⊤
-CameWhole (Some names) contents =
-    (length contents.project ≤ MAX_FILE_BYTES) × (IsSome (project_of contents.project) → length contents.journal ≤ MAX_FILE_BYTES)
+CameWhole (Some c) contents =
+    (length contents.project ≤ MAX_FILE_BYTES)
+    × IfSome (journal_name c) (λ j. IsOk (project_of contents.project) → length contents.journal ≤ MAX_FILE_BYTES)
 
 -- contents that came whole and are those told
 abbrev pub AreRead : Told → List (List ℕ) → Contents → Type 0
-AreRead told words contents = AreToldOf told (replay_of words) contents × CameWhole (replay_of words) contents
+AreRead told words contents = AreToldOf told (command_of words) contents × CameWhole (command_of words) contents
 
 -- the status is what is made of the contents that were read, and all of its text was added to what the sink held
 abbrev pub AddsAll : Call → Type 0
@@ -62,7 +64,7 @@ AddsPart call =
 -- a first part, maybe nothing, and maybe before the files were read
 abbrev pub AddsPartOrNone : Call → Type 0
 AddsPartOrNone call =
-    (contents : Contents) × AreToldOf call.told (replay_of call.words) contents × AppendsPart call.held.old call.held.new (output contents call.words).1
+    (contents : Contents) × AreToldOf call.told (command_of call.words) contents × AppendsPart call.held.old call.held.new (output contents call.words).1
 
 -- what was added to what the sink held
 abbrev pub Adds : Call → Type 0
@@ -82,17 +84,17 @@ Adds call = go call.answer
 abbrev pub Gains : Change Failures → List ℕ → ReadCause → Type 0
 Gains failures name why = failures.new ≡ failures.old ++ (name, why) ∷ []
 
--- the bytes are short enough to be read, and a project
+-- the bytes are short enough to be read, and no refused project
 abbrev pub IsAccepted : List ℕ → Type 0
-IsAccepted bytes = (length bytes ≤ MAX_FILE_BYTES) × IsSome (project_of bytes)
+IsAccepted bytes = (length bytes ≤ MAX_FILE_BYTES) × IsOk (project_of bytes)
 
 abbrev pub IsTooLong : List ℕ → Type 0
 IsTooLong bytes = MAX_FILE_BYTES < length bytes
 
--- The words name two files, and this holds of one that is read: of the project, or, if that is accepted, of the journal.
-abbrev pub OfRead : Told → Option (List ℕ × List ℕ) → (List ℕ → Type 0) → Type 0
+-- There is a command, and this holds of a file that is read: of the project, or, if that is accepted, of the journal.
+abbrev pub OfRead : Told → Option Command → (List ℕ → Type 0) → Type 0
 OfRead told None P = ⊥
-OfRead told (Some (p, j)) P = P p ⊎ (IfSome (told p) IsAccepted × P j)
+OfRead told (Some c) P = P (project_name c) ⊎ (IfSome (told (project_name c)) IsAccepted × IsSomeAnd (journal_name c) P)
 
 -- A read fault adds the file that failed, and too long a file is added as such; if its contents are told they are too long.
 -- Nothing else is ever added to the list of failures.
@@ -104,11 +106,11 @@ AddsFailure call = go call.answer
     go status.Usage = call.failures.new ≡ call.failures.old
     go status.Project = call.failures.new ≡ call.failures.old
     go status.Script = call.failures.new ≡ call.failures.old
-    go status.ReadFault = OfRead call.told (replay_of call.words) (λ name. Gains call.failures name cause.Failed)
+    go status.ReadFault = OfRead call.told (command_of call.words) (λ name. Gains call.failures name cause.Failed)
     go status.WriteFault = call.failures.new ≡ call.failures.old
     go status.Memory = call.failures.new ≡ call.failures.old
     go status.TooLong =
-        OfRead call.told (replay_of call.words) (λ name. Gains call.failures name cause.TooLong × IfSome (call.told name) IsTooLong)
+        OfRead call.told (command_of call.words) (λ name. Gains call.failures name cause.TooLong × IfSome (call.told name) IsTooLong)
 
 -- The list of failures didn't gain this name with `Failed`.
 abbrev pub NotFailed : Change Failures → List ℕ → Type 0

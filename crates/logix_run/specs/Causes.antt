@@ -1,39 +1,49 @@
 -- The cause of each status, and all that is said of a call. Out of memory may come at any time, and each 'exactly if' yields
 -- to it.
-use Rattle.std.specs.Prelude.{◌≡◌, ◌≢◌, ◌⊎◌, ◌≤◌, ℕ, List, length, Some, None, IsSome, IfSome}
+use Rattle.std.specs.Prelude.{◌≡◌, ◌≢◌, ◌⊎◌, ◌≤◌, ℕ, List, length, Some, None, IsOk, IsErr, IfSome, IfOk}
 use Rattle.spec_base.specs.declared.limits.TheConstants.{MAX_FILE_BYTES}
+use Rattle.spec_text.specs.JournalText.{journal_of}
+use Rattle.spec_project.specs.Projects.{project_of}
+use Rattle.lgx_core.specs.Lawful.{IsLawful}
 use Rattle.logix_run.specs.declared.status.Status.{Status}
 use Rattle.logix_run.specs.declared.status.Status.TheVariants as status
-use Rattle.logix_run.specs.Project.{project_of}
-use Rattle.logix_run.specs.Journal.{journal_of}
-use Rattle.logix_run.specs.Words.{replay_of}
+use Rattle.logix_run.specs.Words.{Command, Replay, command_of, project_name, journal_name}
 use Rattle.logix_run.specs.Call.{Call, Adds, AddsFailure, NotFailed, PutFailed, NoPutFailed, IsAccepted, IsTooLong}
 
 -- this status, or out of memory
 abbrev pub IsOrMemory : Status → Status → Type 0
 IsOrMemory wanted result = (result ≡ wanted) ⊎ (result ≡ status.Memory)
 
--- the words are none of the lists
-abbrev pub IsNoList : List (List ℕ) → Type 0
-IsNoList words = replay_of words ≡ None
+-- ---- bytes that are short enough to be read
 
--- the bytes are short enough to be read, and no project
 abbrev pub IsNoProject : List ℕ → Type 0
-IsNoProject bytes = (length bytes ≤ MAX_FILE_BYTES) × (project_of bytes ≡ None)
+IsNoProject bytes = (length bytes ≤ MAX_FILE_BYTES) × IsErr (project_of bytes)
 
 abbrev pub IsNoJournal : List ℕ → Type 0
-IsNoJournal bytes = (length bytes ≤ MAX_FILE_BYTES) × (journal_of bytes ≡ None)
+IsNoJournal bytes = (length bytes ≤ MAX_FILE_BYTES) × IsErr (journal_of bytes)
 
 abbrev pub IsJournal : List ℕ → Type 0
-IsJournal bytes = (length bytes ≤ MAX_FILE_BYTES) × IsSome (journal_of bytes)
+IsJournal bytes = (length bytes ≤ MAX_FILE_BYTES) × IsOk (journal_of bytes)
 
--- the words are `replay` and two names, of which this holds
+-- ---- words
+
+-- the words are none of the lists
+abbrev pub IsNoList : List (List ℕ) → Type 0
+IsNoList words = command_of words ≡ None
+
+-- they are a command, of which this holds
+abbrev pub OfCommand : List (List ℕ) → (Command → Type 0) → Type 0
+OfCommand words P = (c : Command) × (command_of words ≡ Some c) × P c
+
+-- they are `replay` and two names, of which this holds
 abbrev pub OfNames : List (List ℕ) → (List ℕ → List ℕ → Type 0) → Type 0
-OfNames words P = (p j : List ℕ) × (replay_of words ≡ Some (p, j)) × P p j
+OfNames words P = (p j : List ℕ) × (command_of words ≡ Some (Replay p j)) × P p j
 
 -- what is told of a file that didn't fail
 abbrev pub IsReadAs : Call → List ℕ → (List ℕ → Type 0) → Type 0
 IsReadAs call name P = (bytes : List ℕ) × (call.told name ≡ Some bytes) × P bytes × NotFailed call.failures name
+
+-- ---- statuses
 
 -- usage: exactly if the words are none of the lists and no put failed
 abbrev pub OnlyUsage : Call → Type 0
@@ -42,15 +52,15 @@ OnlyUsage call = call.answer ≡ status.Usage → IsNoList call.words
 abbrev pub IsUsage : Call → Type 0
 IsUsage call = IsNoList call.words → NoPutFailed call.faults → IsOrMemory status.Usage call.answer
 
--- project: exactly if the project came whole, is none, and no put failed
+-- project: exactly if the project came whole, is refused, and no put failed
 abbrev pub OnlyProject : Call → Type 0
-OnlyProject call = call.answer ≡ status.Project → OfNames call.words (λ p j. IfSome (call.told p) IsNoProject)
+OnlyProject call = call.answer ≡ status.Project → OfCommand call.words (λ c. IfSome (call.told (project_name c)) IsNoProject)
 
 abbrev pub IsProject : Call → Type 0
 IsProject call =
-    OfNames call.words (λ p j. IsReadAs call p IsNoProject) → NoPutFailed call.faults → IsOrMemory status.Project call.answer
+    OfCommand call.words (λ c. IsReadAs call (project_name c) IsNoProject) → NoPutFailed call.faults → IsOrMemory status.Project call.answer
 
--- script: exactly if the project was accepted, the journal came whole, is none, and no put failed
+-- script: exactly if the project was accepted, the journal came whole, is refused, and no put failed
 abbrev pub OnlyScript : Call → Type 0
 OnlyScript call =
     call.answer ≡ status.Script → OfNames call.words (λ p j. IfSome (call.told p) IsAccepted × IfSome (call.told j) IsNoJournal)
@@ -59,22 +69,32 @@ abbrev pub IsScript : Call → Type 0
 IsScript call =
     OfNames call.words (λ p j. IsReadAs call p IsAccepted × IsReadAs call j IsNoJournal) → NoPutFailed call.faults → IsOrMemory status.Script call.answer
 
--- a whole report: exactly if both were accepted and no put failed
+-- the whole output: exactly if the project was accepted, so was the journal if there is one, and no put failed
 abbrev pub OnlyOk : Call → Type 0
 OnlyOk call =
-    call.answer ≡ status.Ok → OfNames call.words (λ p j. IfSome (call.told p) IsAccepted × IfSome (call.told j) IsJournal)
+    call.answer ≡ status.Ok → OfCommand call.words (λ c. IfSome (call.told (project_name c)) IsAccepted × IfSome (journal_name c) (λ j. IfSome (call.told j) IsJournal))
 
-abbrev pub IsOk : Call → Type 0
-IsOk call =
-    OfNames call.words (λ p j. IsReadAs call p IsAccepted × IsReadAs call j IsJournal) → NoPutFailed call.faults → IsOrMemory status.Ok call.answer
+abbrev pub IsComplete : Call → Type 0
+IsComplete call =
+    OfCommand call.words (λ c. IsReadAs call (project_name c) IsAccepted × IfSome (journal_name c) (λ j. IsReadAs call j IsJournal)) → NoPutFailed call.faults → IsOrMemory status.Ok call.answer
 
 -- too long: if a file that is read didn't fail and is longer than may be
 abbrev pub IsProjectTooLong : Call → Type 0
-IsProjectTooLong call = OfNames call.words (λ p j. IsReadAs call p IsTooLong) → IsOrMemory status.TooLong call.answer
+IsProjectTooLong call = OfCommand call.words (λ c. IsReadAs call (project_name c) IsTooLong) → IsOrMemory status.TooLong call.answer
 
 abbrev pub IsJournalTooLong : Call → Type 0
 IsJournalTooLong call =
     OfNames call.words (λ p j. IsReadAs call p IsAccepted × IsReadAs call j IsTooLong) → IsOrMemory status.TooLong call.answer
+
+-- ---- the laws of the schedule
+
+-- the bytes are no project, or every run of the project keeps the laws
+abbrev pub MakeLawful : List ℕ → Type 0
+MakeLawful bytes = IfOk (project_of bytes) IsLawful
+
+-- whatever a command's project is told as: so the run of a journal that is replayed keeps them
+abbrev pub KeepsLaws : Call → Type 0
+KeepsLaws call = (c : Command) → command_of call.words ≡ Some c → IfSome (call.told (project_name c)) MakeLawful
 
 pub record IsAnswered (call : Call) : Type 0 where
   -- What was written: at `Ok`, `Usage`, `Project` and `Script` all of the text that the words and the files call for, at
@@ -92,6 +112,9 @@ pub record IsAnswered (call : Call) : Type 0 where
   pub only_script : OnlyScript call
   pub script : IsScript call
   pub only_ok : OnlyOk call
-  pub ok : IsOk call
+  -- completeness
+  pub ok : IsComplete call
   pub project_too_long : IsProjectTooLong call
   pub journal_too_long : IsJournalTooLong call
+  -- every run of the project keeps the laws of the schedule
+  pub laws : KeepsLaws call

@@ -1,13 +1,8 @@
 pub mod Status
-pub mod Pieces
-pub mod Rung
-pub mod Project
-pub mod Journal
-pub mod BoundedLog
-pub mod Lines
-pub mod Recording
-pub mod Report
 pub mod Words
+pub mod CauseLines
+pub mod ProjectLines
+pub mod Ends
 pub mod Output
 pub mod Call
 pub mod Causes

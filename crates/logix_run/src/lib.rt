@@ -1,21 +1,17 @@
-//! The program `logix`, over any files and any sink: it reads its words and files by hand, runs the journal on the
-//! controller, and writes the report.
+//! The program `logix`, over any files and any sink: it reads its words by hand and judges the files that they name, and
+//! writes what they ask for, each line by one put.
 #![tactic(auto)]
 
-mod fields;
-mod journal;
-mod limits;
-mod line;
-mod log;
+mod causes;
+mod check;
+mod codes;
 mod output;
-mod pieces;
 mod program;
-mod project;
 mod put;
-mod recorder;
+mod replay;
 mod report;
 mod request;
-mod rung;
+mod rungs;
 mod status;
 mod words;
 

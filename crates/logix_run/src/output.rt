@@ -1,48 +1,89 @@
 // Writes what the words ask for. No file is read here.
-ghost use Rattle.std.specs.Prelude.{◌≡◌, ◌≢◌, ◌≤◌, ◌+◌, length, OnOk, OnErr, IsErrOf};
-ghost use Rattle.logix_run.specs.declared.limits.TheConstants.{MAX_WATCHES, MAX_STEPS, MAX_CHANGES};
-ghost use Rattle.logix_run.specs.Status.{status_after};
-ghost use Rattle.logix_run.specs.Journal.{events_of};
-ghost use Rattle.logix_run.specs.Report.{report};
+ghost use Rattle.std.specs.Prelude.{◌≡◌, ◌≢◌, ◌≤◌, OnOk, OnErr, IsErrOf};
 ghost use Rattle.std.specs.Io.KnownBytes.{Appends};
 ghost use Rattle.lgx_io.specs.Sink.{FaultsRose, AppendsPart};
+ghost use Rattle.logix_run.specs.Status.{status_after};
+ghost use Rattle.logix_run.specs.CauseLines.{project_cause_line, journal_cause_line};
+ghost use Rattle.logix_run.specs.ProjectLines.{check_line, text_lines};
 ghost use Rattle.logix_run.specs.Request.{request_output, IsShort, Writes};
 
-use crate::journal::Entry;
+use crate::causes::{journal_cause_line, project_cause_line};
+use crate::check::check_line;
 use crate::put::put_line;
-use crate::recorder::Recorder;
-use crate::report::write_report;
+use crate::replay::write_run;
 use crate::request::Request;
+use crate::rungs::write_programs;
 use crate::status::Status;
-use lgx_core::Project;
 use lgx_io::{Sink, SinkFault};
+use lgx_journal::JournalFault;
+use lgx_project::{Project, ProjectFault};
 use std::alloc::Global;
 
-const USAGE: &[u8] = b"usage: logix check P, text P, replay P J, run P S, gen N\n";
+const USAGE: &[u8] = b"usage: logix check P, text P, replay P J, run P S, gen N, migrate P\n";
 
-/// Runs the journal, and then writes the lines of its report, each by one put.
-#[tactic(auto, using(crate::proofs::Reports::report_is))]
-fn write_run<K: Sink>(
+/// Writes why a file is no project.
+fn write_project_cause<K: Sink>(
     alloc: Global,
-    project: Project,
-    journal: &[Entry],
+    fault: &ProjectFault,
     sink: &mut K,
 ) -> Result<(), SinkFault>
-    requires few { length project.watches ≤ MAX_WATCHES }
-    requires short { length (events_of journal.now) ≤ MAX_STEPS + MAX_CHANGES }
-    ensures whole { OnOk result (Appends (K.held sink.old) (K.held sink.new) (report project (events_of journal.now))) }
-    ensures part { OnErr result (AppendsPart (K.held sink.old) (K.held sink.new) (report project (events_of journal.now))) }
+    ensures whole { OnOk result (Appends (K.held sink.old) (K.held sink.new) (project_cause_line fault.now)) }
+    ensures part { OnErr result (AppendsPart (K.held sink.old) (K.held sink.new) (project_cause_line fault.now)) }
     ensures failed { IsErrOf result SinkFault.Failed → FaultsRose (K.faults sink.old) (K.faults sink.new) }
     ensures unfailed { ¬ IsErrOf result SinkFault.Failed → K.faults sink.new ≡ K.faults sink.old }
     ensures later { K.faults sink.old ≤ K.faults sink.new }
 {
-    let Ok(mut recorder) = Recorder::new(alloc, project) else {
+    let Ok(text) = project_cause_line(alloc, fault) else {
         return Err(SinkFault::Memory);
     };
-    recorder.run(journal);
-    write_report(alloc, &recorder, sink)
+    put_line(&text, sink)
 }
 
+/// Writes why a file is no journal.
+fn write_journal_cause<K: Sink>(
+    alloc: Global,
+    fault: JournalFault,
+    sink: &mut K,
+) -> Result<(), SinkFault>
+    ensures whole { OnOk result (Appends (K.held sink.old) (K.held sink.new) (journal_cause_line fault)) }
+    ensures part { OnErr result (AppendsPart (K.held sink.old) (K.held sink.new) (journal_cause_line fault)) }
+    ensures failed { IsErrOf result SinkFault.Failed → FaultsRose (K.faults sink.old) (K.faults sink.new) }
+    ensures unfailed { ¬ IsErrOf result SinkFault.Failed → K.faults sink.new ≡ K.faults sink.old }
+    ensures later { K.faults sink.old ≤ K.faults sink.new }
+{
+    let Ok(text) = journal_cause_line(alloc, fault) else {
+        return Err(SinkFault::Memory);
+    };
+    put_line(&text, sink)
+}
+
+/// Writes the counts of a project.
+fn write_check<K: Sink>(alloc: Global, project: &Project, sink: &mut K) -> Result<(), SinkFault>
+    ensures whole { OnOk result (Appends (K.held sink.old) (K.held sink.new) (check_line project.now)) }
+    ensures part { OnErr result (AppendsPart (K.held sink.old) (K.held sink.new) (check_line project.now)) }
+    ensures failed { IsErrOf result SinkFault.Failed → FaultsRose (K.faults sink.old) (K.faults sink.new) }
+    ensures unfailed { ¬ IsErrOf result SinkFault.Failed → K.faults sink.new ≡ K.faults sink.old }
+    ensures later { K.faults sink.old ≤ K.faults sink.new }
+{
+    let Ok(text) = check_line(alloc, project) else {
+        return Err(SinkFault::Memory);
+    };
+    put_line(&text, sink)
+}
+
+/// Writes the rungs of a project.
+#[tactic(auto, unfolding(crate::specs::ProjectLines::text_lines))]
+fn write_text<K: Sink>(alloc: Global, project: &Project, sink: &mut K) -> Result<(), SinkFault>
+    ensures whole { OnOk result (Appends (K.held sink.old) (K.held sink.new) (text_lines project.now)) }
+    ensures part { OnErr result (AppendsPart (K.held sink.old) (K.held sink.new) (text_lines project.now)) }
+    ensures failed { IsErrOf result SinkFault.Failed → FaultsRose (K.faults sink.old) (K.faults sink.new) }
+    ensures unfailed { ¬ IsErrOf result SinkFault.Failed → K.faults sink.new ≡ K.faults sink.old }
+    ensures later { K.faults sink.old ≤ K.faults sink.new }
+{
+    write_programs(alloc, project.texts.as_slice(), sink)
+}
+
+/// The status after a text was written, or that of the fault that cut it off.
 fn status_after(done: Result<(), SinkFault>, whole: Status) -> Status
     ensures { result ≡ status_after done whole }
 {
@@ -64,11 +105,17 @@ pub(crate) fn write_output<K: Sink>(alloc: Global, request: Request, sink: &mut 
 {
     match request {
         Request::Usage => status_after(put_line(USAGE, sink), Status::Usage),
-        Request::NoProject => status_after(put_line(b"project P0\n", sink), Status::Project),
-        Request::NoJournal => status_after(put_line(b"journal J0\n", sink), Status::Script),
+        Request::NoProject(fault) => {
+            status_after(write_project_cause(alloc, &fault, sink), Status::Project)
+        }
+        Request::NoJournal(fault) => {
+            status_after(write_journal_cause(alloc, fault, sink), Status::Script)
+        }
+        Request::Check(project) => status_after(write_check(alloc, &project, sink), Status::Ok),
+        Request::Text(project) => status_after(write_text(alloc, &project, sink), Status::Ok),
+        Request::Migrated(text) => status_after(put_line(text.as_slice(), sink), Status::Ok),
         Request::Report(project, journal) => {
-            let done = write_run(alloc, project, journal.as_slice(), sink);
-            status_after(done, Status::Ok)
+            status_after(write_run(alloc, project, &journal, sink), Status::Ok)
         }
     }
 }

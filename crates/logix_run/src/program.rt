@@ -34,8 +34,10 @@ fn read_and_write<F: Files, K: Sink>(
 
 /// Does what the words of the command line say, and answers how the program ends.
 ///
-/// `replay P J` runs the journal of the file `J` on the project of the file `P` and writes the report. The
-/// project is read and judged before the journal is read. Each line is one put.
+/// `check P` tells how many there are of each part of the project of the file `P`, `text P` writes the rungs of its routines,
+/// `migrate P` writes the file in the newest schema, and `replay P J` runs the journal of the file `J` on the project and
+/// writes the report. The project is read and judged before the journal is read. Each line is one put. The usage line
+/// also names `run` and `gen`, which are no commands yet.
 pub fn logix_plain<F: Files, K: Sink>(
     alloc: Global,
     words: &[String],

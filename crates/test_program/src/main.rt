@@ -1,6 +1,6 @@
 //! Judges the rows of a table on standard input: calls of the program over files and a sink in memory, reads, and puts.
 //!
-//! A line `text NAME CONTENTS` names a text. Every other line that doesn't begin with `#` is a row,
+//! A line `text NAME CONTENTS` names a text, until another has the name. Every other line that doesn't begin with `#` is a row,
 //! `KIND WHAT / FILES / FAILING / ANSWER / HELD`:
 //!
 //! - `run` and `run-sure`: a call with the words WHAT, the status, and what the sink then holds.

@@ -10,7 +10,7 @@ pub(crate) fn judge_row(
     texts: &Texts,
     row: &str,
 ) -> Result<Option<String>, AllocError> {
-    let mut parts = row.split('/');
+    let mut parts = row.split(" / ");
     let (kind, what) = words_of(parts.next());
     let files = texts.files(part(parts.next()))?;
     let failing = part(parts.next());

@@ -26,12 +26,12 @@ impl Texts {
         Ok(())
     }
 
-    /// The contents that a word stands for.
+    /// The contents that a word stands for. Of several texts of a name the last counts.
     fn contents(&self, word: &str) -> Result<Vec<u8>, AllocError> {
         if let Some(count) = word.strip_prefix("*") {
             return blanks(self.alloc, unsigned_of(count));
         }
-        for text in &self.texts {
+        for text in self.texts.iter().rev() {
             if text.0.as_str() == word {
                 return text.1.as_slice().to_vec(self.alloc);
             }

@@ -4,7 +4,8 @@ use Rattle.logix_run.specs.Call.{Call, Adds, AddsFailure}
 use Rattle.logix_run.specs.Request.{Ended}
 use Rattle.logix_run.specs.Causes.{IsAnswered}
 use Rattle.logix_run.proofs.Endings.{ended_adds, ended_failures, ended_rose}
-use Rattle.logix_run.proofs.Exactly.{only_usage, is_usage, only_project, is_project_status, only_script, is_script_status, only_ok, is_ok_status, is_project_too_long, is_journal_too_long}
+use Rattle.logix_run.proofs.Exactly.{only_usage, is_usage, only_project, is_project_status, only_script, is_script_status, only_ok, is_complete, is_project_too_long, is_journal_too_long}
+use Rattle.logix_run.proofs.Laws.{keeps_laws}
 use Rattle.logix_run.proofs.program.logix_plain.Goals as goal
 
 answered : (call : Call) → Ended call → (call.answer ≢ status.WriteFault → call.faults.new ≡ call.faults.old) → IsAnswered call
@@ -24,9 +25,10 @@ answered call ended unfailed =
       only_script = only_script call adds failures rose;
       script = is_script_status call adds failures rose;
       only_ok = only_ok call adds failures rose;
-      ok = is_ok_status call adds failures rose;
+      ok = is_complete call adds failures rose;
       project_too_long = is_project_too_long call adds failures rose;
       journal_too_long = is_journal_too_long call adds failures rose;
+      laws = keeps_laws call;
     }
 
 pub returns : goal.returns

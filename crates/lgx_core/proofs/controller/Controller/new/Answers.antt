@@ -1,0 +1,13 @@
+-- Its parts represent the start of the project.
+use Rattle.lgx_core.proofs.Lawful.{valid-is-lawful}
+use Rattle.lgx_core.proofs.Opened.{begins, begun}
+use Rattle.lgx_core.proofs.controller.Controller.new.Goals as goal
+
+pub invariant_of-result : goal.invariant_of-result
+invariant_of-result c = begun c.in_ok-parts.parts c.args.project c.in_ok-parts.ensures.valid c.in_ok-parts.ensures.represents
+
+pub returns-clause-stands : goal.returns-clause-stands
+returns-clause-stands c = begins c.in_ok-parts.parts c.args.project c.in_ok-parts.ensures.valid c.in_ok-parts.ensures.represents
+
+pub returns-clause-laws : goal.returns-clause-laws
+returns-clause-laws c = valid-is-lawful c.args.project c.in_ok-parts.ensures.valid

@@ -1,0 +1,74 @@
+// What a controller tells of its state.
+ghost use Rattle.std.specs.Prelude.{◌≡◌, false, length, replicate};
+ghost use Rattle.lgx_num.specs.Image.{number, InBounds};
+ghost use Rattle.spec_tables.specs.Tasks.{held};
+ghost use Rattle.spec_machine.specs.State.{State};
+ghost use Rattle.lgx_fault.specs.Kept.{last_faults};
+ghost use Rattle.lgx_image.specs.Grains.{NextMarked};
+ghost use Rattle.lgx_core.specs.Represents.{Represents};
+
+use crate::controller::Controller;
+use lgx_fault::FaultLog;
+use lgx_num::Place;
+use spec_machine::Mode;
+
+impl Controller {
+    /// The number at a place, which lies in the image.
+    pub fn read(&self, place: Place) -> i32
+        requires { InBounds place (length self.now.parts.image.bytes) }
+        ensures { (s : State) → Represents self.now s → result ≡ number s.image place }
+    {
+        self.parts.image.get(place)
+    }
+
+    /// The present tick.
+    pub fn now(&self) -> u32
+        ensures { (s : State) → Represents self.now s → result ≡ s.tick }
+    {
+        self.parts.tick
+    }
+
+    pub fn mode(&self) -> Mode
+        ensures { (s : State) → Represents self.now s → result ≡ s.mode }
+    {
+        self.parts.mode
+    }
+
+    /// Whether a CPS is in progress.
+    pub fn copy_open(&self) -> bool
+        ensures { (s : State) → Represents self.now s → result ≡ held s.table }
+    {
+        self.parts.table.held()
+    }
+
+    /// The last faults.
+    pub fn fault_log(&self) -> &FaultLog
+        ensures { (s : State) → Represents self.now s → result.now ≡ last_faults s.faults }
+    {
+        &self.parts.faults
+    }
+
+    /// How many events were counted.
+    pub fn spent(&self) -> u32
+        ensures { result ≡ self.now.spent }
+    {
+        self.spent
+    }
+
+    /// The least marked grain of the image that isn't below `from`; None if there is none.
+    pub fn next_marked(&self, from: u32) -> Option<u32>
+        ensures { NextMarked self.now.parts.image.marks from result }
+    {
+        self.parts.image.next_marked(from)
+    }
+
+    /// Takes every mark of the image. It is no event, and what the controller represents is as before.
+    pub fn clear_marks(&mut self)
+        ensures represents { (s : State) → Represents self.old s → Represents self.new s }
+        ensures marks { self.new.parts.image.marks ≡ replicate (length self.old.parts.image.marks) false }
+        ensures bytes { self.new.parts.image.bytes ≡ self.old.parts.image.bytes }
+        ensures spent { self.new.spent ≡ self.old.spent }
+    {
+        self.parts.image.clear_marks();
+    }
+}

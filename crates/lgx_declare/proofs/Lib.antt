@@ -1,0 +1,6 @@
+pub mod Taken
+pub mod Declared
+pub mod TagSteps
+pub mod Aliases
+pub mod Listings
+pub mod Within

@@ -1,0 +1,4 @@
+pub mod DrawsOn
+pub mod JournalOn
+pub mod ListsOn
+pub mod ProjectOn

@@ -1,0 +1,4 @@
+pub mod Keys
+pub mod TaskParts
+pub mod Values
+pub mod Steps

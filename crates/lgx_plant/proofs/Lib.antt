@@ -1,0 +1,5 @@
+pub mod Made
+pub mod Mains
+pub mod Passes
+pub mod Spelled
+pub mod Texts

@@ -1,0 +1,6 @@
+pub mod Counting
+pub mod Parts
+pub mod Passes
+pub mod Programs
+pub mod Sources
+pub mod TaskParts

@@ -1,0 +1,12 @@
+//! The project file, read whole: from what it describes to the project, or its first refusal.
+#![tactic(auto)]
+
+mod count;
+mod plant;
+mod programs;
+mod routines;
+mod tasks;
+
+pub use lgx_json::ProjectError;
+pub use plant::{Project, read_project};
+pub use spec_project::{Inner, PathText, ProjectCode, ProjectFault};

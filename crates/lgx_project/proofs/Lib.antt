@@ -1,0 +1,5 @@
+mod LineFeed
+mod KeyOrder
+mod Wholes
+mod Schemas
+mod Lines

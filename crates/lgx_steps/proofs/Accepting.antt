@@ -1,0 +1,88 @@
+-- An accept keeps books ready: its merged rungs were checked.
+use Rattle.std.proofs.Common.{◌≡◌, ℕ, ◌+◌, ◌<◌, ◌≤◌, List, [], ◌∷◌, length, slice_set, true, Result, Ok, Err, refl, ap, subst, arith, length-set}
+use Rattle.std.specs.Prelude.{nat_le, flat_map, ◌++◌}
+use Rattle.std.specs.List.{AllByRecursion as Each, position_from}
+use Rattle.std.proofs.lemmas.Bool.{lt-ltb}
+use Rattle.spec_base.specs.FirstCause.{unless}
+use Rattle.spec_base.specs.declared.limits.TheConstants.{MAX_EVENTS, MAX_PROGRAM_INSTRUCTIONS}
+use Rattle.spec_base.proofs.Binds.{bind_ok, err_not_ok, ok_inj}
+use Rattle.lgx_rung.specs.Tree.{Source}
+use Rattle.spec_language.specs.declared.names.TaskName.{TaskName}
+use Rattle.spec_language.specs.Declarations.{Declarations, bytes}
+use Rattle.spec_language.specs.ResolutionLaws.{Sound}
+use Rattle.spec_language.specs.Checked.{CheckScope, checked}
+use Rattle.spec_language.proofs.OperandBounds.{checked_lies}
+use Rattle.spec_scan.specs.Position.{Rungs}
+use Rattle.spec_scan.specs.Executable.{AreExecutable}
+use Rattle.spec_scan.specs.KnownTasks.{KnowsTasks}
+use Rattle.spec_machine.specs.declared.event.RungEdit.{RungEdit}
+use Rattle.spec_machine.specs.declared.reply.EditFault.{EditFault}
+use Rattle.spec_machine.specs.declared.reply.EditFault.TheVariants.{E3, E5, E6, E8, E9}
+use Rattle.spec_machine.specs.declared.reply.Reply.TheVariants.{Version}
+use Rattle.spec_machine.specs.Commands.{AcceptCommand}
+use Rattle.spec_machine.specs.Project.{RoutineText}
+use Rattle.spec_machine.specs.Edits.{Change, Book, Edited, no_book, book_at, routine_at, program_named, routine_named, none_or, ok_or_cause, other_owner, is_misplaced, first_again, taken_by, changes_in, changes_of, merged, scope_of, with_changes, instruction_count, accept_in, accept}
+use Rattle.spec_machine.proofs.CheckedExecutable.{checked_ready}
+use Rattle.spec_machine.proofs.CheckedTasks.{checked_know_tasks}
+use Rattle.lgx_edit.specs.Accepting.{has_numbers_left}
+use Rattle.lgx_steps.specs.Plans.{IsReadyBook}
+use Rattle.lgx_steps.proofs.Elements.{each-set, each-get_or}
+use Rattle.lgx_steps.proofs.Editing.{no-rungs}
+
+was-checked : {A F : Type 0} (r : Result A F) (e : F → EditFault) (x : A) → ok_or_cause r e ≡ Ok x → r ≡ Ok x
+was-checked (Ok y) e x h = ap (λ z. Ok z) (ok_inj y x h)
+was-checked (Err f) e x h = err_not_ok _ _ h
+
+module _ (tags : Declarations) (names : List TaskName) (sound : Sound tags) where
+  -- a routine that was checked is ready, and so are the merged ones with it
+  with-routine : (n client r : ℕ) (k : ℕ) (scoped b : Book) (changes : List Change) (source : List Source) (rungs : Rungs) → checked (scope_of tags names k scoped) source ≡ Ok rungs → IsReadyBook (bytes tags) (length names) n b → IsReadyBook (bytes tags) (length names) (n + 1) (with_changes client r changes source rungs b)
+  with-routine n client r k scoped b changes source rungs e h =
+      let routine : RoutineText = record (routine_at b.merged r) { source = source; checked = rungs } in
+      record {
+        base = h.base;
+        merged = record {
+          executable = each-set (λ (q : RoutineText). AreExecutable (bytes tags) q.checked) b.merged r routine h.merged.executable (checked_ready checked_lies (scope_of tags names k scoped) source rungs sound e);
+          know = each-set (λ (q : RoutineText). KnowsTasks (length names) q.checked) b.merged r routine h.merged.know (checked_know_tasks (scope_of tags names k scoped) source rungs e);
+        };
+        newest = omega (arith, h.newest);
+      }
+
+  in-ready : (n client r k : ℕ) (scoped b b' : Book) (edits : List RungEdit) → IsReadyBook (bytes tags) (length names) n b → accept_in (scope_of tags names k scoped) client r edits b ≡ Ok b' → IsReadyBook (bytes tags) (length names) (n + 1) b'
+  in-ready n client r k scoped b b' edits h is =
+      let scope : CheckScope = scope_of tags names k scoped in
+      let r₁ = bind_ok (none_or (other_owner b client) E3) _ b' is in
+      let r₂ = bind_ok (none_or (position_from (is_misplaced (length (routine_at b.base r).source)) 0 edits) E5) _ b' r₁.2 in
+      let r₃ = bind_ok (none_or (first_again 0 (flat_map taken_by (changes_in b r)) edits) E6) _ b' r₂.2 in
+      let r₄ = bind_ok (changes_of 0 edits) _ b' r₃.2 in
+      let changes : List Change = r₄.0 in
+      let source : List Source = merged (routine_at b.base r).source (changes_in b r ++ changes) in
+      let r₅ = bind_ok (ok_or_cause (checked scope source) E8) _ b' r₄.2 in
+      let rungs : Rungs = r₅.0 in
+      let new : Book = with_changes client r changes source rungs b in
+      let r₆ = bind_ok (unless (nat_le (instruction_count new.merged) MAX_PROGRAM_INSTRUCTIONS) E9) _ b' r₅.2 in
+      subst (IsReadyBook (bytes tags) (length names) (n + 1)) (ok_inj new b' r₆.2) (with-routine n client r k scoped b changes source rungs (was-checked (checked scope source) E8 rungs r₅.1) h)
+
+  -- the books after an accept
+  pub record StaysReady (n : ℕ) (bs : List Book) (e : Edited) : Type 0 where
+    pub many : length e.books ≡ length bs
+    pub ready : Each (IsReadyBook (bytes tags) (length names) (n + 1)) e.books
+
+  pub accept-ready : (n client : ℕ) (command : AcceptCommand) (bs : List Book) (e : Edited) → Each (IsReadyBook (bytes tags) (length names) n) bs → Each (IsReadyBook (bytes tags) (length names) (n + 1)) bs → accept tags names bs client command ≡ Ok e → StaysReady n bs e
+  accept-ready n client command bs e h later is =
+      let r₁ = bind_ok (program_named bs command.program) _ e is in
+      let k : ℕ = r₁.0 in
+      let b : Book = book_at bs k in
+      let r₂ = bind_ok (routine_named b command.routine) _ e r₁.2 in
+      let r₃ = bind_ok (accept_in (scope_of tags names k b) client r₂.0 command.edits b) _ e r₂.2 in
+      let b' : Book = r₃.0 in
+      let new : IsReadyBook (bytes tags) (length names) (n + 1) b' = in-ready n client r₂.0 k b b b' command.edits (each-get_or (IsReadyBook (bytes tags) (length names) n) bs k no_book h (no-rungs (bytes tags) (length names) n)) r₃.1 in
+      subst (StaysReady n bs) (ok_inj (record { books = slice_set bs k b'; reply = Version b'.newest }) e r₃.2)
+      (record { many = length-set bs k b'; ready = each-set (IsReadyBook (bytes tags) (length names) (n + 1)) bs k b' later new })
+
+-- ---- numbers are left
+
+pub numbers-left : (len tasks n : ℕ) (bs : List Book) → n ≤ MAX_EVENTS → Each (IsReadyBook len tasks n) bs → has_numbers_left bs ≡ true
+numbers-left len tasks n [] l h = refl
+numbers-left len tasks n (b ∷ bs) l (here, others) =
+    let few : b.newest < 4294967295 = omega (arith, here.newest) in
+    rw (lt-ltb b.newest 4294967295 few, numbers-left len tasks n bs l others)

@@ -1,0 +1,72 @@
+-- The steps of a tick.
+use Rattle.std.proofs.Common.{◌≡◌, ℕ, ◌+◌, zero, suc, Bool, true, false, if◌then◌else◌, Option, Some, None, refl, sym, ap, ◌∙◌, subst, arith}
+use Rattle.std.specs.Prelude.{fold}
+use Rattle.std.specs.List.{range_with_len}
+use Rattle.spec_tables.specs.declared.fault.Severity.TheVariants.{Major}
+use Rattle.spec_tables.specs.declared.task.Release.{Release}
+use Rattle.spec_tables.specs.Tasks.{due, expired}
+use Rattle.spec_machine.specs.declared.answer.TickReport.{TickReport}
+use Rattle.spec_machine.specs.declared.reply.Mode.{Mode}
+use Rattle.spec_machine.specs.State.{State}
+use Rattle.spec_machine.specs.Releases.{release_task, task_fault, major_fault}
+use Rattle.spec_machine.specs.Ticks.{Ticked, noted, after_release, release_if_due, release_due, after_watchdogs, in_mode}
+use Rattle.lgx_steps.specs.declared.parts.Released.{Released}
+use Rattle.lgx_steps.specs.PartsView.{PartsView}
+use Rattle.lgx_steps.specs.Represents.{RepresentsState}
+use Rattle.lgx_steps.specs.Gives.{TickGives, ReleaseGives}
+
+pub fold-more : {B : Type 0} (f : B → ℕ → B) (x : B) (a n : ℕ) → fold f x (range_with_len a (n + 1)) ≡ f (fold f x (range_with_len a n)) (a + n)
+fold-more f x a zero = ap (λ i. f x i) (plus a)
+  where
+    plus : (b : ℕ) → b ≡ b + 0
+    plus b = omega arith
+fold-more f x a (suc n) = subst (λ i. fold f x (range_with_len a i) ≡ f (fold f x (range_with_len a (suc n))) (a + suc n)) (next n)
+    (fold-more f (f x a) (a + 1) n ∙ ap (λ i. f (fold f (f x a) (range_with_len (a + 1) n)) i) (there a n))
+  where
+    next : (j : ℕ) → suc (j + 1) ≡ suc j + 1
+    next j = omega arith
+
+    there : (b j : ℕ) → (b + 1) + j ≡ b + suc j
+    there b j = omega arith
+
+-- a task that is due was released
+pub gives-due : (n : ℕ) (v : PartsView) (s : State) (t now : ℕ) (report report' : TickReport) (r : Released) → now ≡ s.tick → due t now s.table ≡ true → ReleaseGives n v r (release_task t s) → report' ≡ noted t report r.answer
+    → TickGives n v report' (release_if_due (record { state = s; report = report }) t)
+gives-due n v s t now report report' r e is_due g is =
+    let here : Ticked = record { state = s; report = report } in
+    let due' : due t s.tick s.table ≡ true = subst (λ i. due t i s.table ≡ true) e is_due in
+    subst (λ (b : Bool). TickGives n v report' (if b then after_release t report (release_task t s) else here)) (sym due')
+    (record { report_is = is ∙ ap (λ (a : Release). noted t report a) g.answer; represents = g.represents })
+
+-- one that isn't due wasn't
+pub gives-not_due : (n : ℕ) (v : PartsView) (s : State) (t now : ℕ) (report : TickReport) → now ≡ s.tick → due t now s.table ≡ false → RepresentsState n v s → TickGives n v report (release_if_due (record { state = s; report = report }) t)
+gives-not_due n v s t now report e not_due h =
+    let here : Ticked = record { state = s; report = report } in
+    let due' : due t s.tick s.table ≡ false = subst (λ i. due t i s.table ≡ false) e not_due in
+    subst (λ (b : Bool). TickGives n v report (if b then after_release t report (release_task t s) else here)) (sym due') (record { report_is = refl; represents = h })
+
+-- the tasks below t, and then t
+pub gives-more : (n : ℕ) (v w : PartsView) (r r' : TickReport) (t : ℕ) (start : Ticked) → TickGives n v r (fold release_if_due start (range_with_len 0 t))
+    → ((m : ℕ) (s' : State) → RepresentsState m v s' → TickGives m w r' (release_if_due (record { state = s'; report = r }) t)) → TickGives n w r' (fold release_if_due start (range_with_len 0 (t + 1)))
+gives-more n v w r r' t start g f =
+    let x : Ticked = fold release_if_due start (range_with_len 0 t) in
+    let here : TickGives n w r' (release_if_due (record { state = x.state; report = r }) t) = f n x.state g.represents in
+    let at : TickGives n w r' (release_if_due x t) = subst (λ (q : TickReport). TickGives n w r' (release_if_due (record { state = x.state; report = q }) t)) g.report_is here in
+    let zero_more : 0 + t ≡ t = omega arith in
+    subst (λ (y : Ticked). TickGives n w r' y) (sym (fold-more release_if_due start 0 t ∙ ap (λ i. release_if_due x i) zero_more)) at
+
+-- ---- the watchdogs
+
+pub gives-expired : (n : ℕ) (v : PartsView) (s : State) (o : Option ℕ) (t now : ℕ) → o ≡ Some t → o ≡ expired s.tick s.table → now ≡ s.tick → RepresentsState n v (major_fault (record { severity = Major; kind = 6; code = 1; task = t; program = None; tick = now }) s)
+    → TickGives n v (record { watchdog = Some t; released = 0; overlapped = 0 }) (after_watchdogs s (expired s.tick s.table))
+gives-expired n v s o t now is e now_is r =
+    subst (λ (x : Option ℕ). TickGives n v (record { watchdog = Some t; released = 0; overlapped = 0 }) (after_watchdogs s x)) (sym is ∙ e)
+    (record { report_is = refl; represents = subst (λ i. RepresentsState n v (major_fault (record (task_fault s Major 1 t) { tick = i }) s)) now_is r })
+
+pub gives-unexpired : (n : ℕ) (v : PartsView) (s : State) (o : Option ℕ) (r : TickReport) → o ≡ None → o ≡ expired s.tick s.table → TickGives n v r (release_due s) → TickGives n v r (after_watchdogs s (expired s.tick s.table))
+gives-unexpired n v s o r is e g = subst (λ (x : Option ℕ). TickGives n v r (after_watchdogs s x)) (sym is ∙ e) g
+
+-- ---- the mode
+
+pub gives-in_mode : (n : ℕ) (v : PartsView) (s : State) (m m' : Mode) (r : TickReport) → m ≡ s.mode → m ≡ m' → TickGives n v r (in_mode m' s) → TickGives n v r (in_mode s.mode s)
+gives-in_mode n v s m m' r e is g = subst (λ (x : Mode). TickGives n v r (in_mode x s)) (sym is ∙ e) g

@@ -1,0 +1,41 @@
+use Rattle.std.proofs.Common.{length, refl, sym, ◌∙◌, subst}
+use Rattle.lgx_steps.specs.PartsView.{view_of}
+use Rattle.std.proofs.Common.{length-set}
+use Rattle.lgx_steps.specs.Gives.{KnowsTarget}
+use Rattle.spec_machine.specs.State.{progress_of, programs_of}
+use Rattle.lgx_steps.proofs.Scanned.{task-here, done-by, done-live}
+use Rattle.lgx_steps.proofs.parts.Parts.advance_scan.Goals as goal
+
+pub run_scan-requires : goal.run_scan-requires
+run_scan-requires c =
+    let l = c.requires.live in
+    let v = view_of c.args.self.now in
+    record { represents = (length l.state.plan.schedule, programs_of l.state c.args.t, progress_of l.state c.args.t, task-here l.events v l.state l.represents c.args.t c.requires.known c.index_mut-progress.result.now c.index_mut-progress.result.now _ v.image c.index_mut-progress.ensures.value refl) }
+
+pub returns-clause-done : goal.returns-clause-done
+returns-clause-done c = λ n s h.
+    let long = c.run_scan.ensures.only_marked.same_length in
+    let read = c.index_mut-progress.ensures.value in
+    done-by n (view_of c.args.self.now) s h c.args.t c.requires.known c.index_mut-progress.result.now c.run_scan.new.progress _ c.run_scan.new.image read long c.run_scan.result
+    (c.run_scan.ensures.done (length s.plan.schedule) (programs_of s c.args.t) (progress_of s c.args.t) (task-here n (view_of c.args.self.now) s h c.args.t c.requires.known c.index_mut-progress.result.now c.run_scan.new.progress _ c.run_scan.new.image read long))
+
+pub returns-clause-live : goal.returns-clause-live
+returns-clause-live c =
+    let l = c.requires.live in
+    let s = l.state in
+    let h = l.represents in
+    let long = c.run_scan.ensures.only_marked.same_length in
+    let read = c.index_mut-progress.ensures.value in
+    done-live l.events _ s c.args.t c.run_scan.result l.room
+    (done-by l.events (view_of c.args.self.now) s h c.args.t c.requires.known c.index_mut-progress.result.now c.run_scan.new.progress _ c.run_scan.new.image read long c.run_scan.result
+    (c.run_scan.ensures.done (length s.plan.schedule) (programs_of s c.args.t) (progress_of s c.args.t) (task-here l.events (view_of c.args.self.now) s h c.args.t c.requires.known c.index_mut-progress.result.now c.run_scan.new.progress _ c.run_scan.new.image read long)))
+
+pub returns-clause-known : goal.returns-clause-known
+returns-clause-known c =
+    let l = c.requires.live in
+    let s = l.state in
+    let h = l.represents in
+    let long = c.run_scan.ensures.only_marked.same_length in
+    let read = c.index_mut-progress.ensures.value in
+    subst (λ k. KnowsTarget k c.run_scan.result) (sym h.progresses ∙ sym (length-set c.args.self.now.progress.items c.args.t c.run_scan.new.progress))
+    (c.run_scan.ensures.known (length s.plan.schedule) (programs_of s c.args.t) (progress_of s c.args.t) (task-here l.events (view_of c.args.self.now) s h c.args.t c.requires.known c.index_mut-progress.result.now c.run_scan.new.progress _ c.run_scan.new.image read long))

@@ -1,0 +1,5 @@
+pub mod PartsView
+pub mod Plans
+pub mod Represents
+pub mod Gives
+pub mod Fresh

@@ -1,0 +1,207 @@
+// A controller that was just made.
+ghost use Rattle.std.specs.Prelude.{◌≡◌, ℕ, ◌<◌, length, IfOk};
+ghost use Rattle.std.specs.List.{All, AllByRecursion as Each};
+ghost use Rattle.spec_machine.specs.Project.{Project};
+ghost use Rattle.spec_machine.specs.State.{start};
+ghost use Rattle.spec_machine.specs.ValidProject.{IsValidProject};
+ghost use Rattle.lgx_steps.specs.PartsView.{IsIdle};
+ghost use Rattle.lgx_steps.specs.Represents.{Represents};
+ghost use Rattle.lgx_steps.specs.Fresh.{AreProper, AreSmall, AreTablesOf, AreScansOf, IsOpened};
+
+use crate::parts::{Parts, Progress};
+use lgx_conn::Conns;
+use lgx_edit::{ConnDefs, EditBook, Plant, ProgramText, Schedule, TaskDefs, TaskNames};
+use lgx_engine::Position;
+use lgx_fault::FaultLog;
+use lgx_force::ForceTable;
+use lgx_image::Image;
+use lgx_num::{Flags, Memory};
+use lgx_sched::TaskTable;
+use lgx_tags::TagTable;
+use spec_machine::Mode;
+use spec_tables::{ConnDef, TaskDef};
+use std::alloc::Global;
+
+/// The progress of so many tasks that have begun nothing.
+fn idle(alloc: Global, book: &EditBook, tasks: usize) -> Result<Vec<Progress>, Memory>
+    requires { 0 < length book.now }
+    ensures many { IfOk result (λ all. length all.items ≡ tasks) }
+    ensures idle { IfOk result (λ all. Each IsIdle all.items) }
+{
+    let mut all = Vec::with_capacity(alloc, tasks)?;
+    for _task in 0..tasks {
+        all.push(Progress {
+            ended: 0,
+            scan: None,
+            position: Position::start(book.selected(0)),
+            flags: Flags {
+                v: false,
+                z: false,
+                n: false,
+            },
+        })?;
+    }
+    Ok(all)
+}
+
+/// What a controller keeps of its project beside the programs, and what its tables are made of.
+#[derive(Drop)]
+pub(crate) struct Kept {
+    pub(crate) tags: TagTable,
+    pub(crate) tasks: TaskDefs,
+    pub(crate) names: TaskNames,
+    pub(crate) schedule: Schedule,
+    pub(crate) conns: ConnDefs,
+    pub(crate) image: Image,
+}
+
+/// A project that is taken apart: its programs, and the rest.
+#[derive(Drop)]
+pub(crate) struct Opened {
+    pub(crate) texts: Vec<ProgramText>,
+    pub(crate) kept: Kept,
+}
+
+/// Takes a project apart.
+fn take_apart(project: Plant) -> Opened
+    ensures { IsOpened project result }
+{
+    let Plant {
+        tags,
+        texts,
+        tasks,
+        names,
+        schedule,
+        conns,
+        image,
+        watches: _watches,
+    } = project;
+    let kept = Kept {
+        tags,
+        tasks,
+        names,
+        schedule,
+        conns,
+        image,
+    };
+    let texts = texts.into_vec();
+    Opened { texts, kept }
+}
+
+/// The tables of tasks, of connections and of forces.
+#[derive(Drop)]
+pub(crate) struct Tables {
+    pub(crate) table: TaskTable,
+    pub(crate) conns: Conns,
+    pub(crate) forces: ForceTable,
+}
+
+/// The tables of these tasks and connections: no task is up, and nothing is forced.
+fn tables_of(alloc: Global, tasks: &[TaskDef], conns: &[ConnDef]) -> Result<Tables, Memory>
+    requires tasks { AreProper tasks.now }
+    requires conns { AreSmall conns.now }
+    ensures { IfOk result (λ made. AreTablesOf tasks.now conns.now made) }
+{
+    let table = TaskTable::new(alloc, tasks)?;
+    let conns = Conns::new(alloc, conns)?;
+    let forces = ForceTable::new(alloc, conns.words())?;
+    Ok(Tables {
+        table,
+        conns,
+        forces,
+    })
+}
+
+/// The books of programs, the tasks' progress, and the marks of first scans.
+#[derive(Drop)]
+pub(crate) struct Scans {
+    pub(crate) book: EditBook,
+    pub(crate) progress: Vec<Progress>,
+    pub(crate) firsts: Vec<bool>,
+}
+
+/// What tells of the scans of these programs in so many tasks: none has begun.
+fn scans_of(alloc: Global, texts: Vec<ProgramText>, tasks: usize) -> Result<Scans, Memory>
+    requires mains { All (λ q. q.main < length q.routines) texts.items }
+    requires some { 0 < length texts.items }
+    ensures { IfOk result (λ made. AreScansOf texts.items tasks made) }
+{
+    let programs = texts.len();
+    let book = EditBook::new(alloc, texts)?;
+    let progress = idle(alloc, &book, tasks)?;
+    let firsts = vec![in alloc; false; programs]?;
+    Ok(Scans {
+        book,
+        progress,
+        firsts,
+    })
+}
+
+/// The parts of a controller in Program at tick 0, with no task up.
+fn parts_of(alloc: Global, kept: Kept, tables: Tables, scans: Scans, faults: FaultLog) -> Parts
+    ensures { result ≡ record {
+      alloc = alloc;
+      tags = kept.tags;
+      names = kept.names;
+      schedule = kept.schedule;
+      conns = tables.conns;
+      mode = Mode.Program;
+      tick = 0;
+      table = tables.table;
+      progress = scans.progress;
+      firsts = scans.firsts;
+      image = kept.image;
+      book = scans.book;
+      forces = tables.forces;
+      faults = faults;
+    } }
+{
+    let Kept {
+        tags,
+        tasks: _tasks,
+        names,
+        schedule,
+        conns: _conns,
+        image,
+    } = kept;
+    let Tables {
+        table,
+        conns,
+        forces,
+    } = tables;
+    let Scans {
+        book,
+        progress,
+        firsts,
+    } = scans;
+    Parts {
+        alloc,
+        tags,
+        names,
+        schedule,
+        conns,
+        mode: Mode::Program,
+        tick: 0,
+        table,
+        progress,
+        firsts,
+        image,
+        book,
+        forces,
+        faults,
+    }
+}
+
+impl Parts {
+    /// The parts of a controller in Program at tick 0, with no task up.
+    pub fn new(alloc: Global, project: Plant) -> Result<Parts, Memory>
+        ensures represents { IfOk result (λ parts. Represents 0 parts (start project)) }
+        ensures valid { IfOk result (λ _. IsValidProject project) }
+    {
+        let Opened { texts, kept } = take_apart(project);
+        let tables = tables_of(alloc, kept.tasks.as_slice(), kept.conns.as_slice())?;
+        let scans = scans_of(alloc, texts, kept.schedule.len())?;
+        let faults = FaultLog::new(alloc)?;
+        Ok(parts_of(alloc, kept, tables, scans, faults))
+    }
+}

@@ -1,0 +1,2 @@
+mod Unchanged
+pub mod MergedBooks

@@ -1,0 +1,12 @@
+pub mod Faults
+pub mod Judges
+pub mod Values
+pub mod Shape
+pub mod Reading
+pub mod Limits
+pub mod Names
+pub mod Tags
+pub mod Schedules
+pub mod Places
+pub mod Routines
+pub mod Projects

@@ -1,0 +1,15 @@
+pub mod Passes
+pub mod Lists
+pub mod NamesDiffer
+pub mod TypesAccepted
+pub mod TagsAccepted
+pub mod SchedulesAccepted
+pub mod AliasesAccepted
+pub mod FoundAccepted
+pub mod ConnectionsAccepted
+pub mod EntriesAccepted
+pub mod TargetsKnown
+pub mod RoutinesAccepted
+pub mod Accepted
+pub mod ShapesWithin
+pub mod Given
