@@ -1,4 +1,5 @@
 pub mod Runs
+pub mod Stretched
 mod Opened
 mod Replies
 mod Marks

@@ -1,5 +1,5 @@
 -- An open controller: what its parts represent, and what a call on them gives of the whole.
-use Rattle.std.proofs.Common.{◌≡◌, ℕ, ◌+◌, ◌<◌, ◌≤◌, [], refl, sym, ap, ◌∙◌, subst, arith}
+use Rattle.std.proofs.Common.{◌≡◌, ℕ, ◌+◌, ◌<◌, [], refl, sym, ap, subst, arith}
 use Rattle.spec_base.specs.declared.limits.TheConstants.{MAX_EVENTS}
 use Rattle.spec_machine.specs.declared.answer.Moment.{Moment}
 use Rattle.spec_machine.specs.declared.answer.TickReport.{TickReport}
@@ -22,7 +22,7 @@ use Rattle.lgx_steps.proofs.States.{later}
 use Rattle.lgx_core.specs.ControllerView.{ControllerView, view_of}
 use Rattle.lgx_core.specs.Represents.{Represents, StandsFor, IsController, GoesOn}
 use Rattle.lgx_core.specs.Gives.{StepGives, TickGives, ActionGives}
-use Rattle.lgx_core.proofs.Runs.{Steps, goes-on}
+use Rattle.lgx_core.proofs.Runs.{goes-on}
 
 -- ---- a new one
 

@@ -1,16 +1,15 @@
 -- A run goes on with an event.
-use Rattle.std.proofs.Common.{◌≡◌, ℕ, ◌+◌, List, [], ◌∷◌, ◌++◌, length, refl, sym, ap, ◌∙◌, subst, arith}
+use Rattle.std.proofs.Common.{◌≡◌, ◌+◌, List, [], ◌∷◌, ◌++◌, length, refl, sym, ap, ◌∙◌, subst}
 use Rattle.std.proofs.lemmas.List.{length-append}
 use Rattle.spec_machine.specs.declared.event.Event.{Event}
 use Rattle.spec_machine.specs.Machine.{TraceEntry, event_of, step, run_from, run, trace_from, trace}
-use Rattle.spec_machine.specs.Project.{Project}
 use Rattle.spec_machine.specs.State.{State, start}
 use Rattle.spec_reach.proofs.Reached.{run_more}
 use Rattle.lgx_core.specs.ControllerView.{ControllerView}
-use Rattle.lgx_core.specs.Represents.{Represents, StandsFor, IsController, HasEvent, GoesOn}
+use Rattle.lgx_core.specs.Represents.{Represents, IsController, GoesOn}
 
 -- the last event has the last answer of a trace
-trace-more : (s : State) (events : List Event) (e : Event) → trace_from s (events ++ e ∷ []) ≡ trace_from s events ++ (step (run_from s events) e).entry ∷ []
+pub trace-more : (s : State) (events : List Event) (e : Event) → trace_from s (events ++ e ∷ []) ≡ trace_from s events ++ (step (run_from s events) e).entry ∷ []
 trace-more s [] e = refl
 trace-more s (x ∷ events) e = ap (λ (entries : List TraceEntry). (step s x).entry ∷ entries) (trace-more (step s x).state events e)
 

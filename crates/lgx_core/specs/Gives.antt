@@ -8,6 +8,9 @@ use Rattle.spec_machine.specs.declared.event.Action.TheVariants.{Accept, Test, U
 use Rattle.spec_machine.specs.ProcessorStep.{Stepped}
 use Rattle.spec_machine.specs.Ticks.{Ticked}
 use Rattle.spec_machine.specs.Actions.{Acted}
+use Rattle.spec_machine.specs.State.{State}
+use Rattle.lgx_steps.specs.declared.stretch.Stretch.{Stretch}
+use Rattle.lgx_steps.specs.Stretches.{IsStretch, after_steps}
 use Rattle.lgx_core.specs.ControllerView.{ControllerView}
 use Rattle.lgx_core.specs.Represents.{Represents}
 
@@ -15,6 +18,11 @@ use Rattle.lgx_core.specs.Represents.{Represents}
 pub record StepGives (v : ControllerView) (answer : Moment) (x : Stepped) : Type 0 where
   pub answers : answer ≡ x.moment
   pub represents : Represents v x.state
+
+-- after a stretch of processor steps from this state
+pub record StretchGives (v : ControllerView) (x : Stretch) (s : State) : Type 0 where
+  pub represents : Represents v (after_steps x.steps s)
+  pub is_stretch : IsStretch x s
 
 -- after a tick
 pub record TickGives (v : ControllerView) (report : TickReport) (x : Ticked) : Type 0 where

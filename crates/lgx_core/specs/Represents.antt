@@ -1,11 +1,13 @@
 -- What it means that a controller represents a state of the machine, and that it stands for a run of a project.
-use Rattle.std.specs.Prelude.{◌≡◌, ℕ, ◌≤◌, ◌++◌, List, [], ◌∷◌, length}
+use Rattle.std.specs.Prelude.{◌≡◌, ◌-◌, ◌≤◌, ◌++◌, List, [], ◌∷◌, length, replicate}
 use Rattle.spec_base.specs.declared.limits.TheConstants.{MAX_EVENTS}
 use Rattle.spec_machine.specs.declared.event.Event.{Event}
-use Rattle.spec_machine.specs.Machine.{TraceEntry, event_of, run, trace}
+use Rattle.spec_machine.specs.declared.event.Event.TheVariants.{Cpu}
+use Rattle.spec_machine.specs.Machine.{TraceEntry, OfStep, event_of, run, trace}
 use Rattle.spec_machine.specs.Project.{Project}
 use Rattle.spec_machine.specs.State.{State}
 use Rattle.spec_machine.specs.ValidProject.{IsValidProject}
+use Rattle.lgx_steps.specs.declared.stretch.Stretch.{Stretch}
 use Rattle.lgx_steps.specs.Represents.{RepresentsState}
 use Rattle.lgx_core.specs.ControllerView.{ControllerView}
 
@@ -36,3 +38,14 @@ pub record HasEvent (p : Project) (events : List Event) (entry : TraceEntry) (v 
 -- whichever run a controller stood for, this run goes on with the event
 abbrev pub GoesOn : ControllerView → ControllerView → TraceEntry → Type 0
 GoesOn old new entry = (p : Project) (events : List Event) → StandsFor p events old → HasEvent p events entry new
+
+-- ---- a stretch of processor steps
+
+-- A run goes on with so many processor steps: the controller stands for it, and the machine gives the last of them this answer.
+pub record HasSteps (p : Project) (events : List Event) (x : Stretch) (v : ControllerView) : Type 0 where
+  pub stands : StandsFor p (events ++ replicate x.steps Cpu) v
+  pub answers : trace p (events ++ replicate x.steps Cpu) ≡ trace p (events ++ replicate (x.steps - 1) Cpu) ++ OfStep x.last ∷ []
+
+-- whichever run a controller stood for, this run goes on with the steps
+abbrev pub GoesOnBy : ControllerView → ControllerView → Stretch → Type 0
+GoesOnBy old new x = (p : Project) (events : List Event) → StandsFor p events old → HasSteps p events x new

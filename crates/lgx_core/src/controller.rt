@@ -1,7 +1,7 @@
 // The controller, with its processor step, its tick and its actions.
 use lgx_edit::Plant;
 use lgx_num::Memory;
-use lgx_steps::Parts;
+use lgx_steps::{Parts, Stretch};
 use spec_machine::{Action, Moment, Outcome, TickReport};
 use std::alloc::Global;
 use std::marker::Model;
@@ -35,7 +35,7 @@ impl Model for Controller {
 }
 
 impl Controller {
-    ghost use Rattle.std.specs.Prelude.{◌≡◌, ◌+◌, ◌<◌, [], IfOk, IfErr, IsTrue};
+    ghost use Rattle.std.specs.Prelude.{◌≡◌, ◌+◌, ◌<◌, ◌≤◌, true, [], IfOk, IfErr, IsTrue};
     ghost use Rattle.spec_base.specs.declared.limits.TheConstants.{MAX_EVENTS};
     ghost use Rattle.spec_machine.specs.Events.{is_accept};
     ghost use Rattle.spec_machine.specs.Machine.{OfStep, OfTick, OfAction};
@@ -44,8 +44,9 @@ impl Controller {
     ghost use Rattle.spec_machine.specs.Ticks.{tick};
     ghost use Rattle.spec_machine.specs.Actions.{act};
     ghost use Rattle.lgx_image.specs.Grains.{ChangesOnlyMarked};
-    ghost use Rattle.lgx_core.specs.Represents.{Represents, StandsFor, IsController, GoesOn};
-    ghost use Rattle.lgx_core.specs.Gives.{StepGives, TickGives, ActionGives};
+    ghost use Rattle.lgx_steps.specs.Stretches.{is_plain, SomeIsMarked};
+    ghost use Rattle.lgx_core.specs.Represents.{Represents, StandsFor, IsController, GoesOn, GoesOnBy};
+    ghost use Rattle.lgx_core.specs.Gives.{StepGives, StretchGives, TickGives, ActionGives};
     ghost use Rattle.lgx_core.specs.Lawful.{IsLawful};
 
     /// A controller in Program at tick 0, with no task up. It takes all room but that of accepts.
@@ -69,6 +70,26 @@ impl Controller {
     {
         self.spent += 1;
         self.parts.cpu()
+    }
+
+    /// Processor steps, up to one of which more is told than that it was made, or after which a grain of the image is marked; at
+    /// most `most`. It does what so many calls of [`Controller::cpu`] do, and counts each of them.
+    ///
+    /// A mark that stood there before ends it too, so marks are to be taken first. While no task is up, all of them are made at once.
+    pub fn stretch(&mut self, most: u32) -> Stretch
+        requires some { 0 < most }
+        requires room { self.old.spent + most ≤ MAX_EVENTS }
+        ensures step { (s : State) → Represents self.old s → StretchGives self.new result s }
+        ensures runs { GoesOnBy self.old self.new result }
+        ensures some { 0 < result.steps }
+        ensures most { result.steps ≤ most }
+        ensures full { result.steps < most → is_plain result.last ≡ true → SomeIsMarked self.new.parts.image.marks }
+        ensures spent { self.new.spent ≡ self.old.spent + result.steps }
+        ensures only_marked { ChangesOnlyMarked self.old.parts.image self.new.parts.image }
+    {
+        let made = self.parts.stretch(most);
+        self.spent += made.steps;
+        made
     }
 
     /// One tick.

@@ -9,4 +9,5 @@ mod controller;
 mod readers;
 
 pub use controller::Controller;
+pub use lgx_steps::Stretch;
 pub use spec_machine::{Mark, Moment, Outcome, TickReport, What};

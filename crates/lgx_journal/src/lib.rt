@@ -20,4 +20,5 @@ pub use script::read_script;
 pub use spec_machine::{Accept, Action, EditFault, Event, Mode, ModeFault, Reply, RungEdit, Text};
 pub use spec_tables::{ConnFault, ForceFault};
 pub use spec_text::{JournalCode, JournalFault, Script, Timed};
+pub use words::{signed_of, unsigned_of};
 pub use write::{write_event, write_journal};

@@ -73,8 +73,8 @@ fn digits_of(digits: &[u8]) -> Option<u64>
     Some(number)
 }
 
-/// A number that isn't negative.
-pub(crate) fn unsigned_of(digits: &[u8]) -> Option<u32>
+/// The number that 1 to 10 digits are, if it fits a `u32`.
+pub fn unsigned_of(digits: &[u8]) -> Option<u32>
     ensures { result ≡ unsigned_of digits.now }
 {
     let number = digits_of(digits)?;
@@ -95,8 +95,8 @@ fn as_i32(value: i64) -> Option<i32>
     }
 }
 
-/// A value or mask, with `-` before it if it is negative.
-pub(crate) fn signed_of(text: &[u8]) -> Option<i32>
+/// The number that 1 to 10 digits are, with `-` before them if it is negative, if it fits a DINT.
+pub fn signed_of(text: &[u8]) -> Option<i32>
     ensures { result ≡ signed_of text.now }
 {
     match text {

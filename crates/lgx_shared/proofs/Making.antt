@@ -1,66 +1,79 @@
--- A recorder that was just made.
-use Rattle.std.proofs.Common.{◌≡◌, ℕ, zero, suc, false, List, [], map, replicate, refl, sym, ap, ◌∙◌}
-use Rattle.std.proofs.lemmas.Simd.{map-map}
-use Rattle.lgx_image.specs.Grains.{is_marked}
-use Rattle.spec_machine.specs.Project.{Project, ProgramText as MachineProgram, Watch as MachineWatch}
+-- Recorders that were just made, and one that takes an event as it is given.
+use Rattle.std.proofs.Common.{◌≡◌, ℕ, ◌+◌, ◌<◌, ◌≤◌, false, List, [], ◌++◌, length, replicate, Some, None, refl, sym, ◌∙◌, ap, subst}
+use Rattle.std.specs.Prelude.{sum, IsTrue}
+use Rattle.spec_base.specs.declared.limits.TheConstants.{MAX_EVENTS}
 use Rattle.spec_machine.specs.declared.event.Event.{Event}
-use Rattle.spec_machine.specs.State.{State, start}
-use Rattle.spec_machine.specs.Machine.{run}
-use Rattle.spec_text.specs.ReportText.{Names, names_of as project_names}
-use Rattle.lgx_edit.specs.declared.plant.Plant.TheInside.{Inside}
-use Rattle.lgx_edit.specs.Texts.{program_of}
-use Rattle.lgx_edit.specs.Plants.{project_of, watch_of}
-use Rattle.lgx_watch.specs.Kept.{no_lines}
-use Rattle.lgx_watch.proofs.Pushes.{keeps_the_first}
-use Rattle.lgx_core.specs.ControllerView.{ControllerView}
-use Rattle.lgx_core.specs.Represents.{Represents, StandsFor}
-use Rattle.lgx_shared.specs.RecorderView.{RecorderView}
-use Rattle.lgx_shared.specs.Changes.{numbers_at}
-use Rattle.lgx_shared.specs.Records.{Records}
+use Rattle.spec_machine.specs.Events.{steps_of}
+use Rattle.spec_machine.specs.Project.{Project}
+use Rattle.spec_text.specs.Scripts.{Script, is_script}
+use Rattle.spec_lanes.specs.Turns.{ticks_of, most_events}
+use Rattle.spec_lanes.specs.Laws.{opening}
+use Rattle.spec_lanes.specs.Served.{IsServed}
+use Rattle.spec_lanes.proofs.Serving.{opening_is_served}
+use Rattle.lgx_record.specs.RecordingView.{RecordingView}
+use Rattle.lgx_record.specs.Records.{Records, IsUnchanged}
+use Rattle.lgx_shared.specs.RecorderView.{RecorderView, view_of}
+use Rattle.lgx_shared.specs.Follows.{journal_of, IsRecorder, IsNew}
+use Rattle.lgx_shared.proofs.Numbers.{room_at_first, one_more, only_one, below_limit, some_room}
+use Rattle.lgx_shared.proofs.Turns.{recorder_of}
 
--- the names of a project's parts are those of the project
-pub same_names : (p : Inside) → (let names : Names = record { tasks = map (λ t. t.name) p.names; programs = map (λ q. q.name) p.texts; watches = map (λ w. w.text) p.watches } in names) ≡ project_names (project_of p)
-same_names p =
-    ap (λ (programs : List (List ℕ)). let names : Names = record { tasks = map (λ t. t.name) p.names; programs = programs; watches = map (λ w. w.text) p.watches } in names)
-    (sym (map-map (λ (q : MachineProgram). q.name) program_of p.texts))
-    ∙ ap (λ (watches : List (List ℕ)). let names : Names = record { tasks = map (λ t. t.name) p.names; programs = map (λ q. q.name) (map program_of p.texts); watches = watches } in names)
-    (sym (map-map (λ (w : MachineWatch). w.text) watch_of p.watches))
+-- what it records doesn't hang on the room of its journal
+pub still_records : (old new : RecordingView) (project : Project) (events : List Event) → IsUnchanged old new → Records old project events → Records new project events
+still_records old new project events same r =
+    subst (λ (v : RecordingView). Records v project events) (sym same)
+    (record {
+      journal = r.journal;
+      controller = r.controller;
+      log = r.log;
+      names = r.names;
+      steps = r.steps;
+      places = r.places;
+      values = r.values;
+      taken = r.taken;
+    })
 
-pub made_names : (p : Inside) (project : Project) (tasks programs watches : List (List ℕ)) → tasks ≡ map (λ t. t.name) p.names → programs ≡ map (λ q. q.name) p.texts → watches ≡ map (λ w. w.text) p.watches → project_of p ≡ project → (let names : Names = record { tasks = tasks; programs = programs; watches = watches } in names) ≡ project_names project
-made_names p project tasks programs watches a b d is =
-    ap (λ (ts : List (List ℕ)). let names : Names = record { tasks = ts; programs = programs; watches = watches } in names) a
-    ∙ ap (λ (qs : List (List ℕ)). let names : Names = record { tasks = map (λ t. t.name) p.names; programs = qs; watches = watches } in names) b
-    ∙ ap (λ (ws : List (List ℕ)). let names : Names = record { tasks = map (λ t. t.name) p.names; programs = map (λ q. q.name) p.texts; watches = ws } in names) d
-    ∙ same_names p
-    ∙ ap project_names is
-
--- so are its watched places
-pub same_places : (p : Inside) → map (λ w. w.place) p.watches ≡ map (λ w. w.place) (project_of p).watches
-same_places p = sym (map-map (λ (w : MachineWatch). w.place) watch_of p.watches)
-
--- no mark is left where all were taken
-pub none_left : (many grain : ℕ) → is_marked (replicate many false) grain ≡ false
-none_left zero grain = refl
-none_left (suc many) zero = refl
-none_left (suc many) (suc grain) = none_left many grain
-
--- a controller without its marks
-pub still-stands : (project : Project) (events : List Event) (old new : ControllerView) → StandsFor project events old → ((s : State) → Represents old s → Represents new s) → new.spent ≡ old.spent → StandsFor project events new
-still-stands project events old new h represents spent = record {
-  valid = h.valid;
-  counted = spent ∙ h.counted;
-  represents = represents (run project events) h.represents;
+-- without a script it is a recorder whatever it records
+pub of_events : (r : RecordingView) (counts : List ℕ) (project : Project) (events : List Event) → Records r project events → IsRecorder (view_of r None counts false)
+of_events r counts project events records = record {
+  project = project;
+  records = subst (λ (es : List Event). Records r project es) (sym records.journal) records;
+  follows = tt;
 }
 
--- without an event
-pub just-made : (v : RecorderView) (project : Project) → StandsFor project [] v.controller → v.journal.events ≡ [] → v.log ≡ no_lines → v.names ≡ project_names project → v.steps ≡ 0 → v.places ≡ map (λ w. w.place) project.watches → v.values ≡ numbers_at (start project).image v.places → ((grain : ℕ) → is_marked v.controller.parts.image.marks grain ≡ false) → Records v project []
-just-made v project stands journal log names steps places values taken = record {
-  journal = journal;
-  controller = stands;
-  log = log ∙ keeps_the_first [];
-  names = names;
-  steps = steps;
-  places = places;
-  values = values;
-  taken = taken;
-}
+is_new : (project : Project) (script : Script) (r : RecordingView) → IsTrue (is_script script) → Records r project opening → most_events script + 2 ≤ 1 + r.journal.spare → IsNew project script (view_of r (Some script) (replicate (length script.lanes) 0) false)
+is_new project script r proper records room =
+    let journal = records.journal in
+    let served = opening_is_served project script records.controller.valid proper in
+    record {
+      follows = record {
+        made = refl;
+        records = subst (λ (es : List Event). Records r project es) (sym journal) records;
+        served = subst (λ (es : List Event). IsServed project script (replicate (length script.lanes) 0) es) (sym journal) served;
+        room = room_at_first (most_events script) (length r.journal.events) r.journal.spare (ap (λ (es : List Event). length es) journal) room;
+      };
+      opened = journal;
+      ran = refl;
+    }
+
+-- before its `mode run` it may be made
+pub room_to_open : (project : Project) (first r : RecordingView) (room : ℕ) → Records first project [] → IsUnchanged first r → 0 < room → room ≤ r.journal.spare → (r.controller.spent < MAX_EVENTS) × (0 < r.journal.spare)
+room_to_open project first r room records same some enough =
+    let h = still_records first r project [] same records in
+    (below_limit r.controller.spent h.controller.counted, some_room room r.journal.spare some enough)
+
+pub just_opened : (project : Project) (first r next : RecordingView) → Records first project [] → IsUnchanged first r → ((p : Project) (es : List Event) → Records r p es → Records next p (es ++ opening)) → Records next project opening
+just_opened project first r next records same opens = opens project [] (still_records first r project [] same records)
+
+-- after it
+pub just_made : (project : Project) (script : Script) (r : RecordingView) (counts : List ℕ) (room lanes : ℕ) → IsTrue (is_script script) → Records r project opening → room ≤ r.journal.spare + 1 → room ≡ most_events script + 2 → counts ≡ replicate lanes 0 → lanes ≡ length script.lanes → IsNew project script (view_of r (Some script) counts false)
+just_made project script r counts room lanes proper records enough room_is zeros long =
+    subst (λ (ns : List ℕ). IsNew project script (view_of r (Some script) ns false)) (sym (zeros ∙ ap (λ n. replicate {A = ℕ} n 0) long))
+    (is_new project script r proper records (one_more room (most_events script) r.journal.spare enough room_is))
+
+pub new_is_recorder : (project : Project) (script : Script) (v : RecorderView) → IsNew project script v → IsRecorder v
+new_is_recorder project script v new = recorder_of project script v new.follows
+
+-- no action of a lane was made, and no processor step
+pub nothing_made : (project : Project) (script : Script) (v : RecorderView) → IsNew project script v → (sum v.counts ≡ 0) × (steps_of (journal_of v) ≡ 0)
+nothing_made project script v new =
+    only_one (length (journal_of v)) (sum v.counts) (steps_of (journal_of v)) (ticks_of (journal_of v)) (ap (λ (es : List Event). length es) new.opened) new.follows.served.events

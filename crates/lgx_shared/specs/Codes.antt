@@ -1,28 +1,17 @@
 -- How recorders are told apart: each is stored as its fields.
-use Rattle.std.specs.Prelude.{ℕ, List, ℤ, refl}
+use Rattle.std.specs.Prelude.{ℕ, List, Option, Bool, refl}
 use Rattle.std.specs.Coded.{Coded, code_by, coded×}
-use Rattle.lgx_num.specs.declared.place.Place.{Place}
-use Rattle.spec_text.specs.ReportText.{Names}
-use Rattle.lgx_journal.specs.Journals.{JournalView}
-use Rattle.lgx_watch.specs.Kept.{Kept}
-use Rattle.lgx_core.specs.ControllerView.{ControllerView}
+use Rattle.spec_text.specs.Scripts.{Script}
+use Rattle.lgx_record.specs.RecordingView.{RecordingView}
 use Rattle.lgx_shared.specs.RecorderView.{RecorderView}
 
--- the parts but for the controller
+-- the parts but for what was recorded
 abbrev pub Rest : Type 0
-Rest = ((JournalView × Kept) × (Names × ℕ)) × (List Place × List ℤ)
+Rest = Option Script × (List ℕ × Bool)
 
-abbrev pub recorder_code : Coded ControllerView → Coded Rest → Coded RecorderView
-recorder_code controller rest =
-    code_by (ControllerView × Rest) (coded× controller rest)
-    (λ r. (r.controller, (((r.journal, r.log), (r.names, r.steps)), (r.places, r.values))))
-    (λ p. record {
-      controller = p.0;
-      journal = p.1.0.0.0;
-      log = p.1.0.0.1;
-      names = p.1.0.1.0;
-      steps = p.1.0.1.1;
-      places = p.1.1.0;
-      values = p.1.1.1;
-    })
+abbrev pub recorder_code : Coded RecordingView → Coded Rest → Coded RecorderView
+recorder_code recording rest =
+    code_by (RecordingView × Rest) (coded× recording rest)
+    (λ r. (r.recording, (r.script, (r.counts, r.ran))))
+    (λ p. record { recording = p.0; script = p.1.0; counts = p.1.1.0; ran = p.1.1.1 })
     (λ _. refl)

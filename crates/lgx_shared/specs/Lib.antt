@@ -1,6 +1,6 @@
 pub mod RecorderView
 pub mod Codes
-pub mod Faults
-pub mod Changes
-pub mod EventLines
-pub mod Records
+pub mod Follows
+pub mod Turns
+pub mod Serves
+pub mod Lanes

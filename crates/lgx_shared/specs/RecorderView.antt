@@ -1,30 +1,15 @@
 -- The recorder as contracts see it.
-use Rattle.std.specs.Prelude.{ℕ, List, ℤ}
-use Rattle.lgx_num.specs.declared.place.Place.{Place}
-use Rattle.spec_text.specs.ReportText.{Names}
-use Rattle.lgx_journal.specs.Journals.{JournalView}
-use Rattle.lgx_watch.specs.Kept.{Kept}
-use Rattle.lgx_core.specs.ControllerView.{ControllerView}
-use Rattle.lgx_shared.specs.declared.recording.Recording.{Recording}
+use Rattle.std.specs.Prelude.{ℕ, List, Option, Bool}
+use Rattle.spec_text.specs.Scripts.{Script}
+use Rattle.lgx_record.specs.RecordingView.{RecordingView}
 
--- Its controller, the journal of what the controller did, the log of the report's lines, the names that they are written
--- with, the number of processor steps, and the watched places with the numbers that they had when they were last compared.
+-- What it recorded; the script that its lanes follow, if it was made for one; for each lane how many of its actions were made;
+-- and whether turns brought each pass to its end.
 pub record RecorderView : Type 0 where
-  pub controller : ControllerView
-  pub journal : JournalView
-  pub log : Kept
-  pub names : Names
-  pub steps : ℕ
-  pub places : List Place
-  pub values : List ℤ
+  pub recording : RecordingView
+  pub script : Option Script
+  pub counts : List ℕ
+  pub ran : Bool
 
-abbrev pub view_of : Recording → RecorderView
-view_of r = record {
-  controller = r.controller;
-  journal = r.journal;
-  log = r.log;
-  names = r.names;
-  steps = r.steps;
-  places = r.watches;
-  values = r.values.items;
-}
+abbrev pub view_of : RecordingView → Option Script → List ℕ → Bool → RecorderView
+view_of recording script counts ran = record { recording = recording; script = script; counts = counts; ran = ran }

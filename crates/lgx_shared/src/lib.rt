@@ -1,16 +1,24 @@
-//! The recorder of a run: a controller with the journal of its events and the log of their report.
+//! The recorder of a run, and the lanes of a script, each on a thread of its own, that share it under one lock.
 //!
-//! A [`Recorder`] takes one event after another. Whatever was taken, it records the journal of these events: its controller
-//! represents the state that they lead to, and its log is that of their report, as `Records` of specs/Records.antt says.
+//! A [`Recorder`] records a run: of a journal, one event after another, or of a script, one turn of a lane after another. A
+//! [`Shared`] keeps one under a lock, and each [`Pass`] makes turns of its lane. Whatever turns the threads take, the journal
+//! is partial for the counts of the lanes' actions (`Follows` of specs/Follows.antt).
 #![tactic(auto)]
 
-mod changes;
-mod laws;
-mod lines;
-mod names;
+mod input;
+mod kept;
+mod lanes;
+mod pass;
+mod plan;
 mod recorder;
-mod recording;
+mod serving;
+mod shared;
+mod turn;
 
-pub use laws::{law_of_faults, law_of_lines};
-pub use lines::MAX_EVENT_LINES;
+pub use input::Input;
+pub use lanes::{Gate, run_lanes};
+pub use lgx_record::{MAX_EVENT_LINES, law_of_faults, law_of_lines};
+pub use pass::Pass;
 pub use recorder::Recorder;
+pub use shared::Shared;
+pub use turn::Turn;

@@ -32,7 +32,7 @@ module _ (n : ℕ) (v : PartsView) (s : State) (h : RepresentsState n v s) (t : 
   now : PartsView
   now = record v { progress = set v.progress t x; image = i }
 
-  moved-to : (p : Progress) (image : List ℕ) → RepresentsTask (holds v.book) (length i.bytes) (length s.plan.schedule) (programs_of s t) x p → i.bytes ≡ image → RepresentsState n (record v { progress = set v.progress t x; image = i }) (record s { progress = set s.progress t p; image = image })
+  pub moved-to : (p : Progress) (image : List ℕ) → RepresentsTask (holds v.book) (length i.bytes) (length s.plan.schedule) (programs_of s t) x p → i.bytes ≡ image → RepresentsState n (record v { progress = set v.progress t x; image = i }) (record s { progress = set s.progress t p; image = image })
   moved-to p image new is =
       let len = bytes s.plan.tags in
       let r : RepresentsTask (holds v.book) len (length s.plan.schedule) (programs_of s t) x p = subst (λ k. RepresentsTask (holds v.book) k (length s.plan.schedule) (programs_of s t) x p) (long ∙ image-long) new in

@@ -2,4 +2,5 @@ pub mod PartsView
 pub mod Plans
 pub mod Represents
 pub mod Gives
+pub mod Stretches
 pub mod Fresh

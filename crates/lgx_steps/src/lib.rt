@@ -17,7 +17,9 @@ mod release;
 mod scanning;
 mod scans;
 mod step;
+mod stretch;
 mod tick;
 mod words;
 
 pub use parts::{Done, Parts, Progress, Released, Scan};
+pub use stretch::Stretch;

@@ -1,11 +1,11 @@
-//! `logix`: tries a ladder program and its journal before they reach a machine.
+//! `logix`: tries a ladder program before it reaches a machine, by a journal or by a script of engineers and modules.
 #![tactic(auto)]
 
 ghost use Rattle.std.specs.Prelude.{◌≡◌, ◌⊎◌};
 ghost use Rattle.lgx_io.specs.Sink.{FaultsRose};
 
 use lgx_io::{HostFiles, HostSink};
-use logix_run::{Status, logix_plain};
+use logix_run::{Open, Status, logix};
 use std::env;
 use std::io::Print;
 use std::process::ExitCode;
@@ -23,7 +23,7 @@ fn main(rt: HostRuntime) -> ExitCode {
             }
         }
     }
-    let status = logix_plain(alloc, &words, &mut files, &mut sink);
+    let status = logix(&rt, alloc, &words, &mut files, &mut sink, &Open);
     ExitCode::from(end(status, &mut sink).number())
 }
 

@@ -1,9 +1,5 @@
-pub mod Texts
-pub mod Sums
-pub mod Puts
-pub mod Reports
-pub mod Runs
-pub mod Requests
-pub mod Endings
-pub mod Exactly
-mod Laws
+pub mod Lines
+pub mod Reading
+pub mod Written
+pub mod Ended
+mod Answered

@@ -1,9 +1,5 @@
-pub mod Status
-pub mod Words
-pub mod CauseLines
-pub mod ProjectLines
-pub mod Ends
-pub mod Output
-pub mod Call
-pub mod Causes
-pub mod Request
+pub mod RunText
+pub mod RunCall
+pub mod RunCauses
+pub mod RunLines
+pub mod Outcomes

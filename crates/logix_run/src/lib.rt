@@ -1,19 +1,16 @@
-//! The program `logix`, over any files and any sink: it reads its words by hand and judges the files that they name, and
-//! writes what they ask for, each line by one put.
+//! The program `logix`, over any files, any sink and any gate: what [`logix_plain`] does, and the words `run P S`, for which
+//! each lane of a script is run on a thread of its own.
 #![tactic(auto)]
 
 mod causes;
-mod check;
-mod codes;
-mod output;
+mod gate;
+mod journal;
+mod outcome;
 mod program;
-mod put;
-mod replay;
-mod report;
-mod request;
-mod rungs;
-mod status;
-mod words;
+mod run;
+mod write;
 
-pub use program::logix_plain;
-pub use status::Status;
+pub use gate::Open;
+pub use lgx_plain::{Status, logix_plain};
+pub use lgx_shared::Gate;
+pub use program::logix;

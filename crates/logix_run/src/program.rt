@@ -1,50 +1,61 @@
-// The program, over any files and any sink.
-ghost use Rattle.std.specs.Prelude.{◌≡◌, ◌≢◌, map, string_bytes};
-ghost use Rattle.logix_run.specs.Request.{Ended};
-ghost use Rattle.logix_run.specs.Causes.{IsAnswered};
+// The program, over any files, any sink and any gate.
+ghost use Rattle.std.specs.Prelude.{◌≡◌, ◌≢◌, List, ℕ, None, Some, map, string_bytes};
+ghost use Rattle.lgx_plain.specs.Words.{run_of};
+ghost use Rattle.lgx_plain.specs.Causes.{IsAnswered};
+ghost use Rattle.logix_run.specs.Outcomes.{Ended};
+ghost use Rattle.logix_run.specs.RunCauses.{IsRunAnswered};
 
-use crate::output::write_output;
-use crate::request::read_request;
-use crate::status::Status;
+use crate::outcome::outcome_of;
+use crate::write::write_outcome;
 use lgx_io::{Files, Sink};
+use lgx_plain::{Status, logix_plain, run_of};
+use lgx_shared::Gate;
 use std::alloc::Global;
+use std::sync::Wait;
+use std::thread::Threads;
 
-/// Reads what the words ask for, and writes its output.
-fn read_and_write<F: Files, K: Sink>(
+/// Runs the script of one file on the project of another, and writes what came of it.
+fn run<F: Files, K: Sink, G: Gate + Sync, R: Threads + Wait + Sync>(
+    rt: &R,
     alloc: Global,
-    words: &[String],
+    project: &str,
+    script: &str,
     files: &mut F,
     sink: &mut K,
+    gate: &G,
 ) -> Status
-    ensures ended { Ended (record {
+    ensures ended { (words : List (List ℕ)) → Ended (record {
       told = F.told files.old;
       failures = record { old = F.failures files.old; new = F.failures files.new };
       held = record { old = K.held sink.old; new = K.held sink.new };
       faults = record { old = K.faults sink.old; new = K.faults sink.new };
-      words = map string_bytes words.now;
+      words = words;
       answer = result;
-    }) }
+    }) (record { project = project.now; script = script.now }) }
     ensures unfailed { result ≢ Status.WriteFault → K.faults sink.new ≡ K.faults sink.old }
 {
-    match read_request(alloc, words, files) {
-        Ok(request) => write_output(alloc, request, sink),
+    match outcome_of(rt, alloc, project, script, files, gate) {
+        Ok(outcome) => write_outcome(alloc, outcome, sink),
         Err(status) => status,
     }
 }
 
-/// Does what the words of the command line say, and answers how the program ends.
+/// Does what the words of the command line say, and answers how the program ends: all that [`logix_plain`] does, and `run P S`.
 ///
-/// `check P` tells how many there are of each part of the project of the file `P`, `text P` writes the rungs of its routines,
-/// `migrate P` writes the file in the newest schema, and `replay P J` runs the journal of the file `J` on the project and
-/// writes the report. The project is read and judged before the journal is read. Each line is one put. The usage line
-/// also names `run` and `gen`, which are no commands yet.
-pub fn logix_plain<F: Files, K: Sink>(
+/// `run P S` reads and judges the project of the file `P` and then the script of the file `S`. Each lane of the script is run on
+/// a thread of its own, and the processor's steps on one more; before each turn of a lane the gate is called, without the lock.
+/// Then the journal of the run is written, and its report: each line is one put. Whatever turns the threads take, every action
+/// stands in the journal once, in its lane's order. The call may wait for its threads, for the lock and for the gate; no answer
+/// speaks of a thread that couldn't be started.
+pub fn logix<F: Files, K: Sink, G: Gate + Sync, R: Threads + Wait + Sync>(
+    rt: &R,
     alloc: Global,
     words: &[String],
     files: &mut F,
     sink: &mut K,
+    gate: &G,
 ) -> Status
-    ensures { IsAnswered (record {
+    ensures plain { run_of (map string_bytes words.now) ≡ None → IsAnswered (record {
       told = F.told files.old;
       failures = record { old = F.failures files.old; new = F.failures files.new };
       held = record { old = K.held sink.old; new = K.held sink.new };
@@ -52,6 +63,17 @@ pub fn logix_plain<F: Files, K: Sink>(
       words = map string_bytes words.now;
       answer = result;
     }) }
+    ensures run { (p s : List ℕ) → run_of (map string_bytes words.now) ≡ Some (p, s) → IsRunAnswered (record {
+      told = F.told files.old;
+      failures = record { old = F.failures files.old; new = F.failures files.new };
+      held = record { old = K.held sink.old; new = K.held sink.new };
+      faults = record { old = K.faults sink.old; new = K.faults sink.new };
+      words = map string_bytes words.now;
+      answer = result;
+    }) (record { project = p; script = s }) }
 {
-    read_and_write(alloc, words, files, sink)
+    match run_of(words) {
+        Some(names) => run(rt, alloc, names.project, names.script, files, sink, gate),
+        None => logix_plain(alloc, words, files, sink),
+    }
 }

@@ -90,7 +90,7 @@ module _ (p : Project) (valid : IsValidProject p) where
   abbrev size : ℕ
   size = length p.image
 
-  few_bytes : size ≤ MAX_IMAGE_BYTES
+  pub few_bytes : size ≤ MAX_IMAGE_BYTES
   few_bytes = (let e = valid.tags.image in let l = leb-true (bytes p.tags) MAX_IMAGE_BYTES valid.limits.image in omega arith)
 
   abbrev Stands : Option Scan → Type 0

@@ -2,7 +2,7 @@
 use Rattle.std.proofs.Common.{◌≡◌, ℕ, zero, suc, ◌+◌, ◌-◌, ◌*◌, ◌<◌, ◌≤◌, Bool, true, false, ◌||◌, List, length, map, ℤ, Option, Some, None, refl, sym, subst, arith}
 use Rattle.std.specs.Prelude.{⊤, nat_eq, nat_lt, if◌then◌else◌}
 use Rattle.std.proofs.lemmas.Bool.{cond_both, eqb-false}
-use Rattle.std.proofs.Math.Nat.{suc-mul}
+use Rattle.std.proofs.Math.Nat.{suc-mul, div-le_self, min-le_left, min-le_right}
 use Rattle.spec_base.specs.declared.limits.TheConstants.{MAX_IMAGE_BYTES, MAX_FRAMES}
 use Rattle.lgx_num.specs.declared.place.Flags.{Flags}
 use Rattle.lgx_num.specs.declared.place.Place.{Place}
@@ -15,11 +15,12 @@ use Rattle.lgx_image.proofs.BoundKinds.{bound_lie}
 use Rattle.lgx_copy.specs.CopyBounds.{SourceInBounds, CopyInBounds, BlocksInBounds}
 use Rattle.lgx_copy.proofs.InBounds.{copy_lies}
 use Rattle.spec_scan.specs.declared.bound.Arg.{Arg}
+use Rattle.spec_scan.specs.declared.bound.Arg.TheVariants.{Block}
 use Rattle.spec_scan.specs.declared.bound.Copying.{Copying}
-use Rattle.spec_scan.specs.Arguments.{bind, arg, place_of, byte_of, value_of}
+use Rattle.spec_scan.specs.Arguments.{bind, arg, place_of, byte_of, size_of, room_of, value_of}
 use Rattle.spec_scan.specs.Arithmetic.{math}
-use Rattle.spec_scan.specs.Copies.{elements, copy_of, start_copy, is_sync, fill_of, after_element}
-use Rattle.spec_scan.specs.Executable.{IsExecutable}
+use Rattle.spec_scan.specs.Copies.{positive, elements_in, asked, elements, copy_of, start_copy, is_sync, fill_of, after_element}
+use Rattle.spec_scan.specs.Executable.{ArgEndsIn, ArgsEndIn, IsExecutable}
 use Rattle.spec_scan.specs.Instructions.{Control, Nothing, Return, StartCopy, MinorFault, Row, row, acts_when_false, timer_row, copy_row, call_row, store_row, executed, with_bound}
 use Rattle.spec_scan.specs.Parameters.{inputs_handed, returns_wanted}
 use Rattle.spec_scan.specs.Position.{Frame}
@@ -30,7 +31,7 @@ use Rattle.spec_copies.specs.Standing.{IsCopyIn}
 -- ---- one element less
 
 pub element_less : (len : ℕ) (c : Copying) → IsCopyIn len c → 1 < c.left → IsCopyIn len (after_element c)
-element_less len c h more = record { some = omega arith; lies = go c.left c.fill more h.lies.target h.lies.source; plain = h.plain }
+element_less len c h more = record { some = omega arith; few = (let f = h.few in omega arith); lies = go c.left c.fill more h.lies.target h.lies.source; plain = h.plain }
   where
     after : ℕ → Option ℤ → Copying
     after left fill = record c { source = c.source + c.size; target = c.target + c.size; left = left - 1; fill = fill }
@@ -57,6 +58,26 @@ sync_plain : (op : Op) (args : List Arg) (image : List ℕ) → is_sync op ≡ t
 sync_plain Fll args image e = absurd (cc e)
 sync_plain _ args image e = refl
 
+-- a tag that ends in the image has room for no more bytes than the image has
+few_room : (a : Arg) (len : ℕ) → ArgEndsIn len a → room_of a ≤ len
+few_room (Block at size stop) len h = omega arith
+few_room _ len h = omega arith
+
+few_asked : (args : List Arg) (image : List ℕ) (len : ℕ) → ArgsEndIn len args → asked args image ≤ len
+few_asked args image len ends =
+    let target = arg args 1 in
+    let least = min-le_right (positive (value_of image (arg args 2))) (elements_in args target) in
+    let whole = div-le_self (room_of target) (size_of target) in
+    let bytes = few_room target len (ends 1) in
+    omega arith
+
+few_elements : (op : Op) (args : List Arg) (image : List ℕ) (len : ℕ) → ArgsEndIn len args → elements op args image ≤ len
+few_elements Fll args image len ends = few_asked args image len ends
+few_elements _ args image len ends =
+    let least = min-le_left (asked args image) (elements_in args (arg args 0)) in
+    let few = few_asked args image len ends in
+    omega arith
+
 module _ (args : List Operand) (on : Bool) (now : ℕ) (first : Bool) (frames : List Frame) (flags : Flags) (image : List ℕ) (few : length image ≤ MAX_IMAGE_BYTES) where
   abbrev Starts : Row → Type 0
   Starts r = StartsIn (length image) r.control
@@ -69,6 +90,7 @@ module _ (args : List Operand) (on : Bool) (now : ℕ) (first : Bool) (frames : 
       cond_both (nat_eq n 0) None (Some c) (λ (o : Option Copying). Starts (copy_row args on now first frames flags image o)) (λ e. tt)
       (λ e. record {
         some = (let ne : n ≡ 0 → ⊥ = eqb-false n 0 e in omega arith);
+        few = few_elements op bound image (length image) blocks.ends;
         lies = copy_lies op bound image c refl few lie blocks;
         plain = sync_plain op bound image;
       })

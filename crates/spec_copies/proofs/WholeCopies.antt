@@ -52,7 +52,7 @@ use Rattle.spec_copies.proofs.Standing.{stands_at, image_at}
 -- ---- held actions
 
 -- a CPS that is open holds
-any_held : (us : List (Option TaskState)) (t : ℕ) → has_open_cps (slice_index_or us t None) ≡ true → list_any has_open_cps us ≡ true
+pub any_held : (us : List (Option TaskState)) (t : ℕ) → has_open_cps (slice_index_or us t None) ≡ true → list_any has_open_cps us ≡ true
 any_held [] t h = absurd (false≢true h)
 any_held (u ∷ us) zero h = or_left (has_open_cps u) (list_any has_open_cps us) h
 any_held (u ∷ us) (suc t) h = or_right (has_open_cps u) (list_any has_open_cps us) (any_held us t h)
@@ -91,24 +91,44 @@ act_image s lane Clear h = held_image (held s.table) s _ h
 
 -- ---- a step that copies an element
 
-abbrev rest_copy : Copying → Bool → Option Copying
+abbrev pub rest_copy : Copying → Bool → Option Copying
 rest_copy c true = Some (after_element c)
 rest_copy c false = None
 
 module _ (s : State) (t : ℕ) (scan : Scan) (now : Copying) where
-  abbrev q : Progress
+  abbrev pub q : Progress
   q = progress_of s t
 
-  abbrev copied : Bool → Bool → Option Copying → Advanced
+  abbrev pub copied : Bool → Bool → Option Copying → Advanced
   copied done sync rest = record { position = record scan.position { copy = rest }; image = copy_element now s.image; flags = q.flags; effect = Copied done sync }
 
-  abbrev stepped : Bool → Bool → Option Copying → Stepped
+  abbrev pub stepped : Bool → Bool → Option Copying → Stepped
   stepped done sync rest = after_advance s t q scan (copied done sync rest)
 
-  copying : chosen s.table ≡ Some t → q.scan ≡ Some scan → scan.position.copy ≡ Some now → processor_step s ≡ stepped (nat_le now.left 1) now.sync (rest_copy now (nat_lt 1 now.left))
+  pub copying : chosen s.table ≡ Some t → q.scan ≡ Some scan → scan.position.copy ≡ Some now → processor_step s ≡ stepped (nat_le now.left 1) now.sync (rest_copy now (nat_lt 1 now.left))
   copying c was copy =
       ap (task_step s) c
       ∙ (ap (scan_step s t q) was ∙ ap (λ (o : Option Copying). after_advance s t q scan (in_progress scan.rungs scan.position s.image s.tick scan.first q.flags o)) copy)
+
+-- ---- the task whose CPS is open
+
+up_open : (o : Option TaskState) → has_open_cps o ≡ true → (v : TaskState) × (o ≡ Some v) × (is_open (Some v) ≡ true)
+up_open None h = absurd (false≢true h)
+up_open (Some v) h = (v, refl, or_right (nat_lt 0 v.region_count) v.cps_open h)
+
+-- it is chosen
+pub open_is_chosen : (p : Project) (s : State) (t : ℕ) → IsReached p s → has_open_cps (state_of s.table t) ≡ true → chosen s.table ≡ Some t
+open_is_chosen p s t r h = go (chosen s.table) refl
+  where
+    v : (v : TaskState) × (state_of s.table t ≡ Some v) × (is_open (Some v) ≡ true)
+    v = up_open (state_of s.table t) h
+
+    known : Known p s
+    known = known_at p s r
+
+    go : (o : Option ℕ) → chosen s.table ≡ o → o ≡ Some t
+    go None e = absurd (none_chosen s.table t v.0 e (let a = within_states s.table.states t v.0 v.1 in let b = known.sizes.states in let d = ap (λ (xs : List TaskDef). length xs) known.sizes.same_tasks in omega arith) v.1)
+    go (Some q) e = ap (λ n. Some n) (sym (only_chosen s.mode s.table q t v.0 known.orderly e v.1 v.2))
 
 -- ---- from the start on
 
@@ -147,23 +167,9 @@ module _ (p : Project) (valid : IsValidProject p) (t : ℕ) (within : t < length
   open_flag : (s : State) → IsReached p s → InCopy s t c first → has_open_cps (state_of s.table t) ≡ true
   open_flag s r h = ((known_at p s r).sound t).agrees ∙ (ap syncs h.was ∙ (ap is_syncing h.copy ∙ h.sync))
 
-  up_open : (o : Option TaskState) → has_open_cps o ≡ true → (v : TaskState) × (o ≡ Some v) × (is_open (Some v) ≡ true)
-  up_open None h = absurd (false≢true h)
-  up_open (Some v) h = (v, refl, or_right (nat_lt 0 v.region_count) v.cps_open h)
-
   -- the task of a copy is chosen
   is_chosen : (s : State) → IsReached p s → InCopy s t c first → chosen s.table ≡ Some t
-  is_chosen s r h = go (chosen s.table) refl
-    where
-      v : (v : TaskState) × (state_of s.table t ≡ Some v) × (is_open (Some v) ≡ true)
-      v = up_open (state_of s.table t) (open_flag s r h)
-
-      known : Known p s
-      known = known_at p s r
-
-      go : (o : Option ℕ) → chosen s.table ≡ o → o ≡ Some t
-      go None e = absurd (none_chosen s.table t v.0 e (let a = within_states s.table.states t v.0 v.1 in let b = known.sizes.states in let d = ap (λ (xs : List TaskDef). length xs) known.sizes.same_tasks in omega arith) v.1)
-      go (Some q) e = ap (λ n. Some n) (sym (only_chosen s.mode s.table q t v.0 known.orderly e v.1 v.2))
+  is_chosen s r h = open_is_chosen p s t r (open_flag s r h)
 
   -- ---- a tick or an action in the copy
 

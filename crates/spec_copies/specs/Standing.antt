@@ -1,5 +1,5 @@
 -- Where a scan stands, in every state that a journal leads to: in its own rungs, with what it copies in the image.
-use Rattle.std.specs.Prelude.{◌≡◌, ℕ, ◌<◌, true, List, length, Option, Some, None}
+use Rattle.std.specs.Prelude.{◌≡◌, ℕ, ◌<◌, ◌≤◌, true, List, length, Option, Some, None}
 use Rattle.lgx_copy.specs.CopyBounds.{CopyInBounds}
 use Rattle.spec_scan.specs.declared.bound.Copying.{Copying}
 use Rattle.spec_scan.specs.Executable.{IsExecutable}
@@ -12,9 +12,10 @@ use Rattle.spec_machine.specs.State.{Scan, progress_of}
 use Rattle.spec_machine.specs.ValidProject.{IsValidProject}
 use Rattle.spec_reach.specs.Positions.{PositionHas}
 
--- a copy in progress has elements left, which lie in an image of so many bytes; a synchronous one fills nothing
+-- a copy in progress has elements left, no more than an image has bytes, and they lie in it; a synchronous one fills nothing
 pub record IsCopyIn (len : ℕ) (c : Copying) : Type 0 where
   pub some : 0 < c.left
+  pub few : c.left ≤ len
   pub lies : CopyInBounds c len
   pub plain : c.sync ≡ true → c.fill ≡ None
 

@@ -1,4 +1,6 @@
 // A run of a journal on the controller.
+ghost use Rattle.std.specs.Prelude.{◌≡◌, None, IfOk};
+
 use crate::lines::joined;
 use crate::trouble::Trouble;
 use lgx_journal::{Event, Journal};
@@ -17,14 +19,18 @@ pub fn report_of(alloc: Global, project: &[u8], journal: &Journal) -> Result<Str
 }
 
 /// A recorder of the project of a file.
-fn recorder_of(alloc: Global, project: &[u8]) -> Result<Recorder, Trouble> {
+fn recorder_of(alloc: Global, project: &[u8]) -> Result<Recorder, Trouble>
+    ensures { IfOk result (λ recorder. recorder.script ≡ None) }
+{
     let project = read_project(alloc, project)?;
     let recorder = Recorder::of_journal(alloc, project)?;
     Ok(recorder)
 }
 
 /// Makes the events of a journal.
-fn make(recorder: &mut Recorder, journal: &Journal) -> Result<(), Memory> {
+fn make(recorder: &mut Recorder, journal: &Journal) -> Result<(), Memory>
+    requires { recorder.old.script ≡ None }
+{
     for i in 0..journal.runs() {
         for _ in 0..journal.count_at(i) {
             make_one(recorder, journal.event_at(i))?;
@@ -34,7 +40,10 @@ fn make(recorder: &mut Recorder, journal: &Journal) -> Result<(), Memory> {
 }
 
 /// Makes an event, as long as the controller can count it.
-fn make_one(recorder: &mut Recorder, event: &Event) -> Result<(), Memory> {
+fn make_one(recorder: &mut Recorder, event: &Event) -> Result<(), Memory>
+    requires { recorder.old.script ≡ None }
+    ensures { recorder.new.script ≡ None }
+{
     if recorder.controller().spent() < MAX_EVENTS {
         recorder.apply(event)?;
     }

@@ -1,14 +1,17 @@
 //! Judges the examples, which are this crate's `data`, by rows on standard input.
 //!
 //! A row is `FOLDER / WORDS / TEXT`: with these words, whose files lie in the folder, the program ends with status 0 and writes
-//! what the folder's file TEXT has. Lines that begin with `--` are no rows. What differs is printed, and at the end how many
-//! rows there were.
+//! what the folder's file TEXT has. A row without TEXT has the words of a run: the program writes a journal, and then the report
+//! that its replay of that journal gives. Lines that begin with `--` are no rows. What differs is printed, and at the end how
+//! many rows there were.
 #![tactic(auto)]
 
-use lgx_io::{Files, HostFiles, MemSink};
-use logix_run::{Status, logix_plain};
+use lgx_io::{Files, HostFiles, MemSink, SureFiles};
+use logix_run::{Open, Status, logix};
 use std::alloc::{AllocError, Global};
 use std::io;
+use std::sync::Wait;
+use std::thread::Threads;
 
 fn main(rt: HostRuntime) -> io::Result<()> {
     let alloc = rt.alloc();
@@ -20,7 +23,7 @@ fn main(rt: HostRuntime) -> io::Result<()> {
         let row = line.as_str().trim();
         if is_row(row) {
             rows = rows.saturating_add(1);
-            if let Some(found) = found(alloc, row, &mut files)? {
+            if let Some(found) = found(&rt, alloc, row, &mut files)? {
                 differ = differ.saturating_add(1);
                 println!(rt; "{row}")?;
                 println!(rt; "    {found}")?;
@@ -36,20 +39,78 @@ fn is_row(line: &str) -> bool {
 }
 
 /// What comes out in place of what the row says, if that differs.
-fn found<F: Files>(alloc: Global, row: &str, files: &mut F) -> Result<Option<String>, AllocError> {
+fn found<F: Files, R: Threads + Wait + Sync>(
+    rt: &R,
+    alloc: Global,
+    row: &str,
+    files: &mut F,
+) -> Result<Option<&'static str>, AllocError> {
     let (folder, rest) = row.split_once(" / ").unwrap_or((row, ""));
-    let (words, text) = rest.split_once(" / ").unwrap_or((rest, ""));
+    let Some((words, text)) = rest.split_once(" / ") else {
+        let words = words_of(alloc, folder, rest)?;
+        return found_of_run(rt, alloc, &words, files);
+    };
     let text = path(alloc, folder, text)?;
     let Ok(wanted) = files.read(text.as_str()) else {
-        return Ok(Some(String::from_str(alloc, "no such text")?));
+        return Ok(Some("no such text"));
     };
     let words = words_of(alloc, folder, words)?;
-    let mut sink = MemSink::new(alloc, Vec::new(alloc));
-    let status = logix_plain(alloc, &words, files, &mut sink);
-    if status == Status::Ok && sink.held() == wanted.as_slice() {
-        return Ok(None);
+    let (status, held) = called(rt, alloc, &words, files)?;
+    if status != Status::Ok {
+        return Ok(Some("another status"));
     }
-    Ok(Some(format!(in alloc; "{status:?}")?))
+    Ok((held.as_bytes() != wanted.as_slice()).then_some("another text"))
+}
+
+/// The same of a run: its journal is replayed.
+fn found_of_run<F: Files, R: Threads + Wait + Sync>(
+    rt: &R,
+    alloc: Global,
+    words: &[String],
+    files: &mut F,
+) -> Result<Option<&'static str>, AllocError> {
+    let (status, held) = called(rt, alloc, words, files)?;
+    let Some((journal, report)) = held.as_str().split_once("\nend\n") else {
+        return Ok(Some("no journal"));
+    };
+    let Some(Ok(project)) = words.get(1).map(|name| files.read(name.as_str())) else {
+        return Ok(Some("no project"));
+    };
+    let journal = format!(in alloc; "{journal}\nend\n")?;
+    let (again, replayed) = replay(rt, alloc, project, journal.as_str())?;
+    let is_same = status == Status::Ok && again == Status::Ok && replayed.as_str() == report;
+    Ok((!is_same).then_some("the replay's report is another"))
+}
+
+/// A replay of a journal.
+fn replay<R: Threads + Wait + Sync>(
+    rt: &R,
+    alloc: Global,
+    project: Vec<u8>,
+    journal: &str,
+) -> Result<(Status, String), AllocError> {
+    let mut kept = Vec::new(alloc);
+    kept.push((String::from_str(alloc, "P")?, project))?;
+    let bytes = journal.as_bytes().to_vec(alloc)?;
+    kept.push((String::from_str(alloc, "J")?, bytes))?;
+    let mut words = Vec::new(alloc);
+    for word in ["replay", "P", "J"] {
+        words.push(String::from_str(alloc, word)?)?;
+    }
+    called(rt, alloc, &words, &mut SureFiles::new(alloc, kept))
+}
+
+/// How a call with these words ends, and what it writes.
+fn called<F: Files, R: Threads + Wait + Sync>(
+    rt: &R,
+    alloc: Global,
+    words: &[String],
+    files: &mut F,
+) -> Result<(Status, String), AllocError> {
+    let mut sink = MemSink::new(alloc, Vec::new(alloc));
+    let status = logix(rt, alloc, words, files, &mut sink, &Open);
+    let held = String::from_utf8_lossy(alloc, sink.held())?;
+    Ok((status, held))
 }
 
 /// The words of a row: the first one, and files of the folder.

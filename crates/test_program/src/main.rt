@@ -33,7 +33,7 @@ fn main(rt: HostRuntime) -> io::Result<()> {
             texts.add(text)?;
         } else if is_row(row) {
             rows = rows.saturating_add(1);
-            if let Some(found) = judge_row(rt.alloc(), &texts, row)? {
+            if let Some(found) = judge_row(&rt, rt.alloc(), &texts, row)? {
                 differ = differ.saturating_add(1);
                 println!(rt; "{row}")?;
                 println!(rt; "    {found}")?;

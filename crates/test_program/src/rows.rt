@@ -1,11 +1,14 @@
 // Rows of the table.
 use crate::texts::{Texts, escaped, failing_puts, failing_reads, unescaped};
 use lgx_io::{Files, MemFiles, MemSink, Sink, SureFiles, SureSink};
-use logix_run::logix_plain;
+use logix_run::{Open, logix};
 use std::alloc::{AllocError, Global};
+use std::sync::Wait;
+use std::thread::Threads;
 
 /// Judges a row. Answers what comes out in place of `ANSWER / HELD`, if that differs.
-pub(crate) fn judge_row(
+pub(crate) fn judge_row<R: Threads + Wait + Sync>(
+    rt: &R,
     alloc: Global,
     texts: &Texts,
     row: &str,
@@ -17,7 +20,7 @@ pub(crate) fn judge_row(
     let answer = part(parts.next());
     let held = part(parts.next());
     let wanted = format!(in alloc; "{answer} / {held}")?;
-    let found = found(alloc, kind, what, files, failing)?;
+    let found = found(rt, alloc, kind, what, files, failing)?;
     if found.as_str() == wanted.as_str() {
         Ok(None)
     } else {
@@ -37,7 +40,8 @@ fn words_of(field: Option<&str>) -> (&str, &str) {
 }
 
 /// What comes out.
-fn found(
+fn found<R: Threads + Wait + Sync>(
+    rt: &R,
     alloc: Global,
     kind: &str,
     what: &str,
@@ -48,13 +52,13 @@ fn found(
         "run" => {
             let mut files = MemFiles::new(alloc, files, failing_reads(alloc, failing)?);
             let mut sink = MemSink::new(alloc, failing_puts(alloc, failing)?);
-            let status = run(alloc, what, &mut files, &mut sink)?;
+            let status = run(rt, alloc, what, &mut files, &mut sink)?;
             shown(alloc, status, sink.held())
         }
         "run-sure" => {
             let mut files = SureFiles::new(alloc, files);
             let mut sink = SureSink::new(alloc);
-            let status = run(alloc, what, &mut files, &mut sink)?;
+            let status = run(rt, alloc, what, &mut files, &mut sink)?;
             shown(alloc, status, sink.held())
         }
         "read" => {
@@ -86,7 +90,8 @@ fn shown(alloc: Global, answer: String, held: &[u8]) -> Result<String, AllocErro
 }
 
 /// The status of a call with these words.
-fn run<F: Files, K: Sink>(
+fn run<F: Files, K: Sink, R: Threads + Wait + Sync>(
+    rt: &R,
     alloc: Global,
     list: &str,
     files: &mut F,
@@ -98,7 +103,7 @@ fn run<F: Files, K: Sink>(
             words.push(String::from_str(alloc, word)?)?;
         }
     }
-    let status = logix_plain(alloc, &words, files, sink);
+    let status = logix(rt, alloc, &words, files, sink, &Open);
     format!(in alloc; "{status:?}")
 }
 

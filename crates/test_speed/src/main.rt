@@ -1,19 +1,30 @@
-//! Runs scans of programs on the engine, to be measured: each line of standard input is a number of scans and a program's text.
+//! Runs scans, to be measured: each line of standard input is a number and a program's text, or a number and a project.
 //!
-//! For each it prints how many steps the scans took, the begins not counted.
+//! Of a program so many scans are run on the engine; it prints how many steps they took, the begins not counted. Of a project
+//! so many processor steps are made in Run; it prints how many stretches they were.
 #![tactic(auto)]
 
+mod stretches;
+
 use std::io;
+use stretches::stretches_of;
 use test_bench::{Bench, Effect};
 
 fn main(rt: HostRuntime) -> io::Result<()> {
     for line in rt.lines(rt.alloc()) {
         let line = line?;
-        let (scans, program) = line.as_str().split_once(' ').unwrap_or(("0", ""));
-        let scans = scans.parse::<u32>().ok().unwrap_or(0);
-        match Bench::load(rt.alloc(), program) {
-            Ok(bench) => println!(rt; "{} steps", steps_of(bench, scans))?,
-            Err(refusal) => println!(rt; "{refusal:?}")?,
+        let (count, text) = line.as_str().split_once(' ').unwrap_or(("0", ""));
+        let count = count.parse::<u32>().ok().unwrap_or(0);
+        if text.starts_with('{') {
+            match stretches_of(rt.alloc(), text, count) {
+                Some(stretches) => println!(rt; "{count} steps in {stretches} stretches")?,
+                None => println!(rt; "no project, or out of memory")?,
+            }
+        } else {
+            match Bench::load(rt.alloc(), text) {
+                Ok(bench) => println!(rt; "{} steps", steps_of(bench, count))?,
+                Err(refusal) => println!(rt; "{refusal:?}")?,
+            }
         }
     }
     Ok(())

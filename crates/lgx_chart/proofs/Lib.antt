@@ -1,0 +1,4 @@
+pub mod WordLists
+pub mod Texts
+pub mod Lines
+pub mod Programs

@@ -1,0 +1,7 @@
+use Rattle.std.proofs.Common.{◌≡◌, ◌++◌, drop, None}
+use Rattle.lgx_chart.specs.Vcd.{changes_from}
+use Rattle.lgx_chart.proofs.vcd.push_changes.Given as goal
+
+abbrev pub invariant-loop-entry : goal.invariant-loop-entry
+invariant-loop-entry l =
+    l.text.items ++ changes_from l.clock l.last (drop l.entry-index l.entries) l.end ≡ l.initial.text.items ++ changes_from l.clock None l.entries l.end

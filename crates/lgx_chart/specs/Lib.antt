@@ -1,0 +1,9 @@
+pub mod Words
+pub mod Clocks
+pub mod Forms
+pub mod Charts
+pub mod Reading
+pub mod Vcd
+pub mod Status
+pub mod Output
+pub mod Usage

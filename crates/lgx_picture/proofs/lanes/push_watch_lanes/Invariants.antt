@@ -1,0 +1,6 @@
+use Rattle.std.proofs.Common.{◌≡◌, ◌++◌, map, take}
+use Rattle.lgx_picture.specs.declared.lanes.Lane.TheVariants.{Watch}
+use Rattle.lgx_picture.proofs.lanes.push_watch_lanes.Given as goal
+
+abbrev pub invariant-loop-watch : goal.invariant-loop-watch
+invariant-loop-watch l = l.lanes.items ≡ l.initial.lanes.items ++ map Watch (take l.watch-index l.watches)

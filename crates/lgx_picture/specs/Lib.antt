@@ -1,0 +1,4 @@
+pub mod Shapes
+pub mod Lanes
+pub mod Marks
+pub mod Svg

@@ -1,0 +1,19 @@
+//! A report as a drawing for a document: one file of Scalable Vector Graphics, readable on light and on dark pages.
+//!
+//! Each line of the report is drawn. What the drawing says of a lane's marks is said of the last of those in one place,
+//! and a viewer shows all of them when their stroke is pointed at.
+#![tactic(auto)]
+
+mod lanes;
+mod looks;
+mod marks;
+mod scale;
+mod shapes;
+mod sizes;
+mod strokes;
+mod svg;
+mod timeline;
+mod values;
+
+pub use svg::svg_text;
+pub use timeline::draw_timeline;

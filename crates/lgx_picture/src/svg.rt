@@ -1,0 +1,208 @@
+// Writes a report as a drawing.
+ghost use Rattle.std.specs.Prelude.{◌≡◌, ◌+◌, ◌*◌, ◌++◌, ◌≤◌, length, find, OnOk, IfOk};
+ghost use Rattle.lgx_picture.specs.declared.sizes.TheConstants.{MAX_LANES};
+ghost use Rattle.lgx_picture.specs.Svg.{lane_head, lane_text, top_of, lane_at, lanes_from, reaches, spacing, grid_line, grid, unit_of, head, ending, front, svg_text};
+
+use crate::lanes::{Lane, lanes_of, short};
+use crate::looks::{legend, open_text, style, view_text};
+use crate::marks::{Mark, marks_of};
+use crate::scale::Scale;
+use crate::shapes::{push_escaped, push_ground_line, push_upright, push_words};
+use crate::sizes::{GRID_LINES, LANE, MAX_LANES, MAX_SPACING, SPACINGS, TOP};
+use crate::strokes::push_strokes;
+use crate::values::push_values;
+use lgx_chart::{Chart, Clock, End, Entry, push, push_number};
+use lgx_num::Memory;
+use std::alloc::Global;
+
+/// Adds a lane's name and its line.
+fn push_lane_head(text: &mut Vec<u8>, alloc: Global, lane: &Lane, top: u32) -> Result<(), Memory>
+    ensures { OnOk result (text.new.items ≡ text.old.items ++ lane_head lane.now top) }
+{
+    let name = short(alloc, lane.name())?;
+    push(text, b"<g class=\"")?;
+    push(text, lane.class())?;
+    push(text, b"\"><title>")?;
+    push_escaped(text, lane.name())?;
+    push(text, b"</title>\n")?;
+    push_words(text, alloc, b"name", 10, u64::from(top) + 36, &name)?;
+    push_ground_line(text, alloc, u64::from(top) + 40)
+}
+
+/// Adds a lane.
+fn push_lane(
+    text: &mut Vec<u8>,
+    alloc: Global,
+    lane: &Lane,
+    top: u32,
+    marks: &[Mark],
+) -> Result<(), Memory>
+    ensures { OnOk result (text.new.items ≡ text.old.items ++ lane_text lane.now top marks.now) }
+{
+    push_lane_head(text, alloc, lane, top)?;
+    push_values(text, alloc, lane, top, marks)?;
+    push_strokes(text, alloc, top, marks)?;
+    push(text, b"</g>\n")
+}
+
+/// Where a lane begins, or the first place below the last.
+fn top_of(number: usize) -> u32
+    requires { number ≤ MAX_LANES }
+    ensures { result ≡ top_of number }
+{
+    (TOP + LANE * number as u64) as u32
+}
+
+/// Adds all lanes, one below the other.
+fn push_lanes(
+    text: &mut Vec<u8>,
+    alloc: Global,
+    scale: Scale,
+    entries: &[Entry],
+    lanes: &[Lane],
+) -> Result<(), Memory>
+    requires { length lanes.now ≤ MAX_LANES }
+    ensures { OnOk result (text.new.items ≡ text.old.items ++ lanes_from scale entries.now 0 lanes.now) }
+{
+    for (number, lane) in lanes.iter().enumerate() {
+        let marks = marks_of(alloc, scale, lane, entries)?;
+        push_lane(text, alloc, lane, top_of(number), &marks)?;
+    }
+    Ok(())
+}
+
+/// Whether ten of a time reach the end.
+#[tactic(auto, unfolding(crate::specs::Svg::reaches))]
+fn reaches(end: u32, spacing: u32) -> bool
+    ensures { result ≡ reaches end spacing }
+{
+    u64::from(end) <= 10 * u64::from(spacing)
+}
+
+/// The first of these times of which ten reach the end.
+fn first_reaching(end: u32, spacings: &[u32]) -> Option<u32>
+    ensures { result ≡ find (reaches end) spacings.now }
+{
+    for spacing in spacings {
+        if reaches(end, *spacing) {
+            return Some(*spacing);
+        }
+    }
+    None
+}
+
+/// How far the lines down a drawing stand apart.
+#[tactic(auto, unfolding(crate::specs::Svg::spacing))]
+fn spacing(end: u32) -> u32
+    ensures { result ≡ spacing end }
+{
+    match first_reaching(end, &SPACINGS) {
+        Some(spacing) => spacing,
+        None => MAX_SPACING,
+    }
+}
+
+/// Adds a line down at a time, and the time below it, unless the end comes before.
+fn push_grid_line(
+    text: &mut Vec<u8>,
+    alloc: Global,
+    scale: Scale,
+    bottom: u32,
+    time: u64,
+) -> Result<(), Memory>
+    ensures { OnOk result (text.new.items ≡ text.old.items ++ grid_line scale bottom time) }
+{
+    if u64::from(scale.end) < time {
+        return Ok(());
+    }
+    let x = u64::from(scale.x_of(time as u32));
+    let below = u64::from(bottom);
+    let digits = time.to_string(alloc)?;
+    push_upright(text, alloc, b"grid", x, TOP - 22, below + 6)?;
+    push_words(text, alloc, b"time", x, below + 22, digits.as_bytes())
+}
+
+/// Adds the lines down a drawing.
+#[tactic(auto, using(crate::proofs::Places::small_product), unfolding(crate::specs::Svg::grid))]
+fn push_grid(text: &mut Vec<u8>, alloc: Global, scale: Scale, bottom: u32) -> Result<(), Memory>
+    ensures { OnOk result (text.new.items ≡ text.old.items ++ grid scale bottom) }
+{
+    let spacing = u64::from(spacing(scale.end));
+    for number in 0..GRID_LINES {
+        push_grid_line(text, alloc, scale, bottom, number * spacing)?;
+    }
+    Ok(())
+}
+
+/// What time is counted in.
+fn unit_of(clock: Clock) -> &'static [u8]
+    ensures { result.now ≡ unit_of clock }
+{
+    match clock {
+        Clock::Step => b"processor steps",
+        Clock::Tick => b"ticks (ms)",
+    }
+}
+
+/// Adds the head.
+#[tactic(auto, unfolding(crate::specs::Svg::head))]
+fn push_head(text: &mut Vec<u8>, alloc: Global, height: u64) -> Result<(), Memory>
+    ensures { OnOk result (text.new.items ≡ text.old.items ++ head height) }
+{
+    push(text, open_text())?;
+    push_number(text, alloc, height)?;
+    push(text, view_text())?;
+    push_number(text, alloc, height)?;
+    push(text, b"\">\n")?;
+    push(text, style())
+}
+
+/// How a report ends.
+#[tactic(auto, unfolding(crate::specs::Svg::ending))]
+fn ending(alloc: Global, end: &End) -> Result<Vec<u8>, Memory>
+    ensures { IfOk result (λ text. text.items ≡ ending end.now) }
+{
+    let mut text = Vec::new(alloc);
+    push(&mut text, b"ends in ")?;
+    push(&mut text, end.mode.as_slice())?;
+    push(&mut text, b" at tick ")?;
+    push_number(&mut text, alloc, u64::from(end.tick))?;
+    push(&mut text, b", step ")?;
+    push_number(&mut text, alloc, u64::from(end.step))?;
+    push(&mut text, b"; lines lost: ")?;
+    push_number(&mut text, alloc, u64::from(end.lost))?;
+    Ok(text)
+}
+
+/// Adds what stands before the lanes.
+fn push_front(
+    text: &mut Vec<u8>,
+    alloc: Global,
+    scale: Scale,
+    end: &End,
+    bottom: u32,
+) -> Result<(), Memory>
+    ensures { OnOk result (text.new.items ≡ text.old.items ++ front scale end.now bottom) }
+{
+    let ending = ending(alloc, end)?;
+    let below = u64::from(bottom) + 22;
+    push_head(text, alloc, u64::from(bottom) + 30)?;
+    push_words(text, alloc, b"head", 10, 22, &ending)?;
+    push(text, legend())?;
+    push_grid(text, alloc, scale, bottom)?;
+    push_words(text, alloc, b"unit", 10, below, unit_of(scale.clock))
+}
+
+/// A report as a drawing: a lane for each task, the faults, the replies and each watched place, with time from left to
+/// right. Marks in one place share a stroke, so a lane has at most as many as the drawing has places across.
+pub fn svg_text(alloc: Global, clock: Clock, chart: &Chart) -> Result<Vec<u8>, Memory>
+    ensures { IfOk result (λ text. text.items ≡ svg_text clock chart.now) }
+{
+    let mut text = Vec::new(alloc);
+    let lanes = lanes_of(alloc, chart)?;
+    let scale = Scale::of(clock, &chart.end);
+    push_front(&mut text, alloc, scale, &chart.end, top_of(lanes.len()))?;
+    push_lanes(&mut text, alloc, scale, chart.entries.as_slice(), &lanes)?;
+    push(&mut text, b"</svg>\n")?;
+    Ok(text)
+}

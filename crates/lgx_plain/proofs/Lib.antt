@@ -1,0 +1,10 @@
+pub mod Texts
+pub mod Sums
+pub mod Puts
+pub mod Reports
+pub mod Numbers
+pub mod Runs
+pub mod Requests
+pub mod Endings
+pub mod Exactly
+pub mod Laws

@@ -1,0 +1,10 @@
+pub mod Status
+pub mod Words
+pub mod CauseLines
+pub mod ProjectLines
+pub mod CountLines
+pub mod Ends
+pub mod Output
+pub mod Call
+pub mod Causes
+pub mod Request

@@ -1,0 +1,106 @@
+// The line of `check`.
+ghost use Rattle.std.specs.Prelude.{◌≡◌, ◌^◌, ◌<◌, [], ◌∷◌, ◌++◌, length, sum_by, IfOk, OnOk};
+ghost use Rattle.std.specs.Fmt.{decimal};
+ghost use Rattle.lgx_watch.specs.Spaces.{after_spaces};
+ghost use Rattle.lgx_plain.specs.ProjectLines.{routine_count, rung_count, check_line};
+
+use lgx_edit::{ProgramText, RoutineText};
+use lgx_num::Memory;
+use lgx_project::Project;
+use lgx_watch::{push_count, push_word};
+use std::alloc::Global;
+
+/// How many rungs the routines have.
+fn rungs_of(routines: &[RoutineText]) -> u64
+    requires { sum_by (λ r. length r.source) routines.now < 2 ^ 64 }
+    ensures { result ≡ sum_by (λ r. length r.source) routines.now }
+{
+    let mut count = 0;
+    for routine in routines {
+        count += routine.source.len() as u64;
+    }
+    count
+}
+
+/// How many routines the programs have.
+fn routine_count(programs: &[ProgramText]) -> u64
+    requires { sum_by (λ p. length p.routines) programs.now < 2 ^ 64 }
+    ensures { result ≡ sum_by (λ p. length p.routines) programs.now }
+{
+    let mut count = 0;
+    for program in programs {
+        count += program.routines.len() as u64;
+    }
+    count
+}
+
+/// How many rungs the programs have.
+fn rung_count(programs: &[ProgramText]) -> u64
+    requires { sum_by (λ p. sum_by (λ r. length r.source) p.routines) programs.now < 2 ^ 64 }
+    ensures { result ≡ sum_by (λ p. sum_by (λ r. length r.source) p.routines) programs.now }
+{
+    let mut count = 0;
+    for program in programs {
+        count += rungs_of(program.routines.as_slice());
+    }
+    count
+}
+
+/// How many routines a project has.
+fn routines_in(project: &Project) -> u64
+    ensures { result ≡ routine_count project.now.programs }
+{
+    routine_count(project.texts.as_slice())
+}
+
+/// How many rungs a project has.
+fn rungs_in(project: &Project) -> u64
+    ensures { result ≡ rung_count project.now.programs }
+{
+    rung_count(project.texts.as_slice())
+}
+
+/// How many tasks a project has.
+fn tasks_in(project: &Project) -> u64
+    ensures { result ≡ length project.now.tasks }
+{
+    project.tasks.len() as u64
+}
+
+/// How many programs a project has.
+fn programs_in(project: &Project) -> u64
+    ensures { result ≡ length project.now.programs }
+{
+    project.texts.len() as u64
+}
+
+/// How many bytes all tags of a project take.
+fn bytes_in(project: &Project) -> u64
+    ensures { result ≡ length project.now.image }
+{
+    u64::from(project.image.len())
+}
+
+/// Adds a word, and a number after it.
+fn push_named(text: &mut Vec<u8>, word: &[u8], number: u64) -> Result<(), Memory>
+    ensures { OnOk result (text.new.items ≡ text.old.items ++ after_spaces (word.now ∷ decimal number ∷ [])) }
+{
+    push_word(text, word)?;
+    push_count(text, number)
+}
+
+/// How many tasks, programs, routines and rungs there are, and how many bytes all tags take, as a line.
+#[tactic(auto, unfolding(crate::specs::ProjectLines::check_line))]
+pub(crate) fn check_line(alloc: Global, project: &Project) -> Result<Vec<u8>, Memory>
+    ensures { IfOk result (λ text. text.items ≡ check_line project.now) }
+{
+    let mut text = Vec::new(alloc);
+    text.extend_from_slice(b"ok")?;
+    push_named(&mut text, b"tasks", tasks_in(project))?;
+    push_named(&mut text, b"programs", programs_in(project))?;
+    push_named(&mut text, b"routines", routines_in(project))?;
+    push_named(&mut text, b"rungs", rungs_in(project))?;
+    push_named(&mut text, b"bytes", bytes_in(project))?;
+    text.push(b'\n')?;
+    Ok(text)
+}

@@ -1,0 +1,9 @@
+pub mod Faults
+pub mod FewLines
+pub mod Logs
+pub mod Overlaps
+pub mod Changed
+pub mod Written
+pub mod Taking
+pub mod Events
+pub mod Making

@@ -1,0 +1,164 @@
+-- A recording that takes one more event.
+use Rattle.std.proofs.Common.{◌≡◌, ℕ, ◌+◌, ◌^◌, ◌<◌, ◌≤◌, Bool, true, false, cond, List, [], ◌∷◌, ◌++◌, length, map, drop, get_or, ℤ, pos, Some, slice_get, sym, ap, ◌∙◌, subst, arith, length-append}
+use Rattle.std.specs.Prelude.{if◌then◌else◌}
+use Rattle.std.specs.List.{AllByRecursion as Each}
+use Rattle.std.proofs.lemmas.List.{length-map, get_or-map}
+use Rattle.std.proofs.lemmas.List.Sums.{sum_by-append, sum_by-cons, count_by-le-length}
+use Rattle.std.proofs.lemmas.Option.{slice_get_within, get_or_from_slice_get}
+use Rattle.spec_base.specs.declared.limits.TheConstants.{MAX_EVENTS}
+use Rattle.spec_base.proofs.Lists.{each_get}
+use Rattle.lgx_num.specs.declared.place.Place.{Place}
+use Rattle.lgx_num.specs.Image.{number, InBounds}
+use Rattle.lgx_image.specs.Grains.{ImageView, ChangesOnlyMarked, is_marked}
+use Rattle.spec_tables.specs.declared.fault.Fault.{Fault}
+use Rattle.spec_machine.specs.declared.line.Line.{Line}
+use Rattle.spec_machine.specs.declared.line.Line.TheVariants.{Fault as FaultLine}
+use Rattle.spec_machine.specs.declared.event.Event.{Event}
+use Rattle.spec_machine.specs.Project.{Project, Watch}
+use Rattle.spec_machine.specs.ValidProject.{IsValidProject, IsWatchable}
+use Rattle.spec_machine.specs.State.{State}
+use Rattle.spec_machine.specs.Machine.{step, run}
+use Rattle.spec_machine.specs.Report.{Stamped, is_step, steps_of, stamp, answer_lines, set_lines, event_lines, report_lines}
+use Rattle.spec_reach.proofs.Reached.{run_more}
+use Rattle.spec_reach.proofs.Images.{images_keep_length}
+use Rattle.lgx_watch.specs.Kept.{Kept, kept_of}
+use Rattle.lgx_watch.specs.JournalLines.{lines_of_event}
+use Rattle.lgx_watch.proofs.EventLines.{one_more_event}
+use Rattle.lgx_watch.proofs.Spanned.{unmarked_watches_stay}
+use Rattle.lgx_core.specs.ControllerView.{ControllerView}
+use Rattle.lgx_core.specs.Represents.{Represents}
+use Rattle.lgx_record.specs.declared.lines.TheConstants.{MAX_EVENT_LINES}
+use Rattle.lgx_record.specs.declared.lines.Stamp.{Stamp}
+use Rattle.lgx_record.specs.RecordingView.{RecordingView}
+use Rattle.lgx_record.specs.Faults.{told_faults}
+use Rattle.lgx_record.specs.Changes.{numbers_at, change_lines, AreInside, AreAsCompared}
+use Rattle.lgx_record.specs.EventLines.{with_event_lines}
+use Rattle.lgx_record.specs.Records.{Records, IsRecording}
+use Rattle.lgx_record.proofs.FewLines.{new_faults, events_have_few_lines}
+use Rattle.lgx_record.proofs.Logs.{kept_of-more}
+use Rattle.lgx_record.proofs.Changed.{set_lines-changes}
+
+-- ---- before the event
+
+-- the log has counted few lines
+pub few_lost : (v : RecordingView) → IsRecording v → v.controller.spent < MAX_EVENTS → v.log.lost + MAX_EVENT_LINES < 2 ^ 63
+few_lost v i l =
+    let few = events_have_few_lines i.project i.events i.records.controller.valid in
+    let lost = ap (λ (k : Kept). k.lost) i.records.log in
+    let many = i.records.controller.counted in
+    omega arith
+
+-- the journal has room for its number of events
+pub few_events : (v : RecordingView) → IsRecording v → v.controller.spent < MAX_EVENTS → length v.journal.events < MAX_EVENTS
+few_events v i l = let e = ap length i.records.journal in let many = i.records.controller.counted in omega arith
+
+-- steps are at most the events
+pub few_steps : (v : RecordingView) → IsRecording v → v.steps ≤ v.controller.spent
+few_steps v i = let most = count_by-le-length is_step i.events in let steps = i.records.steps in let many = i.records.controller.counted in omega arith
+
+-- ---- after the event
+
+watched_inside : (len : ℕ) (watches : List Watch) → Each (IsWatchable len) watches → Each (λ p. InBounds p len) (map (λ w. w.place) watches)
+watched_inside len [] h = tt
+watched_inside len (w ∷ ws) h = (h.0.inside, watched_inside len ws h.1)
+
+module _ (project : Project) (valid : IsValidProject project) where
+  -- the watched places lie in the image of each state
+  pub are_inside : (places : List Place) (events : List Event) (c : ControllerView) → places ≡ map (λ w. w.place) project.watches → Represents c (run project events) → AreInside places c.parts.image.bytes
+  are_inside places events c is r =
+      let many : length c.parts.image.bytes ≡ length project.image = ap length r.parts.image ∙ images_keep_length project events in
+      record {
+        small = (let a = ap length r.parts.image in let b = r.parts.sane.image in let d = r.parts.sane.plan.bytes in omega arith);
+        inside = λ w p got. subst (λ n. InBounds p n) (sym many) (each_get (λ q. InBounds q (length project.image)) (map (λ w. w.place) project.watches) w p (watched_inside (length project.image) project.watches valid.watches) (subst (λ (ps : List Place). slice_get ps w ≡ Some p) is got));
+      }
+
+-- a place of which no byte was written has the number last compared
+pub as_compared : (v : RecordingView) (project : Project) (events : List Event) (now : ImageView) → Records v project events → ChangesOnlyMarked v.controller.parts.image now → AreAsCompared v.places v.values now
+as_compared v project events now r changes = record {
+  many = ap length r.values ∙ length-map v.places (number (run project events).image);
+  same = λ w p got none. (
+      let below = slice_get_within v.places w p got in
+      let before = v.controller.parts.image.bytes in
+      ap (λ (ns : List ℤ). get_or ns w (pos 0)) r.values
+      ∙ get_or-map (number (run project events).image) v.places w p (pos 0) below
+      ∙ ap (number (run project events).image) (get_or_from_slice_get v.places w p p got)
+      ∙ ap (λ (image : List ℕ). number image p) (sym r.controller.represents.parts.image)
+      ∙ sym (unmarked_watches_stay v.controller.parts.image now p changes none)
+      );
+}
+
+-- before the watched places are compared
+pub next_inside : (v : RecordingView) (i : IsRecording v) (e : Event) (c : ControllerView) → Represents c (step (run i.project i.events) e).state → AreInside v.places c.parts.image.bytes
+next_inside v i e c r =
+    are_inside i.project i.records.controller.valid v.places (i.events ++ e ∷ []) c i.records.places (subst (λ (y : State). Represents c y) (sym (run_more i.project i.events e)) r)
+
+pub next_compared : (v : RecordingView) (i : IsRecording v) (now : ImageView) → ChangesOnlyMarked v.controller.parts.image now → AreAsCompared v.places v.values now
+next_compared v i now changes = as_compared v i.project i.events now i.records changes
+
+-- what was done when an event of state s was taken
+pub record Takes (old new : RecordingView) (s : State) (e : Event) (at : Stamp) : Type 0 where
+  pub journal : new.journal.events ≡ old.journal.events ++ e ∷ []
+  pub represents : Represents new.controller (step s e).state
+  pub spent : new.controller.spent ≡ old.controller.spent + 1
+  pub names : new.names ≡ old.names
+  pub places : new.places ≡ old.places
+  pub steps : new.steps ≡ (if is_step e then old.steps + 1 else old.steps)
+  pub tick : at.tick ≡ (step s e).state.tick
+  pub step_is : at.step ≡ new.steps
+  pub log : new.log ≡ with_event_lines old.log at (answer_lines (step s e).entry ++ (map FaultLine (told_faults (step s e).state (step s e).entry) ++ change_lines 0 old.values new.values))
+  pub values : new.values ≡ numbers_at (step s e).state.image new.places
+  pub taken : (grain : ℕ) → is_marked new.controller.parts.image.marks grain ≡ false
+
+-- one more event is counted
+pub counted : (events : List Event) (e : Event) (n : ℕ) → n ≡ steps_of events → (if is_step e then n + 1 else n) ≡ steps_of (events ++ e ∷ [])
+counted events e n is =
+    by_test (is_step e)
+    ∙ ap (λ m. steps_of events + m) (sym (sum_by-cons (λ x. cond (is_step x) 1 0) e []))
+    ∙ sym (sum_by-append (λ x. cond (is_step x) 1 0) events (e ∷ []))
+  where
+    by_test : (b : Bool) → cond b (n + 1) n ≡ steps_of events + (cond b 1 0 + 0)
+    by_test true = omega arith
+    by_test false = omega arith
+
+pub records-more : (old new : RecordingView) (project : Project) (events : List Event) (e : Event) (at : Stamp) → Records old project events → Takes old new (run project events) e at → Records new project (events ++ e ∷ [])
+records-more old new project events e at r t =
+    let s = run project events in
+    let x = step s e in
+    let watched = map (λ (w : Watch). w.place) project.watches in
+    let places : new.places ≡ watched = t.places ∙ r.places in
+    let steps : new.steps ≡ steps_of (events ++ e ∷ []) = t.steps ∙ counted events e old.steps r.steps in
+    let before : old.values ≡ numbers_at s.image watched = r.values ∙ ap (numbers_at s.image) r.places in
+    let now : new.values ≡ numbers_at x.state.image watched = t.values ∙ ap (numbers_at x.state.image) places in
+    let sets : change_lines 0 old.values new.values ≡ set_lines 0 project.watches s.image x.state.image =
+    ap (λ (vs : List ℤ). change_lines 0 vs new.values) before
+    ∙ ap (λ (us : List ℤ). change_lines 0 (numbers_at s.image watched) us) now
+    ∙ sym (set_lines-changes 0 project.watches s.image x.state.image) in
+    let answer = answer_lines x.entry in
+    let told = told_faults x.state x.entry in
+    let lines = answer ++ (map FaultLine told ++ change_lines 0 old.values new.values) in
+    let same_lines : lines ≡ event_lines project.watches s x.state x.entry =
+    ap (λ (fs : List Fault). answer ++ (map FaultLine fs ++ change_lines 0 old.values new.values)) (sym (new_faults s e))
+    ∙ ap (λ (cs : List Line). answer ++ (map FaultLine (drop (length s.faults) x.state.faults) ++ cs)) sets in
+    let same_step : at.step ≡ (if is_step e then steps_of events + 1 else steps_of events) =
+    t.step_is ∙ t.steps ∙ ap (λ n. if is_step e then n + 1 else n) r.steps in
+    let stamped : stamp at.tick at.step lines ≡ lines_of_event project.watches s (steps_of events) e =
+    ap (λ n. stamp n at.step lines) t.tick ∙ ap (λ n. stamp x.state.tick n lines) same_step ∙ ap (stamp x.state.tick (if is_step e then steps_of events + 1 else steps_of events)) same_lines in
+    record {
+      journal = t.journal ∙ ap (λ (es : List Event). es ++ e ∷ []) r.journal;
+      controller = record {
+        valid = r.controller.valid;
+        counted = t.spent ∙ ap (λ n. n + 1) r.controller.counted ∙ sym (length-append events (e ∷ []));
+        represents = subst (λ (y : State). Represents new.controller y) (sym (run_more project events e)) t.represents;
+      };
+      log =
+          t.log
+          ∙ ap (λ (k : Kept). with_event_lines k at lines) r.log
+          ∙ kept_of-more (report_lines project events) (stamp at.tick at.step lines)
+          ∙ ap (λ (more : List Stamped). kept_of (report_lines project events ++ more)) stamped
+          ∙ ap kept_of (sym (one_more_event project events e));
+      names = t.names ∙ r.names;
+      steps = steps;
+      places = places;
+      values = t.values ∙ ap (λ (y : State). numbers_at y.image new.places) (sym (run_more project events e));
+      taken = t.taken;
+    }

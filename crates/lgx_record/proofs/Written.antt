@@ -1,0 +1,73 @@
+-- The watched places that have a byte in a marked grain, grain by grain.
+use Rattle.std.proofs.Common.{◌≡◌, ℕ, suc, ◌<◌, ◌≤◌, ◌⊎◌, inl, inr, Bool, true, false, ◌||◌, List, length, Some, None, slice_get, refl, sym, ap, ◌∙◌, subst, arith}
+use Rattle.std.proofs.lemmas.Bool.{cases_lt, false≢true}
+use Rattle.std.proofs.lemmas.Option.{slice_get_within}
+use Rattle.spec_base.specs.declared.limits.TheConstants.{MAX_IMAGE_BYTES}
+use Rattle.lgx_num.specs.declared.place.Place.{Place}
+use Rattle.lgx_image.specs.Grains.{is_marked, NextMarked}
+use Rattle.lgx_watch.specs.Watches.{LiesIn, is_member}
+use Rattle.lgx_record.specs.Changes.{AreInside, HasWritten}
+use Rattle.lgx_record.proofs.Changed.{small_grain}
+
+-- the set has the places that have a byte in a marked grain below from
+pub record IsJoined (places : List Place) (marks set : List Bool) (from : ℕ) : Type 0 where
+  pub members : (grain : ℕ) → grain < from → is_marked marks grain ≡ true → (w : ℕ) (p : Place) → slice_get places w ≡ Some p → LiesIn p grain → is_member set w ≡ true
+  pub known : (w : ℕ) → is_member set w ≡ true → w < length places
+
+pub join-starts : (places : List Place) (marks set : List Bool) → ((w : ℕ) → is_member set w ≡ false) → IsJoined places marks set 0
+join-starts places marks set none = record {
+  members = λ grain l. absurd (omega arith);
+  known = λ w is. absurd (false≢true (sym (none w) ∙ is));
+}
+
+module _ (places : List Place) (marks set row joined : List Bool) (from grain : ℕ) where
+  module _ (h : IsJoined places marks set from) (next : NextMarked marks from (Some grain)) (has : (w : ℕ) (p : Place) → slice_get places w ≡ Some p → LiesIn p grain → is_member row w ≡ true) (no_other : (w : ℕ) → is_member row w ≡ true → (p : Place) × (slice_get places w ≡ Some p) × LiesIn p grain) (both : (w : ℕ) → is_member joined w ≡ (is_member set w || is_member row w)) where
+    in_set : (w : ℕ) → is_member set w ≡ true → is_member joined w ≡ true
+    in_set w is = both w ∙ ap (λ b. b || is_member row w) is
+
+    in_row : (w : ℕ) → is_member row w ≡ true → is_member joined w ≡ true
+    in_row w is = both w ∙ ap (λ b. is_member set w || b) is ∙ or_true (is_member set w)
+      where
+        or_true : (b : Bool) → (b || true) ≡ true
+        or_true true = refl
+        or_true false = refl
+
+    either : (a b : Bool) → (a || b) ≡ true → (a ≡ true) ⊎ (b ≡ true)
+    either true b is = inl refl
+    either false b is = inr is
+
+    -- of the grains up to this one
+    pub join-goes-on : IsJoined places marks joined (suc grain)
+    join-goes-on = record {
+      members = λ g l marked w p got lies. elim (cases_lt g from) [
+        | inl early ↦ in_set w (h.members g early marked w p got lies)
+        | inr late ↦ elim (cases_lt g grain) [
+          | inl between ↦ absurd (false≢true (sym (next.2 g late between) ∙ marked))
+          | inr here ↦ (let same : g ≡ grain = omega arith in in_row w (has w p got (subst (λ n. LiesIn p n) same lies)))
+        ]
+      ];
+      known = λ w is. elim (either (is_member set w) (is_member row w) (sym (both w) ∙ is)) [
+        | inl old ↦ h.known w old
+        | inr new ↦ (let r = no_other w new in slice_get_within places w r.0 r.1)
+      ];
+    }
+
+-- no grain from this one on is marked
+pub join-ends : (places : List Place) (marks set : List Bool) (from : ℕ) → IsJoined places marks set from → NextMarked marks from None → HasWritten places marks set
+join-ends places marks set from h none = record {
+  members = λ w p got out grain marked lies. elim (cases_lt grain from) [
+    | inl early ↦ absurd (false≢true (sym out ∙ h.members grain early marked w p got lies))
+    | inr late ↦ absurd (false≢true (sym (none grain late) ∙ marked))
+  ];
+  known = h.known;
+}
+
+-- no grain from this one on has a byte of the image
+pub join-ends-past : (places : List Place) (image : List ℕ) (marks set : List Bool) (from : ℕ) → AreInside places image → IsJoined places marks set from → MAX_IMAGE_BYTES ≤ from → HasWritten places marks set
+join-ends-past places image marks set from inside h past = record {
+  members = λ w p got out grain marked lies. (
+      let small = small_grain p (length image) grain inside.small (inside.inside w p got) lies in
+      absurd (false≢true (sym out ∙ h.members grain (omega arith) marked w p got lies))
+      );
+  known = h.known;
+}

@@ -1,0 +1,116 @@
+// The watched places that changed by an event.
+ghost use Rattle.std.specs.Prelude.{◌≡◌, ℕ, ◌+◌, ◌≤◌, ◌<◌, ◌^◌, false, length, IfOk};
+ghost use Rattle.spec_machine.specs.State.{State};
+ghost use Rattle.lgx_image.specs.Grains.{is_marked};
+ghost use Rattle.lgx_watch.specs.declared.bits.TheConstants.{MAX_WATCHES};
+ghost use Rattle.lgx_core.specs.Represents.{Represents};
+ghost use Rattle.lgx_record.specs.Changes.{numbers_at, change_line, AreInside, AreAsCompared, HasWritten};
+ghost use Rattle.lgx_record.specs.EventLines.{with_event_lines, Compared};
+
+use crate::lines::{Stamp, log_line};
+use lgx_core::Controller;
+use lgx_num::{Memory, Place};
+use lgx_watch::{Line, Log, WatchIndex, WatchSet};
+use std::alloc::Global;
+
+/// The numbers at places of the controller's image.
+pub(crate) fn numbers_at(
+    alloc: Global,
+    controller: &Controller,
+    places: &[Place],
+) -> Result<Vec<i32>, Memory>
+    requires { AreInside places.now controller.now.parts.image.bytes }
+    ensures { (s : State) → Represents controller.now s → IfOk result (λ numbers. numbers.items ≡ numbers_at s.image places.now) }
+{
+    let mut numbers = Vec::with_capacity(alloc, places.len())?;
+    for place in places {
+        numbers.push(controller.read(*place))?;
+    }
+    Ok(numbers)
+}
+
+/// Puts a line into the log for each watched place whose number has changed since it was last compared, in watch order, and
+/// takes the marks. Only places that have a byte in a marked grain are looked at.
+pub(crate) fn log_changes(
+    log: &mut Log,
+    values: &mut [i32],
+    at: Stamp,
+    controller: &mut Controller,
+    watches: &WatchIndex,
+)
+    requires inside { AreInside watches.now controller.old.parts.image.bytes }
+    requires compared { AreAsCompared watches.now values.old controller.old.parts.image }
+    requires room { log.old.lost + MAX_WATCHES < 2 ^ 63 }
+    ensures compared { (s : State) → Represents controller.old s → Compared log.old log.new at values.old values.new (numbers_at s.image watches.now) }
+    ensures represents { (s : State) → Represents controller.old s → Represents controller.new s }
+    ensures spent { controller.new.spent ≡ controller.old.spent }
+    ensures taken { (grain : ℕ) → is_marked controller.new.parts.image.marks grain ≡ false }
+{
+    if controller.next_marked(0).is_none() {
+        return;
+    }
+    let written = written_watches(controller, watches);
+    compare_all(log, values, at, controller, watches.places(), &written);
+    controller.clear_marks();
+}
+
+/// The watched places that have a byte in a marked grain.
+fn written_watches(controller: &Controller, watches: &WatchIndex) -> WatchSet
+    requires { AreInside watches.now controller.now.parts.image.bytes }
+    ensures { HasWritten watches.now controller.now.parts.image.marks result }
+{
+    let mut written = WatchSet::new();
+    let mut from = 0;
+    while let Some(grain) = controller.next_marked(from) {
+        written.join(&watches.of(grain));
+        let Some(next) = grain.checked_add(1) else {
+            return written;
+        };
+        from = next;
+    }
+    written
+}
+
+/// Compares the places of a set, each of which is one of `places`, in order. All other places have the number last compared.
+fn compare_all(
+    log: &mut Log,
+    values: &mut [i32],
+    at: Stamp,
+    controller: &Controller,
+    places: &[Place],
+    written: &WatchSet,
+)
+    requires inside { AreInside places.now controller.now.parts.image.bytes }
+    requires few { length places.now ≤ MAX_WATCHES }
+    requires compared { AreAsCompared places.now values.old controller.now.parts.image }
+    requires written { HasWritten places.now controller.now.parts.image.marks written.now }
+    requires room { log.old.lost + MAX_WATCHES < 2 ^ 63 }
+    ensures { (s : State) → Represents controller.now s → Compared log.old log.new at values.old values.new (numbers_at s.image places.now) }
+{
+    let mut from = 0;
+    while let Some(watch) = written.next(from) {
+        let number = controller.read(places[watch as usize]);
+        compare(log, &mut values[watch as usize], at, watch, number);
+        from = watch + 1;
+    }
+}
+
+/// Puts a line into the log if a watched place has another number than it had, and keeps the number.
+fn compare(log: &mut Log, value: &mut i32, at: Stamp, watch: u32, number: i32)
+    requires room { log.old.lost + 1 < 2 ^ 63 }
+    ensures log { log.new ≡ with_event_lines log.old at (change_line watch value.old number) }
+    ensures lost { log.new.lost ≤ log.old.lost + 1 }
+    ensures value { value.new ≡ number }
+{
+    if *value != number {
+        *value = number;
+        log_line(
+            log,
+            at,
+            Line::Set {
+                watch,
+                value: number,
+            },
+        );
+    }
+}

@@ -1,0 +1,13 @@
+// Laws of the report, over the definitions alone. Each is the contract of a function that does nothing.
+ghost use Rattle.lgx_record.specs.EventLines.{EventsHaveFewLines};
+ghost use Rattle.lgx_record.specs.Faults.{AnswersTellFaults};
+
+/// Whatever the event, its answer tells the faults that it recorded.
+pub fn law_of_faults()
+    ensures { AnswersTellFaults }
+{}
+
+/// An event has at most `MAX_EVENT_LINES` lines. So far fewer lines are lost than a log can count.
+pub fn law_of_lines()
+    ensures { EventsHaveFewLines }
+{}

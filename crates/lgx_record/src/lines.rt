@@ -1,0 +1,129 @@
+// The lines of an event's answer and of its faults.
+ghost use Rattle.std.specs.Prelude.{◌≡◌, ◌+◌, ◌≤◌, ◌<◌, ◌^◌, [], ◌∷◌, length, map};
+ghost use Rattle.spec_base.specs.declared.limits.TheConstants.{MAX_TASKS};
+ghost use Rattle.spec_machine.specs.declared.line.Line.TheVariants.{Fault as FaultLine};
+ghost use Rattle.spec_machine.specs.State.{State};
+ghost use Rattle.spec_machine.specs.Report.{begin_lines};
+ghost use Rattle.spec_machine.specs.Releases.{task_fault};
+ghost use Rattle.spec_machine.specs.TickLaws.{watchdog_fault, report_faults};
+ghost use Rattle.lgx_record.specs.Faults.{faults_in};
+ghost use Rattle.lgx_record.specs.EventLines.{with_event_lines, overlap_lines};
+
+use lgx_watch::{Line, Log, MAX_WATCHES};
+use spec_base::limits::MAX_TASKS;
+use spec_machine::{TickReport, What};
+use spec_tables::{Fault, Severity};
+
+/// The lines of an event: its answer's, a fault for each task and one more, and the watched places.
+pub const MAX_EVENT_LINES: u64 = 2 + MAX_TASKS as u64 + MAX_WATCHES as u64;
+
+/// The tick and the number of processor steps with which the lines of an event begin, both after the event.
+#[derive(Clone, Copy)]
+pub(crate) struct Stamp {
+    pub tick: u32,
+    pub step: u32,
+}
+
+/// Puts a line into the log.
+pub(crate) fn log_line(log: &mut Log, at: Stamp, line: Line)
+    requires room { log.old.lost + 1 < 2 ^ 63 }
+    ensures log { log.new ≡ with_event_lines log.old at (line ∷ []) }
+    ensures lost { log.new.lost ≤ log.old.lost + 1 }
+{
+    log.push(at.tick, at.step, line);
+}
+
+/// Puts the line of a processor step that began a scan into the log.
+pub(crate) fn log_begin(log: &mut Log, at: Stamp, what: What)
+    requires room { log.old.lost + 1 < 2 ^ 63 }
+    ensures log { log.new ≡ with_event_lines log.old at (begin_lines what) }
+    ensures lost { log.new.lost ≤ log.old.lost + 1 }
+{
+    if let What::Began {
+        task,
+        program,
+        version,
+    } = what
+    {
+        log_line(
+            log,
+            at,
+            Line::Begin {
+                task,
+                program,
+                version,
+            },
+        );
+    }
+}
+
+/// Puts the line of a fault into the log, if there is one.
+pub(crate) fn log_fault(log: &mut Log, at: Stamp, fault: Option<Fault>)
+    requires room { log.old.lost + 1 < 2 ^ 63 }
+    ensures log { log.new ≡ with_event_lines log.old at (map FaultLine (faults_in fault)) }
+    ensures lost { log.new.lost ≤ log.old.lost + 1 }
+{
+    if let Some(fault) = fault {
+        log_line(log, at, Line::Fault(fault));
+    }
+}
+
+/// Puts the lines of the faults that a tick recorded into the log: that of a watchdog, and those of overlaps in the order of
+/// tasks.
+pub(crate) fn log_tick_faults(log: &mut Log, at: Stamp, report: TickReport)
+    requires room { log.old.lost + MAX_TASKS + 1 < 2 ^ 63 }
+    ensures log { (s : State) → s.tick ≡ at.tick → length s.table.defs ≤ MAX_TASKS → report.overlapped < 2 ^ length s.table.defs → log.new ≡ with_event_lines log.old at (map FaultLine (report_faults s report)) }
+    ensures lost { log.new.lost ≤ log.old.lost + MAX_TASKS + 1 }
+{
+    log_watchdog(log, at, report.watchdog);
+    log_overlaps(log, at, report.overlapped);
+}
+
+/// Puts the line of a watchdog that ran out into the log, if one did.
+fn log_watchdog(log: &mut Log, at: Stamp, watchdog: Option<u32>)
+    requires room { log.old.lost + 1 < 2 ^ 63 }
+    ensures log { (s : State) → s.tick ≡ at.tick → log.new ≡ with_event_lines log.old at (map FaultLine (watchdog_fault s watchdog)) }
+    ensures lost { log.new.lost ≤ log.old.lost + 1 }
+{
+    if let Some(task) = watchdog {
+        log_line(
+            log,
+            at,
+            Line::Fault(task_fault(at, Severity::Major, 1, task)),
+        );
+    }
+}
+
+/// Puts the line of an overlap into the log for each task of a mask, in the order of tasks.
+fn log_overlaps(log: &mut Log, at: Stamp, overlapped: u32)
+    requires room { log.old.lost + MAX_TASKS < 2 ^ 63 }
+    ensures log { (s : State) → s.tick ≡ at.tick → log.new ≡ with_event_lines log.old at (overlap_lines s overlapped MAX_TASKS) }
+    ensures lost { log.new.lost ≤ log.old.lost + MAX_TASKS }
+{
+    if overlapped == 0 {
+        return;
+    }
+    for task in 0..MAX_TASKS as u32 {
+        if (overlapped >> task) % 2 == 1 {
+            log_line(
+                log,
+                at,
+                Line::Fault(task_fault(at, Severity::Minor, 2, task)),
+            );
+        }
+    }
+}
+
+/// A fault of a task (type 6): code 1 is its watchdog, 2 the overlap of a periodic task.
+fn task_fault(at: Stamp, severity: Severity, code: u8, task: u32) -> Fault
+    ensures { (s : State) → s.tick ≡ at.tick → result ≡ task_fault s severity code task }
+{
+    Fault {
+        severity,
+        kind: 6,
+        code,
+        task,
+        program: None,
+        tick: at.tick,
+    }
+}

@@ -1,0 +1,237 @@
+-- A recorder, and what stands with it under the lock, may go from one thread to another: so may each of its fields. The search goes
+-- down by itself but where types are recursive, or have many fields: there the way is named.
+use denote.Param.Send.{IsSend, sendable, struct_send, recorded_send as of_fields, view_send}
+use denote.RattleType.{RattleType}
+use denote.Struct.Declared.{shape}
+use Rattle.std.specs.declared.sync.ledger.Ledger as Ledger
+use Rattle.std.proofs.sync.ledger.Book.TheSendSync as book
+use Rattle.lgx_shared.specs.declared.input.Input as Input
+use Rattle.lgx_shared.specs.contracts.kept.Named as Named
+use Rattle.lgx_shared.specs.contracts.kept.Named.TheInside as named
+use Rattle.lgx_shared.specs.contracts.kept.Fit as Fit
+use Rattle.lgx_shared.specs.contracts.kept.Kept as Kept
+use Rattle.std.proofs.Crossing.{crosses}
+use Rattle.lgx_rung.proofs.rung.Legs.TheLaws.TheKnot as source
+use Rattle.lgx_prog.proofs.rung.Legs.TheLaws.TheKnot as checked
+use Rattle.circular_buffer.proofs.Crosses.{Cells-send, Deed-send}
+use Rattle.spec_tables.specs.contracts.fault.Fault as Fault
+use Rattle.lgx_edit.specs.contracts.book.EditBook as EditBook
+use Rattle.lgx_fault.specs.contracts.fault_log.FaultLog as FaultLog
+use Rattle.lgx_rung.specs.contracts.rung.SourceRung as SourceRung
+use Rattle.lgx_prog.specs.contracts.rung.Rung as Rung
+use Rattle.lgx_prog.specs.contracts.prepared.Prepared as Prepared
+use Rattle.lgx_prog.specs.contracts.code.Code as Code
+use Rattle.lgx_prog.specs.contracts.code.FlatRoutine as FlatRoutine
+use Rattle.lgx_prog.specs.contracts.program.FlatProgram as FlatProgram
+use Rattle.lgx_versions.specs.contracts.slots.Version as Version
+use Rattle.lgx_versions.specs.contracts.versions.Versions as Versions
+use Rattle.lgx_edit.specs.contracts.texts.RoutineText as RoutineText
+use Rattle.lgx_edit.specs.contracts.changes.KeptEdit as KeptEdit
+use Rattle.lgx_edit.specs.contracts.changes.EditedRoutine as EditedRoutine
+use Rattle.lgx_edit.specs.contracts.edits.ProgramEdits as ProgramEdits
+use Rattle.lgx_steps.specs.contracts.parts.Parts as Parts
+use Rattle.lgx_core.specs.contracts.controller.Controller as Controller
+use Rattle.lgx_core.specs.contracts.controller.Controller.TheInside as controller
+use Rattle.lgx_shared.specs.contracts.recorder.Recorder as Recorder
+use Rattle.lgx_shared.specs.contracts.recorder.Recorder.TheInside as recorder
+use Rattle.lgx_record.specs.contracts.recording.Recording as Recording
+use Rattle.lgx_record.specs.contracts.recording.Recording.TheInside as recording
+use Rattle.lgx_record.specs.contracts.parts.Parts as Recorded
+use Rattle.lgx_rung.proofs.ins.Ins.TheSendSync as ins
+
+pub fault_send : IsSend Fault.the_row
+fault_send = search (sendable, crosses) depth 40 fits 20000
+
+pub rung_send : IsSend Rung.the_row
+rung_send = checked.send-Rung (λ h s. search (sendable, crosses)) (search (sendable, crosses, ins.the_field_send) depth 300 fits 50000)
+
+pub prepared_send : IsSend Prepared.the_row
+prepared_send = search (sendable, crosses, ins.the_field_send) depth 200 fits 20000
+
+pub code_send : IsSend Code.the_row
+code_send = search (sendable, crosses, prepared_send) depth 200 fits 20000
+
+pub flat_routine_send : IsSend FlatRoutine.the_row
+flat_routine_send = search (sendable, crosses, code_send) depth 200 fits 20000
+
+pub flat_program_send : IsSend FlatProgram.the_row
+flat_program_send = search (sendable, crosses, flat_routine_send) depth 200 fits 20000
+
+pub version_send : IsSend Version.the_row
+version_send = search (sendable, crosses, flat_program_send) depth 200 fits 20000
+
+pub versions_send : IsSend Versions.the_row
+versions_send = search (sendable, crosses, version_send) depth 200 fits 20000
+
+pub source_send : IsSend SourceRung.the_row
+source_send = source.send-SourceRung (λ h s. search (sendable, crosses)) (search (sendable, crosses) depth 60 fits 20000) (search (sendable, crosses) depth 60 fits 20000)
+
+pub routine_text_send : IsSend RoutineText.the_row
+routine_text_send = search (sendable, crosses, source_send, rung_send) depth 200 fits 20000
+
+pub kept_edit_send : IsSend KeptEdit.the_row
+kept_edit_send = search (sendable, crosses, source_send) depth 200 fits 20000
+
+pub edited_routine_send : IsSend EditedRoutine.the_row
+edited_routine_send = search (sendable, crosses, routine_text_send, source_send, rung_send) depth 200 fits 20000
+
+pub program_edits_send : IsSend ProgramEdits.the_row
+program_edits_send = search (sendable, crosses, versions_send, kept_edit_send, edited_routine_send) depth 200 fits 20000
+
+pub book_send : IsSend EditBook.the_row
+book_send = search (sendable, crosses, program_edits_send) depth 200 fits 20000
+
+pub faults_send : IsSend FaultLog.the_row
+faults_send = search (sendable, crosses, fault_send, Cells-send, Deed-send) depth 60 fits 20000
+
+-- the parts of a controller, field by field
+pub parts_send : IsSend (Parts.the_field).row
+parts_send = struct_send (shape Parts.the_type) (
+  search (sendable, crosses) depth 200 fits 100000,
+  (
+    search (sendable, crosses) depth 200 fits 100000,
+    (
+      search (sendable, crosses) depth 200 fits 100000,
+      (
+        search (sendable, crosses) depth 200 fits 100000,
+        (
+          search (sendable, crosses) depth 200 fits 100000,
+          (
+            search (sendable, crosses) depth 200 fits 100000,
+            (
+              search (sendable, crosses) depth 200 fits 100000,
+              (
+                search (sendable, crosses) depth 200 fits 100000,
+                (
+                  search (sendable, crosses) depth 200 fits 100000,
+                  (
+                    search (sendable, crosses) depth 200 fits 100000,
+                    (
+                      search (sendable, crosses) depth 200 fits 100000,
+                      (
+                        book_send,
+                        (
+                          search (sendable, crosses) depth 200 fits 100000,
+                          (
+                            faults_send,
+                            tt,
+                          ),
+                        ),
+                      ),
+                    ),
+                  ),
+                ),
+              ),
+            ),
+          ),
+        ),
+      ),
+    ),
+  ),
+)
+
+controller_fields : IsSend controller.the_row
+controller_fields =
+    of_fields (controller.the_field).row _ _ (controller.the_type).to_one
+    (struct_send (shape controller.the_type) (parts_send, (search (sendable, crosses) depth 200 fits 100000, tt)))
+
+pub controller_send : IsSend Controller.the_row
+controller_send = view_send _ _ _ _ _ controller_fields
+
+-- the parts of a recording
+pub recorded_send : IsSend (Recorded.the_field).row
+recorded_send = struct_send (shape Recorded.the_type) (
+  search (sendable, crosses) depth 200 fits 100000,
+  (
+    controller_send,
+    (
+      search (sendable, crosses) depth 200 fits 100000,
+      (
+        search (sendable, crosses) depth 200 fits 100000,
+        (
+          search (sendable, crosses) depth 200 fits 100000,
+          (
+            search (sendable, crosses) depth 200 fits 100000,
+            (
+              search (sendable, crosses) depth 200 fits 100000,
+              (
+                search (sendable, crosses) depth 200 fits 100000,
+                tt,
+              ),
+            ),
+          ),
+        ),
+      ),
+    ),
+  ),
+)
+
+recording_fields : IsSend recording.the_row
+recording_fields =
+    of_fields (recording.the_field).row _ _ (recording.the_type).to_one
+    (struct_send (shape recording.the_type) (recorded_send, tt))
+
+pub recording_send : IsSend Recording.the_row
+recording_send = view_send _ _ _ _ _ recording_fields
+
+recorder_fields : IsSend recorder.the_row
+recorder_fields =
+    of_fields (recorder.the_field).row _ _ (recorder.the_type).to_one
+    (struct_send (shape recorder.the_type) (
+      recording_send,
+      (
+        search (sendable, crosses) depth 200 fits 100000,
+        (
+          search (sendable, crosses) depth 200 fits 100000,
+          (
+            search (sendable, crosses) depth 200 fits 100000,
+            tt,
+          ),
+        ),
+      ),
+    ))
+
+pub recorder_send : IsSend Recorder.the_row
+recorder_send = view_send _ _ _ _ _ recorder_fields
+
+-- ---- what is under the lock, whatever input and ledgers it names
+module _ (I : RattleType) (i : Input.Ghosts I.Denot) where
+  named_fields : IsSend I → IsSend (named.the_row I i)
+  named_fields s =
+      of_fields (named.the_field I i).row _ _ (named.the_type I i).to_one
+      (struct_send (shape (named.the_type I i)) (recorder_send, (search (sendable, crosses) depth 40, tt)))
+
+  pub named_send : IsSend I → IsSend (Named.the_row I i)
+  named_send s = view_send _ _ _ _ _ (named_fields s)
+
+  pub fit_send : (L : RattleType) (l : Ledger.Ghosts L.Denot) → IsSend I → IsSend L → IsSend (Fit.the_field I L i l).row
+  fit_send L l s t =
+      struct_send (shape (Fit.the_type I L i l))
+      (search (sendable, crosses) depth 40, (search (sendable, crosses) depth 40, tt))
+
+module _ (I A S E : RattleType) (i : Input.Ghosts I.Denot) (a : Ledger.Ghosts A.Denot) (s : Ledger.Ghosts S.Denot) (e : Ledger.Ghosts E.Denot) where
+  pub under_lock_send : IsSend I → IsSend A → IsSend S → IsSend E → IsSend (Kept.the_row I A S E i a s e)
+  under_lock_send si sa ss se =
+      of_fields (Kept.the_field I A S E i a s e).row _ _ (Kept.the_type I A S E i a s e).to_one
+      (struct_send (shape (Kept.the_type I A S E i a s e)) (
+        named_send I i si,
+        (
+          book.the_send A a,
+          (
+            book.the_send S s,
+            (
+              book.the_send E e,
+              (
+                fit_send I i A a si sa,
+                (
+                  fit_send I i S s si ss,
+                  (
+                    fit_send I i E e si se,
+                    tt,
+                  ),
+                ),
+              ),
+            ),
+          ),
+        ),
+      ))

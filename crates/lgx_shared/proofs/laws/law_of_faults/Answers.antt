@@ -1,5 +1,0 @@
-use Rattle.lgx_shared.proofs.Faults.{answers_tell_faults}
-use Rattle.lgx_shared.proofs.laws.law_of_faults.Goals as goal
-
-pub returns : goal.returns
-returns c = answers_tell_faults

@@ -1,5 +1,0 @@
-use Rattle.lgx_shared.proofs.FewLines.{events_have_few_lines}
-use Rattle.lgx_shared.proofs.laws.law_of_lines.Goals as goal
-
-pub returns : goal.returns
-returns c = events_have_few_lines

@@ -1,9 +1,0 @@
-use Rattle.std.proofs.Common.{[]}
-use Rattle.lgx_shared.proofs.Taking.{are_inside}
-use Rattle.lgx_shared.proofs.recording.Recording.of_project.Goals as goal
-
-pub of_controller-requires : goal.of_controller-requires
-of_controller-requires c = are_inside c.args.project c.in_ok-controller.ensures.stands.valid _ [] c.in_ok-controller.controller c.in_ok-names.ensures.watches c.in_ok-controller.ensures.stands.represents
-
-pub returns : goal.returns
-returns c = c.of_controller.ensures c.args.project c.in_ok-controller.ensures.stands c.in_ok-names.ensures.names c.in_ok-names.ensures.watches

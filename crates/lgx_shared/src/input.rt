@@ -1,0 +1,20 @@
+// What the recorder under a lock was made for.
+use std::marker::Brand;
+
+/// Names one project and one script: those that the recorder under the lock was made for. It has no calls.
+pub trait Input {
+    ghost use Rattle.spec_machine.specs.Project.{Project};
+    ghost use Rattle.spec_text.specs.Scripts.{Script};
+
+    ghost project: { Project };
+
+    ghost script: { Script };
+}
+
+impl Input for Brand {
+    ghost use Rattle.lgx_shared.specs.Lanes.{no_project, no_script};
+
+    ghost project = { no_project };
+
+    ghost script = { no_script };
+}

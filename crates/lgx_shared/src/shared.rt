@@ -1,0 +1,110 @@
+// The recorder under its lock.
+ghost use Rattle.std.specs.Prelude.{◌≡◌, ℕ, ◌+◌, ◌<◌, ◌≤◌, ◌^◌, true, false, length, sum, sum_by, vec_len, slice_index_or, IfOk, IsTrue, ◌↔◌};
+ghost use Rattle.spec_machine.specs.Events.{steps_of};
+ghost use Rattle.spec_lanes.specs.Turns.{IsAcceptAt};
+ghost use Rattle.lgx_shared.specs.Turns.{MatchTurn};
+ghost use Rattle.lgx_shared.specs.Follows.{journal_of, Follows, IsNew, HasSpent, HasCompleted};
+ghost use Rattle.lgx_shared.specs.Lanes.{most_turns};
+
+use crate::input::Input;
+use crate::kept::Kept;
+use crate::pass::{Pass, all_came, merged};
+use crate::recorder::Recorder;
+use crate::turn::Turn;
+use lgx_num::Memory;
+use std::alloc::Global;
+use std::sync::ledger::{Blank, Ledger};
+use std::sync::{Mutex, Wait};
+
+/// A recorder that threads share under one lock, each by turns of its pass.
+pub struct Shared<I: Input, A: Ledger, S: Ledger, E: Ledger> {
+    kept: Mutex<Kept<I, A, S, E>>,
+}
+
+impl<I: Input, A: Ledger, S: Ledger, E: Ledger> Shared<I, A, S, E> {
+    /// The recorder under a lock, with a pass for each lane of its script and, last, one for the processor. The recorder was
+    /// just made; the blanks are those of the ledgers of actions, of processor steps and of ends, with a part for each pass. At
+    /// out of memory the recorder is dropped.
+    pub fn share(
+        alloc: Global,
+        recorder: Recorder,
+        actions: Blank,
+        steps: Blank,
+        ends: Blank,
+    ) -> Result<(Shared<I, A, S, E>, Vec<Pass<I, A, S, E>>), Memory>
+        requires recorder { IsNew I.project I.script recorder }
+        requires actions { (actions.name ≡ A.name) × (actions.parts ≡ A.parts) × (actions.parts ≡ length I.script.lanes + 1) }
+        requires steps { (steps.name ≡ S.name) × (steps.parts ≡ S.parts) × (steps.parts ≡ length I.script.lanes + 1) }
+        requires ends { (ends.name ≡ E.name) × (ends.parts ≡ E.parts) × (ends.parts ≡ length I.script.lanes + 1) }
+        ensures len { IfOk result (λ r. vec_len r.1 ≡ length I.script.lanes + 1) }
+        ensures lanes { IfOk result (λ r. (i : ℕ) (d : _) → i < vec_len r.1 → (slice_index_or r.1.items i d).lane ≡ i) }
+        ensures counts { IfOk result (λ r. (i : ℕ) (d : _) → i < vec_len r.1 → let p = slice_index_or r.1.items i d in (p.actions ≡ 0) × (p.steps ≡ 0) × (p.ends ≡ 0) × (p.short ≡ false)) }
+    {
+        let (action_book, mut action_rest) = actions.open::<A>();
+        let (step_book, mut step_rest) = steps.open::<S>();
+        let (end_book, mut end_rest) = ends.open::<E>();
+        let count = recorder.lanes() + 1;
+        let mut passes = Vec::new(alloc);
+        for lane in 0..count {
+            let pass = Pass::new(
+                lane,
+                recorder.length_of(lane),
+                recorder.least_steps(),
+                action_rest.split_off(1, 0),
+                step_rest.split_off(1, 0),
+                end_rest.split_off(1, 0),
+            );
+            passes.push(pass)?;
+        }
+        let kept = Kept::new(recorder, action_book, step_book, end_book);
+        Ok((
+            Shared {
+                kept: Mutex::new(kept),
+            },
+            passes,
+        ))
+    }
+
+    /// One turn of the pass's lane under the lock: at `Did` the pass's count of actions rises by one, at `Helped` that of its
+    /// processor steps, at `Done` that of its ends, and at `Memory`, which comes where its next action is an accept, it is
+    /// short. It may wait for the lock, and waits again only if the pass counted another number of actions than stand in the
+    /// journal.
+    pub fn turn<R: Wait>(&self, rt: &R, pass: &mut Pass<I, A, S, E>) -> Turn
+        requires room { (pass.old.actions + 1 < 2 ^ 32) × (pass.old.steps + 1 < 2 ^ 32) × (pass.old.ends ≡ 0) }
+        ensures lane { (pass.new.lane ≡ pass.old.lane) × (pass.new.length ≡ pass.old.length) × (pass.new.least_steps ≡ pass.old.least_steps) }
+        ensures counts { MatchTurn result
+            ((pass.new.actions ≡ pass.old.actions + 1) × (pass.new.steps ≡ pass.old.steps) × (pass.new.ends ≡ 0) × (pass.new.short ≡ pass.old.short))
+            ((pass.new.actions ≡ pass.old.actions) × (pass.new.steps ≡ pass.old.steps + 1) × (pass.new.ends ≡ 0) × (pass.new.short ≡ pass.old.short))
+            ((pass.new.actions ≡ pass.old.actions) × (pass.new.steps ≡ pass.old.steps) × (pass.new.ends ≡ 1) × (pass.new.short ≡ pass.old.short))
+            ((pass.new.actions ≡ pass.old.actions) × (pass.new.steps ≡ pass.old.steps) × (pass.new.ends ≡ 0) × (pass.new.short ≡ true) × IsAcceptAt I.script pass.old.lane pass.old.actions) }
+    {
+        for _ in rt.forever() {
+            let turn = self.kept.lock(rt).turn(pass);
+            if let Some(turn) = turn {
+                return turn;
+            }
+        }
+        unreachable!()
+    }
+
+    /// The recorder, once all passes are back, each at the place of its lane. It has run where every pass came to its end, was
+    /// short of memory, or made as many turns as it may.
+    pub fn close(self, passes: Vec<Pass<I, A, S, E>>) -> Recorder
+        requires parts { (vec_len passes ≡ A.parts) × (vec_len passes ≡ S.parts) × (vec_len passes ≡ E.parts) }
+        requires lanes { (i : ℕ) (d : _) → i < vec_len passes → (slice_index_or passes.items i d).lane ≡ i }
+        ensures follows { Follows I.project I.script result }
+        ensures actions { sum result.counts ≡ sum_by (λ p. p.actions) passes.items }
+        ensures steps { steps_of (journal_of result) ≡ sum_by (λ p. p.steps) passes.items }
+        ensures spent { (i : ℕ) (d : _) → i < vec_len passes → (slice_index_or passes.items i d).ends ≡ 1 → HasSpent I.project I.script result }
+        ensures complete { ((i : ℕ) (d : _) → i < vec_len passes → (slice_index_or passes.items i d).ends ≡ 1) → HasCompleted I.project I.script result }
+        ensures ran { IsTrue result.ran ↔ ((i : ℕ) (d : _) → i < vec_len passes → let p = slice_index_or passes.items i d in p.ends ≡ 0 → p.short ≡ false → most_turns p.length p.least_steps ≤ p.actions + p.steps) }
+    {
+        let Shared { kept } = self;
+        let kept = kept.into_inner();
+        let ran = all_came(&passes);
+        let (actions, steps, ends) = merged(passes);
+        let mut recorder = kept.close(actions, steps, ends);
+        recorder.set_ran(ran);
+        recorder
+    }
+}

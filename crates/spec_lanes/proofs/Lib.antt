@@ -1,0 +1,11 @@
+pub mod Ranges
+pub mod LaneLists
+pub mod Appended
+pub mod Places
+pub mod OpenCopies
+pub mod Clocks
+pub mod Holding
+pub mod Scripts
+pub mod Acting
+pub mod Stepping
+pub mod Serving
