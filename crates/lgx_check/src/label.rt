@@ -60,7 +60,7 @@ impl LabelTable {
         }
     }
 
-    /// The labels of these rungs: any LBL with one operand that is a name, wherever it stands.
+    /// The labels of these rungs: each LBL whose single operand is a name counts, in every rung and leg.
     ///
     /// 4,294,967,296 labels or instructions of a rung have no room.
     pub(crate) fn of(alloc: Global, rungs: &[SourceRung]) -> Result<LabelTable, Memory>

@@ -34,8 +34,8 @@ abbrev pub NextMarked : List Bool → ℕ → Option ℕ → Type 0
 NextMarked marks from None = (grain : ℕ) → from ≤ grain → is_marked marks grain ≡ false
 NextMarked marks from (Some next) = (from ≤ next) × (is_marked marks next ≡ true) × ((grain : ℕ) → from ≤ grain → grain < next → is_marked marks grain ≡ false)
 
--- what every change of an image keeps: a mark that was set stays set, and the bytes of each grain that isn't marked
--- afterwards are as before
+-- what every change of an image keeps: no mark is taken off, and only bytes of grains that are marked afterwards may
+-- differ
 pub record ChangesOnlyMarked (old new : ImageView) : Type 0 where
   pub stays_marked : (grain : ℕ) → is_marked old.marks grain ≡ true → is_marked new.marks grain ≡ true
   pub same_bytes : (byte : ℕ) → is_marked new.marks (grain_of byte) ≡ false → slice_index new.bytes byte ≡ slice_index old.bytes byte

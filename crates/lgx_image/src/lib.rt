@@ -1,6 +1,6 @@
 //! The image: one list of bytes under all tags, with marks of what was written.
 //!
-//! Contracts see an [`Image`] as its bytes and its marks, one truth value per grain of `GRAIN` bytes. What stands at a
+//! To contracts an [`Image`] is its bytes, and for each grain of `GRAIN` bytes whether it is marked. What stands at a
 //! place and what a write makes of the bytes are `number` and `write` of `lgx_num`; where operands lie is `bind` of
 //! `spec_scan`. `ChangesOnlyMarked` says what every change of an image keeps.
 #![tactic(auto)]

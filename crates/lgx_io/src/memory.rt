@@ -182,9 +182,9 @@ impl Model for MemSink {
 }
 
 impl MemSink {
-    /// A sink that holds nothing. Each pair of `failing` is the number of a call that fails, counted from 1, and
-    /// the number of bytes of its piece that are kept then, at most all of them; of several pairs of one call
-    /// the first counts.
+    /// A sink that holds nothing. A pair (n, k) of `failing` has the nth call fail, the first being 1, after k bytes
+    /// of its piece were kept, or all of them where the piece is shorter; of several pairs with one n the first
+    /// counts.
     pub fn new(alloc: Global, failing: Vec<(u32, u32)>) -> Self
         ensures { result ≡ record { held = []; failing = failing.items; calls = 0; faults = 0 } }
     {

@@ -8,7 +8,7 @@ use lgx_num::{Items, Memory};
 use lgx_rung::{Element, Legs, Op, SourceRung, Texts};
 use std::alloc::Global;
 
-/// The canonical text of a rung: no blanks, mnemonics in upper case, and operands as they were read.
+/// The canonical text of a rung, without blanks: upper case for mnemonics, while operands keep their spelling.
 pub fn write_rung(alloc: Global, rung: &SourceRung) -> Result<Vec<u8>, Memory>
     ensures { IfOk result (λ text. text.items ≡ canon rung.now) }
 {

@@ -48,9 +48,9 @@ IsInLine s p i t =
 abbrev pub AtMostUp : Table → ℕ → ℕ → Type 0
 AtMostUp s p i = (q : List ℕ) × (IsQueueOf (state_of s) (λ k. (task s k).priority) p q × (length q ≤ i))
 
--- The same tasks are up, with the same starts, regions and open CPS; the tick of the last change to Run is the same; the
--- ranks of the tasks that are up differ and are below the next; and the up tasks of each priority stand in their queue by
--- rank. The numbers of the ranks don't matter.
+-- Both have the same tasks up, each with the same start, count of regions and open CPS, and both came to Run at the
+-- same tick. No two up tasks share a rank, all are below the next one, and the queue of a priority holds its up tasks
+-- in the order of their ranks, whose numbers don't matter.
 pub record Represents (v : TableView) (s : Table) : Type 0 where
   pub defs : v.defs ≡ s.defs
   pub ups : v.ups ≡ map (option_map without_rank) s.states

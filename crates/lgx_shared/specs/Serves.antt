@@ -20,8 +20,8 @@ pub record Makes (old new : RecorderView) (events : List Event) (done : List ℕ
   pub ran : new.ran ≡ old.ran
 
 -- `Did` where the lane has a due action, which is the one event; else `Helped` until the steps are spent, with one processor
--- step and its tick; else `Done` with no event, and then the lane has no action left. `Memory` comes only in place of `Did`,
--- at an accept.
+-- step and its tick; else `Done`, which adds nothing and leaves the lane without actions to do. `Memory` comes only in
+-- place of `Did`, at an accept.
 abbrev pub Serves : Project → Script → ℕ → RecorderView → Turn → RecorderView → Type 0
 Serves project script lane old turn new =
     let due = due_action project script (journal_of old) lane in

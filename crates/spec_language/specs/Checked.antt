@@ -1,5 +1,5 @@
--- Rungs with their operands checked and resolved: the same trees, or the first fault in order of instructions and, within
--- one instruction, the least number that applies.
+-- Rungs with their operands checked and resolved: the same trees, or a fault: that of the earliest instruction that has
+-- one, and of its faults the one with the lowest number.
 use Rattle.std.specs.Prelude.{ℕ, suc, ◌+◌, Bool, true, false, not, ◌&&◌, ◌==◌, nat_le, if◌then◌else◌, List, [], ◌∷◌, ◌++◌, length, map, filter_map, flat_map, find, position, codes, bytes_eq, Option, Some, None, Result, Ok, Err, option_map, option_and_then}
 use Rattle.std.specs.List.{enumerate_from}
 use Rattle.std.specs.Result.{result_ok, result_err}
@@ -56,7 +56,7 @@ label_name op _ = None
 abbrev pub label_at : ℕ → ℕ × SourceIns → Option Label
 label_at rung e = option_map (λ name. record { name = name; rung = rung; ins = e.0 }) (label_name e.1.op e.1.texts)
 
--- the labels of a routine: any LBL with one operand that is a name, wherever it stands
+-- the labels of a routine: each LBL whose single operand is a name counts, in every rung and leg
 abbrev pub labels : List Source → List Label
 labels rungs = flat_map (λ e. filter_map (label_at e.0) (enumerate_from 0 (instructions e.1))) (enumerate_from 0 rungs)
 

@@ -1,5 +1,5 @@
--- What an operand's text names: the first bit of a place in the image with the subscripts that move it, its type and the
--- end of its tag; or the first cause, from left to right, why it names none.
+-- What an operand's text names: where in the image its place begins, as a bit, and the subscripts that move it; of what
+-- type it is; where its tag ends. Or, read from the left, the first cause why it names none.
 use Rattle.std.specs.Prelude.{ℕ, zero, suc, ◌+◌, ◌*◌, Bool, not, ◌&&◌, ◌==◌, nat_lt, List, [], ◌∷◌, ◌++◌, length, filter_map, Option, Some, None, Result, Ok, Err, option_map}
 use Rattle.std.specs.Option.{option_or}
 use Rattle.std.specs.Result.{result_err}

@@ -97,7 +97,7 @@ prescan_all books image = fold (λ i b. prescan (selected b) i) image books
 abbrev pub to_run : State → State
 to_run s = record s { mode = Run; table = start s.tick s.table; progress = map (λ p. no_progress) s.progress; firsts = map (λ b. true) s.firsts; image = prescan_all s.books s.image }
 
--- The change to Program puts every task down and drops its position.
+-- In Program no task is up, and none goes on later where it stood.
 abbrev pub to_program : State → State
 to_program s = record s { mode = Program; table = stop s.table; progress = map dropped s.progress }
 

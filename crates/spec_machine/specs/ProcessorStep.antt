@@ -106,8 +106,8 @@ abbrev pub task_step : State → Option ℕ → Stepped
 task_step s None = plainly s what.Idle
 task_step s (Some t) = scan_step s t (progress_of s t) (progress_of s t).scan
 
--- The step of the chosen task is the first of these that applies: without a scan it begins its next program; a copy in
--- progress copies one element; a top frame at its end is left; the next instruction is executed. Where no task is
--- chosen the step is idle.
+-- What the chosen task does: where it has no scan it begins its next program; in the midst of a copy it copies one
+-- element more; at the end of the top frame it leaves that frame; else it executes an instruction. With no task chosen
+-- the step is idle.
 abbrev pub processor_step : State → Stepped
 processor_step s = task_step s (chosen s.table)

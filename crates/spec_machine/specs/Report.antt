@@ -15,7 +15,7 @@ use Rattle.spec_machine.specs.Project.{Project, Watch}
 use Rattle.spec_machine.specs.State.{State, start}
 use Rattle.spec_machine.specs.Machine.{TraceEntry, OfStep, OfTick, OfAction, step}
 
--- a line with the tick and the number of processor steps so far, both after its event
+-- a line, stamped with the tick and the count of processor steps that its event left
 pub record Stamped : Type 0 where
   pub tick : ℕ
   pub step : ℕ

@@ -48,7 +48,8 @@ abbrev pub in_mode : Mode → State → Ticked
 in_mode Run s = in_run s
 in_mode _ s = record { state = s; report = quiet }
 
--- The tick number grows by one. In Run, in this order: the chosen task takes the next rank, unless it has something
--- open; the first task whose watchdog ran out is at fault; each due periodic task is released, or overlaps, or is inhibited.
+-- One tick later. In Run three things follow in turn: the chosen task goes behind those of its priority, if it has
+-- nothing open; a watchdog that ran out faults its task, the first of them only; each periodic task that is due is
+-- released, or overlaps, or is inhibited.
 abbrev pub tick : State → Ticked
 tick s = in_mode s.mode (record s { tick = s.tick + 1 })

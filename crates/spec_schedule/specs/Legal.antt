@@ -85,7 +85,7 @@ who_steps table p xs = filter_map (λ x. of_priority table p (stepping x.event))
 abbrev pub keeps_on : ℕ → List ℕ → Bool
 keeps_on t us = not (list_any (λ u. nat_eq u t) (drop (prefix_len (λ u. nat_eq u t) us) us))
 
--- between two steps of t, while t stays up and no tick stands between them, no other task of its priority steps
+-- from one step of t to its next, as long as t stays up and no tick comes, t alone steps of its priority
 abbrev pub turn_kept : Table → CountedEvent → List CountedEvent → Option ℕ → Bool
 turn_kept table x xs None = true
 turn_kept table x xs (Some t) =
@@ -123,9 +123,8 @@ abbrev pub after_tick : Table → ℕ → CountedEvent → List CountedEvent →
 after_tick table t x [] = true
 after_tick table t x (k ∷ ys) = not (is_tick k.event && is_turn table t x k) || gives_turn table t k ys
 
--- Let a tick follow a step of t with no other step and no other tick between them. Where t could be passed over at it, t
--- steps again before the next tick only after every other task of its priority that was up just before the tick has gone
--- down.
+-- Of a tick that comes right after a step of t, actions aside: if t had to give way at it, then each task of its
+-- priority that was up when the tick came goes down before t steps once more, unless another tick comes first.
 abbrev pub way_given : Table → CountedEvent → List CountedEvent → Option ℕ → Bool
 way_given table x xs None = true
 way_given table x xs (Some t) = after_tick table t x (after_actions xs)

@@ -75,7 +75,7 @@ is_some_step (Some e) = is_step e
 abbrev pub ends_pace : ℕ → List Event → Bool
 ends_pace pace events = is_some_step (last_or None events) && nat_eq (steps_of events % pace) 0
 
--- a tick stands directly after each processor step whose number the pace divides, and nowhere else
+-- the ticks are where the pace has them: each right after a processor step with a number that the pace divides
 abbrev pub is_paced : ℕ → List Event → Bool
 is_paced pace journal = each_place (λ before after. agree (begins_with_tick after) (ends_pace pace before)) [] journal
 
@@ -90,8 +90,8 @@ through_step (suc k) [] = []
 through_step (suc k) (Cpu ∷ es) = Cpu ∷ through_step k es
 through_step (suc k) (e ∷ es) = e ∷ through_step (suc k) es
 
--- for each k of at least `steps` that is less than the number of processor steps, a CPS is open after the k-th of them
--- and its tick
+-- each processor step beyond the first `steps` found a CPS open: one was open when the step before it and that step's
+-- tick had been done
 abbrev pub is_held_over : Project → ℕ → List Event → Bool
 is_held_over project steps journal = list_all (λ k. is_held_after project (through_step k journal)) (range_with_len steps (steps_of journal - steps))
 

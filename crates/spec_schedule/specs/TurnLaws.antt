@@ -30,7 +30,7 @@ pub record StepsBetween (xs : List CountedEvent) (t u : ℕ) : Type 0 where
   pub after_same : Each (IsSameTurn t first) after
   pub again_same : IsSameTurn t first again
 
--- between two steps of a task, while it stays up and no tick stands between them, no other task of its priority steps
+-- from one step of a task to its next, as long as it stays up and no tick comes, it alone steps of its priority
 abbrev pub KeepsTurns : Table → List CountedEvent → Type 0
 KeepsTurns table xs = (t u : ℕ) → StepsBetween xs t u → priority_of table u ≡ priority_of table t → u ≡ t
 

@@ -78,8 +78,8 @@ abbrev pub least : List Candidate → Option ℕ
 least [] = None
 least (a ∷ others) = Some ((least_of a others).task)
 
--- The task that has something open, if there is one; else the up task that is least by priority and then by rank; else
--- none.
+-- Who steps: a task with an open CPS or region before all others; else, of the up tasks with the lowest number of
+-- priority, the one with the lowest rank.
 abbrev pub chosen : Table → Option ℕ
 chosen s = or_else (position_from is_open 0 s.states) (least (candidates 0 s.defs s.states))
 
@@ -205,7 +205,6 @@ abbrev pub divides_by_period : ℕ → TaskKind → Bool
 divides_by_period since (Periodic n) = nat_eq (since % n) 0
 divides_by_period since _ = false
 
--- A periodic task is due at each tick that lies a positive multiple of its period after the tick of the last change to
--- Run.
+-- A periodic task is due whenever another whole period has gone by since the controller came to Run.
 abbrev pub due : ℕ → ℕ → Table → Bool
 due t now s = nat_lt s.run_since now && divides_by_period (now - s.run_since) ((task s t).kind)
