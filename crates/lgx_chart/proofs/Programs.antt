@@ -1,10 +1,11 @@
 -- How a program ends.
-use Rattle.std.proofs.Common.{◌≡◌, ◌≢◌, ℕ, List, [], Option, Some, None, Result, Ok, Err, OnOk, IsErrOf, IfSome, inl, inr, refl, sym, ap, ◌∙◌, subst}
+use Rattle.std.proofs.Common.{◌≡◌, ◌≢◌, ◌≤◌, ℕ, List, [], length, Option, Some, None, Result, Ok, Err, OnOk, IsErrOf, IfSome, inl, inr, refl, sym, ap, ◌∙◌, subst}
 use Rattle.std.specs.Io.KnownBytes.{Appends}
 use Rattle.std.proofs.KnownBytes.{Appends-nil}
 use Rattle.lgx_io.specs.declared.sink.SinkFault.{SinkFault}
 use Rattle.lgx_io.specs.declared.sink.SinkFault.TheVariants.{Failed, Memory}
 use Rattle.lgx_io.specs.Sink.{FaultsRose, AppendsPart}
+use Rattle.spec_base.specs.declared.limits.TheConstants.{MAX_FILE_BYTES}
 use Rattle.lgx_chart.specs.declared.entry.Chart.{Chart}
 use Rattle.lgx_chart.specs.declared.error.ChartFault.{ChartFault}
 use Rattle.lgx_chart.specs.declared.status.Status.{Status}
@@ -19,16 +20,16 @@ abbrev pair : Status → List ℕ → Status × List ℕ
 pair s text = (s, text)
 
 pub usage_is : (told : Option (List ℕ)) (usage text : List ℕ) → text ≡ usage → IsOutputOf told usage None (status.Usage, text)
-usage_is None usage text e = ([], tt, ap (pair status.Usage) e)
-usage_is (Some bytes) usage text e = (bytes, refl, ap (pair status.Usage) e)
+usage_is None usage text e = ([], tt, tt, ap (pair status.Usage) e)
+usage_is (Some bytes) usage text e = (bytes, refl, tt, ap (pair status.Usage) e)
 
-pub drawn_is : (told : Option (List ℕ)) (usage : List ℕ) (picture : Chart → List ℕ) (contents : List ℕ) (chart : Chart) (text : List ℕ) → IfSome told (λ bytes. contents ≡ bytes) → chart_of contents ≡ Ok chart → text ≡ picture chart → IsOutputOf told usage (Some picture) (status.Ok, text)
-drawn_is told usage picture contents chart text same is e =
-    (contents, same, ap (pair status.Ok) e ∙ sym (ap (drawn picture) is))
+pub drawn_is : (told : Option (List ℕ)) (usage : List ℕ) (picture : Chart → List ℕ) (contents : List ℕ) (chart : Chart) (text : List ℕ) → IfSome told (λ bytes. contents ≡ bytes) → length contents ≤ MAX_FILE_BYTES → chart_of contents ≡ Ok chart → text ≡ picture chart → IsOutputOf told usage (Some picture) (status.Ok, text)
+drawn_is told usage picture contents chart text same few is e =
+    (contents, same, few, ap (pair status.Ok) e ∙ sym (ap (drawn picture) is))
 
-pub refused_is : (told : Option (List ℕ)) (usage : List ℕ) (picture : Chart → List ℕ) (contents : List ℕ) (fault : ChartFault) (text : List ℕ) → IfSome told (λ bytes. contents ≡ bytes) → chart_of contents ≡ Err fault → text ≡ fault_text fault → IsOutputOf told usage (Some picture) (status.NoReport, text)
-refused_is told usage picture contents fault text same is e =
-    (contents, same, ap (pair status.NoReport) e ∙ sym (ap (drawn picture) is))
+pub refused_is : (told : Option (List ℕ)) (usage : List ℕ) (picture : Chart → List ℕ) (contents : List ℕ) (fault : ChartFault) (text : List ℕ) → IfSome told (λ bytes. contents ≡ bytes) → length contents ≤ MAX_FILE_BYTES → chart_of contents ≡ Err fault → text ≡ fault_text fault → IsOutputOf told usage (Some picture) (status.NoReport, text)
+refused_is told usage picture contents fault text same few is e =
+    (contents, same, few, ap (pair status.NoReport) e ∙ sym (ap (drawn picture) is))
 
 -- ---- one put
 

@@ -1,5 +1,5 @@
 -- What a program that draws a report writes, by the picture that is asked for and its input.
-use Rattle.std.specs.Prelude.{◌≡◌, ◌⊎◌, ◌<◌, ℕ, List, ◌++◌, length, codes, Option, Some, None, Result, Ok, Err, IfSome}
+use Rattle.std.specs.Prelude.{◌≡◌, ◌⊎◌, ◌<◌, ◌≤◌, ℕ, List, ◌++◌, length, codes, Option, Some, None, Result, Ok, Err, IfSome, IsTrue, is_some}
 use Rattle.std.specs.Fmt.{decimal}
 use Rattle.std.specs.Io.KnownBytes.{Appends}
 use Rattle.lgx_io.specs.Sink.{FaultsRose, AppendsPart}
@@ -47,20 +47,20 @@ abbrev pub Writes : Change (Option (List ℕ)) → Change ℕ → Status × List
 Writes held faults wanted result =
     ((result ≡ wanted.0) × Appends held.old held.new wanted.1) ⊎ ((result ≡ status.WriteFault) × AppendsPart held.old held.new wanted.1 × FaultsRose faults.old faults.new) ⊎ ((result ≡ status.Memory) × AppendsPart held.old held.new wanted.1)
 
--- the output is that of contents which are those told, if they are told
+-- the output is that of contents which are those told, if they are told; a picture is of contents that aren't too long
 abbrev pub IsOutputOf : Option (List ℕ) → List ℕ → Option (Chart → List ℕ) → Status × List ℕ → Type 0
 IsOutputOf told usage picture wanted =
-    (contents : List ℕ) × IfSome told (λ bytes. contents ≡ bytes) × (wanted ≡ output usage picture contents)
+    (contents : List ℕ) × IfSome told (λ bytes. contents ≡ bytes) × IfSome picture (λ _. length contents ≤ MAX_FILE_BYTES) × (wanted ≡ output usage picture contents)
 
--- why there is no output: the input couldn't be read, there was no memory, or the input is too long
-abbrev pub IsStopped : Option (List ℕ) → Status → Type 0
-IsStopped told status.Ok = ⊥
-IsStopped told status.Usage = ⊥
-IsStopped told status.NoReport = ⊥
-IsStopped told status.ReadFault = Unit {0}
-IsStopped told status.WriteFault = ⊥
-IsStopped told status.Memory = Unit {0}
-IsStopped told status.TooLong = IfSome told (λ bytes. MAX_FILE_BYTES < length bytes)
+-- why there is no output: there was no memory; or a picture is asked for, and the input couldn't be read or is too long
+abbrev pub IsStopped : Option (List ℕ) → Option (Chart → List ℕ) → Status → Type 0
+IsStopped told picture status.Ok = ⊥
+IsStopped told picture status.Usage = ⊥
+IsStopped told picture status.NoReport = ⊥
+IsStopped told picture status.ReadFault = IsTrue (is_some picture)
+IsStopped told picture status.WriteFault = ⊥
+IsStopped told picture status.Memory = Unit {0}
+IsStopped told picture status.TooLong = IsTrue (is_some picture) × IfSome told (λ bytes. MAX_FILE_BYTES < length bytes)
 
 -- a call: what the input tells, what the sink holds, its count of faults, and the answer
 pub record Call : Type 0 where
@@ -72,4 +72,4 @@ pub record Call : Type 0 where
 -- it wrote the output of the contents that were read, or it stopped before and wrote nothing
 abbrev pub IsAnswered : List ℕ → Option (Chart → List ℕ) → Call → Type 0
 IsAnswered usage picture call =
-    ((wanted : Status × List ℕ) × IsOutputOf call.told usage picture wanted × Writes call.held call.faults wanted call.answer) ⊎ (IsStopped call.told call.answer × (call.held.new ≡ call.held.old))
+    ((wanted : Status × List ℕ) × IsOutputOf call.told usage picture wanted × Writes call.held call.faults wanted call.answer) ⊎ (IsStopped call.told picture call.answer × (call.held.new ≡ call.held.old))

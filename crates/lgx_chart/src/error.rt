@@ -14,7 +14,8 @@ pub enum ChartCode {
     V2,
     /// A line, a task or a watched place more than a report may have.
     V3,
-    /// The text ends without an end line and the line feed after it; the number is that of the line after the last.
+    /// The text ends without an end line and the line feed after it; the number is that of the line that should have been the
+    /// end line.
     V4,
     /// Something stands after the end line.
     V5,

@@ -39,9 +39,9 @@ fn fault_text(alloc: Global, fault: ChartFault) -> Result<Vec<u8>, Memory>
     Ok(text)
 }
 
-#[tactic(auto, using(crate::proofs::Programs::usage_is, crate::proofs::Programs::drawn_is, crate::proofs::Programs::refused_is))]
 /// What is written, and how the program ends then; or how it ends without writing. The input is read only if a picture is
 /// asked for.
+#[tactic(auto, using(crate::proofs::Programs::usage_is, crate::proofs::Programs::drawn_is, crate::proofs::Programs::refused_is))]
 fn output_of<P: Picture, R: Read>(
     alloc: Global,
     usage: &[u8],
@@ -51,7 +51,7 @@ fn output_of<P: Picture, R: Read>(
 ) -> Result<(Status, Vec<u8>), Status>
     ensures output { IfOk result (λ o.
         IsOutputOf (R.remaining input.old) usage.now (option_map (P.text picture.now) clock) (o.0, o.1.items)) }
-    ensures stopped { IfErr result (IsStopped (R.remaining input.old)) }
+    ensures stopped { IfErr result (IsStopped (R.remaining input.old) (option_map (P.text picture.now) clock)) }
 {
     let Some(clock) = clock else {
         let mut text = Vec::new(alloc);

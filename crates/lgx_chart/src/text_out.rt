@@ -6,7 +6,7 @@ ghost use Rattle.std.specs.List.{flat_map, join_with_byte};
 use lgx_num::{Items, Memory};
 use std::alloc::Global;
 
-/// Adds bytes to a text.
+/// Adds bytes to a text, which may have a part of them after `Memory`.
 pub fn push(text: &mut Vec<u8>, bytes: &[u8]) -> Result<(), Memory>
     ensures { OnOk result (text.new.items ≡ text.old.items ++ bytes.now) }
 {
@@ -14,7 +14,7 @@ pub fn push(text: &mut Vec<u8>, bytes: &[u8]) -> Result<(), Memory>
     Ok(())
 }
 
-/// Adds the decimal digits of a number.
+/// Adds the decimal digits of a number to a text, which may have a part of them after `Memory`.
 pub fn push_number(text: &mut Vec<u8>, alloc: Global, number: u64) -> Result<(), Memory>
     ensures { OnOk result (text.new.items ≡ text.old.items ++ decimal number) }
 {
@@ -34,7 +34,7 @@ fn push_marked(text: &mut Vec<u8>, mark: u8, words: &[Items<u8>]) -> Result<(), 
     Ok(())
 }
 
-/// Adds words with a byte between each two.
+/// Adds words with a byte between each two to a text, which may have a part of them after `Memory`.
 #[tactic(auto, using(crate::proofs::Texts::joined))]
 pub fn push_joined(text: &mut Vec<u8>, mark: u8, words: &[Items<u8>]) -> Result<(), Memory>
     ensures { OnOk result (text.new.items ≡ text.old.items ++ join_with_byte mark words.now) }

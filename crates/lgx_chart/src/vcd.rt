@@ -193,7 +193,8 @@ fn push_signals(text: &mut Vec<u8>, chart: &Chart) -> Result<(), Memory>
     push(text, other_signals())
 }
 
-/// A report as the text of a wave file. One signal a task and one a watched place; replies and faults have one each.
+/// A report as the text of a wave file. One signal a task that began and one a watched place that changed; replies and faults
+/// have one each. Out of memory is the one fault.
 pub fn vcd_text(alloc: Global, chart: &Chart, clock: Clock) -> Result<Vec<u8>, Memory>
     ensures { IfOk result (λ text. text.items ≡ vcd_text clock chart.now) }
 {

@@ -41,7 +41,7 @@ fn push_round(text: &mut Vec<u8>, draws: &mut Draws, number: u32) -> Result<(), 
 }
 
 /// The journal that a number makes: the change to Run and 2,000 rounds, each with some processor steps, a word that comes in
-/// and a tick; in each tenth round an edit is accepted, tested and assembled.
+/// and a tick; in each tenth round an edit is accepted, tested and assembled. Out of memory is the one fault.
 pub fn gen_journal(alloc: Global, n: u32) -> Result<Vec<u8>, Memory>
     ensures { IfOk result (λ text. text.items ≡ (generated n).journal) }
 {

@@ -1,4 +1,5 @@
--- A report as a drawing: a lane for each task, the faults, the replies and each watched place, with time from left to right.
+-- A report as a drawing: a lane for each task that began, the faults, the replies and each watched place that changed, with
+-- time from left to right.
 use Rattle.std.specs.Prelude.{ℕ, ◌+◌, ◌-◌, ◌*◌, List, [], ◌∷◌, ◌++◌, length, map, None, Bool, nat_le, if◌then◌else◌, codes, find, unwrap_or}
 use Rattle.std.specs.Fmt.{decimal}
 use Rattle.std.specs.List.{flat_map, range_with_len}

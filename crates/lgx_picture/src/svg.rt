@@ -193,8 +193,9 @@ fn push_front(
     push_words(text, alloc, b"unit", 10, below, unit_of(scale.clock))
 }
 
-/// A report as a drawing: a lane for each task, the faults, the replies and each watched place, with time from left to
-/// right. Marks in one place share a stroke, so a lane has at most as many as the drawing has places across.
+/// A report as a drawing: a lane for each task that began, the faults, the replies and each watched place that changed, with
+/// time from left to right. Marks that follow one another in one place share a stroke, so of a report that was read a lane has
+/// at most as many as the drawing has places across. Out of memory is the one fault.
 pub fn svg_text(alloc: Global, clock: Clock, chart: &Chart) -> Result<Vec<u8>, Memory>
     ensures { IfOk result (λ text. text.items ≡ svg_text clock chart.now) }
 {

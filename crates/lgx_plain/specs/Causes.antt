@@ -28,7 +28,7 @@ IsJournal bytes = (length bytes ≤ MAX_FILE_BYTES) × IsOk (journal_of bytes)
 
 -- ---- words
 
--- the words are none of the lists
+-- the words are none of the lists; `run P S`, of which this holds too, isn't served here
 abbrev pub IsNoList : List (List ℕ) → Type 0
 IsNoList words = command_of words ≡ None
 

@@ -21,7 +21,8 @@ use std::alloc::Global;
 
 const USAGE: &[u8] = b"usage: logix check P, text P, replay P J, run P S, gen N, migrate P\n";
 
-/// Writes why a file is no project.
+/// Writes why a file is no project. `Failed` is the sink's; `Memory` is the sink's, or there was none for the line. A first
+/// part was added then.
 pub fn write_project_cause<K: Sink>(
     alloc: Global,
     fault: &ProjectFault,

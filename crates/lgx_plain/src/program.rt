@@ -40,6 +40,9 @@ fn read_and_write<F: Files, K: Sink>(
 /// `migrate P` writes the file in the newest schema, and `replay P J` runs the journal of the file `J` on the project and
 /// writes the report. The project is read and judged before the journal is read. `gen N` runs the texts that the number `N`
 /// makes, names no file, and writes how many lines the report has, and its end line. Each line is one put.
+///
+/// [`Status`] says when each answer comes. At `WriteFault` and `Memory` a first part of the output was put, at `ReadFault` and
+/// `TooLong` nothing.
 pub fn logix_plain<F: Files, K: Sink>(
     alloc: Global,
     words: &[String],

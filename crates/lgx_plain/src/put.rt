@@ -5,7 +5,8 @@ ghost use Rattle.lgx_io.specs.Sink.{FaultsRose, AppendsPart};
 
 use lgx_io::{Sink, SinkFault};
 
-/// Puts one whole line, its LF included.
+/// Puts one whole line, its LF included. At a fault of the sink, or its want of memory, a first part of the line was added,
+/// maybe none of it.
 #[tactic(auto, using(crate::proofs::Puts::put_part, crate::proofs::Puts::put_count))]
 pub fn put_line<K: Sink>(line: &[u8], sink: &mut K) -> Result<(), SinkFault>
     ensures whole { OnOk result (Appends (K.held sink.old) (K.held sink.new) line.now) }

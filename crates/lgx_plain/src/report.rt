@@ -104,7 +104,8 @@ pub(crate) fn write_end<K: Sink>(
     put_line(&text, sink)
 }
 
-/// Writes the lines of a log and the end line, each by one put.
+/// Writes the lines of a log and the end line, each by one put. `Failed` is the sink's; `Memory` is the sink's, or there was
+/// none for a line. A first part was added then.
 pub fn write_report<K: Sink>(
     alloc: Global,
     log: &Log,

@@ -13,9 +13,9 @@ pub enum Status {
     Ok,
     /// The words are none of the lists of words that the program knows.
     Usage,
-    /// The project file's bytes are no project.
+    /// The project's bytes, a file's or made from a number, are no project.
     Project,
-    /// The journal's bytes are no journal, or the script's are no script.
+    /// The journal's bytes, a file's or made from a number, are no journal, or the script's are no script.
     Script,
     /// A file that the words name could not be read.
     ReadFault,

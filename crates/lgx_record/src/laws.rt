@@ -7,7 +7,8 @@ pub fn law_of_faults()
     ensures { AnswersTellFaults }
 {}
 
-/// An event has at most `MAX_EVENT_LINES` lines. So far fewer lines are lost than a log can count.
+/// A report of a valid project has at most `MAX_EVENT_LINES` lines for each of its events, taken together. So far fewer lines
+/// are lost than a log can count.
 pub fn law_of_lines()
     ensures { EventsHaveFewLines }
 {}

@@ -14,7 +14,7 @@ use spec_base::limits::MAX_TASKS;
 use spec_machine::{TickReport, What};
 use spec_tables::{Fault, Severity};
 
-/// The lines of an event: its answer's, a fault for each task and one more, and the watched places.
+/// The most lines of an event: its answer's, a fault for each task and one more, and the watched places.
 pub const MAX_EVENT_LINES: u64 = 2 + MAX_TASKS as u64 + MAX_WATCHES as u64;
 
 /// The tick and the number of processor steps with which the lines of an event begin, both after the event.

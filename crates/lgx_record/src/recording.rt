@@ -43,7 +43,7 @@ impl Recording {
     ghost use Rattle.lgx_record.specs.Records.{Records, IsRecording, IsUnchanged};
 
     /// A recording of a project's run without an event. It takes the room for all lines that the log keeps; that of the journal is
-    /// taken as events come.
+    /// taken as events come. Out of memory is the one fault.
     pub fn of_journal(alloc: Global, project: Plant) -> Result<Recording, Memory>
         ensures { IfOk result (λ recording. Records recording project []) }
     {
@@ -80,7 +80,8 @@ impl Recording {
         }
     }
 
-    /// Takes the journal's room for so many more runs of events. Nothing else changes.
+    /// Takes the journal's room for so many more runs of events. Nothing else changes; at out of memory some of the room may
+    /// have been taken.
     pub fn reserve(&mut self, runs: u32) -> Result<(), Memory>
         ensures room { OnOk result (runs ≤ self.new.journal.spare) }
         ensures kept { self.old.journal.spare ≤ self.new.journal.spare }
@@ -137,6 +138,7 @@ impl Recording {
         &self.parts.log
     }
 
+    /// The controller, after the events that were taken.
     pub fn controller(&self) -> &Controller
         ensures { result.now ≡ self.now.controller }
     {

@@ -41,7 +41,7 @@ HasSpent project script v = is_spent project script (journal_of v) ≡ true
 abbrev pub HasCompleted : Project → Script → RecorderView → Type 0
 HasCompleted project script v = IsComplete project script (journal_of v)
 
--- what is recorded goes on from what was, and all else is as before
+-- what is recorded goes on from what was; the script, and whether it ran, are as before
 pub record GoesOn (old new : RecorderView) : Type 0 where
   pub script : new.script ≡ old.script
   pub ran : new.ran ≡ old.ran

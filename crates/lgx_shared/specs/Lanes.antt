@@ -1,4 +1,4 @@
--- What is known of the passes of a run.
+-- The turns that a lane's loop makes at most, and a project and a script that stand for none.
 use Rattle.std.specs.Prelude.{ℕ, ◌+◌, []}
 use Rattle.spec_base.specs.declared.limits.TheConstants.{MAX_IMAGE_BYTES}
 use Rattle.spec_machine.specs.Project.{Project}

@@ -4,7 +4,7 @@ use Rattle.spec_text.specs.Scripts.{Script}
 use Rattle.lgx_record.specs.RecordingView.{RecordingView}
 
 -- What it recorded; the script that its lanes follow, if it was made for one; for each lane how many of its actions were made;
--- and whether turns brought each pass to its end.
+-- and whether turns brought each pass to its end, to want of memory, or to its last turn.
 pub record RecorderView : Type 0 where
   pub recording : RecordingView
   pub script : Option Script

@@ -19,9 +19,8 @@ pub record Makes (old new : RecorderView) (events : List Event) (done : List ℕ
   pub script : new.script ≡ old.script
   pub ran : new.ran ≡ old.ran
 
--- `Did` where the lane has a due action, which is the one event; else `Helped` until the steps are spent, with one processor
--- step and its tick; else `Done`, which adds nothing and leaves the lane without actions to do. `Memory` comes only in
--- place of `Did`, at an accept.
+-- An action that is due is made, as the only event, unless it is an accept without memory, which leaves all as it was. With
+-- none due a processor step is made, and its tick, until the steps are spent; then nothing is, and the lane has none left.
 abbrev pub Serves : Project → Script → ℕ → RecorderView → Turn → RecorderView → Type 0
 Serves project script lane old turn new =
     let due = due_action project script (journal_of old) lane in

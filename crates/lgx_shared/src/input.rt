@@ -11,6 +11,7 @@ pub trait Input {
     ghost script: { Script };
 }
 
+// A caller that passes `Brand` says at the call what it names; by itself it names none.
 impl Input for Brand {
     ghost use Rattle.lgx_shared.specs.Lanes.{no_project, no_script};
 

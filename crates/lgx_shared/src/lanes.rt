@@ -15,7 +15,8 @@ use std::thread::Threads;
 
 /// What a lane waits for before each of its turns. Nothing is known of it.
 pub trait Gate {
-    /// Called without the lock, with the lane and the number of its actions that were made.
+    /// Called without the lock, with the lane and the number of its actions that were made; for the processor's pass with
+    /// the script's number of lanes, and 0.
     fn before(&self, lane: u32, index: u32);
 }
 

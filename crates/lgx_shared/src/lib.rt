@@ -17,7 +17,6 @@ mod turn;
 
 pub use input::Input;
 pub use lanes::{Gate, run_lanes};
-pub use lgx_record::{MAX_EVENT_LINES, law_of_faults, law_of_lines};
 pub use pass::Pass;
 pub use recorder::Recorder;
 pub use shared::Shared;

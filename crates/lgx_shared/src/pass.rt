@@ -14,14 +14,17 @@ use std::sync::ledger::{Ledger, Share};
 /// The last pass is the processor's: its lane is the script's number of lanes, which has no actions.
 #[derive(Drop)]
 pub struct Pass<I: Input, A: Ledger, S: Ledger, E: Ledger> {
-    /// The lane's number, and how many actions the script has for it.
+    /// The lane's number.
     pub lane: u32,
+    /// How many actions the script has for it.
     pub length: u32,
     /// How many processor steps the script wants at least.
     pub least_steps: u32,
-    /// The actions that were made by turns of this pass, the processor steps, and the ends, of which there is one at most.
+    /// The actions that turns of this pass made.
     pub actions: u32,
+    /// The processor steps that they made.
     pub steps: u32,
+    /// The ends that they counted: one at most.
     pub ends: u32,
     /// Whether a turn of this pass was answered with want of memory.
     pub(crate) short: bool,

@@ -237,6 +237,7 @@ impl Recorder {
         self.recording.log()
     }
 
+    /// The controller, after the events that were taken.
     pub fn controller(&self) -> &Controller
         ensures { result.now ≡ self.now.recording.controller }
     {

@@ -42,11 +42,15 @@ fn run<F: Files, K: Sink, G: Gate + Sync, R: Threads + Wait + Sync>(
 
 /// Does what the words of the command line say, and answers how the program ends: all that [`logix_plain`] does, and `run P S`.
 ///
-/// `run P S` reads and judges the project of the file `P` and then the script of the file `S`. Each lane of the script is run on
-/// a thread of its own, and the processor's steps on one more; before each turn of a lane the gate is called, without the lock.
-/// Then the journal of the run is written, and its report: each line is one put. Whatever turns the threads take, every action
-/// stands in the journal once, in its lane's order. The call may wait for its threads, for the lock and for the gate; no answer
-/// speaks of a thread that couldn't be started.
+/// `run P S` reads and judges the project of the file `P` and then the script of the file `S`. Each lane of the script
+/// takes its turns on a thread of its own, and one thread more takes turns of no lane; a turn makes its lane's next action
+/// if that is due, and else a processor step. Before each turn the gate is called, without the lock. Then the journal of
+/// the run is written, and its report: each line is one put. Whatever turns the threads take, every action stands in the
+/// journal once, in its lane's order. The call may wait for its threads, for the lock and for the gate; no answer speaks of
+/// a thread that couldn't be started.
+///
+/// [`Status`] says when each answer comes. At `WriteFault` and `Memory` a first part of the output was put, at `ReadFault` and
+/// `TooLong` nothing.
 pub fn logix<F: Files, K: Sink, G: Gate + Sync, R: Threads + Wait + Sync>(
     rt: &R,
     alloc: Global,

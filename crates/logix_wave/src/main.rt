@@ -1,4 +1,4 @@
-//! `logix_wave`: shows the report on standard input as a wave file, for GTKWave and its like.
+//! `logix_wave`: shows the report on standard input as a wave file, for GTKWave.
 #![tactic(auto)]
 
 ghost use Rattle.std.specs.Prelude.{◌≡◌, ◌⊎◌};

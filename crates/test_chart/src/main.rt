@@ -1,8 +1,8 @@
 //! Judges the rows of a table of reports and their pictures on standard input.
 //!
-//! A row is `KIND "REPORT" STATUS TEXT`: how the program ends, and what it writes; `\n`, `\t` and `\q` stand for a line
-//! feed, a tabulator and a quotation mark. Lines that begin with `--` say why a row is so. What differs is printed, and at
-//! the end how many rows there were.
+//! A row is `KIND "REPORT" STATUS TEXT`: how the program ends, and what it writes. `\n` stands for a line feed, in REPORT also
+//! `\t` for a tabulator and `\q` for a quotation mark. Lines that begin with `--` say why a row is so. What differs is printed,
+//! and at the end how many rows there were.
 //!
 //! | kind | the call | TEXT |
 //! |---|---|---|
@@ -120,7 +120,7 @@ fn strokes_of(alloc: Global, lines: &[u8]) -> Result<String, AllocError> {
     format!(in alloc; "{status} {strokes} strokes")
 }
 
-/// A text whose controls are written as in Rust.
+/// A text whose controls and quotation marks are written with a backslash.
 fn plain(alloc: Global, text: &str) -> Result<Vec<u8>, AllocError> {
     let mut bytes = Vec::new(alloc);
     let mut escaped = false;
@@ -146,7 +146,7 @@ fn control(letter: u8) -> u8 {
     }
 }
 
-/// A text with `\n` in place of line feeds, without spaces at its ends.
+/// A text with `\n` in place of line feeds, without spaces at its end.
 fn escaped(alloc: Global, text: &str) -> Result<String, AllocError> {
     let mut shown = String::new(alloc);
     for letter in text.trim_end_matches(' ').chars() {

@@ -4,8 +4,8 @@ use std::alloc::{AllocError, Global};
 /// The most lanes that a script may have, and the journal's own.
 const LANES: usize = 32;
 
-/// Why a journal isn't complete for a script; none if it is. That processor steps beyond the script's stand only while a CPS is
-/// open isn't counted.
+/// Why a journal isn't complete for a script; none if nothing was found. Not counted are answers, and whether a CPS is open:
+/// after the script's steps or at the end.
 pub(crate) fn trouble_of(
     alloc: Global,
     script: &str,

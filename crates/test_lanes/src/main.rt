@@ -1,7 +1,8 @@
 //! Judges rows of scripts whose lanes run on threads, on standard input.
 //!
 //! A row is `KIND PROJECT SCRIPT` and what the kind needs, where the files lie in this crate's `data`. Of each run it is asked that
-//! its journal is complete for the script, counted here, and that a replay of the journal gives its report:
+//! its journal is complete for the script, as far as src/complete counts, that no action was answered `held`, and that a replay
+//! of the journal gives its report:
 //!
 //! - `run`: a run with a gate that holds nobody.
 //! - `pair A B`: a run in which each of the two lanes waits before its second action until the other was asked for its own.

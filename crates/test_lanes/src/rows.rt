@@ -72,7 +72,7 @@ fn unsigned_of(digits: &str) -> u32 {
     digits.parse::<u32>().unwrap_or(0)
 }
 
-/// The text of a file, without its carriage returns.
+/// The text of a file; empty if it can't be read.
 fn contents<F: Files>(alloc: Global, name: &str, files: &mut F) -> Result<String, AllocError> {
     match files.read(name) {
         Ok(bytes) => String::from_utf8_lossy(alloc, &bytes),
