@@ -1,6 +1,7 @@
 // The files and the standard output of the system. They tell nothing of contents.
 ghost use Rattle.std.specs.Prelude.{◌≡◌, ◌≢◌, ◌≤◌, ◌<◌, [], take, length, None, OnOk, OnErr, IfOk, IfErr, IfSome, IsErrOf, is_ok, if◌then◌else◌};
 ghost use Rattle.std.specs.Io.{ReadsAtMost, WritesAtMost};
+ghost use Rattle.std.specs.Io.Buffered.{writer_buffer};
 ghost use Rattle.std.specs.Io.KnownBytes.{Appends, Consumes, IsAtEnd, Keeps};
 ghost use Rattle.lgx_io.specs.Files.{IsCause, CameBefore};
 ghost use Rattle.lgx_io.specs.Sink.{next_count, FaultsRose, AppendsPart};
@@ -136,37 +137,44 @@ impl<'a, R: FileAccess> Files for HostFiles<'a, R> {
     }
 }
 
-/// Standard output, seen as the count of its faults. It tells nothing of what it holds. It gathers 65,536 bytes at
-/// a time; if there is no memory for so many, each piece is written at once.
+/// Standard output, seen as the bytes that wait to be written and the count of its faults. It tells nothing of
+/// what is written. It gathers 65,536 bytes at a time; if there is no memory for so many, each piece is written
+/// at once.
 #[derive(Drop)]
 pub struct HostSink<'a, P: Print> {
     output: Gathered<Printer<'a, P>>,
 }
 
 impl<'a, P: Print> Model for HostSink<'a, P> {
-    ghost use Rattle.std.specs.Prelude.{ℕ};
+    ghost use Rattle.lgx_io.specs.Gathered.{HostSinkState};
 
-    ghost Value = { ℕ };
+    ghost Value = { HostSinkState };
 
-    ghost view = { λ s. s.output.faults };
+    ghost view = { λ s. record {
+      waiting = s.output.waiting;
+      faults = s.output.faults;
+    } };
 }
 
 impl<'a, P: Print> HostSink<'a, P> {
-    /// Standard output, with no fault. The memory for what is gathered is taken here, and none later.
+    /// Standard output; nothing waits, and there is no fault. The memory for what is gathered is taken here, and
+    /// none later.
     pub fn new(rt: &'a P, alloc: Global) -> Self
-        ensures { result ≡ 0 }
+        ensures { result ≡ record { waiting = []; faults = 0 } }
     {
         HostSink {
             output: Gathered::over(writer(rt, alloc)),
         }
     }
 
-    /// Writes what is gathered. Until then a part of what was put may not be written.
+    /// Writes what waits. Until then a part of what was put may not be written.
     ///
     /// `Failed` comes if that fails or an earlier call failed, and counts as a fault.
     pub fn finish(&mut self) -> Result<(), SinkFault>
-        ensures counted { self.new ≡ (if is_ok result then self.old else next_count self.old) }
-        ensures stays_failed { self.old ≢ 0 → IsErrOf result SinkFault.Failed }
+        ensures written { OnOk result (self.new.waiting ≡ []) }
+        ensures counted { self.new.faults ≡
+            (if is_ok result then self.old.faults else next_count self.old.faults) }
+        ensures stays_failed { self.old.faults ≢ 0 → IsErrOf result SinkFault.Failed }
         ensures no_memory { ¬ IsErrOf result SinkFault.Memory }
     {
         self.output.finish()
@@ -174,7 +182,9 @@ impl<'a, P: Print> HostSink<'a, P> {
 }
 
 /// A writer to standard output that gathers, if there is memory for it.
-fn writer<P: Print>(rt: &P, alloc: Global) -> BufWriter<Printer<'_, P>> {
+fn writer<P: Print>(rt: &P, alloc: Global) -> BufWriter<Printer<'_, P>>
+    ensures empty { writer_buffer result ≡ [] }
+{
     if let Ok(gathering) = BufWriter::with_capacity(alloc, GATHERED_BYTES, io::writer(rt)) {
         return gathering;
     }
@@ -187,20 +197,21 @@ fn writer<P: Print>(rt: &P, alloc: Global) -> BufWriter<Printer<'_, P>> {
 impl<'a, P: Print> Sink for HostSink<'a, P> {
     ghost held = { λ s. None };
 
-    ghost faults = { λ s. s };
+    ghost faults = { λ s. s.faults };
 
     fn put(&mut self, bytes: &[u8]) -> Result<(), SinkFault>
         ensures ok { OnOk result (Appends None None bytes.now) }
-        ensures ok_faults { OnOk result (self.new ≡ self.old) }
-        ensures failed { IsErrOf result SinkFault.Failed → FaultsRose self.old self.new }
+        ensures ok_faults { OnOk result (self.new.faults ≡ self.old.faults) }
+        ensures failed { IsErrOf result SinkFault.Failed → FaultsRose self.old.faults self.new.faults }
         ensures part { IsErrOf result SinkFault.Failed → AppendsPart None None bytes.now }
-        ensures no_fault { IsErrOf result SinkFault.Memory → self.new ≡ self.old }
-        ensures later { self.old ≤ self.new }
+        ensures no_fault { IsErrOf result SinkFault.Memory → self.new.faults ≡ self.old.faults }
+        ensures later { self.old.faults ≤ self.new.faults }
 
         // Beside what each `Sink` says: the count rises at a fault alone, after a fault every call fails, and it
         // is never out of memory.
-        ensures counted { self.new ≡ (if is_ok result then self.old else next_count self.old) }
-        ensures stays_failed { self.old ≢ 0 → IsErrOf result SinkFault.Failed }
+        ensures counted { self.new.faults ≡
+            (if is_ok result then self.old.faults else next_count self.old.faults) }
+        ensures stays_failed { self.old.faults ≢ 0 → IsErrOf result SinkFault.Failed }
         ensures no_memory { ¬ IsErrOf result SinkFault.Memory }
     {
         self.output.put(bytes)

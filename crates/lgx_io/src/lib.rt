@@ -13,11 +13,11 @@
 //! | [`HostFiles`], [`HostSink`] | not told | when the system fails; the sink from then on |
 //!
 //! **The trusted edge.** No contract can say what a real file has or where the bytes of standard output go, so
-//! `HostFiles` and `HostSink` tell nothing of contents. Their causes and counts are proved, and so are the
-//! parts that they stand on: [`read_to_end`] reads all that a reader has whose bytes are known, and
-//! [`Gathered`] adds the whole piece over any writer that tells what it holds, or a first part of it at a fault,
-//! and has written all at the end. What is left to trust are the few lines that open a file and name standard
-//! output.
+//! `HostFiles` and `HostSink` tell nothing of contents. Their causes and counts are proved, and that nothing
+//! waits once a `HostSink` is finished; so are the parts that they stand on: [`read_to_end`] reads all that a
+//! reader has whose bytes are known, and [`Gathered`] adds the whole piece over any writer that tells what it
+//! holds, or a first part of it at a fault, and has written all at the end. What is left to trust are the few
+//! lines that open a file and name standard output.
 #![tactic(auto)]
 
 mod files;

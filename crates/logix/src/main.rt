@@ -1,7 +1,7 @@
 //! `logix`: tries a ladder program before it reaches a machine, by a journal or by a script of engineers and modules.
 #![tactic(auto)]
 
-ghost use Rattle.std.specs.Prelude.{◌≡◌, ◌⊎◌};
+ghost use Rattle.std.specs.Prelude.{◌≡◌, [], ◌⊎◌};
 ghost use Rattle.lgx_io.specs.Sink.{FaultsRose};
 
 use lgx_io::{HostFiles, HostSink};
@@ -29,8 +29,8 @@ fn main(rt: HostRuntime) -> ExitCode {
 
 /// Writes what is still gathered, and answers how the program ends: a fault there is its write fault.
 fn end<P: Print>(status: Status, sink: &mut HostSink<'_, P>) -> Status
-    ensures { ((result ≡ status) × (sink.new ≡ sink.old))
-        ⊎ ((result ≡ Status.WriteFault) × FaultsRose sink.old sink.new) }
+    ensures { ((result ≡ status) × (sink.new.waiting ≡ []) × (sink.new.faults ≡ sink.old.faults))
+        ⊎ ((result ≡ Status.WriteFault) × FaultsRose sink.old.faults sink.new.faults) }
 {
     match sink.finish() {
         Ok(()) => status,
