@@ -1,0 +1,44 @@
+# What the tools of this folder share about the programs of this repository. To be sourced, with `top` set to its top folder.
+
+# All programs that a user runs.
+programs=(logix logix_timeline logix_wave)
+
+# The crates that these programs stand on, themselves among them, lowest first, a line each.
+crates_of() {
+    awk -F: -v programs="$*" '
+        /^[[:space:]]*(#|$)/ { next }
+        { split($1, head, " "); uses[head[1]] = $2 }
+        function visit(name,    list, count, i) {
+            if (!(name in uses) || (name in seen)) return
+            seen[name] = 1
+            count = split(uses[name], list, " ")
+            for (i = 1; i <= count; i++) visit(list[i])
+            print name
+        }
+        END { count = split(programs, list, " "); for (i = 1; i <= count; i++) visit(list[i]) }' "$top/crates.txt"
+}
+
+# The sum of all that a program is proved and built from.
+sum_of() {
+    local names
+    names=$(crates_of "$1")
+    {
+        awk -F: -v names="$names" '
+            BEGIN { count = split(names, list, "\n"); for (i = 1; i <= count; i++) wanted[list[i]] = 1 }
+            /^[[:space:]]*(#|$)/ { next }
+            { split($1, head, " "); if (head[1] in wanted) print }' "$top/crates.txt" | LC_ALL=C sort
+        cat "$top/HANDLES"
+        (cd "$top/crates" && for name in $names; do
+            find "$name" -name out -prune -o -name must-fail -prune -o -type f -print0
+        done | LC_ALL=C sort -z | xargs -0 sha256sum)
+    } | sha256sum | cut -d' ' -f1
+}
+
+# Where a proved program lies, and the sum that it was built from.
+program_file() { printf '%s\n' "$top/crates/$1/out/$1"; }
+sum_file() { printf '%s\n' "$top/crates/$1/out/$1.sum"; }
+
+# Whether the program was proved and built from the sources as they are.
+is_proved() {
+    [ -x "$(program_file "$1")" ] && [ -f "$(sum_file "$1")" ] && [ "$(cat "$(sum_file "$1")")" = "$(sum_of "$1")" ]
+}
