@@ -50,35 +50,35 @@ fn rung_count(programs: &[ProgramText]) -> u64
 fn routines_in(project: &Project) -> u64
     ensures { result ≡ routine_count project.now.programs }
 {
-    routine_count(project.texts.as_slice())
+    routine_count(project.parts().texts.as_slice())
 }
 
 /// How many rungs a project has.
 fn rungs_in(project: &Project) -> u64
     ensures { result ≡ rung_count project.now.programs }
 {
-    rung_count(project.texts.as_slice())
+    rung_count(project.parts().texts.as_slice())
 }
 
 /// How many tasks a project has.
 fn tasks_in(project: &Project) -> u64
     ensures { result ≡ length project.now.tasks }
 {
-    project.tasks.len() as u64
+    project.parts().tasks.len() as u64
 }
 
 /// How many programs a project has.
 fn programs_in(project: &Project) -> u64
     ensures { result ≡ length project.now.programs }
 {
-    project.texts.len() as u64
+    project.parts().texts.len() as u64
 }
 
 /// How many bytes all tags of a project take.
 fn bytes_in(project: &Project) -> u64
     ensures { result ≡ length project.now.image }
 {
-    u64::from(project.image.len())
+    u64::from(project.parts().image.len())
 }
 
 /// Adds a word, and a number after it.

@@ -81,7 +81,7 @@ fn write_text<K: Sink>(alloc: Global, project: &Project, sink: &mut K) -> Result
     ensures unfailed { ¬ IsErrOf result SinkFault.Failed → K.faults sink.new ≡ K.faults sink.old }
     ensures later { K.faults sink.old ≤ K.faults sink.new }
 {
-    write_programs(alloc, project.texts.as_slice(), sink)
+    write_programs(alloc, project.parts().texts.as_slice(), sink)
 }
 
 /// The status after a text was written, or that of the fault that cut it off.

@@ -10,7 +10,7 @@ ghost use Rattle.lgx_steps.specs.Fresh.{AreProper, AreSmall, AreTablesOf, AreSca
 
 use crate::parts::{Parts, Progress};
 use lgx_conn::Conns;
-use lgx_edit::{ConnDefs, EditBook, Plant, ProgramText, Schedule, TaskDefs, TaskNames};
+use lgx_edit::{ConnDefs, EditBook, Plant, PlantParts, ProgramText, Schedule, TaskDefs, TaskNames};
 use lgx_engine::Position;
 use lgx_fault::FaultLog;
 use lgx_force::ForceTable;
@@ -63,10 +63,10 @@ pub(crate) struct Opened {
 }
 
 /// Takes a project apart.
-fn take_apart(project: Plant) -> Opened
+fn take_apart(project: PlantParts) -> Opened
     ensures { IsOpened project result }
 {
-    let Plant {
+    let PlantParts {
         tags,
         texts,
         tasks,
@@ -198,7 +198,7 @@ impl Parts {
         ensures represents { IfOk result (λ parts. Represents 0 parts (start project)) }
         ensures valid { IfOk result (λ _. IsValidProject project) }
     {
-        let Opened { texts, kept } = take_apart(project);
+        let Opened { texts, kept } = take_apart(project.into_parts());
         let tables = tables_of(alloc, kept.tasks.as_slice(), kept.conns.as_slice())?;
         let scans = scans_of(alloc, texts, kept.schedule.len())?;
         let faults = FaultLog::new(alloc)?;
