@@ -63,7 +63,14 @@ pub(crate) struct Opened {
 }
 
 /// Takes a project apart.
-fn take_apart(project: PlantParts) -> Opened
+fn take_apart(project: Plant) -> Opened
+    ensures { IsOpened project result }
+{
+    take_parts(project.into_parts())
+}
+
+/// Takes the parts of a project apart.
+fn take_parts(project: PlantParts) -> Opened
     ensures { IsOpened project result }
 {
     let PlantParts {
@@ -198,7 +205,7 @@ impl Parts {
         ensures represents { IfOk result (λ parts. Represents 0 parts (start project)) }
         ensures valid { IfOk result (λ _. IsValidProject project) }
     {
-        let Opened { texts, kept } = take_apart(project.into_parts());
+        let Opened { texts, kept } = take_apart(project);
         let tables = tables_of(alloc, kept.tasks.as_slice(), kept.conns.as_slice())?;
         let scans = scans_of(alloc, texts, kept.schedule.len())?;
         let faults = FaultLog::new(alloc)?;
