@@ -9,7 +9,7 @@ use Rattle.lgx_steps.specs.declared.parts.Parts.{Parts}
 use Rattle.lgx_steps.specs.PartsView.{view_of}
 use Rattle.lgx_steps.specs.Represents.{RepresentsState}
 use Rattle.lgx_steps.specs.Fresh.{AreProper, AreSmall, AreTablesOf, AreScansOf}
-use Rattle.lgx_steps.proofs.Making.{opened-tasks, opened-conns, opened-mains, opened-some, opened-starts}
+use Rattle.lgx_steps.proofs.Making.{opened-tasks, opened-conns, opened-mains, opened-some, opened-starts, opened-valid}
 use Rattle.lgx_steps.proofs.parts.Parts.new.Goals as goal
 
 pub tables_of-requires-clause-tasks : goal.tables_of-requires-clause-tasks
@@ -35,3 +35,6 @@ returns-clause-represents c =
     let told : AreScansOf o.texts.items (length o.kept.schedule) scans = subst (λ n. AreScansOf o.texts.items n scans) c.len.ensures c.in_ok-scans.ensures in
     subst (λ (q : Parts). RepresentsState 0 (view_of q) (start p)) (sym c.parts_of.ensures)
     (opened-starts p o tables scans _ c.take_apart-texts.ensures made told refl refl refl refl refl refl refl refl refl refl c.in_ok-faults.ensures)
+
+pub returns-clause-valid : goal.returns-clause-valid
+returns-clause-valid c = opened-valid c.args.project c.take_apart-texts.result c.take_apart-texts.ensures
