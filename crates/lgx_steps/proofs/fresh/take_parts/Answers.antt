@@ -4,19 +4,18 @@ use Rattle.spec_machine.specs.Project.{Project}
 use Rattle.lgx_edit.specs.declared.texts.ProgramText.{ProgramText as KeptProgram}
 use Rattle.lgx_edit.specs.Texts.{program_of}
 use Rattle.lgx_edit.specs.Plants.{project_of}
-use Rattle.lgx_steps.specs.declared.fresh.Opened.{Opened}
-use Rattle.lgx_steps.specs.Fresh.{IsOpened}
-use Rattle.lgx_steps.proofs.Making.{opened}
+use Rattle.lgx_steps.specs.declared.fresh.Kept.{Kept}
+use Rattle.lgx_steps.specs.Fresh.{IsTakenApart}
 use Rattle.lgx_steps.proofs.fresh.take_parts.Goals as goal
 
 pub returns : goal.returns
 returns c =
     let x = c.project.inside in
-    let o : Opened = record { texts = c.into_vec-texts.result; kept = record { tags = x.tags; tasks = x.tasks; names = x.names; schedule = x.schedule; conns = x.conns; image = x.image } } in
-    subst (λ (q : Project). IsOpened q o) c.project.view_is
-    (opened (project_of x) o (record {
+    let kept : Kept = record { tags = x.tags; tasks = x.tasks; names = x.names; schedule = x.schedule; conns = x.conns; image = x.image } in
+    subst (λ (q : Project). IsTakenApart q c.into_vec.result.items kept) c.project.view_is
+    (record {
       valid = c.project.invariant.valid;
-      programs = ap (λ (qs : List KeptProgram). map program_of qs) (sym c.into_vec-texts.ensures);
+      programs = ap (λ (qs : List KeptProgram). map program_of qs) (sym c.into_vec.ensures);
       tags = refl;
       sealed = c.project.invariant.sealed;
       tasks = refl;
@@ -24,4 +23,4 @@ returns c =
       schedule = refl;
       conns = refl;
       image = refl;
-    }))
+    })
