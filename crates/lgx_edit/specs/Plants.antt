@@ -3,7 +3,7 @@ use Rattle.std.specs.Prelude.{◌≡◌, true, map}
 use Rattle.spec_machine.specs.Project as machine
 use Rattle.spec_machine.specs.ValidProject.{IsValidProject}
 use Rattle.lgx_edit.specs.declared.plant.Watch.{Watch}
-use Rattle.lgx_edit.specs.declared.plant.Plant.TheInside.{Inside}
+use Rattle.lgx_edit.specs.declared.plant.PlantParts.TheInside.{Inside}
 use Rattle.lgx_edit.specs.Texts.{program_of}
 
 abbrev pub watch_of : Watch → machine.Watch

@@ -21,5 +21,5 @@ pub use count::left_by_rungs;
 pub use draft::Against;
 pub use edits::ProgramEdits;
 pub use error::EditError;
-pub use plant::{ConnDefs, Plant, Schedule, TaskDefs, TaskNames, Watch, Watches};
+pub use plant::{ConnDefs, Plant, PlantParts, Schedule, TaskDefs, TaskNames, Watch, Watches};
 pub use texts::{ProgramText, ProgramTexts, RoutineText, RoutineTexts, SourceRungs};

@@ -1,10 +1,11 @@
 // A valid project, as a controller takes it.
 use crate::texts::ProgramTexts;
 use lgx_image::Image;
-use lgx_num::{Items, Place};
+use lgx_num::{Items, Memory, Place};
 use lgx_tags::TagTable;
 use spec_language::TaskName;
 use spec_tables::{ConnDef, TaskDef};
+use std::alloc::Global;
 use std::marker::Model;
 
 /// A watched place: its text as the project has it.
@@ -25,12 +26,12 @@ pub type ConnDefs = Items<ConnDef>;
 
 pub type Watches = Items<Watch>;
 
-/// A project that a controller can run: its sealed tags with their values at the start, its programs, its tasks with their
-/// names and programs, its connections and its watched places. All lists are in project order.
+/// The parts of a project that a controller can run: its sealed tags with their values at the start, its programs, its tasks
+/// with their names and programs, its connections and its watched places. All lists are in project order.
 ///
 /// Contracts see the machine's project. Each value is a valid one: whoever makes it shows so.
 #[derive(Drop)]
-pub struct Plant {
+pub struct PlantParts {
     pub tags: TagTable,
     pub texts: ProgramTexts,
     pub tasks: TaskDefs,
@@ -41,7 +42,7 @@ pub struct Plant {
     pub watches: Watches,
 }
 
-impl Model for Plant {
+impl Model for PlantParts {
     ghost use Rattle.std.specs.Coded.{codes};
     ghost use Rattle.spec_machine.specs.Project.{Project};
     ghost use Rattle.lgx_edit.specs.ProjectCode.{project_code};
@@ -57,7 +58,7 @@ impl Model for Plant {
     ghost invariant = { IsPlant };
 }
 
-impl Plant {
+impl PlantParts {
     ghost use Rattle.spec_machine.specs.ValidProject.{IsValidProject};
 
     /// Every project is valid.
@@ -65,5 +66,52 @@ impl Plant {
         ensures { IsValidProject self.now }
     {
         let _ = &self.tags;
+    }
+}
+
+/// A project that a controller can run.
+///
+/// Contracts see the machine's project, a valid one. Its parts lie in a box, so that whoever owns a project owns one value, and
+/// not each of its lists.
+#[derive(Drop)]
+pub struct Plant {
+    parts: Box<PlantParts>,
+}
+
+impl Model for Plant {
+    ghost use Rattle.std.specs.Coded.{codes};
+    ghost use Rattle.spec_machine.specs.Project.{Project};
+    ghost use Rattle.lgx_edit.specs.ProjectCode.{project_code};
+
+    ghost Value = { Project };
+
+    ghost coded = { project_code (Prim.hlevel codes) (Prim.hlevel codes) (Prim.hlevel codes) };
+
+    ghost view = { λ p. p.parts.value };
+}
+
+impl Plant {
+    ghost use Rattle.std.specs.Prelude.{◌≡◌, IfOk};
+
+    /// The project of these parts. Out of memory comes if there is no room for the box.
+    pub fn of(alloc: Global, parts: PlantParts) -> Result<Plant, Memory>
+        ensures { IfOk result (λ plant. plant ≡ parts) }
+    {
+        let parts = Box::new(alloc, parts)?;
+        Ok(Plant { parts })
+    }
+
+    /// Its parts.
+    pub fn parts(&self) -> &PlantParts
+        ensures { result.now ≡ self.now }
+    {
+        &self.parts
+    }
+
+    /// Its parts, out of the box.
+    pub fn into_parts(self) -> PlantParts
+        ensures { result ≡ self }
+    {
+        Box::into_inner(self.parts)
     }
 }

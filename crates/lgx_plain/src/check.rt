@@ -4,9 +4,8 @@ ghost use Rattle.std.specs.Fmt.{decimal};
 ghost use Rattle.lgx_watch.specs.Spaces.{after_spaces};
 ghost use Rattle.lgx_plain.specs.ProjectLines.{routine_count, rung_count, check_line};
 
-use lgx_edit::{ProgramText, RoutineText};
+use lgx_edit::{PlantParts, ProgramText, RoutineText};
 use lgx_num::Memory;
-use lgx_project::Project;
 use lgx_watch::{push_count, push_word};
 use std::alloc::Global;
 
@@ -47,35 +46,35 @@ fn rung_count(programs: &[ProgramText]) -> u64
 }
 
 /// How many routines a project has.
-fn routines_in(project: &Project) -> u64
+fn routines_in(project: &PlantParts) -> u64
     ensures { result ≡ routine_count project.now.programs }
 {
     routine_count(project.texts.as_slice())
 }
 
 /// How many rungs a project has.
-fn rungs_in(project: &Project) -> u64
+fn rungs_in(project: &PlantParts) -> u64
     ensures { result ≡ rung_count project.now.programs }
 {
     rung_count(project.texts.as_slice())
 }
 
 /// How many tasks a project has.
-fn tasks_in(project: &Project) -> u64
+fn tasks_in(project: &PlantParts) -> u64
     ensures { result ≡ length project.now.tasks }
 {
     project.tasks.len() as u64
 }
 
 /// How many programs a project has.
-fn programs_in(project: &Project) -> u64
+fn programs_in(project: &PlantParts) -> u64
     ensures { result ≡ length project.now.programs }
 {
     project.texts.len() as u64
 }
 
 /// How many bytes all tags of a project take.
-fn bytes_in(project: &Project) -> u64
+fn bytes_in(project: &PlantParts) -> u64
     ensures { result ≡ length project.now.image }
 {
     u64::from(project.image.len())
@@ -91,7 +90,7 @@ fn push_named(text: &mut Vec<u8>, word: &[u8], number: u64) -> Result<(), Memory
 
 /// How many tasks, programs, routines and rungs there are, and how many bytes all tags take, as a line.
 #[tactic(auto, unfolding(crate::specs::ProjectLines::check_line))]
-pub(crate) fn check_line(alloc: Global, project: &Project) -> Result<Vec<u8>, Memory>
+pub(crate) fn check_line(alloc: Global, project: &PlantParts) -> Result<Vec<u8>, Memory>
     ensures { IfOk result (λ text. text.items ≡ check_line project.now) }
 {
     let mut text = Vec::new(alloc);

@@ -14,9 +14,10 @@ use crate::replay::{write_counted_run, write_run};
 use crate::request::Request;
 use crate::rungs::write_programs;
 use crate::status::Status;
+use lgx_edit::PlantParts;
 use lgx_io::{Sink, SinkFault};
 use lgx_journal::JournalFault;
-use lgx_project::{Project, ProjectFault};
+use lgx_project::ProjectFault;
 use std::alloc::Global;
 
 const USAGE: &[u8] = b"usage: logix check P, text P, replay P J, run P S, gen N, migrate P\n";
@@ -59,7 +60,7 @@ fn write_journal_cause<K: Sink>(
 }
 
 /// Writes the counts of a project.
-fn write_check<K: Sink>(alloc: Global, project: &Project, sink: &mut K) -> Result<(), SinkFault>
+fn write_check<K: Sink>(alloc: Global, project: &PlantParts, sink: &mut K) -> Result<(), SinkFault>
     ensures whole { OnOk result (Appends (K.held sink.old) (K.held sink.new) (check_line project.now)) }
     ensures part { OnErr result (AppendsPart (K.held sink.old) (K.held sink.new) (check_line project.now)) }
     ensures failed { IsErrOf result SinkFault.Failed → FaultsRose (K.faults sink.old) (K.faults sink.new) }
@@ -74,7 +75,7 @@ fn write_check<K: Sink>(alloc: Global, project: &Project, sink: &mut K) -> Resul
 
 /// Writes the rungs of a project.
 #[tactic(auto, unfolding(crate::specs::ProjectLines::text_lines))]
-fn write_text<K: Sink>(alloc: Global, project: &Project, sink: &mut K) -> Result<(), SinkFault>
+fn write_text<K: Sink>(alloc: Global, project: &PlantParts, sink: &mut K) -> Result<(), SinkFault>
     ensures whole { OnOk result (Appends (K.held sink.old) (K.held sink.new) (text_lines project.now)) }
     ensures part { OnErr result (AppendsPart (K.held sink.old) (K.held sink.new) (text_lines project.now)) }
     ensures failed { IsErrOf result SinkFault.Failed → FaultsRose (K.faults sink.old) (K.faults sink.new) }
@@ -112,8 +113,14 @@ pub(crate) fn write_output<K: Sink>(alloc: Global, request: Request, sink: &mut 
         Request::NoJournal(fault) => {
             status_after(write_journal_cause(alloc, fault, sink), Status::Script)
         }
-        Request::Check(project) => status_after(write_check(alloc, &project, sink), Status::Ok),
-        Request::Text(project) => status_after(write_text(alloc, &project, sink), Status::Ok),
+        Request::Check(project) => status_after(
+            write_check(alloc, project.parts(), sink),
+            Status::Ok,
+        ),
+        Request::Text(project) => status_after(
+            write_text(alloc, project.parts(), sink),
+            Status::Ok,
+        ),
         Request::Migrated(text) => status_after(put_line(text.as_slice(), sink), Status::Ok),
         Request::Report(project, journal) => {
             status_after(write_run(alloc, project, &journal, sink), Status::Ok)

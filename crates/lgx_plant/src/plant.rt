@@ -15,7 +15,7 @@ use crate::count::refuse_count;
 use crate::programs::read_programs;
 use crate::tasks::{TaskParts, read_tasks};
 use lgx_declare::judged_tags;
-use lgx_edit::{ConnDefs, Plant, ProgramTexts};
+use lgx_edit::{ConnDefs, Plant, PlantParts, ProgramTexts};
 use lgx_json::{ProjectError, read_described};
 use lgx_places::{Places, read_connections, read_places};
 use lgx_tags::TagTable;
@@ -127,8 +127,8 @@ fn read_parts(alloc: Global, file: &Described) -> Result<Parts, ProjectError>
     with_texts(alloc, tasks, found, file)
 }
 
-/// The project of a file that isn't refused.
-fn plant_of(file: &Described, parts: Parts) -> Plant
+/// The parts of the project of a file that isn't refused.
+fn plant_of(file: &Described, parts: Parts) -> PlantParts
     requires limits { IsWithinLimits file.now }
     requires accepted { refusal file.now ≡ None }
     requires parts { ArePartsOf file.now parts }
@@ -150,7 +150,7 @@ fn plant_of(file: &Described, parts: Parts) -> Plant
         names,
         schedule,
     } = tasks;
-    Plant {
+    PlantParts {
         tags,
         texts,
         tasks: defs,
@@ -168,7 +168,8 @@ fn read_plant(alloc: Global, file: &Described) -> Result<Plant, ProjectError>
     ensures { Reads (refusal file.now) (project_made file.now) result }
 {
     let parts = read_parts(alloc, file)?;
-    Ok(plant_of(file, parts))
+    let plant = Plant::of(alloc, plant_of(file, parts))?;
+    Ok(plant)
 }
 
 /// The project that a file gives, or its first refusal.

@@ -7,7 +7,7 @@ use Rattle.spec_machine.specs.declared.event.Event.{Event}
 use Rattle.spec_machine.specs.State.{State, start}
 use Rattle.spec_machine.specs.Machine.{run}
 use Rattle.spec_text.specs.ReportText.{Names, names_of as project_names}
-use Rattle.lgx_edit.specs.declared.plant.Plant.TheInside.{Inside}
+use Rattle.lgx_edit.specs.declared.plant.PlantParts.TheInside.{Inside}
 use Rattle.lgx_edit.specs.Texts.{program_of}
 use Rattle.lgx_edit.specs.Plants.{project_of, watch_of}
 use Rattle.lgx_watch.specs.Kept.{no_lines}

@@ -3,14 +3,14 @@ ghost use Rattle.std.specs.Prelude.{◌≡◌, ◌≤◌, map, length, IfOk};
 ghost use Rattle.lgx_watch.specs.declared.bits.TheConstants.{MAX_WATCHES};
 ghost use Rattle.spec_text.specs.ReportText.{names_of};
 
-use lgx_edit::{Plant, ProgramText, Watch};
+use lgx_edit::{PlantParts, ProgramText, Watch};
 use lgx_num::{Items, Memory, Place};
 use lgx_watch::{Names, WatchIndex};
 use spec_language::TaskName;
 use std::alloc::Global;
 
 /// The names of a project's tasks and programs and the texts of its watched places.
-fn names_of(alloc: Global, project: &Plant) -> Result<Names, Memory>
+fn names_of(alloc: Global, project: &PlantParts) -> Result<Names, Memory>
     ensures { IfOk result (λ names. names ≡ names_of project.now) }
 {
     Ok(Names {
@@ -56,7 +56,7 @@ fn watch_texts(alloc: Global, watches: &[Watch]) -> Result<Items<Items<u8>>, Mem
 /// What is taken from a project before a controller takes it: its names, and its watched places.
 pub(crate) fn names_and_watches(
     alloc: Global,
-    project: &Plant,
+    project: &PlantParts,
 ) -> Result<(Names, WatchIndex), Memory>
     ensures names { IfOk result (λ both. both.0 ≡ names_of project.now) }
     ensures watches { IfOk result (λ both. both.1 ≡ map (λ w. w.place) project.now.watches) }
@@ -68,7 +68,7 @@ pub(crate) fn names_and_watches(
 }
 
 /// The watched places of a project.
-fn places_of(alloc: Global, project: &Plant) -> Result<Vec<Place>, Memory>
+fn places_of(alloc: Global, project: &PlantParts) -> Result<Vec<Place>, Memory>
     ensures places { IfOk result (λ places. places.items ≡ map (λ w. w.place) project.now.watches) }
     ensures few { IfOk result (λ places. length places.items ≤ MAX_WATCHES) }
 {

@@ -45,7 +45,7 @@ impl Parts {
     pub(crate) fn of_project(alloc: Global, project: Plant) -> Result<Parts, Memory>
         ensures { IfOk result (λ parts. Records (view_of parts) project []) }
     {
-        let (names, watches) = names_and_watches(alloc, &project)?;
+        let (names, watches) = names_and_watches(alloc, project.parts())?;
         let controller = Controller::new(alloc, project)?;
         Parts::of_controller(alloc, controller, names, watches)
     }

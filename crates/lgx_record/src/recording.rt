@@ -11,7 +11,7 @@ use std::marker::Model;
 /// A controller with the journal of its events, the log of their report and what the report's lines are written with.
 #[derive(Drop)]
 pub struct Recording {
-    parts: Parts,
+    parts: Box<Parts>,
 }
 
 impl Model for Recording {
@@ -28,9 +28,9 @@ impl Model for Recording {
     ghost use Rattle.lgx_record.specs.RecordingView.{view_of};
     ghost use Rattle.lgx_record.specs.Records.{IsRecording};
 
-    ghost view = { λ r. view_of r.parts };
+    ghost view = { λ r. view_of r.parts.value };
 
-    ghost invariant = { λ r. IsRecording (view_of r.parts) };
+    ghost invariant = { λ r. IsRecording (view_of r.parts.value) };
 }
 
 impl Recording {
@@ -48,7 +48,8 @@ impl Recording {
         ensures { IfOk result (λ recording. Records recording project []) }
     {
         let parts = Parts::of_project(alloc, project)?;
-        Ok(Recording { parts })
+        let boxed = Box::new(alloc, parts)?;
+        Ok(Recording { parts: boxed })
     }
 
     /// Every recording records some journal of some project.

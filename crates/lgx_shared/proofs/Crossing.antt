@@ -10,7 +10,7 @@ use Rattle.lgx_shared.specs.contracts.kept.Named as Named
 use Rattle.lgx_shared.specs.contracts.kept.Named.TheInside as named
 use Rattle.lgx_shared.specs.contracts.kept.Fit as Fit
 use Rattle.lgx_shared.specs.contracts.kept.Kept as Kept
-use Rattle.std.proofs.Crossing.{crosses}
+use Rattle.std.proofs.Crossing.{crosses, Box-send}
 use Rattle.lgx_rung.proofs.rung.Legs.TheLaws.TheKnot as source
 use Rattle.lgx_prog.proofs.rung.Legs.TheLaws.TheKnot as checked
 use Rattle.circular_buffer.proofs.Crosses.{Cells-send, Deed-send}
@@ -133,7 +133,7 @@ parts_send = struct_send (shape Parts.the_type) (
 controller_fields : IsSend controller.the_row
 controller_fields =
     of_fields (controller.the_field).row _ _ (controller.the_type).to_one
-    (struct_send (shape controller.the_type) (parts_send, (search (sendable, crosses) depth 200 fits 100000, tt)))
+    (struct_send (shape controller.the_type) (Box-send _ parts_send, (search (sendable, crosses) depth 200 fits 100000, tt)))
 
 pub controller_send : IsSend Controller.the_row
 controller_send = view_send _ _ _ _ _ controller_fields
@@ -169,7 +169,7 @@ recorded_send = struct_send (shape Recorded.the_type) (
 recording_fields : IsSend recording.the_row
 recording_fields =
     of_fields (recording.the_field).row _ _ (recording.the_type).to_one
-    (struct_send (shape recording.the_type) (recorded_send, tt))
+    (struct_send (shape recording.the_type) (Box-send _ recorded_send, tt))
 
 pub recording_send : IsSend Recording.the_row
 recording_send = view_send _ _ _ _ _ recording_fields

@@ -179,20 +179,20 @@ starts v p texts many valid programs plan sealed mode tick table progresses each
 
 -- ---- a project that is taken apart
 
-pub opened : (p : Project) (o : Opened) → IsTakenApart p o → IsOpened p o
+pub opened : (p : Project) (o : Opened) → IsTakenApart p o.texts.items o.kept.value → IsOpened p o
 unfolding IsOpened
 opened p o h = h
 
-apart : (p : Project) (o : Opened) → IsOpened p o → IsTakenApart p o
+apart : (p : Project) (o : Opened) → IsOpened p o → IsTakenApart p o.texts.items o.kept.value
 unfolding IsOpened
 apart p o h = h
 
-pub opened-tasks : (p : Project) (o : Opened) → IsOpened p o → AreProper o.kept.tasks
+pub opened-tasks : (p : Project) (o : Opened) → IsOpened p o → AreProper o.kept.value.tasks
 opened-tasks p o h =
     let a = apart p o h in
     subst AreProper (sym a.tasks) (record { few = few-tasks p a.valid; priorities = priorities p a.valid; periods = periods p a.valid })
 
-pub opened-conns : (p : Project) (o : Opened) → IsOpened p o → AreSmall o.kept.conns
+pub opened-conns : (p : Project) (o : Opened) → IsOpened p o → AreSmall o.kept.value.conns
 opened-conns p o h =
     let a = apart p o h in
     subst AreSmall (sym a.conns) (record { few = few-conns p a.valid; small = small-conns p a.valid })
@@ -211,15 +211,15 @@ pub opened-valid : (p : Project) (o : Opened) → IsOpened p o → IsValidProjec
 opened-valid p o h = (apart p o h).valid
 
 -- what is made of it represents the start
-pub opened-starts : (p : Project) (o : Opened) (tables : Tables) (scans : Scans) (v : PartsView) → IsOpened p o → AreTablesOf o.kept.tasks o.kept.conns tables → AreScansOf o.texts.items (length o.kept.schedule) scans
-    → v.plan ≡ record { tags = o.kept.tags.declarations; names = o.kept.names; schedule = o.kept.schedule; conns = tables.conns } → v.sealed ≡ o.kept.tags.sealed → v.mode ≡ Program → v.tick ≡ 0 → v.table ≡ tables.table
-    → v.progress ≡ scans.progress.items → v.firsts ≡ scans.firsts.items → v.image ≡ o.kept.image → v.book ≡ scans.book → v.forces ≡ tables.forces → v.faults ≡ [] → RepresentsState 0 v (start p)
+pub opened-starts : (p : Project) (o : Opened) (tables : Tables) (scans : Scans) (v : PartsView) → IsOpened p o → AreTablesOf o.kept.value.tasks o.kept.value.conns tables → AreScansOf o.texts.items (length o.kept.value.schedule) scans
+    → v.plan ≡ record { tags = o.kept.value.tags.declarations; names = o.kept.value.names; schedule = o.kept.value.schedule; conns = tables.conns } → v.sealed ≡ o.kept.value.tags.sealed → v.mode ≡ Program → v.tick ≡ 0 → v.table ≡ tables.table
+    → v.progress ≡ scans.progress.items → v.firsts ≡ scans.firsts.items → v.image ≡ o.kept.value.image → v.book ≡ scans.book → v.forces ≡ tables.forces → v.faults ≡ [] → RepresentsState 0 v (start p)
 opened-starts p o tables scans v h made told plan sealed mode tick table progress firsts image book forces faults =
     let a = apart p o h in
     let conns : tables.conns ≡ p.conns = made.conns_are ∙ a.conns in
     starts v p o.texts.items (length o.texts.items) a.valid a.programs
-    (plan ∙ (ap (λ (d : Declarations). record { tags = d; names = o.kept.names; schedule = o.kept.schedule; conns = tables.conns }) a.tags
-    ∙ (ap (λ (ns : List TaskName). record { tags = p.tags; names = ns; schedule = o.kept.schedule; conns = tables.conns }) a.names
+    (plan ∙ (ap (λ (d : Declarations). record { tags = d; names = o.kept.value.names; schedule = o.kept.value.schedule; conns = tables.conns }) a.tags
+    ∙ (ap (λ (ns : List TaskName). record { tags = p.tags; names = ns; schedule = o.kept.value.schedule; conns = tables.conns }) a.names
     ∙ (ap (λ (ss : List (List ℕ)). record { tags = p.tags; names = p.names; schedule = ss; conns = tables.conns }) a.schedule
     ∙ ap (λ (cs : List ConnDef). record { tags = p.tags; names = p.names; schedule = p.schedule; conns = cs }) conns))))
     (sealed ∙ a.sealed) mode tick

@@ -14,6 +14,7 @@ use Rattle.lgx_sched.specs.Represents.{Represents as RepresentsTable, HasPeriod,
 use Rattle.lgx_edit.specs.declared.texts.ProgramText.{ProgramText as KeptProgram}
 use Rattle.lgx_edit.specs.EditsView.{books, holds}
 use Rattle.lgx_edit.specs.Texts.{program_of}
+use Rattle.lgx_steps.specs.declared.fresh.Kept.{Kept}
 use Rattle.lgx_steps.specs.declared.fresh.Opened.{Opened}
 use Rattle.lgx_steps.specs.declared.fresh.Scans.{Scans}
 use Rattle.lgx_steps.specs.declared.fresh.Tables.{Tables}
@@ -30,20 +31,20 @@ pub record AreSmall (conns : List ConnDef) : Type 0 where
   pub few : length conns ≤ MAX_CONNECTIONS
   pub small : All IsSmall conns
 
--- these are the parts of a valid project
-pub record IsTakenApart (p : Project) (o : Opened) : Type 0 where
+-- these programs and what is kept beside them are the parts of a valid project
+pub record IsTakenApart (p : Project) (texts : List KeptProgram) (kept : Kept) : Type 0 where
   pub valid : IsValidProject p
-  pub programs : p.programs ≡ map program_of o.texts.items
-  pub tags : o.kept.tags.declarations ≡ p.tags
-  pub sealed : o.kept.tags.sealed ≡ true
-  pub tasks : o.kept.tasks ≡ p.tasks
-  pub names : o.kept.names ≡ p.names
-  pub schedule : o.kept.schedule ≡ p.schedule
-  pub conns : o.kept.conns ≡ p.conns
-  pub image : o.kept.image.bytes ≡ p.image
+  pub programs : p.programs ≡ map program_of texts
+  pub tags : kept.tags.declarations ≡ p.tags
+  pub sealed : kept.tags.sealed ≡ true
+  pub tasks : kept.tasks ≡ p.tasks
+  pub names : kept.names ≡ p.names
+  pub schedule : kept.schedule ≡ p.schedule
+  pub conns : kept.conns ≡ p.conns
+  pub image : kept.image.bytes ≡ p.image
 
 unfoldable pub IsOpened : Project → Opened → Type 0
-IsOpened p o = IsTakenApart p o
+IsOpened p o = IsTakenApart p o.texts.items o.kept.value
 
 -- no task is up, and nothing is forced
 pub record AreTablesOf (tasks : List TaskDef) (conns : List ConnDef) (made : Tables) : Type 0 where

@@ -6,11 +6,11 @@ ghost use Rattle.spec_machine.specs.State.{start};
 ghost use Rattle.spec_machine.specs.ValidProject.{IsValidProject};
 ghost use Rattle.lgx_steps.specs.PartsView.{IsIdle};
 ghost use Rattle.lgx_steps.specs.Represents.{Represents};
-ghost use Rattle.lgx_steps.specs.Fresh.{AreProper, AreSmall, AreTablesOf, AreScansOf, IsOpened};
+ghost use Rattle.lgx_steps.specs.Fresh.{AreProper, AreSmall, AreTablesOf, AreScansOf, IsOpened, IsTakenApart};
 
 use crate::parts::{Parts, Progress};
 use lgx_conn::Conns;
-use lgx_edit::{ConnDefs, EditBook, Plant, ProgramText, Schedule, TaskDefs, TaskNames};
+use lgx_edit::{ConnDefs, EditBook, Plant, PlantParts, ProgramText, Schedule, TaskDefs, TaskNames};
 use lgx_engine::Position;
 use lgx_fault::FaultLog;
 use lgx_force::ForceTable;
@@ -59,14 +59,23 @@ pub(crate) struct Kept {
 #[derive(Drop)]
 pub(crate) struct Opened {
     pub(crate) texts: Vec<ProgramText>,
-    pub(crate) kept: Kept,
+    pub(crate) kept: Box<Kept>,
 }
 
 /// Takes a project apart.
-fn take_apart(project: Plant) -> Opened
-    ensures { IsOpened project result }
+fn take_apart(alloc: Global, project: Plant) -> Result<Opened, Memory>
+    ensures { IfOk result (λ opened. IsOpened project opened) }
 {
-    let Plant {
+    let (texts, kept) = take_parts(project.into_parts());
+    let boxed = Box::new(alloc, kept)?;
+    Ok(Opened { texts, kept: boxed })
+}
+
+/// Takes the parts of a project apart.
+fn take_parts(project: PlantParts) -> (Vec<ProgramText>, Kept)
+    ensures { IsTakenApart project result.0.items result.1 }
+{
+    let PlantParts {
         tags,
         texts,
         tasks,
@@ -84,8 +93,7 @@ fn take_apart(project: Plant) -> Opened
         conns,
         image,
     };
-    let texts = texts.into_vec();
-    Opened { texts, kept }
+    (texts.into_vec(), kept)
 }
 
 /// The tables of tasks, of connections and of forces.
@@ -102,9 +110,9 @@ fn tables_of(alloc: Global, tasks: &[TaskDef], conns: &[ConnDef]) -> Result<Tabl
     requires conns { AreSmall conns.now }
     ensures { IfOk result (λ made. AreTablesOf tasks.now conns.now made) }
 {
-    let table = TaskTable::new(alloc, tasks)?;
     let conns = Conns::new(alloc, conns)?;
     let forces = ForceTable::new(alloc, conns.words())?;
+    let table = TaskTable::new(alloc, tasks)?;
     Ok(Tables {
         table,
         conns,
@@ -198,10 +206,13 @@ impl Parts {
         ensures represents { IfOk result (λ parts. Represents 0 parts (start project)) }
         ensures valid { IfOk result (λ _. IsValidProject project) }
     {
-        let Opened { texts, kept } = take_apart(project);
-        let tables = tables_of(alloc, kept.tasks.as_slice(), kept.conns.as_slice())?;
-        let scans = scans_of(alloc, texts, kept.schedule.len())?;
         let faults = FaultLog::new(alloc)?;
+        let Opened { texts, kept } = take_apart(alloc, project)?;
+        let tables = tables_of(alloc, kept.tasks.as_slice(), kept.conns.as_slice())?;
+        let boxed = Box::new(alloc, tables)?;
+        let scans = scans_of(alloc, texts, kept.schedule.len())?;
+        let kept = Box::into_inner(kept);
+        let tables = Box::into_inner(boxed);
         Ok(parts_of(alloc, kept, tables, scans, faults))
     }
 }

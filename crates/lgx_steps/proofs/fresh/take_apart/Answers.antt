@@ -1,27 +1,15 @@
--- What is taken apart is the valid project that the parts were.
-use Rattle.std.proofs.Common.{refl, sym, ap, subst, List, map}
+-- The parts are the project's.
+use Rattle.std.proofs.Common.{sym, subst}
 use Rattle.spec_machine.specs.Project.{Project}
-use Rattle.lgx_edit.specs.declared.texts.ProgramText.{ProgramText as KeptProgram}
-use Rattle.lgx_edit.specs.Texts.{program_of}
-use Rattle.lgx_edit.specs.Plants.{project_of}
+use Rattle.lgx_steps.specs.declared.fresh.Kept.{Kept}
 use Rattle.lgx_steps.specs.declared.fresh.Opened.{Opened}
-use Rattle.lgx_steps.specs.Fresh.{IsOpened}
+use Rattle.lgx_steps.specs.Fresh.{IsTakenApart}
 use Rattle.lgx_steps.proofs.Making.{opened}
 use Rattle.lgx_steps.proofs.fresh.take_apart.Goals as goal
 
 pub returns : goal.returns
 returns c =
-    let x = c.project.inside in
-    let o : Opened = record { texts = c.into_vec-texts.result; kept = record { tags = x.tags; tasks = x.tasks; names = x.names; schedule = x.schedule; conns = x.conns; image = x.image } } in
-    subst (λ (q : Project). IsOpened q o) c.project.view_is
-    (opened (project_of x) o (record {
-      valid = c.project.invariant.valid;
-      programs = ap (λ (qs : List KeptProgram). map program_of qs) (sym c.into_vec-texts.ensures);
-      tags = refl;
-      sealed = c.project.invariant.sealed;
-      tasks = refl;
-      names = refl;
-      schedule = refl;
-      conns = refl;
-      image = refl;
-    }))
+    let o : Opened = record { texts = c.take_parts-texts.result.0; kept = c.in_ok-boxed.boxed } in
+    opened c.args.project o
+    (subst (λ (k : Kept). IsTakenApart c.args.project c.take_parts-texts.result.0.items k) (sym c.in_ok-boxed.ensures.ok)
+    (subst (λ (q : Project). IsTakenApart q c.take_parts-texts.result.0.items c.take_parts-texts.result.1) c.into_parts.ensures c.take_parts-texts.ensures))
