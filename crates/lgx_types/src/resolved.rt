@@ -1,5 +1,5 @@
 // The types of all members, found by their names, and what is wrong with names and members.
-ghost use Rattle.std.specs.Prelude.{◌^◌, ◌≡◌, ◌<◌, [], length, position, IfOk, IfErr};
+ghost use Rattle.std.specs.Prelude.{◌^◌, ◌≡◌, ◌<◌, [], length, map, position, IfOk, IfErr};
 ghost use Rattle.std.specs.List.{AllByRecursion as Each};
 ghost use Rattle.spec_base.specs.Causes.{IsFaultOf};
 ghost use Rattle.spec_base.specs.FirstCause.{first};
@@ -49,18 +49,7 @@ impl Resolved {
         ensures fault { IfErr result (λ error. IsFaultOf (first (name_faults decls.now)) (fault error)) }
     {
         let structures = Structures::new(alloc, decls)?;
-        let mut members = Vec::with_capacity(alloc, decls.len())?;
-        let mut outlines = Vec::with_capacity(alloc, decls.len())?;
-        for i in 0..decls.len() {
-            let decl = &decls[i];
-            let number = i as u32;
-            if structures.is_taken(i) {
-                return Err(fault_of(number));
-            }
-            let (names, types) = members_of(alloc, &structures, number, decl.members.as_slice())?;
-            members.push(names)?;
-            outlines.push(types)?;
-        }
+        let (members, outlines) = all_members(alloc, &structures, decls)?;
         Ok(Resolved {
             structures,
             members,
@@ -112,6 +101,35 @@ fn fault_of(i: u32) -> TypeError
         decl: i,
         member: None,
     })
+}
+
+/// The names and the types of the members of all structures.
+fn all_members(
+    alloc: Global,
+    structures: &Structures,
+    decls: &[TypeDecl],
+) -> Result<(Vec<NameIndex>, Vec<Items<DataType>>), TypeError>
+    requires few { length decls.now < 2 ^ 32 }
+    requires members { Each HasMembers decls.now }
+    requires same { structures.now ≡ decls.now }
+    ensures members { IfOk result (λ r. r.0.items ≡ map (λ d. member_names d.members) decls.now) }
+    ensures outlines { IfOk result (λ r. r.1.items ≡ map (λ d. outline decls.now d.members) decls.now) }
+    ensures in_order { IfOk result (λ r. name_faults decls.now ≡ []) }
+    ensures fault { IfErr result (λ error. IsFaultOf (first (name_faults decls.now)) (fault error)) }
+{
+    let mut members = Vec::with_capacity(alloc, decls.len())?;
+    let mut outlines = Vec::with_capacity(alloc, decls.len())?;
+    for i in 0..decls.len() {
+        let decl = &decls[i];
+        let number = i as u32;
+        if structures.is_taken(i) {
+            return Err(fault_of(number));
+        }
+        let (names, types) = members_of(alloc, structures, number, decl.members.as_slice())?;
+        members.push(names)?;
+        outlines.push(types)?;
+    }
+    Ok((members, outlines))
 }
 
 /// The names and the types of the members of structure `i`.
