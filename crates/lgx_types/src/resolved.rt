@@ -1,5 +1,5 @@
 // The types of all members, found by their names, and what is wrong with names and members.
-ghost use Rattle.std.specs.Prelude.{◌^◌, ◌≡◌, ◌<◌, [], length, map, position, IfOk, IfErr};
+ghost use Rattle.std.specs.Prelude.{◌^◌, ◌≡◌, ◌<◌, [], length, map, position, IfOk, IfErr, OnOk};
 ghost use Rattle.std.specs.List.{AllByRecursion as Each};
 ghost use Rattle.spec_base.specs.Causes.{IsFaultOf};
 ghost use Rattle.spec_base.specs.FirstCause.{first};
@@ -145,8 +145,28 @@ fn members_of(
     ensures in_order { IfOk result (λ r. faults_in structures.now i members.now ≡ []) }
     ensures fault { IfErr result (λ error. IsFaultOf (first (faults_in structures.now i members.now)) (fault error)) }
 {
-    let mut names = NameIndex::new(alloc);
     let mut types = Vec::with_capacity(alloc, members.len())?;
+    let mut names = NameIndex::new(alloc);
+    add_members(structures, i, members, &mut names, &mut types)?;
+    Ok((names, Items::of(types)))
+}
+
+/// Adds the names and the types of the members of structure `i` to none.
+fn add_members(
+    structures: &Structures,
+    i: u32,
+    members: &[MemberDecl],
+    names: &mut NameIndex,
+    types: &mut Vec<DataType>,
+) -> Result<(), TypeError>
+    requires few { length members.now < 2 ^ 32 }
+    requires no_names { names.old ≡ [] }
+    requires no_types { types.old.items ≡ [] }
+    ensures names { OnOk result (names.new ≡ member_names members.now) }
+    ensures types { OnOk result (types.new.items ≡ outline structures.now members.now) }
+    ensures in_order { OnOk result (faults_in structures.now i members.now ≡ []) }
+    ensures fault { IfErr result (λ error. IsFaultOf (first (faults_in structures.now i members.now)) (fault error)) }
+{
     for k in 0..members.len() {
         let number = k as u32;
         let member = &members[k];
@@ -155,7 +175,7 @@ fn members_of(
         let of = resolve(structures, member, taken, i, number)?;
         types.push(of)?;
     }
-    Ok((names, Items::of(types)))
+    Ok(())
 }
 
 /// The type of member `k` of structure `i`, by whether an earlier one has its name.

@@ -10,7 +10,7 @@ use Rattle.lgx_types.specs.Tables.{fault}
 use Rattle.spec_base.specs.Causes.{IsFaultOf}
 use Rattle.spec_base.specs.FirstCause.{first}
 use Rattle.lgx_types.proofs.Found.{first_here, none_here, repeated_is, take_map_more}
-use Rattle.lgx_types.proofs.resolved.members_of.Goals as goal
+use Rattle.lgx_types.proofs.resolved.add_members.Goals as goal
 
 pub returns-in_err-of-clause-fault : goal.returns-in_err-of-clause-fault
 returns-in_err-of-clause-fault c =
