@@ -119,6 +119,28 @@ fn all_members(
 {
     let mut members = Vec::with_capacity(alloc, decls.len())?;
     let mut outlines = Vec::with_capacity(alloc, decls.len())?;
+    add_all_members(alloc, structures, decls, &mut members, &mut outlines)?;
+    Ok((members, outlines))
+}
+
+/// Adds the names and the types of the members of each structure to none.
+fn add_all_members(
+    alloc: Global,
+    structures: &Structures,
+    decls: &[TypeDecl],
+    members: &mut Vec<NameIndex>,
+    outlines: &mut Vec<Items<DataType>>,
+) -> Result<(), TypeError>
+    requires few { length decls.now < 2 ^ 32 }
+    requires members { Each HasMembers decls.now }
+    requires same { structures.now ≡ decls.now }
+    requires no_members { members.old.items ≡ [] }
+    requires no_outlines { outlines.old.items ≡ [] }
+    ensures members { OnOk result (members.new.items ≡ map (λ d. member_names d.members) decls.now) }
+    ensures outlines { OnOk result (outlines.new.items ≡ map (λ d. outline decls.now d.members) decls.now) }
+    ensures in_order { OnOk result (name_faults decls.now ≡ []) }
+    ensures fault { IfErr result (λ error. IsFaultOf (first (name_faults decls.now)) (fault error)) }
+{
     for i in 0..decls.len() {
         let decl = &decls[i];
         let number = i as u32;
@@ -129,7 +151,7 @@ fn all_members(
         members.push(names)?;
         outlines.push(types)?;
     }
-    Ok((members, outlines))
+    Ok(())
 }
 
 /// The names and the types of the members of structure `i`.

@@ -9,7 +9,7 @@ use Rattle.spec_language.specs.declared.types.TypeCode.TheVariants.{Y6}
 use Rattle.lgx_types.specs.Tables.{fault}
 use Rattle.lgx_types.specs.Outlines.{outline, member_names}
 use Rattle.lgx_types.proofs.Found.{first_here, none_here, take_map_more, taken_first, not_taken}
-use Rattle.lgx_types.proofs.resolved.all_members.Goals as goal
+use Rattle.lgx_types.proofs.resolved.add_all_members.Goals as goal
 
 pub returns-then-is_taken-clause-fault : goal.returns-then-is_taken-clause-fault
 returns-then-is_taken-clause-fault c =
@@ -21,7 +21,7 @@ returns-then-is_taken-clause-fault c =
 
 pub returns-in_err-names-clause-fault : goal.returns-in_err-names-clause-fault
 returns-in_err-names-clause-fault c =
-    let p = err_from_is_err_and c.from_residual-in_err-names.result c.from_residual-in_err-names.ensures.1 in
+    let p = err_from_is_err_and c.from_residual.result c.from_residual.ensures.1 in
     let d = c.index-decls-i.result in
     let got : slice_get c.args.decls.now c.loop-i.i ≡ Some d = slice_get_read c.args.decls.now _ c.loop-i.i d refl c.loop-i-test.true c.index-decls-i.is in
     let told : c.is_taken.result ≡ name_taken c.args.structures.now c.loop-i.i d = c.is_taken.ensures d (rw c.requires.same got) in
