@@ -1,5 +1,8 @@
-use Rattle.std.proofs.Common.{◌∙◌, ◌≡◌, ap, refl, sym, List, ℕ, ◌++◌, ◌∷◌, [], take, true, false, map}
-use Rattle.std.specs.Prelude.{slice_get, Some}
+use Rattle.std.proofs.Common.{◌∙◌, ◌≡◌, ap, refl, sym, List, ℕ, ◌++◌, ◌∷◌, [], drop, take, true, false, map}
+use Rattle.std.specs.Prelude.{flat_map, slice_get, Some}
+use Rattle.std.specs.List.{enumerate_from}
+use Rattle.std.proofs.Math.ListN.{drop_of_length-le}
+use Rattle.std.proofs.lemmas.List.{take_all}
 use Rattle.std.proofs.lemmas.Option.{slice_get_read}
 use Rattle.std.proofs.lemmas.Result.{err_from_is_err_and}
 use Rattle.spec_language.specs.declared.types.TypeDecl.{TypeDecl}
@@ -39,4 +42,16 @@ loop-i-preserved c =
       members = c.in_ok-push.ensures.items ∙ ap (λ (l : List (List (List ℕ))). l ++ c.in_ok-names.names ∷ []) c.loop-i.invariant.members ∙ ap (λ (n : List (List ℕ)). map (λ (o : TypeDecl). member_names o.members) (take c.loop-i.i c.args.decls.now) ++ n ∷ []) (c.in_ok-names.ensures.names ∙ ap member_names c.as_slice.ensures) ∙ sym (take_map_more (λ (o : TypeDecl). member_names o.members) c.args.decls.now c.loop-i.i d c.loop-i-test.true c.index-decls-i.is);
       outlines = c.in_ok-push-2.ensures.items ∙ ap (λ (l : List (List DataType)). l ++ c.in_ok-names.types ∷ []) c.loop-i.invariant.outlines ∙ ap (λ (n : List DataType). map (λ (o : TypeDecl). outline c.args.decls.now o.members) (take c.loop-i.i c.args.decls.now) ++ n ∷ []) (rw (c.requires.same, c.as_slice.ensures) at c.in_ok-names.ensures.types) ∙ sym (take_map_more (λ (o : TypeDecl). outline c.args.decls.now o.members) c.args.decls.now c.loop-i.i d c.loop-i-test.true c.index-decls-i.is);
       faults = none_here (structure_faults c.args.decls.now) c.args.decls.now c.loop-i.i d _ c.loop-i-test.true c.index-decls-i.is c.loop-i.invariant.faults (not_taken c.args.decls.now c.loop-i.i d taken ∙ (rw (c.requires.same, c.as_slice.ensures) at c.in_ok-names.ensures.in_order));
+    }
+
+pub returns : goal.returns
+returns c =
+    let decls : List TypeDecl = c.args.decls.now in
+    let all : take c.loop-i.i decls ≡ decls = take_all c.loop-i.i decls c.loop-i-test.false in
+    let none : drop c.loop-i.i decls ≡ [] = drop_of_length-le decls c.loop-i-test.false in
+    record {
+      members = c.loop-i.invariant.members ∙ ap (map (λ (d : TypeDecl). member_names d.members)) all;
+      outlines = c.loop-i.invariant.outlines ∙ ap (map (λ (d : TypeDecl). outline decls d.members)) all;
+      in_order = sym c.loop-i.invariant.faults ∙ ap (λ (ds : List TypeDecl). flat_map (structure_faults decls) (enumerate_from c.loop-i.i ds)) none;
+      fault = tt;
     }
