@@ -13,7 +13,8 @@ ghost use Rattle.lgx_tags.specs.Chains.{seen_number};
 ghost use Rattle.lgx_tags.specs.Layouts.{placed_tags, IsOfEntries};
 ghost use Rattle.lgx_tags.specs.Scopes.{IsScopeOf};
 ghost use Rattle.lgx_tags.specs.Errors.{fault_of};
-ghost use Rattle.lgx_tags.specs.Tables.{IsAdmitted};
+ghost use Rattle.lgx_tags.specs.Keys.{key_of};
+ghost use Rattle.lgx_tags.specs.Tables.{IsAdmitted, keys_of};
 
 use crate::entry::Entry;
 use crate::error::TagError;
@@ -36,6 +37,22 @@ fn is_name_in(scope: Scope, name: &[u8]) -> bool
         Scope::Controller => is_tag_name(name),
         Scope::Program(_) => is_name(name),
     }
+}
+
+/// Adds the key of an entry that is to be pushed, and makes room for it.
+fn add_key(keys: &mut IndexSet<Key>, entries: &mut Vec<Entry>, entry: &Entry) -> Result<(), Memory>
+    requires short { length entry.now.name ≤ MAX_TAG_NAME_BYTES }
+    requires keyed { keys.old.keys ≡ keys_of entries.old.items }
+    requires free { position (is_named entry.now.scope entry.now.name) entries.old.items ≡ None }
+    ensures ok { OnOk result (keys.new.keys ≡ keys_of entries.old.items ++ key_of entry.now.scope entry.now.name ∷ []) }
+    ensures err { OnErr result (keys.new.keys ≡ keys.old.keys) }
+    ensures same { entries.new.items ≡ entries.old.items }
+    ensures room { OnOk result (vec_len entries.new < vec_capacity entries.new) }
+{
+    let key = Key::of(entry.scope(), entry.name());
+    entries.reserve(1)?;
+    keys.insert(key)?;
+    Ok(())
 }
 
 /// Pushes an entry, for which there is room.
@@ -131,9 +148,7 @@ impl Declared {
         ensures ok { OnOk result (self.new ≡ record self.old { entries = self.old.entries ++ entry ∷ [] }) }
         ensures err { OnErr result (self.new ≡ self.old) }
     {
-        let key = Key::of(entry.scope(), entry.name());
-        self.entries.reserve(1)?;
-        self.keys.insert(key)?;
+        add_key(&mut self.keys, &mut self.entries, &entry)?;
         push_within(&mut self.entries, entry);
         self.bytes = count;
         Ok(())

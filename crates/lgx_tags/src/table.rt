@@ -38,6 +38,12 @@ pub(crate) struct Seal {
 /// Contracts see its declarations, and whether it is sealed.
 #[derive(Drop)]
 pub struct TagTable {
+    parts: Box<TableParts>,
+}
+
+/// What is declared, and what was worked out when it was sealed.
+#[derive(Drop)]
+struct TableParts {
     declared: Declared,
     seal: Option<Seal>,
 }
@@ -50,9 +56,9 @@ impl Model for TagTable {
 
     ghost use Rattle.lgx_tags.specs.Sealed.{HoldsWhenSealed};
 
-    ghost view = { λ t. record { declarations = t.declared; sealed = is_some t.seal } };
+    ghost view = { λ t. record { declarations = t.parts.value.declared; sealed = is_some t.parts.value.seal } };
 
-    ghost invariant = { λ t. HoldsWhenSealed t.declared t.seal };
+    ghost invariant = { λ t. HoldsWhenSealed t.parts.value.declared t.parts.value.seal };
 }
 
 /// Lays the tags out and walks the chains, or names the first alias with a fault.
@@ -75,9 +81,12 @@ impl TagTable {
     pub fn new(alloc: Global, types: TypeTable, programs: u32) -> Result<TagTable, Memory>
         ensures { IfOk result (λ table. table ≡ record { declarations = record { types = types; programs = programs; entries = [] }; sealed = false }) }
     {
-        Ok(TagTable {
+        let parts = TableParts {
             declared: Declared::new(alloc, types, programs),
             seal: None,
+        };
+        Ok(TagTable {
+            parts: Box::new(alloc, parts)?,
         })
     }
 
@@ -92,7 +101,7 @@ impl TagTable {
         ensures fault { IfErr result (λ e. IsFaultOf (declare_fault self.old.declarations scope name.now of) (fault_of e)) }
         ensures err { OnErr result (self.new ≡ self.old) }
     {
-        self.declared.declare(scope, name, of)
+        self.parts.declared.declare(scope, name, of)
     }
 
     /// Declares an alias, another name for what its target names: G1, G2. The target is judged when the table is sealed.
@@ -106,7 +115,7 @@ impl TagTable {
         ensures fault { IfErr result (λ e. IsFaultOf (alias_fault self.old.declarations scope name.now) (fault_of e)) }
         ensures err { OnErr result (self.new ≡ self.old) }
     {
-        self.declared.alias(scope, name, target)
+        self.parts.declared.alias(scope, name, target)
     }
 
     /// Seals the table: lays the tags out, the controller's first and then each program's, and walks the chains of the
@@ -118,9 +127,15 @@ impl TagTable {
         ensures fault { IfErr result (λ e. IsFaultOf (seal_fault self.old.declarations) (bad_alias e)) }
         ensures err { OnErr result (self.new ≡ self.old) }
     {
-        let seal = sealed(&self.declared)?;
-        self.seal = Some(seal);
+        let seal = sealed(&self.parts.declared)?;
+        self.parts.seal = Some(seal);
         Ok(())
+    }
+
+    fn declared(&self) -> &Declared
+        ensures { result.now ≡ self.now.declarations }
+    {
+        &self.parts.declared
     }
 
     /// What was worked out when the table was sealed.
@@ -128,7 +143,7 @@ impl TagTable {
         requires { self.now.sealed ≡ true }
         ensures { IsSealOf self.now.declarations result.now.laid.items result.now.known.items }
     {
-        match &self.seal {
+        match &self.parts.seal {
             Some(seal) => seal,
             None => unreachable!(),
         }
@@ -149,9 +164,10 @@ impl TagTable {
         ensures fixed { subscripts ≡ Subscripts.NumbersAlone → IfOk result (λ f. f.steps ≡ []) }
     {
         let known = self.seal_of().known.as_slice();
-        let types = self.declared.types();
+        let declared = self.declared();
+        let types = declared.types();
         let seen = ScopeView {
-            declared: &self.declared,
+            declared,
             known,
             scope,
         };
@@ -185,7 +201,7 @@ impl TagTable {
         ensures value { result ≡ bytes self.now.declarations }
         ensures room { result ≤ MAX_IMAGE_BYTES }
     {
-        self.declared.bytes()
+        self.declared().bytes()
     }
 
     /// The types that `new` took. With them all that is declared is sound.
@@ -193,7 +209,7 @@ impl TagTable {
         ensures value { result.now ≡ self.now.declarations.types }
         ensures sound { Sound self.now.declarations }
     {
-        self.declared.types()
+        self.declared().types()
     }
 
     /// The number of tags; aliases aren't counted.
@@ -215,7 +231,7 @@ impl TagTable {
             return None;
         }
         let tag = laid[i as usize];
-        let entry = self.declared.entry(tag.entry);
+        let entry = self.declared().entry(tag.entry);
         Some(TagSpan {
             scope: entry.scope(),
             start: tag.start,
@@ -231,7 +247,7 @@ impl TagTable {
     {
         let laid = self.seal_of().laid.as_slice();
         let tag = laid[i as usize];
-        let entry = self.declared.entry(tag.entry);
+        let entry = self.declared().entry(tag.entry);
         entry.name()
     }
 }

@@ -1,5 +1,5 @@
 // The types of all members, found by their names, and what is wrong with names and members.
-ghost use Rattle.std.specs.Prelude.{◌^◌, ◌≡◌, ◌<◌, [], length, position, IfOk, IfErr};
+ghost use Rattle.std.specs.Prelude.{◌^◌, ◌≡◌, ◌<◌, [], length, map, position, IfOk, IfErr, OnOk};
 ghost use Rattle.std.specs.List.{AllByRecursion as Each};
 ghost use Rattle.spec_base.specs.Causes.{IsFaultOf};
 ghost use Rattle.spec_base.specs.FirstCause.{first};
@@ -49,18 +49,7 @@ impl Resolved {
         ensures fault { IfErr result (λ error. IsFaultOf (first (name_faults decls.now)) (fault error)) }
     {
         let structures = Structures::new(alloc, decls)?;
-        let mut members = Vec::with_capacity(alloc, decls.len())?;
-        let mut outlines = Vec::with_capacity(alloc, decls.len())?;
-        for i in 0..decls.len() {
-            let decl = &decls[i];
-            let number = i as u32;
-            if structures.is_taken(i) {
-                return Err(fault_of(number));
-            }
-            let (names, types) = members_of(alloc, &structures, number, decl.members.as_slice())?;
-            members.push(names)?;
-            outlines.push(types)?;
-        }
+        let (members, outlines) = all_members(alloc, &structures, decls)?;
         Ok(Resolved {
             structures,
             members,
@@ -114,6 +103,57 @@ fn fault_of(i: u32) -> TypeError
     })
 }
 
+/// The names and the types of the members of all structures.
+fn all_members(
+    alloc: Global,
+    structures: &Structures,
+    decls: &[TypeDecl],
+) -> Result<(Vec<NameIndex>, Vec<Items<DataType>>), TypeError>
+    requires few { length decls.now < 2 ^ 32 }
+    requires members { Each HasMembers decls.now }
+    requires same { structures.now ≡ decls.now }
+    ensures members { IfOk result (λ r. r.0.items ≡ map (λ d. member_names d.members) decls.now) }
+    ensures outlines { IfOk result (λ r. r.1.items ≡ map (λ d. outline decls.now d.members) decls.now) }
+    ensures in_order { IfOk result (λ r. name_faults decls.now ≡ []) }
+    ensures fault { IfErr result (λ error. IsFaultOf (first (name_faults decls.now)) (fault error)) }
+{
+    let mut members = Vec::with_capacity(alloc, decls.len())?;
+    let mut outlines = Vec::with_capacity(alloc, decls.len())?;
+    add_all_members(alloc, structures, decls, &mut members, &mut outlines)?;
+    Ok((members, outlines))
+}
+
+/// Adds the names and the types of the members of each structure to none.
+fn add_all_members(
+    alloc: Global,
+    structures: &Structures,
+    decls: &[TypeDecl],
+    members: &mut Vec<NameIndex>,
+    outlines: &mut Vec<Items<DataType>>,
+) -> Result<(), TypeError>
+    requires few { length decls.now < 2 ^ 32 }
+    requires members { Each HasMembers decls.now }
+    requires same { structures.now ≡ decls.now }
+    requires no_members { members.old.items ≡ [] }
+    requires no_outlines { outlines.old.items ≡ [] }
+    ensures members { OnOk result (members.new.items ≡ map (λ d. member_names d.members) decls.now) }
+    ensures outlines { OnOk result (outlines.new.items ≡ map (λ d. outline decls.now d.members) decls.now) }
+    ensures in_order { OnOk result (name_faults decls.now ≡ []) }
+    ensures fault { IfErr result (λ error. IsFaultOf (first (name_faults decls.now)) (fault error)) }
+{
+    for i in 0..decls.len() {
+        let decl = &decls[i];
+        let number = i as u32;
+        if structures.is_taken(i) {
+            return Err(fault_of(number));
+        }
+        let (names, types) = members_of(alloc, structures, number, decl.members.as_slice())?;
+        members.push(names)?;
+        outlines.push(types)?;
+    }
+    Ok(())
+}
+
 /// The names and the types of the members of structure `i`.
 fn members_of(
     alloc: Global,
@@ -127,8 +167,28 @@ fn members_of(
     ensures in_order { IfOk result (λ r. faults_in structures.now i members.now ≡ []) }
     ensures fault { IfErr result (λ error. IsFaultOf (first (faults_in structures.now i members.now)) (fault error)) }
 {
-    let mut names = NameIndex::new(alloc);
     let mut types = Vec::with_capacity(alloc, members.len())?;
+    let mut names = NameIndex::new(alloc);
+    add_members(structures, i, members, &mut names, &mut types)?;
+    Ok((names, Items::of(types)))
+}
+
+/// Adds the names and the types of the members of structure `i` to none.
+fn add_members(
+    structures: &Structures,
+    i: u32,
+    members: &[MemberDecl],
+    names: &mut NameIndex,
+    types: &mut Vec<DataType>,
+) -> Result<(), TypeError>
+    requires few { length members.now < 2 ^ 32 }
+    requires no_names { names.old ≡ [] }
+    requires no_types { types.old.items ≡ [] }
+    ensures names { OnOk result (names.new ≡ member_names members.now) }
+    ensures types { OnOk result (types.new.items ≡ outline structures.now members.now) }
+    ensures in_order { OnOk result (faults_in structures.now i members.now ≡ []) }
+    ensures fault { IfErr result (λ error. IsFaultOf (first (faults_in structures.now i members.now)) (fault error)) }
+{
     for k in 0..members.len() {
         let number = k as u32;
         let member = &members[k];
@@ -137,7 +197,7 @@ fn members_of(
         let of = resolve(structures, member, taken, i, number)?;
         types.push(of)?;
     }
-    Ok((names, Items::of(types)))
+    Ok(())
 }
 
 /// The type of member `k` of structure `i`, by whether an earlier one has its name.

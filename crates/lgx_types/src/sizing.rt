@@ -216,15 +216,32 @@ fn size_structure(
 pub fn size_all(alloc: Global, resolved: &Resolved) -> Result<Outcome, Memory>
     ensures { IfOk result (IsOutcome resolved.now) }
 {
-    let count = resolved.decls().len();
-    let mut visits = vec![in alloc; Visit::Unvisited; count]?;
+    let mut visits = vec![in alloc; Visit::Unvisited; resolved.decls().len()]?;
+    match size_each(alloc, resolved, &mut visits)? {
+        Some(cycle) => Ok(Outcome::Cycle(cycle)),
+        None => Ok(Outcome::Sizes(sizes_of(alloc, &visits)?)),
+    }
+}
+
+/// Works out each structure, up to one that reaches itself.
+fn size_each(
+    alloc: Global,
+    resolved: &Resolved,
+    visits: &mut [Visit],
+) -> Result<Option<u32>, Memory>
+    requires { IsSizing resolved.now visits.old [] }
+    ensures sizing { IfOk result (λ o. IfNone o (IsSizing resolved.now visits.new [])) }
+    ensures visited { IfOk result (λ o. IfNone o ((i : ℕ) → i < length resolved.now → IsVisited visits.new i)) }
+    ensures cycle { IfOk result (λ o. IfSome o (ReachesItself resolved.now)) }
+{
     let mut stack = Vec::new(alloc);
-    for i in 0..count {
-        if let Some(cycle) = size_structure(resolved, &mut visits, &mut stack, i as u32)? {
-            return Ok(Outcome::Cycle(cycle));
+    for i in 0..resolved.decls().len() {
+        let cycle = size_structure(resolved, visits, &mut stack, i as u32)?;
+        if cycle.is_some() {
+            return Ok(cycle);
         }
     }
-    Ok(Outcome::Sizes(sizes_of(alloc, &visits)?))
+    Ok(None)
 }
 
 fn size_of(visit: Visit) -> u32

@@ -1,10 +1,11 @@
 // The declared structures, found by their names.
-ghost use Rattle.std.specs.Prelude.{◌^◌, ◌≡◌, ◌<◌, length, nat_lt, ◌||◌, false, is_some, option_map, slice_get, Some, IfOk};
+ghost use Rattle.std.specs.Prelude.{◌^◌, ◌≡◌, ◌<◌, [], length, nat_lt, ◌||◌, false, is_some, option_map, slice_get, Some, IfOk, OnOk};
 ghost use Rattle.std.specs.Option.{option_or, option_map_or};
 ghost use Rattle.spec_language.specs.declared.types.Base.TheVariants.{User};
 ghost use Rattle.spec_language.specs.declared.types.TypeDecl.{TypeDecl};
 ghost use Rattle.spec_language.specs.Layout.{find};
 ghost use Rattle.spec_language.specs.TypeFaults.{name_taken};
+ghost use Rattle.lgx_types.specs.Outlines.{names_of};
 
 use crate::built_in::built_in;
 use lgx_names::NameIndex;
@@ -37,16 +38,10 @@ impl Structures {
         requires { length decls.now < 2 ^ 32 }
         ensures { IfOk result (λ structures. structures ≡ decls.now) }
     {
-        let mut kept = Vec::with_capacity(alloc, decls.len())?;
+        let kept = copies(alloc, decls)?;
         let mut names = NameIndex::new(alloc);
-        for i in 0..decls.len() {
-            names.push(&decls[i].name)?;
-            kept.push(copied(alloc, &decls[i])?)?;
-        }
-        Ok(Structures {
-            decls: Items::of(kept),
-            names,
-        })
+        add_names(&mut names, decls)?;
+        Ok(Structures { decls: kept, names })
     }
 
     /// The type of a name: a built-in one, or the first structure declared with it.
@@ -92,6 +87,28 @@ fn is_taken_by(base: Option<Base>, first: Option<u32>, i: usize) -> bool
         (None, Some(first)) => (first as usize) < i,
         (None, None) => false,
     }
+}
+
+/// Adds the names of the declarations to an index that has none.
+fn add_names(names: &mut NameIndex, decls: &[TypeDecl]) -> Result<(), Memory>
+    requires few { length decls.now < 2 ^ 32 }
+    requires none { names.old ≡ [] }
+    ensures { OnOk result (names.new ≡ names_of decls.now) }
+{
+    for i in 0..decls.len() {
+        names.push(&decls[i].name)?;
+    }
+    Ok(())
+}
+
+fn copies(alloc: Global, decls: &[TypeDecl]) -> Result<Items<TypeDecl>, Memory>
+    ensures { IfOk result (λ copies. copies ≡ decls.now) }
+{
+    let mut copies = Vec::with_capacity(alloc, decls.len())?;
+    for i in 0..decls.len() {
+        copies.push(copied(alloc, &decls[i])?)?;
+    }
+    Ok(Items::of(copies))
 }
 
 fn copied(alloc: Global, decl: &TypeDecl) -> Result<TypeDecl, Memory>

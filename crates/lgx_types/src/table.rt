@@ -10,7 +10,8 @@ ghost use Rattle.spec_base.specs.declared.limits.TheConstants.{MAX_ELEMENTS, MAX
 ghost use Rattle.spec_language.specs.LayoutLaws.{SoundTypes};
 ghost use Rattle.spec_language.specs.TypeFaults.{of_structure, type_fault};
 ghost use Rattle.lgx_types.specs.declared.error.TypeError.TheVariants.{Fault};
-ghost use Rattle.lgx_types.specs.Tables.{HasSize, HasMembers, fault, IsLarge, IsSmall, places_of};
+ghost use Rattle.lgx_types.specs.Tables.{HasSize, HasMembers, fault, IsLarge, IsSmall, IsTable, places_of};
+ghost use Rattle.lgx_types.specs.Outlines.{name_faults};
 
 use crate::built_in::{counter_member, timer_member};
 use crate::cycle::first_cycle;
@@ -30,6 +31,12 @@ use std::marker::Model;
 /// Contracts see the declarations, in order.
 #[derive(Drop)]
 pub struct TypeTable {
+    parts: Box<TableParts>,
+}
+
+/// The structures, their sizes, and the places of their members.
+#[derive(Drop)]
+struct TableParts {
     resolved: Resolved,
     sizes: Vec<u32>,
     places: Vec<Items<Member>>,
@@ -42,9 +49,9 @@ impl Model for TypeTable {
 
     ghost Value = { List TypeDecl };
 
-    ghost view = { λ t. t.resolved };
+    ghost view = { λ t. t.parts.value.resolved };
 
-    ghost invariant = { λ t. IsTable t.resolved t.sizes.items t.places.items };
+    ghost invariant = { λ t. IsTable t.parts.value.resolved t.parts.value.sizes.items t.parts.value.places.items };
 }
 
 impl TypeTable {
@@ -61,30 +68,22 @@ impl TypeTable {
         ensures fault { IfErr result (λ error. IsFaultOf (type_fault decls.now) (fault error)) }
     {
         let resolved = Resolved::new(alloc, decls)?;
-        match size_all(alloc, &resolved)? {
-            Outcome::Cycle(cycle) => {
-                let first = first_cycle(alloc, &resolved, cycle)?;
-                Err(fault_of(TypeCode::Y3, first))
-            }
-            Outcome::Sizes(sizes) => {
-                if let Some(i) = too_large(&sizes) {
-                    return Err(fault_of(TypeCode::Y5, i));
-                }
-                let places = all_places(alloc, &resolved, &sizes)?;
-                Ok(TypeTable {
-                    resolved,
-                    sizes,
-                    places,
-                })
-            }
-        }
+        let (sizes, places) = laid_out(alloc, &resolved)?;
+        let parts = TableParts {
+            resolved,
+            sizes,
+            places,
+        };
+        Ok(TypeTable {
+            parts: Box::new(alloc, parts)?,
+        })
     }
 
     /// The type of a name: a built-in type, or the structure of that name; case doesn't matter.
     pub fn find(&self, name: &Name) -> Option<Base>
         ensures { result ≡ find self.now name.now }
     {
-        self.resolved.find(name)
+        self.parts.resolved.find(name)
     }
 
     /// The size of a type in bytes. An array of BOOLs takes a bit for each element.
@@ -93,7 +92,7 @@ impl TypeTable {
         ensures value { result ≡ size_of self.now of }
         ensures room { result ≤ MAX_STRUCTURE_BYTES * MAX_ELEMENTS }
     {
-        size_in(&self.sizes, of)
+        size_in(&self.parts.sizes, of)
     }
 
     /// The member of a type by its name; case doesn't matter.
@@ -106,7 +105,11 @@ impl TypeTable {
         match base {
             Base::Timer => timer_member(name.bytes()),
             Base::Counter => counter_member(name.bytes()),
-            Base::User(i) => place_in(&self.places, i, self.resolved.member_number(i, name)),
+            Base::User(i) => place_in(
+                &self.parts.places,
+                i,
+                self.parts.resolved.member_number(i, name),
+            ),
             _ => None,
         }
     }
@@ -120,7 +123,7 @@ impl TypeTable {
         ensures few { length self.now < 2 ^ 32 }
     {
         sizes_are_settled();
-        self.resolved.decls()
+        self.parts.resolved.decls()
     }
 }
 
@@ -132,6 +135,43 @@ fn fault_of(code: TypeCode, i: u32) -> TypeError
         decl: i,
         member: None,
     })
+}
+
+/// The sizes of the structures and the places of their members, or the first fault of the structures.
+fn laid_out(alloc: Global, resolved: &Resolved) -> Result<(Vec<u32>, Vec<Items<Member>>), TypeError>
+    requires few { length resolved.now < 2 ^ 32 }
+    requires members { Each HasMembers resolved.now }
+    requires in_order { name_faults resolved.now ≡ [] }
+    ensures table { IfOk result (λ r. IsTable resolved.now r.0.items r.1.items) }
+    ensures fault { IfErr result (λ error. IsFaultOf (type_fault resolved.now) (fault error)) }
+{
+    let sizes = sizes_of(alloc, resolved)?;
+    let places = all_places(alloc, resolved, &sizes)?;
+    Ok((sizes, places))
+}
+
+/// The sizes of the structures, or the first of them that reaches itself, or else that is too large.
+fn sizes_of(alloc: Global, resolved: &Resolved) -> Result<Vec<u32>, TypeError>
+    requires few { length resolved.now < 2 ^ 32 }
+    requires members { Each HasMembers resolved.now }
+    requires in_order { name_faults resolved.now ≡ [] }
+    ensures sized { IfOk result (λ bytes. bytes.items ≡ sizes resolved.now) }
+    ensures small { IfOk result (λ bytes. Each IsSmall bytes.items) }
+    ensures faultless { OnOk result (type_fault resolved.now ≡ None) }
+    ensures fault { IfErr result (λ error. IsFaultOf (type_fault resolved.now) (fault error)) }
+{
+    match size_all(alloc, resolved)? {
+        Outcome::Cycle(cycle) => {
+            let first = first_cycle(alloc, resolved, cycle)?;
+            Err(fault_of(TypeCode::Y3, first))
+        }
+        Outcome::Sizes(sizes) => {
+            if let Some(i) = too_large(&sizes) {
+                return Err(fault_of(TypeCode::Y5, i));
+            }
+            Ok(sizes)
+        }
+    }
 }
 
 /// The first structure that is too large.

@@ -7,7 +7,6 @@ use Rattle.spec_language.specs.Declarations.{Declarations, bytes}
 use Rattle.spec_language.specs.Resolution.{in_form, named}
 use Rattle.spec_language.specs.ResolutionLaws.{LiesIn}
 use Rattle.lgx_tags.specs.Chains.{Answer, named_by, AllResolved}
-use Rattle.lgx_tags.specs.Tables.{Table}
 use Rattle.lgx_tags.specs.TextReading.{Answers, subscripts_of}
 use Rattle.lgx_tags.proofs.Declares.{AreInScopes, all_placed}
 use Rattle.lgx_tags.proofs.ResolvedChains.{resolved_named}
@@ -20,8 +19,8 @@ use Rattle.spec_language.specs.LayoutLaws.{SoundTypes}
 
 pub resolve_text-requires-clause-lie : goal.resolve_text-requires-clause-lie
 resolve_text-requires-clause-lie c name f p =
-    let d : Declarations = c.self.inside.declared in
-    let view : c.args.self.now.declarations ≡ d = sym (ap (λ (t : Table). t.declarations) c.self.view_is) in
+    let d : Declarations = c.declared-declared.result.now in
+    let view : c.args.self.now.declarations ≡ d = sym c.declared-declared.ensures in
     let all_resolved : AllResolved d c.as_slice-known.result.now = subst (λ (d : Declarations). AllResolved d c.as_slice-known.result.now) view (subst (AllResolved c.args.self.now.declarations) (sym c.as_slice-known.ensures.value) c.seal_of.ensures.all_resolved) in
     let lies : LiesIn d.types (bytes d) f × (f.steps ≡ []) = names_in_bounds d c.as_slice-known.result.now c.args.scope (all_placed d.types d.programs d.entries c.types-types.ensures.admitted) all_resolved.partly c.types-types.ensures.sound name f p in
     subst (λ (types : List TypeDecl). LiesIn types (bytes d) f × (f.steps ≡ [])) (sym c.types-types.ensures.value) lies
@@ -31,8 +30,8 @@ resolve_text-requires-clause-sound c = subst SoundTypes (sym c.types-types.ensur
 
 pub returns-clause-answer : goal.returns-clause-answer
 returns-clause-answer c =
-    let d : Declarations = c.self.inside.declared in
-    let back : d ≡ c.args.self.now.declarations = ap (λ (t : Table). t.declarations) c.self.view_is in
+    let d : Declarations = c.declared-declared.result.now in
+    let back : d ≡ c.args.self.now.declarations = c.declared-declared.ensures in
     let all_resolved : AllResolved d c.as_slice-known.result.now = subst (λ (d : Declarations). AllResolved d c.as_slice-known.result.now) (sym back) (subst (AllResolved c.args.self.now.declarations) (sym c.as_slice-known.ensures.value) c.seal_of.ensures.all_resolved) in
     let placed : AreInScopes d.programs d.entries = all_placed d.types d.programs d.entries c.types-types.ensures.admitted in
     let same : in_form (subscripts_of c.args.subscripts) c.types-types.result.now (named_by d.entries c.as_slice-known.result.now c.args.scope) c.args.text.now ≡ in_form (subscripts_of c.args.subscripts) d.types (named d c.args.scope) c.args.text.now = ap (λ (types : List TypeDecl). in_form (subscripts_of c.args.subscripts) types (named_by d.entries c.as_slice-known.result.now c.args.scope) c.args.text.now) c.types-types.ensures.value ∙ form_same (subscripts_of c.args.subscripts) d.types (named_by d.entries c.as_slice-known.result.now c.args.scope) (named d c.args.scope) c.args.text.now (λ name. sym (resolved_named d c.as_slice-known.result.now placed all_resolved c.args.scope name)) in
@@ -40,10 +39,10 @@ returns-clause-answer c =
 
 pub returns-clause-sized : goal.returns-clause-sized
 returns-clause-sized c =
-    let d : Declarations = c.self.inside.declared in
+    let d : Declarations = c.declared-declared.result.now in
     let types : List TypeDecl = c.types-types.result.now in
     let same : types ≡ c.args.self.now.declarations.types =
-    c.types-types.ensures.value ∙ ap (λ (t : Table). t.declarations.types) c.self.view_is in
+    c.types-types.ensures.value ∙ ap (λ (d : Declarations). d.types) c.declared-declared.ensures in
     let sized : IfOk c.resolve_text.result (λ f. HasSize types (single f.of.base)) =
     IfOk-weaker c.resolve_text.result (LiesIn types (bytes d)) (λ f. HasSize types (single f.of.base)) (has_size types (bytes d)) c.resolve_text.ensures.lies in
     subst (λ (ts : List TypeDecl). IfOk c.resolve_text.result (λ f. HasSize ts (single f.of.base))) same sized

@@ -6,5 +6,5 @@ use Rattle.lgx_types.proofs.table.TypeTable.size_of.Goals as goal
 
 pub size_in-requires : goal.size_in-requires
 size_in-requires c =
-    let fits : size_in c.self.inside.sizes.items c.args.of ≤ MAX_STRUCTURE_BYTES * MAX_ELEMENTS = size_fits c.self.inside.resolved c.self.inside.sizes.items c.self.inside.places.items c.args.of c.self.invariant (rw c.self.view_is c.requires) in
-    rw c.deref.ensures.value (omega (arith, fits))
+    let fits : size_in c.self.inside.parts.value.sizes.items c.args.of ≤ MAX_STRUCTURE_BYTES * MAX_ELEMENTS = size_fits c.self.inside.parts.value.resolved c.self.inside.parts.value.sizes.items c.self.inside.parts.value.places.items c.args.of c.self.invariant (rw c.self.view_is c.requires) in
+    rw (c.deref-2.ensures.value, c.deref.ensures) (omega (arith, fits))

@@ -3,7 +3,7 @@ use Rattle.std.specs.Prelude.{flat_map}
 use Rattle.std.specs.List.{enumerate_from}
 use Rattle.spec_language.specs.TypeFaults.{member_faults}
 use Rattle.lgx_types.specs.Outlines.{faults_in, member_names, outline}
-use Rattle.lgx_types.proofs.resolved.members_of.Given as goal
+use Rattle.lgx_types.proofs.resolved.add_members.Given as goal
 
 abbrev pub invariant-loop-k : goal.invariant-loop-k
 invariant-loop-k l = record {

@@ -3,7 +3,7 @@ use Rattle.std.specs.Prelude.{flat_map}
 use Rattle.std.specs.List.{enumerate_from}
 use Rattle.spec_language.specs.TypeFaults.{structure_faults}
 use Rattle.lgx_types.specs.Outlines.{name_faults, member_names, outline}
-use Rattle.lgx_types.proofs.resolved.Resolved.new.Given as goal
+use Rattle.lgx_types.proofs.resolved.add_all_members.Given as goal
 
 abbrev pub invariant-loop-i : goal.invariant-loop-i
 invariant-loop-i l = record {
