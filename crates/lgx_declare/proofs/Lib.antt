@@ -3,4 +3,5 @@ pub mod Declared
 pub mod TagSteps
 pub mod Aliases
 pub mod Listings
+pub mod Passing
 pub mod Within

@@ -91,6 +91,14 @@ pub whole_fault : (p : Described) (d : Declarations) (own : List DescribedTag) (
     → tags_fault p ≡ or_else (declaring_fault d (tags_in Controller own)) (declaring_fault (with_tags d (tags_in Controller own)) (program_tags_from 0 programs))
 whole_fault p d own programs start mine all = rw (start, mine, all) (all_tags p ∙ declaring_both (declarations_of p []) (tags_in Controller p.tags) (program_tags_from 0 p.programs))
 
+-- what is left when the controller's tags are declared
+pub programs_left : (p : Described) (d e : Declarations) (own : List DescribedTag) (programs : List DescribedProgram) → d ≡ declarations_of p [] → own ≡ p.tags → programs ≡ p.programs
+    → declaring_fault d (tags_in Controller own) ≡ None → e ≡ with_tags d (tags_in Controller own) → tags_fault p ≡ declaring_fault e (program_tags_from 0 programs)
+programs_left p d e own programs start mine all none made =
+    whole_fault p d own programs start mine all
+    ∙ ap (λ o. or_else o (declaring_fault (with_tags d (tags_in Controller own)) (program_tags_from 0 programs))) none
+    ∙ ap (λ (f : Declarations). declaring_fault f (program_tags_from 0 programs)) (sym made)
+
 pub whole_made : (p : Described) (d : Declarations) (own : List DescribedTag) (programs : List DescribedProgram) → d ≡ declarations_of p [] → own ≡ p.tags → programs ≡ p.programs
     → with_tags (with_tags d (tags_in Controller own)) (program_tags_from 0 programs) ≡ declarations p
 unfolding with_tags

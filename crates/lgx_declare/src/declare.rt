@@ -7,16 +7,15 @@ ghost use Rattle.spec_project.specs.declared.fault.Inner.TheVariants.{OfTag};
 ghost use Rattle.spec_project.specs.declared.fault.ProjectCode.TheVariants.{P9};
 ghost use Rattle.spec_project.specs.Faults.{here_for};
 ghost use Rattle.spec_project.specs.Limits.{IsListOf, IsSmallProgram, IsWithinLimits};
-ghost use Rattle.spec_project.specs.Tags.{aliases_fault, at_tag, declarations, is_alias, scoped_tags, tags_fault, tags_in};
+ghost use Rattle.spec_project.specs.Tags.{aliases_fault, at_tag, declarations, declarations_of, is_alias, scoped_tags, tags_fault, tags_in};
 ghost use Rattle.lgx_declare.specs.AliasPlaces.{alias_places, is_alias_meaning};
 ghost use Rattle.lgx_declare.specs.Declaring.{declaring_fault, program_tags_from, with_tags};
-ghost use Rattle.lgx_json.specs.Answers.{Passes, Reads, fault_of};
+ghost use Rattle.lgx_json.specs.Answers.{Passes, fault_of};
 
 use crate::tags::{declare_scope, in_tags_of};
 use lgx_json::ProjectError;
 use lgx_num::Memory;
 use lgx_tags::{Scope, SealError, TagCode, TagTable};
-use lgx_types::TypeTable;
 use spec_project::{
     Described, DescribedMeaning, DescribedProgram, DescribedTag, Inner, ProjectCode,
 };
@@ -42,22 +41,22 @@ fn declare_programs(
     Ok(())
 }
 
-/// A table of all tags and aliases, the controller's first and then each program's: P9 at the first that is refused.
+/// Declares all tags and aliases in a table without any, the controller's first and then each program's: P9 at the first
+/// that is refused.
 #[tactic(auto, using(crate::proofs::Declared::all_tags))]
 pub(crate) fn declare_all(
     alloc: Global,
-    types: TypeTable,
+    table: &mut TagTable,
     file: &Described,
-) -> Result<TagTable, ProjectError>
+) -> Result<(), ProjectError>
     requires limits { IsWithinLimits file.now }
-    requires types { types ≡ file.now.types }
-    ensures { Reads (tags_fault file.now) (record { declarations = declarations file.now; sealed = false }) result }
+    requires start { table.old ≡ record { declarations = declarations_of file.now []; sealed = false } }
+    ensures fault { Passes (tags_fault file.now) result }
+    ensures ok { OnOk result (table.new ≡ record { declarations = declarations file.now; sealed = false }) }
 {
-    let count = file.programs.len() as u32;
-    let mut table = TagTable::new(alloc, types, count)?;
-    declare_scope(alloc, &mut table, Scope::Controller, file.tags.as_slice())?;
-    declare_programs(alloc, &mut table, file.programs.as_slice())?;
-    Ok(table)
+    declare_scope(alloc, table, Scope::Controller, file.tags.as_slice())?;
+    declare_programs(alloc, table, file.programs.as_slice())?;
+    Ok(())
 }
 
 /// Where an alias stands: its scope, and its number among the tags there.
@@ -117,20 +116,20 @@ fn alias_error(alloc: Global, file: &Described, code: TagCode, alias: u32) -> Pr
     in_tags_of(alloc, place.scope, error.at_place(alloc, place.number))
 }
 
-/// The table sealed: P9 at the first alias whose chain has a fault or doesn't end.
+/// Seals the table: P9 at the first alias whose chain has a fault or doesn't end.
 #[tactic(auto, using(crate::proofs::Aliases::alias_within), unfolding(spec_project::specs::Tags::aliases_fault))]
 pub(crate) fn seal_tags(
     alloc: Global,
-    table: TagTable,
+    table: &mut TagTable,
     file: &Described,
-) -> Result<TagTable, ProjectError>
+) -> Result<(), ProjectError>
     requires few { length file.now.programs ≤ MAX_PROGRAMS }
-    requires table { table ≡ record { declarations = declarations file.now; sealed = false } }
-    ensures { Reads (aliases_fault file.now) (record { declarations = declarations file.now; sealed = true }) result }
+    requires table { table.old ≡ record { declarations = declarations file.now; sealed = false } }
+    ensures fault { Passes (aliases_fault file.now) result }
+    ensures ok { OnOk result (table.new ≡ record { declarations = declarations file.now; sealed = true }) }
 {
-    let mut table = table;
     match table.seal() {
-        Ok(()) => Ok(table),
+        Ok(()) => Ok(()),
         Err(SealError::Memory) => Err(ProjectError::Memory),
         Err(SealError::Alias { code, alias }) => Err(alias_error(alloc, file, code, alias)),
     }

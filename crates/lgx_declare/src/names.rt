@@ -1,12 +1,12 @@
 // Names that are repeated, and main routines that aren't there.
-ghost use Rattle.std.specs.Prelude.{◌≡◌, ◌<◌, codes, length, map, IfOk, ⊤};
+ghost use Rattle.std.specs.Prelude.{◌≡◌, ◌<◌, [], codes, length, map, IfOk, ⊤};
 ghost use Rattle.std.specs.List.{AllByRecursion as Each, list_any};
 ghost use Rattle.lgx_num.specs.Name.{same};
 ghost use Rattle.spec_project.specs.Faults.{at_place, first_at, here, in_field, refused_if};
 ghost use Rattle.spec_project.specs.declared.fault.ProjectCode.TheVariants.{P6};
 ghost use Rattle.spec_project.specs.Names.{connection_names, main_fault, names_fault, repeated_name, repeated_routine, routine_names};
 ghost use Rattle.lgx_declare.specs.Few.{HasFewNames};
-ghost use Rattle.lgx_json.specs.Answers.{Passes, Reads};
+ghost use Rattle.lgx_json.specs.Answers.{Passes};
 
 use crate::each::{Judge, judge_in};
 use lgx_json::ProjectError;
@@ -82,18 +82,31 @@ fn refuse_taken(
     Ok(())
 }
 
-/// An index of the names of a list, or P6 at the first that is the same as an earlier one.
-pub(crate) fn index_of<T: Named>(alloc: Global, things: &[T]) -> Result<NameIndex, ProjectError>
-    requires { length things.now < 4294967296 }
-    ensures { Reads (repeated_name (map T.name_of things.now)) (map T.name_of things.now) result }
+/// Adds the names of a list to an index without any, or P6 at the first that is the same as an earlier one.
+fn add_names<T: Named>(
+    alloc: Global,
+    index: &mut NameIndex,
+    things: &[T],
+) -> Result<(), ProjectError>
+    requires none { index.old ≡ [] }
+    requires few { length things.now < 4294967296 }
+    ensures { Passes (repeated_name (map T.name_of things.now)) result }
 {
-    let mut index = NameIndex::new(alloc);
     for (i, thing) in things.iter().enumerate() {
         let name = thing.name();
-        refuse_taken(alloc, &index, i, name)?;
+        refuse_taken(alloc, index, i, name)?;
         index.push(name)?;
     }
-    Ok(index)
+    Ok(())
+}
+
+/// That no name of a list is the same as an earlier one, P6 else.
+fn refuse_same<T: Named>(alloc: Global, things: &[T]) -> Result<(), ProjectError>
+    requires { length things.now < 4294967296 }
+    ensures { Passes (repeated_name (map T.name_of things.now)) result }
+{
+    let mut index = NameIndex::new(alloc);
+    add_names(alloc, &mut index, things)
 }
 
 /// An index of the names of a list, in order, the same ones too.
@@ -126,8 +139,8 @@ impl Judge<DescribedProgram> for RoutineNames {
         place: usize,
         program: &DescribedProgram,
     ) -> Result<(), ProjectError> {
-        match index_of(alloc, program.routines.as_slice()) {
-            Ok(_) => Ok(()),
+        match refuse_same(alloc, program.routines.as_slice()) {
+            Ok(()) => Ok(()),
             Err(error) => Err(error.in_field(alloc, "routines").at_place(alloc, place)),
         }
     }
@@ -178,8 +191,8 @@ fn refuse_repeats<T: Named>(alloc: Global, key: &str, things: &[T]) -> Result<()
     requires { length things.now < 4294967296 }
     ensures { Passes (in_field key.now (repeated_name (map T.name_of things.now))) result }
 {
-    match index_of(alloc, things) {
-        Ok(_) => Ok(()),
+    match refuse_same(alloc, things) {
+        Ok(()) => Ok(()),
         Err(error) => Err(error.in_field(alloc, key)),
     }
 }

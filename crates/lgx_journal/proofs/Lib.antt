@@ -8,6 +8,7 @@ pub mod Numerals
 pub mod Parts
 pub mod Prefixes
 pub mod ReadLanes
+pub mod ReadRuns
 pub mod SafeLines
 pub mod Spelled
 pub mod TextsBack

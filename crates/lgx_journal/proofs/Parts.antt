@@ -79,21 +79,35 @@ each_length {A = A} (Some x ∷ os) = onto (each_some os) (each_length os)
     onto None h = tt
     onto (Some xs) h = omega arith
 
--- the edits of the parts from here on, after others
-abbrev pub edits_after : List RungEdit → List (List ℕ) → Option (List RungEdit)
-edits_after done parts = option_map (λ es. done ++ es) (each_some (map edit_of parts))
-
-pub edit_put : (done : List RungEdit) (part : List ℕ) (parts : List (List ℕ)) (e : RungEdit) → edit_of part ≡ Some e → edits_after (done ++ e ∷ []) parts ≡ edits_after done (part ∷ parts)
-edit_put done part parts e is =
-    front_more done e (each_some (map edit_of parts)) ∙ ap (λ o. option_map (λ es. done ++ es) (each_some (o ∷ map edit_of parts))) (sym is)
-
-pub edit_missing : (done : List RungEdit) (part : List ℕ) (parts : List (List ℕ)) → edit_of part ≡ None → None ≡ edits_after done (part ∷ parts)
-edit_missing done part parts is = ap (λ o. option_map (λ es. done ++ es) (each_some (o ∷ map edit_of parts))) (sym is)
-
--- ---- as many as an accept may have
-
 some_is_none : {A : Type 0} {x : A} → Some x ≡ None → ⊥
 some_is_none e = cc
+
+-- a part that is an edit, and the edits of the parts after it
+pub part_added : (done now : List RungEdit) (part : List ℕ) (parts : List (List ℕ)) → Some now ≡ option_map (λ e. done ++ e ∷ []) (edit_of part)
+    → option_map (λ es. now ++ es) (each_some (map edit_of parts)) ≡ option_map (λ es. done ++ es) (each_some (map edit_of (part ∷ parts)))
+part_added done now part parts = go (edit_of part)
+  where
+    go : (o : Option RungEdit) → Some now ≡ option_map (λ e. done ++ e ∷ []) o → option_map (λ es. now ++ es) (each_some (map edit_of parts)) ≡ option_map (λ es. done ++ es) (each_some (o ∷ map edit_of parts))
+    go None h = absurd (some_is_none h)
+    go (Some e) h = let same : now ≡ done ++ e ∷ [] = cc in rw same (front_more done e (each_some (map edit_of parts)))
+
+-- a part that is none
+pub part_missing : (done : List RungEdit) (part : List ℕ) (parts : List (List ℕ)) → None ≡ option_map (λ e. done ++ e ∷ []) (edit_of part) → None ≡ option_map (λ es. done ++ es) (each_some (map edit_of (part ∷ parts)))
+part_missing done part parts = go (edit_of part)
+  where
+    go : (o : Option RungEdit) → None ≡ option_map (λ e. done ++ e ∷ []) o → None ≡ option_map (λ es. done ++ es) (each_some (o ∷ map edit_of parts))
+    go None h = refl
+    go (Some e) h = absurd (some_is_none (sym h))
+
+-- the last part
+pub part_last : (done : List RungEdit) (part : List ℕ) → option_map (λ e. done ++ e ∷ []) (edit_of part) ≡ option_map (λ es. done ++ es) (each_some (map edit_of (part ∷ [])))
+part_last done part = go (edit_of part)
+  where
+    go : (o : Option RungEdit) → option_map (λ e. done ++ e ∷ []) o ≡ option_map (λ es. done ++ es) (each_some (o ∷ []))
+    go None = refl
+    go (Some e) = refl
+
+-- ---- as many as an accept may have
 
 parts_counted : (text : List ℕ) (es : List RungEdit) → Some es ≡ each_some (map edit_of (pieces 124 text)) → length es ≡ length (pieces 124 text)
 parts_counted text es is =

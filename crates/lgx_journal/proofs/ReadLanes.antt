@@ -1,5 +1,5 @@
 -- The lines of a script, one by one.
-use Rattle.std.proofs.Common.{◌≡◌, ℕ, zero, suc, ◌+◌, ◌<◌, List, [], ◌∷◌, ◌++◌, length, length-append, replicate, Bool, true, false, cond, nat_lt, nat_le, Option, Some, None, Result, Ok, Err, IfOk, IsTrue, sum_by, slice_set, slice_index_or, refl, sym, ap, subst, ◌∙◌, arith}
+use Rattle.std.proofs.Common.{◌≡◌, ℕ, zero, suc, ◌+◌, ◌<◌, List, [], ◌∷◌, ◌++◌, length, length-append, replicate, Bool, true, false, cond, not, ◌&&◌, nat_lt, nat_le, Option, Some, None, Result, Ok, Err, IfOk, IsTrue, sum_by, slice_set, slice_index_or, refl, sym, ap, subst, ◌∙◌, arith}
 use Rattle.std.specs.List.{last_or}
 use Rattle.std.proofs.lemmas.List.{replicate-append-replicate, length-replicate}
 use Rattle.std.proofs.lemmas.List.Folds.{sum_by-replicate}
@@ -7,11 +7,12 @@ use Rattle.std.proofs.lemmas.List.Sums.{sum_by-set}
 use Rattle.spec_text.specs.declared.script.Timed.{Timed}
 use Rattle.spec_text.specs.declared.script.JournalCode.{JournalCode}
 use Rattle.spec_text.specs.declared.script.JournalCode.TheVariants.{J1, J2, J3, J4, J5}
-use Rattle.spec_base.specs.declared.limits.TheConstants.{MAX_ACTIONS}
+use Rattle.spec_base.specs.declared.limits.TheConstants.{MAX_ACTIONS, OWN_LANE}
 use Rattle.spec_base.specs.FirstCause.{◌>>=◌, unless, some_or}
+use Rattle.spec_text.specs.TextLines.{words}
 use Rattle.spec_text.specs.JournalText.{is_line}
-use Rattle.spec_text.specs.Scripts.{Script, script, actions_in, last_tick, is_script}
-use Rattle.spec_text.specs.ScriptText.{LaneAction, lane_action_of, with_lane_action, last_at, read_lane_line, script_of, at_or_zero}
+use Rattle.spec_text.specs.Scripts.{Script, script, actions_in, is_out, last_tick, is_script}
+use Rattle.spec_text.specs.ScriptText.{LaneAction, bare, header_of, read_header, lane_action_of, with_lane_action, last_at, read_lane_line, script_of, at_or_zero}
 use Rattle.spec_text.proofs.KeptScripts.{scripts_are_kept}
 use Rattle.lgx_journal.specs.Reading.{lane_fault}
 
@@ -19,9 +20,6 @@ use Rattle.lgx_journal.specs.Reading.{lane_fault}
 
 pub replicate_more : {A : Type 0} (n : ℕ) (x : A) → replicate n x ++ x ∷ [] ≡ replicate (n + 1) x
 replicate_more n x = replicate-append-replicate n 1 x
-
-pub bare_lanes : (n : ℕ) (x : List Timed) → length (replicate n x) ≡ n
-bare_lanes n x = length-replicate n x
 
 -- an element doesn't depend on what stands for a missing one
 pub item_default : (xs : List (List Timed)) (i : ℕ) (d e : List Timed) → i < length xs → slice_index_or xs i d ≡ slice_index_or xs i e
@@ -65,6 +63,34 @@ last_at_end lane i t = go None lane i
 pub last_of_none : (lane : List Timed) → length lane ≡ 0 → 0 ≡ at_or_zero (last_or None lane)
 last_of_none [] h = refl
 last_of_none (t ∷ ts) h = absurd (omega arith)
+
+-- ---- the first line
+
+abbrev when_within : Bool → Script → Result Script JournalCode
+when_within b s = do
+  _ ← unless b J4
+  Ok s
+
+abbrev by_header : Bool → Option Script → Result Script JournalCode
+by_header fits o = do
+  _ ← unless fits J1
+  s ← some_or o J1
+  when_within (not (is_out s.steps) && not (is_out s.pace) && nat_le (length s.lanes) OWN_LANE) s
+
+-- a first line of the right form, whether its numbers are within their limits or not
+header_when : (line : List ℕ) (steps pace lanes : ℕ) (b : Bool) → is_line line ≡ true → header_of (words line) ≡ Some (bare steps pace lanes) → (not (is_out steps) && not (is_out pace) && nat_le lanes OWN_LANE) ≡ b
+    → read_header line ≡ when_within b (bare steps pace lanes)
+header_when line steps pace lanes b fits is within =
+    ap (λ c. by_header c (header_of (words line))) fits ∙ ap (by_header true) is
+    ∙ ap (λ n. when_within (not (is_out steps) && not (is_out pace) && nat_le n OWN_LANE) (bare steps pace lanes)) (length-replicate lanes [])
+    ∙ ap (λ c. when_within c (bare steps pace lanes)) within
+
+pub header_within : (line : List ℕ) (steps pace lanes : ℕ) (made : List (List Timed)) → is_line line ≡ true → Some (bare steps pace lanes) ≡ header_of (words line) → (not (is_out steps) && not (is_out pace) && nat_le lanes OWN_LANE) ≡ true → made ≡ replicate lanes []
+    → read_header line ≡ Ok (script steps pace made)
+header_within line steps pace lanes made fits is within empty = header_when line steps pace lanes true fits (sym is) within ∙ ap (λ ls. Ok (script steps pace ls)) (sym empty)
+
+pub header_beyond : (line : List ℕ) (steps pace lanes : ℕ) → is_line line ≡ true → Some (bare steps pace lanes) ≡ header_of (words line) → (not (is_out steps) && not (is_out pace) && nat_le lanes OWN_LANE) ≡ false → read_header line ≡ Err J4
+header_beyond line steps pace lanes fits is beyond = header_when line steps pace lanes false fits (sym is) beyond
 
 -- ---- a line
 

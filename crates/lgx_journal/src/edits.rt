@@ -1,5 +1,5 @@
 // Reads the edits of an accept.
-ghost use Rattle.std.specs.Prelude.{◌≡◌, ◌≤◌, length, map, option_map, IfOk, IfSome, IsTrue};
+ghost use Rattle.std.specs.Prelude.{◌≡◌, ◌++◌, ◌∷◌, [], ◌≤◌, length, map, if◌then◌else◌, Some, None, option_map, IfOk, IfSome, IsTrue};
 ghost use Rattle.std.specs.List.{prefix_len};
 ghost use Rattle.lgx_rung.specs.Tokens.{is_blank};
 ghost use Rattle.spec_base.specs.Pieces.{pieces};
@@ -115,26 +115,46 @@ fn edit_of(alloc: Global, part: &[u8]) -> Result<Option<RungEdit>, Memory>
     Ok(None)
 }
 
+/// Adds the edit that a part is after the others, if it is one.
+fn add_edit(alloc: Global, edits: &mut Vec<RungEdit>, part: &[u8]) -> Result<bool, Memory>
+    requires { IsTrue (is_part part.now) }
+    ensures { IfOk result (λ added. (if added then Some edits.new.items else None) ≡ option_map (λ e. edits.old.items ++ e ∷ []) (edit_of part.now)) }
+{
+    match edit_of(alloc, part)? {
+        Some(edit) => {
+            edits.push(edit)?;
+            Ok(true)
+        }
+        None => Ok(false),
+    }
+}
+
+/// Adds the edits that the parts of a text are after the others, if all are edits.
+#[tactic(auto, using(crate::proofs::Parts::part_before, crate::proofs::Parts::part_whole, crate::proofs::Parts::part_missing, crate::proofs::Parts::part_last))]
+fn add_parts(alloc: Global, edits: &mut Vec<RungEdit>, text: &[u8]) -> Result<bool, Memory>
+    requires { IsTrue (is_plain text.now) }
+    ensures { IfOk result (λ added. (if added then Some edits.new.items else None) ≡ option_map (λ es. edits.old.items ++ es) (each_some (map edit_of (pieces 124 text.now)))) }
+{
+    let mut rest = text;
+    while let Some((part, after)) = split_first(rest, b'|') {
+        if !add_edit(alloc, edits, part)? {
+            return Ok(false);
+        }
+        rest = after;
+    }
+    add_edit(alloc, edits, rest)
+}
+
 /// The edits that the parts of a text are.
-#[tactic(auto, using(crate::proofs::Parts::part_before, crate::proofs::Parts::plain_after, crate::proofs::Parts::part_whole))]
 fn read_parts(alloc: Global, text: &[u8]) -> Result<Option<Vec<RungEdit>>, Memory>
     requires { IsTrue (is_plain text.now) }
     ensures { IfOk result (λ o. option_map (λ v. v.items) o ≡ each_some (map edit_of (pieces 124 text.now))) }
 {
     let mut edits = Vec::new(alloc);
-    let mut rest = text;
-    while let Some((part, after)) = split_first(rest, b'|') {
-        let Some(edit) = edit_of(alloc, part)? else {
-            return Ok(None);
-        };
-        edits.push(edit)?;
-        rest = after;
+    if add_parts(alloc, &mut edits, text)? {
+        return Ok(Some(edits));
     }
-    let Some(edit) = edit_of(alloc, rest)? else {
-        return Ok(None);
-    };
-    edits.push(edit)?;
-    Ok(Some(edits))
+    Ok(None)
 }
 
 /// The edits of an accept.

@@ -1,11 +1,12 @@
 // The lines of a text, and what all lines of journals and scripts may have.
-ghost use Rattle.std.specs.Prelude.{◌≡◌, ◌<◌, [], ◌∷◌, false, length, IsNone, IfSome};
+ghost use Rattle.std.specs.Prelude.{◌≡◌, ◌<◌, ◌&&◌, [], ◌∷◌, false, length, IsNone, IfSome};
 ghost use Rattle.spec_text.specs.TextLines.{lines, without_return, is_skipped};
-ghost use Rattle.spec_text.specs.JournalText.{lane_of, is_end};
+ghost use Rattle.spec_text.specs.JournalText.{lane_of, is_end, is_line};
 ghost use Rattle.spec_base.specs.Pieces.{has_byte};
 
 use crate::words::{next_word, split_word, unsigned_of};
 use lgx_num::split_first;
+use spec_base::limits::MAX_LINE_BYTES;
 
 /// A line without a carriage return at its end.
 #[tactic(auto, using(crate::proofs::LineSplits::return_dropped, crate::proofs::LineSplits::return_missing, crate::proofs::LineSplits::empty_kept))]
@@ -52,7 +53,7 @@ pub(crate) fn is_skipped(line: &[u8]) -> bool
 
 /// Whether a line is the word `end`.
 #[tactic(auto, using(crate::proofs::LineSplits::end_alone, crate::proofs::LineSplits::end_not_more, crate::proofs::LineSplits::end_not_none))]
-pub(crate) fn is_end(line: &[u8]) -> bool
+fn is_end(line: &[u8]) -> bool
     ensures { result ≡ is_end line.now }
 {
     let Some((word, after)) = next_word(line) else {
@@ -62,6 +63,13 @@ pub(crate) fn is_end(line: &[u8]) -> bool
         return false;
     }
     word == b"end".as_slice()
+}
+
+/// Whether a line ends a text: it is the word `end`, and isn't too long.
+pub(crate) fn is_last(line: &[u8]) -> bool
+    ensures { result ≡ (is_end line.now && is_line line.now) }
+{
+    line.len() <= MAX_LINE_BYTES && is_end(line)
 }
 
 /// The lane that a line names by its first word.

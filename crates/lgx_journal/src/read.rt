@@ -1,5 +1,5 @@
 // Reads a journal.
-ghost use Rattle.std.specs.Prelude.{◌≡◌, ℕ, ◌+◌, ◌≤◌, ◌∷◌, [], false, nat_le, Ok, Err, IfOk, IfErr, IfSome, IsTrue};
+ghost use Rattle.std.specs.Prelude.{◌≡◌, ℕ, ◌+◌, ◌≤◌, ◌∷◌, [], false, nat_le, Ok, Err, IfOk, OnOk, IfErr, IfSome, IsTrue};
 ghost use Rattle.spec_base.specs.declared.limits.TheConstants.{OWN_LANE};
 ghost use Rattle.spec_text.specs.TextLines.{words};
 ghost use Rattle.spec_text.specs.ActionText.{action_of};
@@ -12,7 +12,7 @@ ghost use Rattle.lgx_journal.specs.Reading.{IfLine, IfCode, is_single};
 use crate::actions::action_of;
 use crate::error::{JournalError, LineError, at_line};
 use crate::journal::Journal;
-use crate::lines::{is_end, is_skipped, lane_of, next_line};
+use crate::lines::{is_last, is_skipped, lane_of, next_line};
 use crate::words::{next_word, split_word, unsigned_of};
 use lgx_num::Memory;
 use spec_base::limits::{MAX_ACTIONS, MAX_JOURNAL_STEPS, MAX_LINE_BYTES, OWN_LANE};
@@ -81,30 +81,40 @@ impl Tally {
     }
 }
 
-/// A count of processor steps or of ticks.
+/// A count of processor steps or of ticks, by its two words.
 #[tactic(auto, using(crate::proofs::Verbs::run_steps, crate::proofs::Verbs::run_ticks))]
+fn counted_of(verb: &[u8], count: &[u8]) -> Option<EventRun>
+    ensures run { result ≡ counted_run (verb.now ∷ count.now ∷ []) }
+    ensures form { IfSome result (λ r. IsTrue (is_single r)) }
+{
+    if verb == b"cpu".as_slice() {
+        let count = unsigned_of(count)?;
+        return Some(EventRun {
+            event: Event::Cpu,
+            count,
+        });
+    }
+    if verb == b"tick".as_slice() {
+        let count = unsigned_of(count)?;
+        return Some(EventRun {
+            event: Event::Tick,
+            count,
+        });
+    }
+    None
+}
+
+/// A count of processor steps or of ticks.
 fn counted_run(line: &[u8]) -> Option<EventRun>
     ensures run { result ≡ counted_run (words line.now) }
     ensures form { IfSome result (λ r. IsTrue (is_single r)) }
 {
     let (verb, after) = next_word(line)?;
     let (count, after) = next_word(after)?;
-    if next_word(after).is_some() {
-        return None;
+    match next_word(after) {
+        None => counted_of(verb, count),
+        Some(_) => None,
     }
-    if verb == b"cpu".as_slice() {
-        return Some(EventRun {
-            event: Event::Cpu,
-            count: unsigned_of(count)?,
-        });
-    }
-    if verb == b"tick".as_slice() {
-        return Some(EventRun {
-            event: Event::Tick,
-            count: unsigned_of(count)?,
-        });
-    }
-    None
 }
 
 /// An action of a lane.
@@ -189,12 +199,12 @@ fn read_line(alloc: Global, tally: &mut Tally, line: &[u8]) -> Result<EventRun, 
     Ok(run)
 }
 
-/// The journal that a text is, or its first line with a cause and the line's first cause.
-pub fn read_journal(alloc: Global, bytes: &[u8]) -> Result<Journal, JournalError>
-    ensures journal { IfOk result (λ journal. journal_of bytes.now ≡ Ok journal.events) }
+/// Puts the events of a text into a journal without one, or tells its first line with a cause and the line's first cause.
+fn read_lines(alloc: Global, journal: &mut Journal, bytes: &[u8]) -> Result<(), JournalError>
+    requires { journal.old.events ≡ [] }
+    ensures journal { OnOk result (journal_of bytes.now ≡ Ok journal.new.events) }
     ensures fault { IfErr result (λ e. IfLine e (λ fault. journal_of bytes.now ≡ Err fault)) }
 {
-    let mut journal = Journal::new(alloc);
     let mut tally = Tally::new();
     let mut number = 0u64;
     let mut rest = bytes;
@@ -204,14 +214,12 @@ pub fn read_journal(alloc: Global, bytes: &[u8]) -> Result<Journal, JournalError
         if is_skipped(line) {
             continue;
         }
-        if line.len() <= MAX_LINE_BYTES && is_end(line) {
-            return Ok(journal);
+        if is_last(line) {
+            return Ok(());
         }
+        journal.reserve(1)?;
         match read_line(alloc, &mut tally, line) {
-            Ok(run) => {
-                journal.reserve(1)?;
-                journal.add_run(run);
-            }
+            Ok(run) => journal.add_run(run),
             Err(error) => return Err(at_line(error, number)),
         }
     }
@@ -219,4 +227,14 @@ pub fn read_journal(alloc: Global, bytes: &[u8]) -> Result<Journal, JournalError
         code: JournalCode::J1,
         line: number + 1,
     }))
+}
+
+/// The journal that a text is, or its first line with a cause and the line's first cause.
+pub fn read_journal(alloc: Global, bytes: &[u8]) -> Result<Journal, JournalError>
+    ensures journal { IfOk result (λ journal. journal_of bytes.now ≡ Ok journal.events) }
+    ensures fault { IfErr result (λ e. IfLine e (λ fault. journal_of bytes.now ≡ Err fault)) }
+{
+    let mut journal = Journal::new(alloc);
+    read_lines(alloc, &mut journal, bytes)?;
+    Ok(journal)
 }

@@ -1,18 +1,18 @@
 // Reads a script.
-ghost use Rattle.std.specs.Prelude.{◌≡◌, ℕ, ◌+◌, ◌≤◌, ◌<◌, ◌^◌, [], ◌∷◌, ◌++◌, false, length, replicate, slice_set, slice_index_or, vec_len, option_map, Ok, Err, IfOk, OnOk, OnErr, IfErr, IsTrue};
+ghost use Rattle.std.specs.Prelude.{◌≡◌, ℕ, ◌+◌, ◌≤◌, ◌<◌, ◌^◌, ◌&&◌, not, nat_le, [], ◌∷◌, ◌++◌, false, length, replicate, slice_set, slice_index_or, vec_len, option_map, Ok, Err, IfOk, OnOk, OnErr, IfErr, IsTrue};
 ghost use Rattle.std.specs.List.{last_or};
-ghost use Rattle.spec_text.specs.TextLines.{lines, words};
+ghost use Rattle.spec_text.specs.TextLines.{lines, words, unsigned_of};
 ghost use Rattle.spec_text.specs.declared.script.Timed.{Timed};
 ghost use Rattle.spec_text.specs.Scripts.{is_out, actions_in, is_script};
-ghost use Rattle.spec_text.specs.ScriptText.{bare, header_of, read_header, lane_action_of, with_lane_action, at_or_zero, read_lane_line, lanes_from, script_of};
+ghost use Rattle.spec_text.specs.ScriptText.{bare, bare_of, header_of, read_header, lane_action_of, with_lane_action, at_or_zero, read_lane_line, lanes_from, script_of};
 ghost use Rattle.spec_base.specs.Pieces.{has_byte};
 ghost use Rattle.lgx_journal.specs.Lines.{is_plain};
 ghost use Rattle.lgx_journal.specs.Reading.{IfLine, IfCode, lane_action, lane_fault, first_read};
-ghost use Rattle.spec_base.specs.declared.limits.TheConstants.{MAX_ACTIONS};
+ghost use Rattle.spec_base.specs.declared.limits.TheConstants.{MAX_ACTIONS, OWN_LANE};
 
 use crate::actions::action_of;
 use crate::error::{JournalError, LineError, at_line};
-use crate::lines::{is_end, is_skipped, lane_of, next_line};
+use crate::lines::{is_last, is_skipped, lane_of, next_line};
 use crate::words::{next_word, split_word, unsigned_of};
 use lgx_num::{Items, Memory};
 use spec_base::limits::{MAX_ACTIONS, MAX_LINE_BYTES, MAX_SCRIPT_STEPS, OWN_LANE};
@@ -48,6 +48,37 @@ fn is_out(number: u32) -> bool
     number == 0 || number > MAX_SCRIPT_STEPS
 }
 
+/// Whether a script may have so many steps, such a pace and so many lanes.
+fn is_within(steps: u32, pace: u32, lanes: u32) -> bool
+    ensures { result ≡ (not (is_out steps) && not (is_out pace) && nat_le lanes OWN_LANE) }
+{
+    !is_out(steps) && !is_out(pace) && lanes <= OWN_LANE
+}
+
+/// The steps, the pace and the number of lanes that three words are.
+fn numbers_of(steps: &[u8], pace: &[u8], lanes: &[u8]) -> Option<(u32, u32, u32)>
+    ensures { option_map (λ h. bare h.0 h.1 h.2) result ≡ bare_of (unsigned_of steps.now) (unsigned_of pace.now) (unsigned_of lanes.now) }
+{
+    let steps = unsigned_of(steps)?;
+    let pace = unsigned_of(pace)?;
+    let lanes = unsigned_of(lanes)?;
+    Some((steps, pace, lanes))
+}
+
+/// The same of a verb, two words and a text that has one more.
+fn header_after(verb: &[u8], steps: &[u8], pace: &[u8], text: &[u8]) -> Option<(u32, u32, u32)>
+    ensures { option_map (λ h. bare h.0 h.1 h.2) result ≡ header_of (verb.now ∷ steps.now ∷ pace.now ∷ words text.now) }
+{
+    let (lanes, after) = next_word(text)?;
+    if next_word(after).is_some() {
+        return None;
+    }
+    if verb == b"run".as_slice() {
+        return numbers_of(steps, pace, lanes);
+    }
+    None
+}
+
 /// The steps, the pace and the number of lanes of a script's first line.
 fn header_of(line: &[u8]) -> Option<(u32, u32, u32)>
     ensures { option_map (λ h. bare h.0 h.1 h.2) result ≡ header_of (words line.now) }
@@ -55,14 +86,7 @@ fn header_of(line: &[u8]) -> Option<(u32, u32, u32)>
     let (verb, after) = next_word(line)?;
     let (steps, after) = next_word(after)?;
     let (pace, after) = next_word(after)?;
-    let (lanes, after) = next_word(after)?;
-    if next_word(after).is_some() {
-        return None;
-    }
-    if verb == b"run".as_slice() {
-        return Some((unsigned_of(steps)?, unsigned_of(pace)?, unsigned_of(lanes)?));
-    }
-    None
+    header_after(verb, steps, pace, after)
 }
 
 /// So many lanes without an action.
@@ -78,7 +102,7 @@ fn empty_lanes(alloc: Global, count: u32) -> Result<Vec<Items<Timed>>, Memory>
 }
 
 /// A script without an action, or the first cause of its first line.
-#[tactic(auto, using(crate::proofs::ReadLanes::bare_lanes, crate::proofs::ReadLanes::bare_actions))]
+#[tactic(auto, using(crate::proofs::ReadLanes::bare_actions))]
 fn read_header(alloc: Global, line: &[u8]) -> Result<Draft, LineError>
     ensures draft { IfOk result (λ draft. read_header line.now ≡ Ok draft) }
     ensures code { IfErr result (λ e. IfCode e (λ code. read_header line.now ≡ Err code)) }
@@ -89,13 +113,7 @@ fn read_header(alloc: Global, line: &[u8]) -> Result<Draft, LineError>
     let Some((steps, pace, lanes)) = header_of(line) else {
         return Err(LineError::Code(JournalCode::J1));
     };
-    if is_out(steps) {
-        return Err(LineError::Code(JournalCode::J4));
-    }
-    if is_out(pace) {
-        return Err(LineError::Code(JournalCode::J4));
-    }
-    if lanes > OWN_LANE {
+    if !is_within(steps, pace, lanes) {
         return Err(LineError::Code(JournalCode::J4));
     }
     Ok(Draft {
@@ -220,7 +238,7 @@ fn read_lanes(alloc: Global, draft: &mut Draft, first: u64, text: &[u8]) -> Resu
         if is_skipped(line) {
             continue;
         }
-        if line.len() <= MAX_LINE_BYTES && is_end(line) {
+        if is_last(line) {
             return Ok(());
         }
         if let Err(error) = read_lane_line(alloc, draft, line) {

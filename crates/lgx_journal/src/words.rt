@@ -1,8 +1,8 @@
 // Lines, words and parts of a text, and numbers.
-ghost use Rattle.std.specs.Prelude.{◌≡◌, ◌++◌, false, ◌<◌, ◌≤◌, ◌^◌, [], ◌∷◌, length, not, if◌then◌else◌, Some, None, IsNone, IfSome};
+ghost use Rattle.std.specs.Prelude.{◌≡◌, ◌++◌, true, false, ◌<◌, ◌≤◌, ◌^◌, [], ◌∷◌, length, not, if◌then◌else◌, Some, None, IsNone, IfSome};
 ghost use Rattle.std.specs.List.{prefix_len};
 ghost use Rattle.spec_base.specs.Pieces.{pieces, has_byte};
-ghost use Rattle.spec_text.specs.TextLines.{is_space, words, first_word, after_word, value_of, is_digits, unsigned_of, signed_of, as_i32};
+ghost use Rattle.spec_text.specs.TextLines.{is_space, words, first_word, after_word, value_of, is_digits, unsigned_of, signed_of, as_i32, value_when};
 
 /// The number of spaces before the first byte that is none.
 #[tactic(auto, using(crate::proofs::Prefixes::prefix_stops, crate::proofs::Prefixes::prefix_whole))]
@@ -95,13 +95,29 @@ fn as_i32(value: i64) -> Option<i32>
     }
 }
 
+/// The number that 1 to 10 digits are, if it fits a DINT.
+fn positive_of(digits: &[u8]) -> Option<i32>
+    ensures { result ≡ value_when false digits.now }
+{
+    let number = digits_of(digits)?;
+    as_i32(number as i64)
+}
+
+/// The number that 1 to 10 digits are with a `-` before them, if it fits a DINT.
+fn negative_of(digits: &[u8]) -> Option<i32>
+    ensures { result ≡ value_when true digits.now }
+{
+    let number = digits_of(digits)?;
+    as_i32(-(number as i64))
+}
+
 /// The number that 1 to 10 digits are, with `-` before them if it is negative, if it fits a DINT.
 pub fn signed_of(text: &[u8]) -> Option<i32>
     ensures { result ≡ signed_of text.now }
 {
     match text {
         [] => None,
-        [b'-', digits @ ..] => as_i32(-(digits_of(digits)? as i64)),
-        _ => as_i32(digits_of(text)? as i64),
+        [b'-', digits @ ..] => negative_of(digits),
+        _ => positive_of(text),
     }
 }

@@ -1,7 +1,7 @@
 use Rattle.std.proofs.Common.{◌≡◌, map, take, drop}
 use Rattle.spec_project.specs.Faults.{first_from}
 use Rattle.spec_project.specs.Names.{name_fault, repeated_name}
-use Rattle.lgx_declare.proofs.names.index_of.Given as goal
+use Rattle.lgx_declare.proofs.names.add_names.Given as goal
 
 abbrev pub invariant-loop-i : goal.invariant-loop-i
 invariant-loop-i g l = record {

@@ -2,7 +2,7 @@ use Rattle.std.proofs.Common.{◌≡◌, ◌+◌, ◌≤◌, length}
 use Rattle.spec_text.specs.TextLines.{lines}
 use Rattle.spec_text.specs.JournalText.{runs_from, journal_of}
 use Rattle.lgx_journal.specs.Reading.{after_events, tally_events}
-use Rattle.lgx_journal.proofs.read.read_journal.Given as goal
+use Rattle.lgx_journal.proofs.read.read_lines.Given as goal
 
 abbrev pub invariant-loop-line : goal.invariant-loop-line
 invariant-loop-line l = record {

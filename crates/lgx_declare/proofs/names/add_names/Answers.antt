@@ -1,6 +1,6 @@
 use Rattle.std.proofs.Common.{rules, arith}
 use Rattle.lgx_declare.proofs.Taken.{index_more, names_go_on}
-use Rattle.lgx_declare.proofs.names.index_of.Goals as goal
+use Rattle.lgx_declare.proofs.names.add_names.Goals as goal
 
 pub returns-in_err-refuse_taken : goal.returns-in_err-refuse_taken
 returns-in_err-refuse_taken g c =
