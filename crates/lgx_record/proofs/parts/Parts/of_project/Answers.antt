@@ -7,7 +7,7 @@ use Rattle.lgx_record.proofs.parts.Parts.of_project.Goals as goal
 
 pub of_controller-requires-clause-inside : goal.of_controller-requires-clause-inside
 of_controller-requires-clause-inside c =
-    let made = are_inside c.args.project c.in_ok-controller.ensures.stands.valid _ [] c.in_ok-controller.controller c.in_ok-names.ensures.watches c.in_ok-controller.ensures.stands.represents in
+    let made = are_inside c.args.project c.in_ok-controller.ensures.stands.valid _ [] c.in_ok-controller.controller (rw c.parts.ensures at c.in_ok-names.ensures.watches) c.in_ok-controller.ensures.stands.represents in
     rw c.in_ok-boxed.ensures.ok (subst (λ (bytes : List ℕ). AreInside c.in_ok-names.watches bytes) (sym c.clear_marks.ensures.bytes) made)
 
 pub of_controller-requires-clause-unmarked : goal.of_controller-requires-clause-unmarked
@@ -16,5 +16,5 @@ of_controller-requires-clause-unmarked c = λ grain.
 
 pub returns : goal.returns
 returns c =
-    let after = still-stands c.args.project [] c.in_ok-controller.controller c.clear_marks.new.controller c.in_ok-controller.ensures.stands c.clear_marks.ensures.represents c.clear_marks.ensures.spent in
-    c.of_controller.ensures c.args.project (rw c.in_ok-boxed.ensures.ok after) c.in_ok-names.ensures.names c.in_ok-names.ensures.watches
+    let after = still-stands c.args.project [] c.in_ok-controller.controller c.clear_marks.new.self c.in_ok-controller.ensures.stands c.clear_marks.ensures.represents c.clear_marks.ensures.spent in
+    c.of_controller.ensures c.args.project (rw c.in_ok-boxed.ensures.ok after) (rw c.parts.ensures at c.in_ok-names.ensures.names) (rw c.parts.ensures at c.in_ok-names.ensures.watches)
