@@ -133,7 +133,7 @@ parts_send = struct_send (shape Parts.the_type) (
 controller_fields : IsSend controller.the_row
 controller_fields =
     of_fields (controller.the_field).row _ _ (controller.the_type).to_one
-    (struct_send (shape controller.the_type) (Box-send _ parts_send, (search (sendable, crosses) depth 200 fits 100000, tt)))
+    (struct_send (shape controller.the_type) (parts_send, (search (sendable, crosses) depth 200 fits 100000, tt)))
 
 pub controller_send : IsSend Controller.the_row
 controller_send = view_send _ _ _ _ _ controller_fields

@@ -10,7 +10,7 @@ pub returns-clause-counts : goal.returns-clause-counts
 returns-clause-counts c =
     let i = c.self.invariant in
     let was = subst (λ (v : RecordingView). Records v i.project i.events) c.self.view_is i.records in
-    let is = c.step.ensures.records i.project i.events i.records in
+    let is = c.step.ensures.records i.project i.events (rw c.deref_mut.ensures.value i.records) in
     let long = length-append i.events (Cpu ∷ []) in (
       is.steps ∙ sym (counted i.events Cpu c.args.self.now.steps was.steps),
       is.controller.counted ∙ (long ∙ (let one = was.controller.counted in omega (arith, one))),
