@@ -1,7 +1,7 @@
 -- The tags of each scope, as they are put after one another.
 use Rattle.std.specs.Prelude.{◌≡◌, ℕ, zero, suc, ◌+◌, ◌<◌, ◌≤◌, Bool, true, false, cond, ◌==◌, List, [], ◌∷◌, ◌++◌, length, map, drop, replicate, slice_set, slice_index_or, refl}
 use Rattle.std.specs.List.{AllByRecursion as Each, range_with_len}
-use Rattle.std.proofs.Common.{sym, ap, ◌∙◌, arith, eq-eqb, append_assoc, get_or}
+use Rattle.std.proofs.Common.{sym, ap, ◌∙◌, arith, eq-eqb, append_assoc, get_or, subst}
 use Rattle.std.proofs.lemmas.List.{append-nil, drop_more, length-map}
 use Rattle.std.proofs.lemmas.List.FromFn.{length-range_with_len}
 use Rattle.spec_language.specs.declared.types.TypeDecl.{TypeDecl}
@@ -10,8 +10,9 @@ use Rattle.spec_language.specs.declared.tag.Scope.TheVariants.{Controller, Progr
 use Rattle.spec_language.specs.Layout.{round_up, size_of}
 use Rattle.spec_language.specs.Declarations.{Meaning, tag, alias, Entry, same_scope}
 use Rattle.lgx_tags.specs.Scopes.{IsScopeOf}
-use Rattle.lgx_tags.specs.Layouts.{scopes, slot_of, numbered, tags_in, with_entry, rows_of, place_tags_end}
+use Rattle.lgx_tags.specs.Layouts.{scopes, slot_of, numbered, tags_in, with_entry, rows_of, place_tags, place_tags_end}
 use Rattle.lgx_tags.specs.declared.layout.NumberedTag.{NumberedTag}
+use Rattle.lgx_tags.specs.declared.layout.PlacedTag.{PlacedTag}
 use Rattle.std.proofs.lemmas.Bool.{ne_eqb}
 
 -- ---- one entry more
@@ -108,3 +109,10 @@ place_tags_grows types at (t ∷ ts) = omega (arith, place_tags_grows types (rou
 -- the tag of an index ends before the last one does
 pub place_tags_within : (types : List TypeDecl) (at i : ℕ) (ts : List NumberedTag) (d : NumberedTag) → i < length ts → at + size_of types (get_or ts i d).of ≤ place_tags_end types at (drop i ts)
 place_tags_within types at i ts d h = rw (drop_more ts i d h) (omega (arith, place_tags_grows types (round_up 4 (at + size_of types (get_or ts i d).of)) (drop (i + 1) ts)))
+
+-- one more tag is laid where those before it end
+pub placed_next : (types : List TypeDecl) (at i : ℕ) (ts : List NumberedTag) (d : NumberedTag) (laid all : List PlacedTag) → i < length ts → laid ++ place_tags types at (drop i ts) ≡ all → (laid ++ record { entry = (get_or ts i d).entry; of = (get_or ts i d).of; start = at; end = at + size_of types (get_or ts i d).of } ∷ []) ++ place_tags types (round_up 4 (at + size_of types (get_or ts i d).of)) (drop (i + 1) ts) ≡ all
+placed_next types at i ts d laid all h p = rw append_assoc (subst (λ (l : List NumberedTag). laid ++ place_tags types at l ≡ all) (drop_more ts i d h) p)
+
+pub end_next : (types : List TypeDecl) (at i : ℕ) (ts : List NumberedTag) (d : NumberedTag) (end : ℕ) → i < length ts → place_tags_end types at (drop i ts) ≡ end → place_tags_end types (round_up 4 (at + size_of types (get_or ts i d).of)) (drop (i + 1) ts) ≡ end
+end_next types at i ts d end h p = subst (λ (l : List NumberedTag). place_tags_end types at l ≡ end) (drop_more ts i d h) p
