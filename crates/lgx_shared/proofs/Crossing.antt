@@ -10,7 +10,7 @@ use Rattle.lgx_shared.specs.contracts.kept.Named as Named
 use Rattle.lgx_shared.specs.contracts.kept.Named.TheInside as named
 use Rattle.lgx_shared.specs.contracts.kept.Fit as Fit
 use Rattle.lgx_shared.specs.contracts.kept.Kept as Kept
-use Rattle.std.proofs.Crossing.{crosses, Box-send}
+use Rattle.std.proofs.Crossing.{crosses}
 use Rattle.lgx_rung.proofs.rung.Legs.TheLaws.TheKnot as source
 use Rattle.lgx_prog.proofs.rung.Legs.TheLaws.TheKnot as checked
 use Rattle.circular_buffer.proofs.Crosses.{Cells-send, Deed-send}
@@ -166,10 +166,14 @@ recorded_send = struct_send (shape Recorded.the_type) (
   ),
 )
 
+-- as they lie in their box
+pub boxed_send : IsSend Recorded.the_row
+boxed_send = of_fields (Recorded.the_field).row _ _ (Recorded.the_type).to_one recorded_send
+
 recording_fields : IsSend recording.the_row
 recording_fields =
     of_fields (recording.the_field).row _ _ (recording.the_type).to_one
-    (struct_send (shape recording.the_type) (Box-send _ recorded_send, tt))
+    (struct_send (shape recording.the_type) (search (sendable, crosses, boxed_send) depth 200 fits 20000, tt))
 
 pub recording_send : IsSend Recording.the_row
 recording_send = view_send _ _ _ _ _ recording_fields
