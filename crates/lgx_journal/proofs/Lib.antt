@@ -7,6 +7,7 @@ pub mod LinesBack
 pub mod Numerals
 pub mod Parts
 pub mod Prefixes
+pub mod PushedEdits
 pub mod ReadLanes
 pub mod ReadRuns
 pub mod SafeLines

@@ -1,7 +1,7 @@
 // The canonical text of a journal.
 ghost use Rattle.std.specs.Prelude.{◌≡◌, ◌++◌, ◌∷◌, [], Ok, OnOk, IfOk, IsTrue, codes, decimal};
 ghost use Rattle.std.specs.Fmt.{signed_decimal};
-ghost use Rattle.std.specs.List.{list_all};
+ghost use Rattle.std.specs.List.{flat_map, list_all};
 ghost use Rattle.lgx_num.specs.Name.{is_name};
 ghost use Rattle.spec_text.specs.TextLines.{spaced, line_of};
 ghost use Rattle.spec_text.specs.ActionText.{text_word, edit_words, edits_text, action_words};
@@ -77,6 +77,26 @@ fn push_edit(text: &mut Vec<u8>, alloc: Global, edit: &RungEdit) -> Result<(), M
     }
 }
 
+/// An edit after ` | `.
+fn push_part(text: &mut Vec<u8>, alloc: Global, edit: &RungEdit) -> Result<(), Memory>
+    ensures text { OnOk result (text.new.items ≡ text.old.items ++ (codes " | " ++ spaced (edit_words edit.now))) }
+    ensures kept { OnOk result (IsTrue (is_kept_edit edit.now)) }
+{
+    text.extend_from_slice(b" | ")?;
+    push_edit(text, alloc, edit)
+}
+
+/// Edits, each after ` | `.
+fn push_parts(text: &mut Vec<u8>, alloc: Global, edits: &[RungEdit]) -> Result<(), Memory>
+    ensures text { OnOk result (text.new.items ≡ text.old.items ++ flat_map (λ e. codes " | " ++ spaced (edit_words e)) edits.now) }
+    ensures kept { OnOk result (IsTrue (list_all is_kept_edit edits.now)) }
+{
+    for edit in edits {
+        push_part(text, alloc, edit)?;
+    }
+    Ok(())
+}
+
 /// Edits with ` | ` between them.
 fn push_edits(text: &mut Vec<u8>, alloc: Global, edits: &[RungEdit]) -> Result<(), Memory>
     ensures text { OnOk result (text.new.items ≡ text.old.items ++ edits_text edits.now) }
@@ -86,11 +106,7 @@ fn push_edits(text: &mut Vec<u8>, alloc: Global, edits: &[RungEdit]) -> Result<(
         return Ok(());
     };
     push_edit(text, alloc, first)?;
-    for edit in others {
-        text.extend_from_slice(b" | ")?;
-        push_edit(text, alloc, edit)?;
-    }
-    Ok(())
+    push_parts(text, alloc, others)
 }
 
 /// The accept of edits.

@@ -1,4 +1,12 @@
 // Tags and aliases of a file.
+ghost use Rattle.std.specs.Prelude.{◌≡◌, codes, false, IfOk};
+ghost use Rattle.serde_json.specs.View.{view};
+ghost use Rattle.spec_project.specs.Limits.{IsSmallTag};
+ghost use Rattle.spec_project.specs.Reading.{described_tag};
+ghost use Rattle.spec_project.specs.Shape.{tag};
+ghost use Rattle.spec_project.specs.Values.{has_field};
+ghost use Rattle.lgx_json.specs.Answers.{Reads};
+
 use crate::error::ProjectError;
 use crate::fields::{needed, only_keys, optional};
 use crate::list::Reader;
@@ -37,13 +45,23 @@ impl Reader for TagObject {
                 meaning: DescribedMeaning::AliasOf(target),
             });
         }
-        only_keys(alloc, &["name", "type", "dim"], value)?;
-        let name = needed(alloc, &AnyText, "name", value)?;
-        let of = needed(alloc, &NameText, "type", value)?;
-        let dim = optional(alloc, &DIM, "dim", value)?.unwrap_or(0);
-        Ok(DescribedTag {
-            name,
-            meaning: DescribedMeaning::OfType { of, dim },
-        })
+        read_typed(alloc, value)
     }
+}
+
+/// A tag, of what has no target.
+#[tactic(auto, unfolding(spec_project::specs::Shape::tag, spec_project::specs::Reading::described_tag))]
+fn read_typed(alloc: Global, value: &Value) -> Result<DescribedTag, ProjectError>
+    requires { has_field (codes "alias") (view value.now) ≡ false }
+    ensures reads { Reads (tag (view value.now)) (described_tag (view value.now)) result }
+    ensures kept { IfOk result (λ t. IsSmallTag t) }
+{
+    only_keys(alloc, &["name", "type", "dim"], value)?;
+    let name = needed(alloc, &AnyText, "name", value)?;
+    let of = needed(alloc, &NameText, "type", value)?;
+    let dim = optional(alloc, &DIM, "dim", value)?.unwrap_or(0);
+    Ok(DescribedTag {
+        name,
+        meaning: DescribedMeaning::OfType { of, dim },
+    })
 }
