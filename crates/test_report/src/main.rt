@@ -6,27 +6,27 @@ use lgx_num::{Items, Kind, Memory, Place};
 use lgx_rung::{CheckCode, CheckFault, TextCode, TextFault};
 use lgx_watch::{
     ConnFault, EditFault, Fault, ForceFault, Line, Log, Mode, ModeFault, Names, Reply, Severity,
-    WatchIndex, WatchSet, end_text, line_text, push_line_text,
+    WatchIndex, WatchSet, end_text, line_text, push_count, push_line_text,
 };
-use std::alloc::{AllocError, Global};
+use std::alloc::Global;
 use std::io;
 
 fn main(rt: HostRuntime) -> io::Result<()> {
-    match report(rt.alloc()) {
-        Ok(text) => match std::str::from_utf8(text.as_slice()) {
-            Ok(text) => print!(rt; "{text}")?,
-            Err(_) => println!(rt; "not UTF-8")?,
+    let mut text = Vec::new(rt.alloc());
+    match add_all(rt.alloc(), &mut text) {
+        Ok(()) => match std::str::from_utf8(text.as_slice()) {
+            Ok(text) => print!(rt; "{text}"),
+            Err(_) => println!(rt; "not UTF-8"),
         },
-        Err(Memory) => println!(rt; "out of memory")?,
-    }
-    match full_log(rt.alloc()) {
-        Ok((kept, lost)) => println!(rt; "{kept} kept, {lost} lost")?,
-        Err(Memory) => println!(rt; "out of memory")?,
-    }
-    match watches(rt.alloc()) {
-        Ok(text) => print!(rt; "{text}"),
         Err(Memory) => println!(rt; "out of memory"),
     }
+}
+
+fn add_all(alloc: Global, text: &mut Vec<u8>) -> Result<(), Memory> {
+    let names = names(alloc)?;
+    add_report(alloc, text, &names)?;
+    add_full_log(alloc, text)?;
+    add_watches(alloc, text)
 }
 
 fn words(alloc: Global, texts: [&[u8]; 2]) -> Result<Items<Items<u8>>, Memory> {
@@ -56,23 +56,34 @@ fn reply(log: &mut Log, lane: u32, reply: Reply) {
     keep(log, 0, 2, Line::Reply { lane, reply });
 }
 
-fn report(alloc: Global) -> Result<Vec<u8>, Memory> {
-    let names = names(alloc)?;
+fn add_report(alloc: Global, text: &mut Vec<u8>, names: &Names) -> Result<(), Memory> {
     let mut log = Log::new(alloc)?;
     begins_and_faults(&mut log);
     replies(&mut log);
     refused_edits(&mut log);
-    let mut text = Vec::new(alloc);
+    add_lines(alloc, text, &log, names)?;
+    add_ends(alloc, text, &log)
+}
+
+fn add_lines(alloc: Global, text: &mut Vec<u8>, log: &Log, names: &Names) -> Result<(), Memory> {
     for i in 0..log.lines() {
-        push_line_text(&mut text, &log, i, &names)?;
+        push_line_text(text, log, i, names)?;
     }
     if log.lines() > 1 {
-        text.extend_from_slice(line_text(alloc, &log, 1, &names)?.as_slice())?;
+        text.extend_from_slice(line_text(alloc, log, 1, names)?.as_slice())?;
     }
-    text.extend_from_slice(end_text(alloc, 0, 0, Mode::Program, &log)?.as_slice())?;
-    text.extend_from_slice(end_text(alloc, 9, u32::MAX, Mode::Run, &log)?.as_slice())?;
-    text.extend_from_slice(end_text(alloc, u32::MAX, 9, Mode::Faulted, &log)?.as_slice())?;
-    Ok(text)
+    Ok(())
+}
+
+fn add_ends(alloc: Global, text: &mut Vec<u8>, log: &Log) -> Result<(), Memory> {
+    for (tick, step, mode) in [
+        (0, 0, Mode::Program),
+        (9, u32::MAX, Mode::Run),
+        (u32::MAX, 9, Mode::Faulted),
+    ] {
+        text.extend_from_slice(end_text(alloc, tick, step, mode, log)?.as_slice())?;
+    }
+    Ok(())
 }
 
 fn begins_and_faults(log: &mut Log) {
@@ -155,7 +166,13 @@ fn refused_edits(log: &mut Log) {
     reply(log, 2, Reply::Edit(EditFault::E12));
 }
 
-/// How many lines a log keeps of one more than it has room for, and how many it counts.
+/// Adds how many lines a log keeps of one more than it has room for, and how many it counts.
+fn add_full_log(alloc: Global, text: &mut Vec<u8>) -> Result<(), Memory> {
+    let (kept, lost) = full_log(alloc)?;
+    text.extend_from_slice(format!(in alloc; "{kept} kept, {lost} lost\n")?.as_bytes())?;
+    Ok(())
+}
+
 fn full_log(alloc: Global) -> Result<(u32, u64), Memory> {
     let mut log = Log::new(alloc)?;
     for step in 0..100001u32 {
@@ -164,8 +181,8 @@ fn full_log(alloc: Global) -> Result<(u32, u64), Memory> {
     Ok((log.lines(), log.lost()))
 }
 
-/// The watched places of four grains of 64 bytes: one at bit 0, one over two grains, one at the start of the third.
-fn watches(alloc: Global) -> Result<String, Memory> {
+/// Adds the watched places of four grains of 64 bytes: one at bit 0, one over two grains, one at the start of the third.
+fn add_watches(alloc: Global, text: &mut Vec<u8>) -> Result<(), Memory> {
     let bit = Place {
         kind: Kind::Bool,
         at: 0,
@@ -179,25 +196,26 @@ fn watches(alloc: Global) -> Result<String, Memory> {
         at: 8 * 128,
     };
     let index = WatchIndex::new(alloc, &[bit, across, third])?;
-    let mut text = String::new(alloc);
+    add_watched(text, &index)
+}
+
+fn add_watched(text: &mut Vec<u8>, index: &WatchIndex) -> Result<(), Memory> {
     for grain in 0..4 {
-        text.push_str(members(alloc, &index.of(grain))?.as_str())?;
+        add_members(text, &index.of(grain))?;
     }
     let mut both = index.of(1);
     both.join(&index.of(2));
-    text.push_str(members(alloc, &both)?.as_str())?;
-    Ok(text)
+    add_members(text, &both)
 }
 
-/// The members of a set below 4, on a line.
-fn members(alloc: Global, set: &WatchSet) -> Result<String, AllocError> {
-    let mut text = String::new(alloc);
-    text.push_str("watches")?;
+/// Adds the members of a set below 4, on a line.
+fn add_members(text: &mut Vec<u8>, set: &WatchSet) -> Result<(), Memory> {
+    text.extend_from_slice(b"watches")?;
     for watch in 0..4 {
         if set.next(watch) == Some(watch) {
-            text.push_str(format!(in alloc; " {watch}")?.as_str())?;
+            push_count(text, u64::from(watch))?;
         }
     }
-    text.push_str("\n")?;
-    Ok(text)
+    text.push(b'\n')?;
+    Ok(())
 }
