@@ -1,5 +1,5 @@
 // A book of edits over tags that are the same in all rows.
-ghost use Rattle.std.specs.Prelude.{◌^◌, ◌≡◌, ◌<◌, true, length, IfOk};
+ghost use Rattle.std.specs.Prelude.{◌^◌, ◌≡◌, ◌<◌, false, true, length, IfOk, OnOk};
 ghost use Rattle.test_edits.specs.Mains.{has_main, have_mains};
 
 use crate::trouble::Trouble;
@@ -20,16 +20,25 @@ use std::alloc::Global;
 #[derive(Drop)]
 pub struct Bench {
     pub book: EditBook,
-    tags: TagTable,
-    ghost sealed: { tags.sealed ≡ true },
+    tags: Box<TagTable>,
+    ghost sealed: { tags.value.sealed ≡ true },
 }
 
 /// The tags of all rows: `n`, a DINT, and `x`, a BOOL.
-fn tags(alloc: Global) -> Result<TagTable, Trouble>
-    ensures { IfOk result (λ table. table.sealed ≡ true) }
+fn tags(alloc: Global) -> Result<Box<TagTable>, Trouble>
+    ensures { IfOk result (λ table. table.value.sealed ≡ true) }
 {
     let types = TypeTable::build(alloc, &[])?;
-    let mut table = TagTable::new(alloc, types, 0)?;
+    let mut table = Box::new(alloc, TagTable::new(alloc, types, 0)?)?;
+    declare_all(&mut table)?;
+    Ok(table)
+}
+
+/// Declares the tags, and seals the table.
+fn declare_all(table: &mut TagTable) -> Result<(), Trouble>
+    requires { table.old.sealed ≡ false }
+    ensures { OnOk result (table.new.sealed ≡ true) }
+{
     let number = DataType {
         base: Base::Dint,
         dim: 0,
@@ -41,7 +50,7 @@ fn tags(alloc: Global) -> Result<TagTable, Trouble>
     };
     table.declare(Scope::Controller, b"x", bit)?;
     table.seal()?;
-    Ok(table)
+    Ok(())
 }
 
 /// The rungs of a text.
@@ -65,22 +74,38 @@ fn rung_of(alloc: Global, text: &[u8]) -> Result<SourceRung, Trouble> {
     Ok(read_rung(alloc, text)?)
 }
 
+/// The number that a text is.
+pub fn number(text: &str) -> Result<u32, Trouble> {
+    text.trim().parse::<u32>().ok().ok_or(Trouble::Form)
+}
+
 /// Adds the rungs of `RUNGS,COUNT;`.
 fn push_many(alloc: Global, rungs: &mut Vec<SourceRung>, numbers: &str) -> Result<(), Trouble> {
     let (many, count) = numbers.split_once(',').ok_or(Trouble::Form)?;
-    let many = many.parse::<u32>().ok().ok_or(Trouble::Form)?;
-    let count = count
-        .trim_end_matches(';')
-        .parse::<u32>()
-        .ok()
-        .ok_or(Trouble::Form)?;
+    let many = number(many)?;
+    let count = number(count.trim_end_matches(';'))?;
+    let text = nops(alloc, count)?;
+    push_each(alloc, rungs, many, text.as_slice())
+}
+
+/// The text of a rung of so many `NOP()`.
+fn nops(alloc: Global, count: u32) -> Result<Vec<u8>, Trouble> {
     let mut text = Vec::new(alloc);
     for _ in 0..count {
         text.extend_from_slice(b"NOP()")?;
     }
     text.push(b';')?;
+    Ok(text)
+}
+
+fn push_each(
+    alloc: Global,
+    rungs: &mut Vec<SourceRung>,
+    many: u32,
+    text: &[u8],
+) -> Result<(), Trouble> {
     for _ in 0..many {
-        rungs.push(rung_of(alloc, text.as_slice())?)?;
+        rungs.push(rung_of(alloc, text)?)?;
     }
     Ok(())
 }
@@ -104,10 +129,11 @@ fn routine_of(alloc: Global, scope: &CheckScope, text: &str) -> Result<RoutineTe
     requires few_tasks { length scope.now.tasks.now < 2 ^ 32 }
 {
     let (_, rungs) = text.trim().split_once(' ').unwrap_or((text, ""));
+    let name = name_of(text)?;
     let source = rungs_of(alloc, rungs)?;
     let checked = check_routine(alloc, source.as_slice(), scope)?;
     Ok(RoutineText {
-        name: name_of(text)?,
+        name,
         source: Items::of(source),
         checked,
     })
@@ -122,25 +148,39 @@ fn program_of(
     requires { tags.now.sealed ≡ true }
 {
     let (_, parts) = text.trim().split_once(' ').ok_or(Trouble::Form)?;
+    let name = name_of(text)?;
     let names = names_of(alloc, parts)?;
+    let routines = routines_of(alloc, tags, program, &names, parts)?;
+    Ok(ProgramText {
+        name,
+        routines: Items::of(routines),
+        main: 0,
+    })
+}
+
+fn routines_of(
+    alloc: Global,
+    tags: &TagTable,
+    program: u32,
+    names: &[Name],
+    parts: &str,
+) -> Result<Vec<RoutineText>, Trouble>
+    requires { tags.now.sealed ≡ true }
+{
     if names.len() > u32::MAX as usize {
         return Err(Trouble::Form);
     }
     let scope = CheckScope {
         tags,
         program,
-        routines: names.as_slice(),
+        routines: names,
         tasks: &[],
     };
     let mut routines = Vec::new(alloc);
     for part in parts.split('&') {
         routines.push(routine_of(alloc, &scope, part)?)?;
     }
-    Ok(ProgramText {
-        name: name_of(text)?,
-        routines: Items::of(routines),
-        main: 0,
-    })
+    Ok(routines)
 }
 
 /// Whether the main routine is there.
@@ -237,16 +277,21 @@ impl Bench {
         is_held: bool,
     ) -> Result<String, Trouble> {
         let mut text = String::new(alloc);
-        if program < self.book.len() {
-            if is_held {
-                if let Some(flat) = self.book.held(program) {
-                    write_code(&mut text, flat, routine)?;
-                }
-            } else {
-                write_code(&mut text, self.book.selected(program), routine)?;
-            }
+        if let Some(flat) = self.flat(program, is_held) {
+            write_code(&mut text, flat, routine)?;
         }
         Ok(text)
+    }
+
+    /// The selected program of a program, or the held one.
+    fn flat(&self, program: u32, is_held: bool) -> Option<&FlatProgram> {
+        if program >= self.book.len() {
+            None
+        } else if is_held {
+            self.book.held(program)
+        } else {
+            Some(self.book.selected(program))
+        }
     }
 }
 

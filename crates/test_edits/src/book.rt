@@ -2,23 +2,35 @@
 use crate::bench::Bench;
 use crate::trouble::Trouble;
 use lgx_edit::EditError;
-use lgx_journal::read_journal;
-use spec_machine::{Action, EditFault, Event};
+use lgx_journal::{Journal, read_journal};
+use lgx_rung::{CheckFault, TextFault};
+use spec_machine::{Accept, Action, EditFault, Event};
 use std::alloc::Global;
-use test_rows::Said;
+use test_rows::Told;
+
+/// What a command is answered: an accept its number, another command nothing, or why it is refused.
+pub type Answer = Result<Option<u32>, EditFault>;
 
 /// `book ? PROGRAMS ? COMMAND / ..`: what the commands answer, one after another. The programs are as [`Bench::load`] has
 /// them, and the edit commands as in a journal. Of program N, 0 if it isn't told, `hold N` holds what is selected and answers
 /// its number, `drop N` drops it, `slots N` answers the number in each slot, `text R N` the rungs of routine R that are
 /// selected, and `held R N` those that are held.
-pub fn book_row(alloc: Global, text: &str) -> Result<String, Trouble> {
+pub fn say_book(alloc: Global, said: &mut Told, text: &str) -> Result<(), Trouble> {
     let (programs, commands) = text.split_once('?').ok_or(Trouble::Form)?;
     let mut bench = Bench::load(alloc, programs.trim())?;
-    let mut said = Said::new(alloc);
+    say_all(alloc, said, &mut bench, commands)
+}
+
+fn say_all(
+    alloc: Global,
+    said: &mut Told,
+    bench: &mut Bench,
+    commands: &str,
+) -> Result<(), Trouble> {
     for command in commands.split('/') {
-        command_on(alloc, &mut bench, &mut said, command.trim())?;
+        say_command(alloc, said, bench, command.trim())?;
     }
-    Ok(said.into_text())
+    Ok(())
 }
 
 /// The number at place `i` of the words, or 0.
@@ -29,101 +41,145 @@ fn number_at(text: &str, i: usize) -> u32 {
         .unwrap_or(0)
 }
 
-fn command_on(
+fn say_command(
     alloc: Global,
+    said: &mut Told,
     bench: &mut Bench,
-    said: &mut Said,
     command: &str,
 ) -> Result<(), Trouble> {
+    let program = number_at(command, 1);
     match command.split_whitespace().next().unwrap_or("") {
-        "hold" => said.or_none(bench.hold(number_at(command, 1)))?,
-        "drop" => bench.drop_hold(number_at(command, 1)),
-        "slots" => {
-            for i in 0..3 {
-                said.or_none(bench.slot(number_at(command, 1), i))?;
-            }
-        }
-        "text" => say_text(alloc, bench, said, command, false)?,
-        "held" => say_text(alloc, bench, said, command, true)?,
-        _ => said.word(reply(alloc, bench, command)?.as_str())?,
+        "hold" => said.or_none(bench.hold(program)),
+        "drop" => bench.drop_hold(program),
+        "slots" => say_slots(said, bench, program),
+        "text" => return say_text(alloc, said, bench, command, false),
+        "held" => return say_text(alloc, said, bench, command, true),
+        _ => return say_reply(alloc, said, bench, command),
     }
     Ok(())
+}
+
+/// Says the number in each slot of a program.
+pub fn say_slots(said: &mut Told, bench: &Bench, program: u32) {
+    for i in 0..3 {
+        said.or_none(bench.slot(program, i));
+    }
 }
 
 fn say_text(
     alloc: Global,
+    said: &mut Told,
     bench: &Bench,
-    said: &mut Said,
     command: &str,
     is_held: bool,
 ) -> Result<(), Trouble> {
-    let text = bench.text(
-        alloc,
-        number_at(command, 2),
-        number_at(command, 1) as usize,
-        is_held,
-    )?;
+    let program = number_at(command, 2);
+    let routine = number_at(command, 1) as usize;
+    let text = bench.text(alloc, program, routine, is_held)?;
     said.word(if text.is_empty() {
         "none"
     } else {
         text.as_str()
-    })?;
+    });
+    Ok(())
+}
+
+/// Says what an edit command is answered.
+pub fn say_reply(
+    alloc: Global,
+    said: &mut Told,
+    bench: &mut Bench,
+    command: &str,
+) -> Result<(), Trouble> {
+    let answer = reply(alloc, bench, command)?;
+    say_answer(said, answer);
     Ok(())
 }
 
 /// What an edit command is answered.
-pub fn reply(alloc: Global, bench: &mut Bench, command: &str) -> Result<String, Trouble> {
-    let mut text = Vec::new(alloc);
-    text.extend_from_slice(command.as_bytes())?;
-    text.extend_from_slice(b"\nend\n")?;
-    let journal = read_journal(alloc, text.as_slice())?;
+pub fn reply(alloc: Global, bench: &mut Bench, command: &str) -> Result<Answer, Trouble> {
+    let journal = journal_of(alloc, command)?;
+    reply_to(alloc, bench, &journal)
+}
+
+/// The journal of one command.
+fn journal_of(alloc: Global, command: &str) -> Result<Journal, Trouble> {
+    let text = format!(in alloc; "{command}\nend\n")?;
+    Ok(read_journal(alloc, text.as_bytes())?)
+}
+
+fn reply_to(alloc: Global, bench: &mut Bench, journal: &Journal) -> Result<Answer, Trouble> {
     if journal.runs() == 0 {
         return Err(Trouble::Form);
     }
     match journal.event_at(0) {
-        Event::Act(client, action) => acted(alloc, bench, *client, action),
+        Event::Act(client, Action::Accept(accept)) => accepted(alloc, bench, *client, accept),
+        Event::Act(client, action) => acted(bench, *client, action),
         _ => Err(Trouble::Form),
     }
 }
 
-fn acted(
+fn accepted(
     alloc: Global,
     bench: &mut Bench,
     client: u32,
-    action: &Action,
-) -> Result<String, Trouble> {
-    match action {
-        Action::Accept(accept) => match bench.accept(alloc, client, accept) {
-            Ok(number) => Ok(format!(in alloc; "ok {number}")?),
-            Err(EditError::Edit(fault)) => refused(alloc, fault),
-            Err(EditError::Memory) => Err(Trouble::Memory),
-        },
-        Action::Test(program) => done(alloc, bench.book.test(client, program)),
-        Action::Untest(program) => done(alloc, bench.book.untest(client, program)),
-        Action::Assemble(program) => done(alloc, bench.book.assemble(client, program)),
-        Action::Cancel(program) => done(alloc, bench.book.cancel(client, program)),
-        _ => Err(Trouble::Form),
+    accept: &Accept,
+) -> Result<Answer, Trouble> {
+    match bench.accept(alloc, client, accept) {
+        Ok(number) => Ok(Ok(Some(number))),
+        Err(EditError::Edit(fault)) => Ok(Err(fault)),
+        Err(EditError::Memory) => Err(Trouble::Memory),
     }
 }
 
-fn done(alloc: Global, answer: Result<(), EditFault>) -> Result<String, Trouble> {
+fn acted(bench: &mut Bench, client: u32, action: &Action) -> Result<Answer, Trouble> {
+    let answer = match action {
+        Action::Test(program) => bench.book.test(client, program),
+        Action::Untest(program) => bench.book.untest(client, program),
+        Action::Assemble(program) => bench.book.assemble(client, program),
+        Action::Cancel(program) => bench.book.cancel(client, program),
+        _ => return Err(Trouble::Form),
+    };
+    Ok(done(answer))
+}
+
+/// The answer of a command without a number.
+pub fn done(answer: Result<(), EditFault>) -> Answer {
     match answer {
-        Ok(()) => Ok(format!(in alloc; "ok")?),
-        Err(fault) => refused(alloc, fault),
+        Ok(()) => Ok(None),
+        Err(fault) => Err(fault),
     }
 }
 
-/// The cause of a refusal, as it is written.
-fn refused(alloc: Global, fault: EditFault) -> Result<String, Trouble> {
-    Ok(match fault {
-        EditFault::E3(owner) => format!(in alloc; "E3 {owner}")?,
-        EditFault::E5(edit) => format!(in alloc; "E5 {edit}")?,
-        EditFault::E6(edit) => format!(in alloc; "E6 {edit}")?,
-        EditFault::E7(edit, inner) => format!(in alloc; "E7 {edit} {:?} {}", inner.code, inner.at)?,
-        EditFault::E8(inner) => format!(in alloc;
-            "E8 {:?} {} {}",
-            inner.code, inner.rung, inner.ins
-        )?,
-        _ => format!(in alloc; "{fault:?}")?,
-    })
+fn say_answer(said: &mut Told, answer: Answer) {
+    match answer {
+        Ok(Some(number)) => say_numbered(said, "ok", number),
+        Ok(None) => said.word("ok"),
+        Err(EditFault::E3(owner)) => say_numbered(said, "E3", owner),
+        Err(EditFault::E5(edit)) => say_numbered(said, "E5", edit),
+        Err(EditFault::E6(edit)) => say_numbered(said, "E6", edit),
+        Err(EditFault::E7(edit, inner)) => say_text_fault(said, edit, inner),
+        Err(EditFault::E8(inner)) => say_check_fault(said, inner),
+        Err(fault) => said.shown(&fault),
+    }
+}
+
+fn say_numbered(said: &mut Told, word: &str, number: u32) {
+    said.word(word);
+    said.number(i64::from(number));
+}
+
+fn say_text_fault(said: &mut Told, edit: u32, fault: TextFault) {
+    let TextFault { code, at } = fault;
+    say_numbered(said, "E7", edit);
+    said.shown(&code);
+    said.shown(&at);
+}
+
+fn say_check_fault(said: &mut Told, fault: CheckFault) {
+    let CheckFault { code, rung, ins } = fault;
+    said.word("E8");
+    said.shown(&code);
+    said.shown(&rung);
+    said.shown(&ins);
 }

@@ -1,10 +1,11 @@
 // Made sequences of commands, on the book and on a plain one.
-use crate::bench::Bench;
-use crate::book::reply;
+use crate::bench::{Bench, number};
+use crate::book::{done, reply};
 use crate::plain::{PlainBook, PlainEdit};
 use crate::trouble::Trouble;
 use spec_machine::EditFault;
 use std::alloc::Global;
+use test_rows::Told;
 
 /// Numbers that look random.
 #[derive(Drop)]
@@ -38,8 +39,9 @@ struct Pair {
 impl Pair {
     /// Both books with the rungs 0, 1 and 2.
     fn new(alloc: Global, seed: u64) -> Result<Pair, Trouble> {
+        let plain = plain_book(alloc)?;
         let bench = Bench::load(alloc, "P M MOV(0,n);MOV(1,n);MOV(2,n);")?;
-        Ok(Pair::of(bench, plain_book(alloc)?, seed))
+        Ok(Pair::of(bench, plain, seed))
     }
 
     fn of(bench: Bench, plain: PlainBook, seed: u64) -> Pair {
@@ -59,18 +61,20 @@ fn plain_book(alloc: Global) -> Result<PlainBook, Trouble> {
 
 /// `made ? SEED STEPS`: so many made commands, each on both books. It says after how many of them they differed, with the
 /// command, or how many there were.
-pub fn made_row(alloc: Global, text: &str) -> Result<String, Trouble> {
+pub fn say_made(alloc: Global, said: &mut Told, text: &str) -> Result<(), Trouble> {
     let (seed, steps) = text.split_once(' ').ok_or(Trouble::Form)?;
     let seed = seed.parse::<u64>().ok().ok_or(Trouble::Form)?;
-    let steps = steps.parse::<u32>().ok().ok_or(Trouble::Form)?;
-    said_of(alloc, first_difference(alloc, seed, steps)?, steps)
+    let steps = number(steps)?;
+    match first_difference(alloc, seed, steps)? {
+        Some(step) => say_steps(said, "differs at", step),
+        None => say_steps(said, "same", steps),
+    }
+    Ok(())
 }
 
-fn said_of(alloc: Global, difference: Option<u32>, steps: u32) -> Result<String, Trouble> {
-    match difference {
-        Some(step) => Ok(format!(in alloc; "differs at {step}")?),
-        None => Ok(format!(in alloc; "same {steps}")?),
-    }
+fn say_steps(said: &mut Told, word: &str, steps: u32) {
+    said.word(word);
+    said.number(i64::from(steps));
 }
 
 fn first_difference(alloc: Global, seed: u64, steps: u32) -> Result<Option<u32>, Trouble> {
@@ -115,10 +119,7 @@ fn command_on(alloc: Global, pair: &mut Pair, client: u32, roll: usize) -> Resul
             let answer = pair.plain.test(client, false);
             is_answer(alloc, pair, client, "untest P", answer)
         }
-        8 => {
-            let answer = pair.plain.assemble(alloc, client)?;
-            is_answer(alloc, pair, client, "assemble P", answer)
-        }
+        8 => assemble(alloc, pair, client),
         9 => {
             let answer = pair.plain.cancel(client);
             is_answer(alloc, pair, client, "cancel P", answer)
@@ -132,6 +133,12 @@ fn command_on(alloc: Global, pair: &mut Pair, client: u32, roll: usize) -> Resul
     }
 }
 
+/// An assemble of both, and whether they answer alike.
+fn assemble(alloc: Global, pair: &mut Pair, client: u32) -> Result<bool, Trouble> {
+    let answer = pair.plain.assemble(alloc, client)?;
+    is_answer(alloc, pair, client, "assemble P", answer)
+}
+
 /// A hold on both, and whether they answer alike.
 fn is_hold(alloc: Global, pair: &mut Pair) -> Result<bool, Trouble> {
     let wanted = pair.plain.hold(alloc)?;
@@ -142,20 +149,42 @@ fn is_hold(alloc: Global, pair: &mut Pair) -> Result<bool, Trouble> {
 fn accept(alloc: Global, pair: &mut Pair, client: u32) -> Result<bool, Trouble> {
     let mut command = format!(in alloc; "@{client} accept P M ")?;
     let mut edits = Vec::new(alloc);
+    push_edits(pair, &mut command, &mut edits)?;
+    is_accept(alloc, pair, client, command.as_str(), edits.as_slice())
+}
+
+/// The accept of these edits on both, and whether they answer alike.
+fn is_accept(
+    alloc: Global,
+    pair: &mut Pair,
+    client: u32,
+    command: &str,
+    edits: &[PlainEdit],
+) -> Result<bool, Trouble> {
+    let wanted = pair.plain.accept(alloc, client, edits)?;
+    match reply(alloc, &mut pair.bench, command)? {
+        Ok(Some(number)) => Ok(wanted == Ok(number)),
+        Ok(None) => Ok(false),
+        Err(fault) => Ok(wanted == Err(fault)),
+    }
+}
+
+/// Adds one to four made edits.
+fn push_edits(
+    pair: &mut Pair,
+    command: &mut String,
+    edits: &mut Vec<PlainEdit>,
+) -> Result<(), Trouble> {
     let count = pair.dice.roll(4);
     for k in 0..4 {
         if k <= count {
             if k > 0 {
                 command.push_str(" | ")?;
             }
-            push_edit(pair, &mut command, &mut edits)?;
+            push_edit(pair, command, edits)?;
         }
     }
-    let wanted = match pair.plain.accept(alloc, client, edits.as_slice())? {
-        Ok(number) => format!(in alloc; "ok {number}")?,
-        Err(fault) => cause(alloc, fault)?,
-    };
-    Ok(reply(alloc, &mut pair.bench, command.as_str())?.as_str() == wanted.as_str())
+    Ok(())
 }
 
 /// Adds a made edit: now and then of a rung that isn't there, or of one that an edit took before.
@@ -193,42 +222,34 @@ fn is_answer(
 ) -> Result<bool, Trouble> {
     let command = format!(in alloc; "@{client} {command}")?;
     let said = reply(alloc, &mut pair.bench, command.as_str())?;
-    match answer {
-        Ok(()) => Ok(said.as_str() == "ok"),
-        Err(fault) => Ok(said.as_str() == cause(alloc, fault)?.as_str()),
-    }
-}
-
-/// The causes that a plain book knows, as they are written.
-fn cause(alloc: Global, fault: EditFault) -> Result<String, Trouble> {
-    Ok(match fault {
-        EditFault::E3(owner) => format!(in alloc; "E3 {owner}")?,
-        EditFault::E5(edit) => format!(in alloc; "E5 {edit}")?,
-        EditFault::E6(edit) => format!(in alloc; "E6 {edit}")?,
-        EditFault::E10 => format!(in alloc; "E10")?,
-        EditFault::E11 => format!(in alloc; "E11")?,
-        EditFault::E12 => format!(in alloc; "E12")?,
-        _ => format!(in alloc; "another cause")?,
-    })
+    Ok(said == done(answer))
 }
 
 /// Whether both have the same rungs selected and held, and the slots have the versions that are to be kept, once each.
 fn are_alike(alloc: Global, pair: &Pair) -> Result<bool, Trouble> {
-    let text = pair.bench.text(alloc, 0, 0, false)?;
-    let held = pair.bench.text(alloc, 0, 0, true)?;
+    Ok(are_slots_alike(pair) && is_selected_alike(alloc, pair)? && is_held_alike(alloc, pair)?)
+}
+
+fn are_slots_alike(pair: &Pair) -> bool {
     let mut kept = 0u32;
     for i in 0..3 {
         if let Some(number) = pair.bench.slot(0, i) {
             if !pair.plain.keeps(number) {
-                return Ok(false);
+                return false;
             }
             kept = kept.saturating_add(1);
         }
     }
-    let is_once = kept == pair.plain.kept();
-    Ok(
-        is_once
-            && text.as_str() == pair.plain.text(alloc)?.as_str()
-            && held.as_str() == pair.plain.held_text(),
-    )
+    kept == pair.plain.kept()
+}
+
+fn is_selected_alike(alloc: Global, pair: &Pair) -> Result<bool, Trouble> {
+    let text = pair.bench.text(alloc, 0, 0, false)?;
+    let wanted = pair.plain.text(alloc)?;
+    Ok(text.as_str() == wanted.as_str())
+}
+
+fn is_held_alike(alloc: Global, pair: &Pair) -> Result<bool, Trouble> {
+    let held = pair.bench.text(alloc, 0, 0, true)?;
+    Ok(held.as_str() == pair.plain.held_text())
 }

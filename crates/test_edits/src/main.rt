@@ -14,7 +14,7 @@ mod versions;
 
 use std::alloc::Global;
 use std::io;
-use test_rows::judge_rows;
+use test_rows::{Told, judge_rows};
 use trouble::Trouble;
 
 fn main(rt: HostRuntime) -> io::Result<()> {
@@ -25,22 +25,22 @@ fn main(rt: HostRuntime) -> io::Result<()> {
 fn found(alloc: Global, row: &str) -> io::Result<Option<String>> {
     let (given, wanted) = row.rsplit_once('|').unwrap_or((row, ""));
     let (kind, given) = given.split_once('?').unwrap_or((given, ""));
-    match said(alloc, kind.trim(), given.trim()) {
-        Ok(said) if said.as_str() == wanted.trim() => Ok(None),
-        Ok(said) => Ok(Some(said)),
+    let mut said = Told::new(alloc);
+    match say(alloc, &mut said, kind.trim(), given.trim()) {
+        Ok(()) => Ok(said.other_than(wanted.trim())),
         Err(trouble) => Ok(Some(format!(in alloc; "{trouble:?}")?)),
     }
 }
 
-fn said(alloc: Global, kind: &str, given: &str) -> Result<String, Trouble> {
+fn say(alloc: Global, said: &mut Told, kind: &str, given: &str) -> Result<(), Trouble> {
     match kind {
-        "versions" => versions::versions_row(alloc, given),
-        "book" => book::book_row(alloc, given),
-        "made" => made::made_row(alloc, given),
-        "accepts" => measure::accepts_row(alloc, given),
-        "numbers" => measure::numbers_row(alloc, given),
-        "holds" => measure::holds_row(alloc, given),
-        "memory" => measure::memory_row(alloc, given),
+        "versions" => versions::say_versions(alloc, said, given),
+        "book" => book::say_book(alloc, said, given),
+        "made" => made::say_made(alloc, said, given),
+        "accepts" => measure::say_accepts(alloc, said, given),
+        "numbers" => measure::say_numbers(alloc, said, given),
+        "holds" => measure::say_holds(alloc, said, given),
+        "memory" => measure::say_memory(alloc, said, given),
         _ => Err(Trouble::Form),
     }
 }

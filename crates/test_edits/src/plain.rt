@@ -93,15 +93,9 @@ impl PlainBook {
         if let Some(place) = self.first_misplaced(edits) {
             return Ok(Err(EditFault::E5(place)));
         }
-        let mut all = Vec::new(alloc);
-        all.extend_from_slice(self.edits.as_slice())?;
-        let mut place = 0u32;
-        for edit in edits {
-            if is_taken(all.as_slice(), *edit) {
-                return Ok(Err(EditFault::E6(place)));
-            }
-            all.push(*edit)?;
-            place = place.saturating_add(1);
+        let mut all = Vec::from_slice(alloc, self.edits.as_slice())?;
+        if let Some(place) = push_untaken(&mut all, edits)? {
+            return Ok(Err(EditFault::E6(place)));
         }
         self.edits = all;
         self.owner = Some(client);
@@ -151,13 +145,7 @@ impl PlainBook {
     /// The merged rungs: each edit is looked for at each rung.
     fn merged(&self, alloc: Global) -> Result<Vec<u32>, Trouble> {
         let mut merged = Vec::new(alloc);
-        let mut place = 0usize;
-        for rung in &self.base {
-            push_before(&mut merged, self.edits.as_slice(), place)?;
-            push_instead(&mut merged, self.edits.as_slice(), place, *rung)?;
-            place = place.saturating_add(1);
-        }
-        push_before(&mut merged, self.edits.as_slice(), place)?;
+        push_merged(&mut merged, self.base.as_slice(), self.edits.as_slice())?;
         Ok(merged)
     }
 
@@ -228,6 +216,29 @@ fn is_taken(edits: &[PlainEdit], edit: PlainEdit) -> bool {
         }
         None => false,
     }
+}
+
+/// Adds the edits up to the first whose rung is taken, and answers its place.
+fn push_untaken(all: &mut Vec<PlainEdit>, edits: &[PlainEdit]) -> Result<Option<u32>, Trouble> {
+    let mut place = 0u32;
+    for edit in edits {
+        if is_taken(all.as_slice(), *edit) {
+            return Ok(Some(place));
+        }
+        all.push(*edit)?;
+        place = place.saturating_add(1);
+    }
+    Ok(None)
+}
+
+fn push_merged(merged: &mut Vec<u32>, base: &[u32], edits: &[PlainEdit]) -> Result<(), Trouble> {
+    let mut place = 0usize;
+    for rung in base {
+        push_before(merged, edits, place)?;
+        push_instead(merged, edits, place, *rung)?;
+        place = place.saturating_add(1);
+    }
+    push_before(merged, edits, place)
 }
 
 fn push_before(merged: &mut Vec<u32>, edits: &[PlainEdit], place: usize) -> Result<(), Trouble> {

@@ -5,7 +5,7 @@ use lgx_prog::{Code, FlatProgram, Ins, Node, Rung, Rungs};
 use lgx_rung::Op;
 use lgx_versions::Versions;
 use std::alloc::Global;
-use test_rows::Said;
+use test_rows::Told;
 
 /// A rung of one NOP.
 fn rung(alloc: Global) -> Result<Rung, Trouble> {
@@ -49,26 +49,28 @@ fn number_of(program: &FlatProgram) -> u32 {
 /// `versions ? CALL; ..`: what the calls answer, one after another. The program of an `add` has its number of rungs, and the
 /// base none. `selected` answers the number that is told and `held` that of the held program, which are those of the
 /// programs, or else `wrong`; `slots` answers the number in each slot, or `-`.
-pub fn versions_row(alloc: Global, text: &str) -> Result<String, Trouble> {
+pub fn say_versions(alloc: Global, said: &mut Told, text: &str) -> Result<(), Trouble> {
     let mut versions = Versions::new(program(alloc, 0)?)?;
-    let mut said = Said::new(alloc);
+    run_all(alloc, said, &mut versions, text)
+}
+
+fn run_all(
+    alloc: Global,
+    said: &mut Told,
+    versions: &mut Versions,
+    text: &str,
+) -> Result<(), Trouble> {
     let mut next = 0u32;
     for call in text.split(';') {
-        match call.trim() {
-            "add" => {
-                next = next.saturating_add(1);
-                said.or_none(add(&mut versions, program(alloc, next)?))?;
-            }
-            "select 1" => select(&mut versions, &mut said)?,
-            "select 0" => versions.select(false),
-            "assemble" => assemble(&mut versions, &mut said)?,
-            "cancel" => versions.cancel(),
-            "hold" => said.or_none(hold(&mut versions))?,
-            "drop" => versions.drop_hold(),
-            call => say(&versions, &mut said, call)?,
+        let call = call.trim();
+        if call == "add" {
+            next = next.saturating_add(1);
+            said.or_none(add(versions, program(alloc, next)?));
+        } else {
+            run(said, versions, call);
         }
     }
-    Ok(said.into_text())
+    Ok(())
 }
 
 fn add(versions: &mut Versions, program: FlatProgram) -> Option<u32> {
@@ -78,24 +80,26 @@ fn add(versions: &mut Versions, program: FlatProgram) -> Option<u32> {
     versions.add(program).ok()
 }
 
-/// Selects the merged program, or says that there is none.
-fn select(versions: &mut Versions, said: &mut Said) -> Result<(), Trouble> {
-    if !versions.has_merged() {
-        said.word("none")?;
-        return Ok(());
+fn run(said: &mut Told, versions: &mut Versions, call: &str) {
+    match call {
+        "select 1" | "assemble" => change_merged(said, versions, call),
+        "select 0" => versions.select(false),
+        "cancel" => versions.cancel(),
+        "hold" => said.or_none(hold(versions)),
+        "drop" => versions.drop_hold(),
+        _ => say(said, versions, call),
     }
-    versions.select(true);
-    Ok(())
 }
 
-/// Makes the merged program the base, or says that there is none.
-fn assemble(versions: &mut Versions, said: &mut Said) -> Result<(), Trouble> {
+/// Selects the merged program or makes it the base, or says that there is none.
+fn change_merged(said: &mut Told, versions: &mut Versions, call: &str) {
     if !versions.has_merged() {
-        said.word("none")?;
-        return Ok(());
+        said.word("none");
+    } else if call == "assemble" {
+        versions.assemble();
+    } else {
+        versions.select(true);
     }
-    versions.assemble();
-    Ok(())
 }
 
 /// Holds the selected program, if none is held.
@@ -106,21 +110,23 @@ fn hold(versions: &mut Versions) -> Option<u32> {
     Some(versions.hold())
 }
 
-fn say(versions: &Versions, said: &mut Said, call: &str) -> Result<(), Trouble> {
+fn say(said: &mut Told, versions: &Versions, call: &str) {
     match call {
-        "selected" => {
-            said.number(i64::from(versions.selected()))?;
-            if number_of(versions.selected_program()) != versions.selected() {
-                said.word("wrong")?;
-            }
-        }
-        "held" => said.or_none(versions.held().map(number_of))?,
+        "selected" => say_selected(said, versions),
+        "held" => said.or_none(versions.held().map(number_of)),
         "slots" => {
             for i in 0..3 {
-                said.or_none(versions.slot(i))?;
+                said.or_none(versions.slot(i));
             }
         }
-        _ => return Err(Trouble::Form),
+        _ => said.malformed(),
     }
-    Ok(())
+}
+
+fn say_selected(said: &mut Told, versions: &Versions) {
+    let number = versions.selected();
+    said.number(i64::from(number));
+    if number_of(versions.selected_program()) != number {
+        said.word("wrong");
+    }
 }

@@ -2,10 +2,12 @@
 #![tactic(auto)]
 
 mod said;
+mod told;
 
 pub use said::Said;
 use std::alloc::Global;
 use std::io;
+pub use told::Told;
 
 /// Judges each row on standard input: prints what differs, with what was found in its place, and at the end how many rows
 /// there were. Empty lines, and lines that begin with `--`, are no rows.
