@@ -3,10 +3,12 @@
 from __future__ import annotations
 
 import argparse
+import contextlib
 import os
 import subprocess
 import sys
 import tempfile
+import traceback
 from typing import TextIO
 
 from .findings import Findings
@@ -16,7 +18,8 @@ from .source import NoExport
 from .taking import Options, Project, take
 from .writing import text_of
 
-TAKEN, NOT_TAKEN, NO_EXPORT, WRONG_WORDS, NOT_WRITTEN = 0, 1, 2, 3, 5
+TAKEN, NOT_TAKEN, NO_EXPORT, WRONG_WORDS, NOT_WRITTEN, NO_MEMORY, BROKEN = 0, 1, 2, 3, 5, 6, 70
+CHECK_SECONDS = 60
 _TOP = os.path.dirname(os.path.dirname(os.path.dirname(os.path.realpath(__file__))))
 LOGIX = os.path.join(_TOP, "crates", "logix", "out", "logix")
 
@@ -45,13 +48,27 @@ def _words() -> argparse.ArgumentParser:
 
 
 def main(words: list[str], logix: str = LOGIX) -> int:
+    """The status of a call with these words."""
+    try:
+        return _called(words, logix)
+    except MemoryError:
+        _say(sys.stderr, "from_l5x: want of memory")
+        return NO_MEMORY
+    except Exception as fault:
+        at = traceback.extract_tb(fault.__traceback__)[-1]
+        where = f"{os.path.basename(at.filename)} line {at.lineno}"
+        _say(sys.stderr, f"from_l5x: a fault of this tool: {type(fault).__name__} at {where}; please report it")
+        return BROKEN
+
+
+def _called(words: list[str], logix: str) -> int:
     given = _words().parse_args(words)
     watch = [name.strip() for names in given.watch for name in names.split(",") if name.strip()]
     options = Options(given.tick_ms, watch, given.watch_all_bools)
     try:
         export = read(given.file)
     except NoExport as fault:
-        _say(sys.stderr, f"from_l5x: {given.file} is no L5X file that can be read: {fault}")
+        _say(sys.stderr, f"from_l5x: {given.file}: {fault}")
         return NO_EXPORT
     project, findings = take(export, options)
     for line in findings.notes + findings.faults:
@@ -91,8 +108,10 @@ def _written(project: Project, findings: Findings, logix: str) -> int:
     try:
         sys.stdout.write(text)
         sys.stdout.flush()
-    except OSError as fault:
-        _say(sys.stderr, f"from_l5x: the project can't be written: {fault.strerror or fault}")
+    except (OSError, AttributeError) as fault:
+        _say(sys.stderr, f"from_l5x: the project can't be written: {getattr(fault, 'strerror', 'no standard output')}")
+        # What is left in the buffer isn't tried once more at the end.
+        sys.stdout = None
         return NOT_WRITTEN
     return TAKEN
 
@@ -105,10 +124,16 @@ def _verdict(text: str, logix: str) -> tuple[int, str] | None:
         path = os.path.join(folder, "project.json")
         with open(path, "w", encoding="ascii") as file:
             file.write(text)
-        done = subprocess.run([logix, "check", path], stdin=subprocess.DEVNULL, capture_output=True, text=True)
-    return done.returncode, done.stdout.strip()
+        words = [logix, "check", path]
+        try:
+            done = subprocess.run(words, stdin=subprocess.DEVNULL, capture_output=True, text=True, timeout=CHECK_SECONDS)
+        except (OSError, subprocess.SubprocessError):
+            return None
+    return done.returncode, done.stdout.strip() or f"status {done.returncode}"
 
 
-def _say(out: TextIO, line: str) -> None:
+def _say(out: TextIO | None, line: str) -> None:
     """A line with what the stream can't show escaped."""
-    out.write(line.encode("ascii", "backslashreplace").decode("ascii") + "\n")
+    if out is not None:
+        with contextlib.suppress(OSError):
+            out.write(line.encode("ascii", "backslashreplace").decode("ascii") + "\n")

@@ -20,7 +20,17 @@ Event = tuple[str, ElementTree.Element]
 
 
 class NoExport(Exception):
-    """The file is no L5X file that can be read; says why."""
+    """The file is no L5X file; says why."""
+
+    def __str__(self) -> str:
+        return f"no L5X file: {self.args[0]}"
+
+
+class Unreadable(NoExport):
+    """The file can't be read; says why."""
+
+    def __str__(self) -> str:
+        return f"it can't be read: {self.args[0]}"
 
 
 class _Pieces(io.RawIOBase):
@@ -45,7 +55,7 @@ def events(path: str) -> Iterator[Event]:
             file.seek(0)
             yield from _elements(file)
     except OSError as fault:
-        raise NoExport(f"the file can't be read: {fault.strerror or fault}") from None
+        raise Unreadable(fault.strerror or fault) from None
 
 
 def _elements(file: BinaryIO) -> Iterator[Event]:
@@ -65,7 +75,7 @@ def _elements(file: BinaryIO) -> Iterator[Event]:
     except ElementTree.ParseError as fault:
         raise NoExport(_told(fault.code, fault.position)) from None
     except (ValueError, LookupError) as fault:
-        raise NoExport(f"it can't be read: {shown(str(fault))}") from None
+        raise NoExport(shown(str(fault))) from None
 
 
 def _told(code: int, position: tuple[int, int]) -> str:

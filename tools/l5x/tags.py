@@ -176,6 +176,10 @@ class Scope:
     def has(self, name: str) -> bool:
         return key(name) in self._entries
 
+    def place(self, text: str) -> Found:
+        """What a text names that has no variable subscript, and isn't asked for again."""
+        return self._resolved(form(text), True, text)
+
     def found(self, text: str, fixed: bool = False) -> Found:
         """What a text names; `fixed` if numbers alone may be subscripts."""
         known = self._known.get(text)

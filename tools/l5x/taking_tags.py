@@ -193,7 +193,7 @@ class Tags:
         for value in taken.tag.values if taken.of is not None else ():
             text = taken.tag.name + value.place
             try:
-                found = taken.scope.found(text, fixed=True)
+                found = taken.scope.place(text)
             except NameFault as fault:
                 if self._is_hidden(taken, value.place):
                     continue

@@ -8,7 +8,7 @@ from l5x_files import SAMPLES, call
 
 # The words of each sample and its status.
 WORDS = {
-    "line": (["--watch", "Stats.Running,Horn,Motor,Stats.Count,Program:Rates.Rate"], 0),
+    "line": (["--watch", "Stats.Running,Horn,Motor,Stats.Count"], 0),
     "station": (["--watch", "Total,Program:Station.Done"], 0),
     "seal": (["--watch", "Program:PressProg.Heat.DN", "--watch", "Program:PressProg.Seals.ACC"], 0),
     "cells": (["--watch-all-bools"], 0),
