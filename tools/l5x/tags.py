@@ -149,6 +149,19 @@ def _small(digits: str) -> int:
 
 # ---- names
 
+
+@dataclass
+class _Link:
+    """An alias of a chain."""
+
+    scope: Scope
+    name: str
+    target: str
+
+    def form(self) -> Form:
+        return form(self.target)
+
+
 class Scope:
     """The tags that a program sees, its own before the controller's; or those that the controller sees."""
 
@@ -160,6 +173,8 @@ class Scope:
         # Tags of the file that aren't taken.
         self.left_out: dict[str, str] = {}
         self._known: dict[str, Found] = {}
+        # What aliases stand for, or why for nothing.
+        self._aliases: dict[str, Found | str] = {}
 
     def declare(self, entry: Entry) -> None:
         self._entries[key(entry.name)] = entry
@@ -172,6 +187,7 @@ class Scope:
     def forget_aliases(self) -> None:
         """What aliases stand for is worked out anew."""
         self._known.clear()
+        self._aliases.clear()
 
     def has(self, name: str) -> bool:
         return key(name) in self._entries
@@ -199,27 +215,47 @@ class Scope:
         return here
 
     def _named(self, name: str) -> Found:
-        """What a name stands for; aliases are followed one after another."""
-        chain: list[tuple[Form, str]] = []
-        met: set[tuple[int, str]] = set()
+        """What a name stands for. Aliases are followed one after another, and what each stands for is kept."""
+        chain: list[_Link] = []
+        try:
+            here = self._chained(name, chain)
+            while chain:
+                here = chain[-1].scope._behind(here, chain[-1])
+                link = chain.pop()
+                link.scope._aliases[link.name] = here
+        except NameFault as fault:
+            for link in chain:
+                link.scope._aliases[link.name] = str(fault)
+            raise
+        return here
+
+    def _chained(self, name: str, chain: list[_Link]) -> Found:
+        """What stands at the end of a chain of aliases, whose links are added."""
         scope: Scope = self
+        met: set[tuple[int, str]] = set()
         while True:
             scope, entry = scope._entry(name)
+            if entry.of is not None:
+                tag = scope._front + key(entry.name)
+                return Found(entry.of, tag, tag)
+            known = scope._aliases.get(key(name))
+            if isinstance(known, Found):
+                return known
+            if known is not None:
+                raise NameFault(known)
             if (id(scope), key(name)) in met:
                 raise NameFault(f"the aliases of {shown(name)} never end (G7)")
             met.add((id(scope), key(name)))
-            if entry.of is not None:
-                break
-            target = form(entry.target)
-            chain.append((target, entry.target))
-            name = target.tag
-        tag = scope._front + key(entry.name)
-        here = Found(entry.of, tag, tag)
-        for target, text in reversed(chain):
-            for kind, what in target.steps:
-                if kind == "indexed":
-                    raise NameFault(f"{shown(text)} has a variable subscript (C7)")
-                here = self._stepped(here, kind, what, text)
+            link = _Link(scope, key(name), entry.target)
+            chain.append(link)
+            name = link.form().tag
+
+    def _behind(self, here: Found, link: _Link) -> Found:
+        """What an alias stands for, by what the name in front of its target stands for."""
+        for kind, what in link.form().steps:
+            if kind == "indexed":
+                raise NameFault(f"{shown(link.target)} has a variable subscript (C7)")
+            here = self._stepped(here, kind, what, link.target)
         return here
 
     def _entry(self, name: str) -> tuple[Scope, Entry]:

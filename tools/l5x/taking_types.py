@@ -68,9 +68,10 @@ def take_types(export: Export, tag_types: Iterable[str], findings: Findings) -> 
     ordered = _inner_first(declared)
     used = [name for name in ordered if name in wanted]
     unused = [name for name in ordered if name not in wanted and declared[name].is_own]
-    cyclic = [name for name in declared if name not in set(ordered)]
+    sound = set(ordered)
+    cyclic = [name for name in declared if name not in sound]
     for name in used + unused + cyclic:
-        _take(declared[name], name in cyclic, types, findings)
+        _take(declared[name], name not in sound, types, findings)
     return types
 
 
