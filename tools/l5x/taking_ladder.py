@@ -104,6 +104,8 @@ class _Routine:
         if rung.text is None:
             raise RungFault("it has no text")
         text = without_leftovers(rung.text)
+        if len(text) > MAX_RUNG_BYTES:
+            raise RungFault(f"its text has more than {MAX_RUNG_BYTES:,} bytes (P5)")
         unknown = unknown_instructions(text)
         for name in unknown:
             self._fault(place, unknown_told(name, self._ladder.add_ons))
@@ -111,8 +113,6 @@ class _Routine:
             return
         found = instructions(text)
         text = self._with_blanks(text, found)
-        if len(text.encode("utf-8", "replace")) > MAX_RUNG_BYTES:
-            raise RungFault(f"its text has more than {MAX_RUNG_BYTES:,} bytes (P5)")
         for instruction in found:
             self._judge(instruction, place)
         self._found.rungs.append(text)
