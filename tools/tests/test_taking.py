@@ -96,6 +96,17 @@ class Taking(unittest.TestCase):
             "tag odd: Program:P.x is no operand form (C9)",
         )
 
+    def test_long_chains(self) -> None:
+        chain = "".join(alias(f"a{k}", f"a{k + 1}") for k in range(4000))
+        self.taken(file("XIC(a0)NOP();", chain + tag("a4000", "BOOL")))
+        types = "".join(member_type(f"T{k}", ("x", f"T{k + 1}")) for k in range(4000))
+        ended = convert(file(types=types))
+        self.assertEqual((ended.status, len(ended.lines)), (1, 4001))
+        routines = "".join(routine(f"R{k}", f"JSR(R{k + 1},0);") for k in range(63))
+        whole = program("P", routine("Go", "JSR(R0,0);") + routines)
+        text = content(f"<Programs>{whole}</Programs><Tasks>{task('T', 'P')}</Tasks>")
+        self.assertEqual(len(convert(text).lines), 64 + 3)
+
     def test_a_programs_own_tag_hides_the_controllers(self) -> None:
         own = program("Q", routine("Go", "MOV(300,n);"), tag("N", "SINT", value("SINT", "16#ff")))
         periodic = task("U", "Q", 'Type="PERIODIC" Rate="5" Priority="9"')
