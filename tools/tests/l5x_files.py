@@ -12,7 +12,7 @@ from dataclasses import dataclass
 sys.dont_write_bytecode = True
 TOOLS = os.path.dirname(os.path.dirname(os.path.realpath(__file__)))
 TOP = os.path.dirname(TOOLS)
-SAMPLES = os.path.join(TOP, "crates", "test_examples", "data", "l5x")
+SAMPLES = os.path.join(TOP, "examples", "l5x")
 sys.path.insert(0, TOOLS)
 
 from l5x.main import main  # noqa: E402
