@@ -1,0 +1,356 @@
+"""What of an L5X file a project can have, and the project."""
+
+from __future__ import annotations
+
+from collections.abc import Callable, Iterator
+from dataclasses import dataclass, field
+
+from .findings import Findings
+from .model import Export, Program, Task
+from .profile import MAX_PROGRAMS, MAX_PROJECT_INSTRUCTIONS, MAX_TASKS, MAX_WATCHES
+from .profile import INTEGER_BITS, is_name, key, shown
+from .tags import Found, NameFault, Scope, Structure, Type
+from .taking_ladder import Ladder, TakenRoutine, take_routines
+from .taking_tags import Connection, Tags
+from .taking_tasks import TakenTask, take_tasks
+from .taking_types import take_types
+
+Project = dict[str, object]
+MADE_TASK = "MainTask"
+
+
+@dataclass
+class Options:
+    tick_ms: int = 1
+    watch: list[str] = field(default_factory=list)
+    watch_all_bools: bool = False
+
+
+@dataclass(eq=False)
+class TakenProgram:
+    program: Program
+    where: str
+    main: str
+    routines: list[TakenRoutine]
+
+    def has(self, routine: str) -> bool:
+        return any(key(t.routine.name) == key(routine) for t in self.routines)
+
+
+def take(export: Export, options: Options) -> tuple[Project | None, Findings]:
+    """The project without what can't be taken, if anything is left that runs; and the list."""
+    findings = Findings()
+    return _Taking(export, options, findings).project(), findings
+
+
+class _Taking:
+    def __init__(self, export: Export, options: Options, findings: Findings) -> None:
+        self._export = export
+        self._options = options
+        self._findings = findings
+        self._programs: list[TakenProgram] = []
+        self._tasks: list[TakenTask] = []
+        self._connections: list[Connection] = []
+
+    def project(self) -> Project | None:
+        export, findings = self._export, self._findings
+        controller = export.controller
+        if not is_name(controller):
+            findings.fault("controller", f"its name {shown(controller) or '(none)'} is none of the profile (P5)")
+            controller = "Controller"
+        for name in export.add_ons:
+            findings.fault(f"Add-On Instruction {shown(name)}", "the profile has none")
+        for part in export.encoded:
+            findings.fault(part, "its content is encoded")
+        considered = self._considered()
+        self._types = take_types(export, self._tag_types(considered), findings)
+        self._tags = Tags(self._types, findings, self._options.tick_ms)
+        self._tags.take(export, considered)
+        self._take_programs(considered)
+        self._tasks = take_tasks(self._scheduled(considered), self._options.tick_ms, findings)
+        self._connections = self._tags.connections()
+        self._tie_triggers()
+        self._settle()
+        return self._written(controller) if self._tasks else None
+
+    def _considered(self) -> list[Program]:
+        """The programs that are the file's target, or have it inside."""
+        programs, target = self._export.programs, self._export.target
+        if target == "Controller":
+            return programs
+        if target == "Program":
+            programs = [p for p in programs if p.is_target]
+        else:
+            programs = [p for p in programs if any(r.is_target for r in p.routines)]
+        if not programs:
+            self._findings.fault("file", f"it has no {target.lower()} whose Use is Target")
+        return programs
+
+    def _tag_types(self, considered: list[Program]) -> Iterator[str]:
+        for tags in [self._export.tags, *(m.tags for m in self._export.modules), *(p.tags for p in considered)]:
+            for tag in tags:
+                yield tag.type
+
+    # ---- programs
+
+    def _take_programs(self, considered: list[Program]) -> None:
+        values = self._tags.first_values()
+        add_ons = {key(name) for name in self._export.add_ons}
+        names: set[str] = set()
+        for program in considered:
+            where = f"program {shown(program.name)}"
+            why = self._program_fault(program, names)
+            names.add(key(program.name))
+            if why is not None:
+                self._findings.fault(where, why)
+                self._tags.drop_program(program.name)
+                self._programs = [p for p in self._programs if key(p.program.name) != key(program.name)]
+                continue
+            scope = self._tags.programs[key(program.name)]
+            ladder = Ladder(scope, values, add_ons, self._options.tick_ms, self._findings)
+            routines = take_routines(program, ladder)
+            self._programs.append(TakenProgram(program, where, self._main(program), routines))
+
+    def _program_fault(self, program: Program, earlier: set[str]) -> str | None:
+        if not is_name(program.name):
+            return "its name is none of the profile (P5)"
+        if key(program.name) in earlier:
+            return "the controller has the name twice (P6)"
+        if program.fault is not None:
+            return program.fault
+        if len(self._programs) == MAX_PROGRAMS:
+            return f"the project has {MAX_PROGRAMS} programs without it (P11)"
+        return None
+
+    def _main(self, program: Program) -> str:
+        """Of a routine's export the main routine is its target."""
+        if self._export.target != "Routine":
+            return program.main
+        main = next(r for r in program.routines if r.is_target).name
+        if key(main) != key(program.main):
+            self._findings.note(f"routine {shown(main)} runs as the main routine of its program")
+        return main
+
+    # ---- tasks
+
+    def _scheduled(self, considered: list[Program]) -> list[Task]:
+        """The file's tasks; in the export of a program or a routine one is made for what has none."""
+        if self._export.target == "Controller":
+            return self._export.tasks
+        names = {key(p.name) for p in considered}
+        tasks = [t for t in self._export.tasks if any(key(n) in names for n in t.programs)]
+        for task in tasks:
+            task.programs = [n for n in task.programs if key(n) in names]
+        listed = {key(n) for t in tasks for n in t.programs}
+        others = [p.name for p in considered if key(p.name) not in listed]
+        if others:
+            self._findings.note(f"the file schedules no {', '.join(map(shown, others))}: a continuous task does")
+            continuous = [t for t in tasks if t.kind.upper() == "CONTINUOUS"]
+            if continuous:
+                continuous[0].programs += others
+            else:
+                name = MADE_TASK if MADE_TASK.lower() not in {key(t.name) for t in tasks} else "MadeTask"
+                tasks.append(Task(name, "CONTINUOUS", programs=others))
+        return tasks
+
+    def _tie_triggers(self) -> None:
+        """Ties each event task to the connection of its module's input."""
+        for task in list(self._tasks):
+            if task.trigger is None:
+                continue
+            why = self._tied(task)
+            if why is not None:
+                self._findings.fault(task.where, why)
+                self._tasks.remove(task)
+
+    def _tied(self, task: TakenTask) -> str | None:
+        trigger = task.trigger or ""
+        try:
+            found = self._tags.controller.found(trigger, fixed=True)
+        except NameFault as fault:
+            return f"its trigger: {fault}"
+        for connection in self._connections:
+            if key(connection.tag.name) == found.tag and connection.tag.direction == "in":
+                if connection.trigger is not None:
+                    return f"its trigger {shown(trigger)} releases task {connection.trigger} too"
+                connection.trigger = task.task.name
+                return None
+        return f"its trigger {shown(trigger)} is no input of a module"
+
+    # ---- what refers to what isn't taken
+
+    def _settle(self) -> None:
+        while self._refuse_calls() or self._refuse_programs() or self._refuse_tasks() or self._refuse_long():
+            pass
+
+    def _refuse_calls(self) -> bool:
+        events = {key(t.task.name) for t in self._tasks if t.kind == "event"}
+        changed = False
+        for program in self._programs:
+            for routine in list(program.routines):
+                calls = [(p, n) for p, n in routine.calls if not program.has(n)]
+                tasks = [(p, n) for p, n in routine.tasks if key(n) not in events]
+                faults = [(p, f"JSR: routine {n} isn't taken (C11)") for p, n in calls]
+                faults += [(p, f"EVENT: {n} is no event task that is taken (C15)") for p, n in tasks]
+                for place, why in faults:
+                    self._findings.fault(place, why)
+                if faults:
+                    program.routines.remove(routine)
+                    changed = True
+        return changed
+
+    def _refuse_programs(self) -> bool:
+        changed = False
+        for program in list(self._programs):
+            tasks = [t for t in self._tasks for n in t.programs if key(n) == key(program.program.name)]
+            why = None
+            if not program.main:
+                why = "it has no main routine"
+            elif not program.has(program.main):
+                why = f"its main routine {shown(program.main)} isn't taken"
+            elif not tasks:
+                why = "no task that is taken schedules it (P7)"
+            elif len(tasks) > 1:
+                why = "tasks schedule it twice (P7)"
+            if why is not None:
+                self._drop(program, why)
+                changed = True
+        return changed
+
+    def _drop(self, program: TakenProgram, why: str) -> None:
+        self._findings.fault(program.where, why)
+        self._programs.remove(program)
+        self._tags.drop_program(program.program.name)
+
+    def _refuse_tasks(self) -> bool:
+        names = {key(p.program.name) for p in self._programs}
+        changed = False
+        for task in list(self._tasks):
+            gone = [n for n in task.programs if key(n) not in names]
+            task.programs = [n for n in task.programs if key(n) in names]
+            for name in gone if task.programs else ():
+                self._findings.fault(task.where, f"program {shown(name)} isn't taken")
+            changed |= bool(gone)
+            why = None if task.programs else "no program that is taken is scheduled in it"
+            if why is None and self._tasks.index(task) >= MAX_TASKS:
+                why = f"the project has {MAX_TASKS} tasks without it (P11)"
+            if why is not None:
+                self._drop_task(task, why)
+                changed = True
+        return changed
+
+    def _drop_task(self, task: TakenTask, why: str) -> None:
+        self._findings.fault(task.where, why)
+        self._tasks.remove(task)
+        for connection in self._connections:
+            if connection.trigger is not None and key(connection.trigger) == key(task.task.name):
+                connection.trigger = None
+
+    def _refuse_long(self) -> bool:
+        count = 0
+        for program in self._programs:
+            count += sum(routine.count for routine in program.routines)
+            if count > MAX_PROJECT_INSTRUCTIONS:
+                why = f"the project has over {MAX_PROJECT_INSTRUCTIONS:,} instructions with it (P11)"
+                self._drop(program, why)
+                return True
+        return False
+
+    # ---- watched places
+
+    def _watched(self) -> list[str]:
+        texts: dict[str, str] = {}
+        for text in self._options.watch:
+            try:
+                found = self._place(text)
+                if found.of.dim is not None or (found.of.base != "BOOL" and found.of.base not in INTEGER_BITS):
+                    raise NameFault(f"{shown(text)} is no BOOL, no bit and no integer (P5)")
+                texts.setdefault(key(text), text)
+            except NameFault as fault:
+                self._findings.fault(f"watch {shown(text)}", str(fault))
+        if self._options.watch_all_bools:
+            for text in self._bools():
+                texts.setdefault(key(text), text)
+        if len(texts) > MAX_WATCHES:
+            self._findings.note(f"of {len(texts):,} watched places the first {MAX_WATCHES} are taken")
+        return list(texts.values())[:MAX_WATCHES]
+
+    def _place(self, text: str) -> Found:
+        """What a watched text names; `Program:NAME.` before it tells the program that it is seen from."""
+        scope: Scope | None = self._tags.controller
+        if text.startswith("Program:") and "." in text:
+            name, _, text = text.removeprefix("Program:").partition(".")
+            scope = self._tags.programs.get(key(name))
+            if scope is None:
+                raise NameFault(f"program {shown(name)} isn't taken")
+        return scope.found(text, fixed=True)
+
+    def _bools(self) -> Iterator[str]:
+        for taken in self._tags.kept():
+            if taken.scope.found(taken.tag.name).of == Type("BOOL"):
+                yield taken.front + taken.tag.name
+
+    # ---- the project
+
+    def _written(self, controller: str) -> Project:
+        watch = self._watched()
+        parts: Project = {
+            "schema": 2,
+            "controller": controller,
+            "types": [_type_object(s, self._type_name) for s in self._types.written()],
+            "tags": self._tag_objects(self._tags.controller),
+            "programs": [self._program_object(p) for p in self._programs],
+            "tasks": [_task_object(t) for t in self._tasks],
+            "connections": [_connection_object(c) for c in self._connections],
+            "initial": [{"tag": text, "value": number} for text, number in self._tags.initial()],
+            "watch": watch,
+        }
+        return {name: part for name, part in parts.items() if part != []}
+
+    def _type_name(self, base: str) -> str:
+        structure = self._types.structures.get(key(base))
+        return structure.name if structure else base
+
+    def _tag_objects(self, scope: Scope) -> list[dict[str, object]]:
+        found = []
+        for taken in self._tags.taken:
+            if taken.scope is not scope:
+                continue
+            if taken.of is None:
+                found.append({"name": taken.tag.name, "alias": taken.tag.alias_for})
+            else:
+                found.append({"name": taken.tag.name, **_typed(taken.of, self._type_name)})
+        return found
+
+    def _program_object(self, program: TakenProgram) -> dict[str, object]:
+        name = program.program.name
+        routines = [{"name": t.routine.name, "rungs": t.rungs} for t in program.routines]
+        tags = self._tag_objects(self._tags.programs[key(name)])
+        return {"name": name, "main": program.main, **({"tags": tags} if tags else {}), "routines": routines}
+
+
+def _typed(of: Type, type_name: Callable[[str], str]) -> dict[str, object]:
+    return {"type": type_name(of.base), **({} if of.dim is None else {"dim": of.dim})}
+
+
+def _type_object(structure: Structure, type_name: Callable[[str], str]) -> dict[str, object]:
+    members = [{"name": name, **_typed(of, type_name)} for name, of in structure.members]
+    return {"name": structure.name, "members": members}
+
+
+def _task_object(task: TakenTask) -> dict[str, object]:
+    found: dict[str, object] = {"name": task.task.name, "kind": task.kind}
+    if task.priority is not None:
+        found["priority"] = task.priority
+    if task.period is not None:
+        found["period"] = task.period
+    found["watchdog"] = task.watchdog
+    if task.task.is_inhibited:
+        found["inhibited"] = True
+    return {**found, "programs": task.programs}
+
+
+def _connection_object(connection: Connection) -> dict[str, object]:
+    tag = connection.tag
+    found: dict[str, object] = {"name": connection.name, "tag": tag.name, "direction": tag.direction}
+    return found if connection.trigger is None else {**found, "trigger": connection.trigger}
