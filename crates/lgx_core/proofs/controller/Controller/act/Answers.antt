@@ -3,7 +3,6 @@ use Rattle.std.proofs.Common.{◌+◌, ap, ◌∙◌, subst, sym}
 use Rattle.spec_machine.specs.Machine.{OfAction}
 use Rattle.spec_machine.specs.Actions.{act}
 use Rattle.lgx_steps.specs.declared.parts.Parts.{Parts}
-use Rattle.lgx_steps.specs.Represents.{IsLive}
 use Rattle.lgx_core.specs.ControllerView.{view_of}
 use Rattle.lgx_core.specs.Represents.{IsController}
 use Rattle.lgx_core.proofs.Runs.{still}
@@ -11,7 +10,7 @@ use Rattle.lgx_core.proofs.Opened.{live, opened, room, counted, marked, going, a
 use Rattle.lgx_core.proofs.controller.Controller.act.Goals as goal
 
 pub act-requires : goal.act-requires
-act-requires c = subst IsLive (sym c.deref_mut.ensures.value) (live c.self.inside.parts.value c.self.inside.spent c.self.invariant)
+act-requires c = rw c.deref_mut.ensures.value (live c.self.inside.parts.value c.self.inside.spent c.self.invariant)
 
 pub invariant_of-self : goal.invariant_of-self
 invariant_of-self c =

@@ -1,16 +1,15 @@
 -- From Faulted to Program, counted.
-use Rattle.std.proofs.Common.{◌+◌, sym, subst}
+use Rattle.std.proofs.Common.{◌+◌}
 use Rattle.spec_machine.specs.declared.event.Action.TheVariants.{Clear}
 use Rattle.spec_machine.specs.Machine.{OfAction}
 use Rattle.spec_machine.specs.Actions.{clear}
-use Rattle.lgx_steps.specs.Represents.{IsLive}
 use Rattle.lgx_core.specs.ControllerView.{view_of}
 use Rattle.lgx_core.proofs.Runs.{still}
 use Rattle.lgx_core.proofs.Opened.{live, opened, room, counted, marked, going, unchanged, action-gives, action-goes, one-later}
 use Rattle.lgx_core.proofs.controller.Controller.clear.Goals as goal
 
 pub clear-requires : goal.clear-requires
-clear-requires c = subst IsLive (sym c.deref_mut.ensures.value) (live c.self.inside.parts.value c.self.inside.spent c.self.invariant)
+clear-requires c = rw c.deref_mut.ensures.value (live c.self.inside.parts.value c.self.inside.spent c.self.invariant)
 
 pub invariant_of-self : goal.invariant_of-self
 invariant_of-self c =

@@ -1,14 +1,13 @@
 -- A processor step of the parts, counted.
-use Rattle.std.proofs.Common.{◌+◌, sym, subst}
+use Rattle.std.proofs.Common.{◌+◌}
 use Rattle.spec_machine.specs.Machine.{OfStep}
-use Rattle.lgx_steps.specs.Represents.{IsLive}
 use Rattle.lgx_core.specs.ControllerView.{view_of}
 use Rattle.lgx_core.proofs.Runs.{still}
 use Rattle.lgx_core.proofs.Opened.{live, opened, room, counted, marked, going, step-gives, step-goes}
 use Rattle.lgx_core.proofs.controller.Controller.cpu.Goals as goal
 
 pub cpu-requires : goal.cpu-requires
-cpu-requires c = subst IsLive (sym c.deref_mut.ensures.value) (live c.self.inside.parts.value c.self.inside.spent c.self.invariant)
+cpu-requires c = rw c.deref_mut.ensures.value (live c.self.inside.parts.value c.self.inside.spent c.self.invariant)
 
 pub invariant_of-self : goal.invariant_of-self
 invariant_of-self c =

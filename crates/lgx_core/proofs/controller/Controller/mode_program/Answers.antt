@@ -1,16 +1,15 @@
 -- The change to Program, counted.
-use Rattle.std.proofs.Common.{◌+◌, sym, subst}
+use Rattle.std.proofs.Common.{◌+◌}
 use Rattle.spec_machine.specs.declared.event.Action.TheVariants.{ModeProgram}
 use Rattle.spec_machine.specs.Machine.{OfAction}
 use Rattle.spec_machine.specs.Actions.{mode_program}
-use Rattle.lgx_steps.specs.Represents.{IsLive}
 use Rattle.lgx_core.specs.ControllerView.{view_of}
 use Rattle.lgx_core.proofs.Runs.{still}
 use Rattle.lgx_core.proofs.Opened.{live, opened, room, counted, marked, going, unchanged, action-gives, action-goes, one-later}
 use Rattle.lgx_core.proofs.controller.Controller.mode_program.Goals as goal
 
 pub mode_program-requires : goal.mode_program-requires
-mode_program-requires c = subst IsLive (sym c.deref_mut.ensures.value) (live c.self.inside.parts.value c.self.inside.spent c.self.invariant)
+mode_program-requires c = rw c.deref_mut.ensures.value (live c.self.inside.parts.value c.self.inside.spent c.self.invariant)
 
 pub invariant_of-self : goal.invariant_of-self
 invariant_of-self c =

@@ -1,13 +1,12 @@
 -- A stretch of the parts, counted.
-use Rattle.std.proofs.Common.{◌+◌, sym, subst}
-use Rattle.lgx_steps.specs.Represents.{IsLive}
+use Rattle.std.proofs.Common.{◌+◌}
 use Rattle.lgx_core.specs.ControllerView.{view_of}
 use Rattle.lgx_core.proofs.Opened.{live, opened, marked}
 use Rattle.lgx_core.proofs.Stretched.{still-by, stretch-gives, stretch-goes, has-room, counted-by, going-by}
 use Rattle.lgx_core.proofs.controller.Controller.stretch.Goals as goal
 
 pub stretch-made-requires-clause-live : goal.stretch-made-requires-clause-live
-stretch-made-requires-clause-live c = subst IsLive (sym c.deref_mut.ensures.value) (live c.self.inside.parts.value c.self.inside.spent c.self.invariant)
+stretch-made-requires-clause-live c = rw c.deref_mut.ensures.value (live c.self.inside.parts.value c.self.inside.spent c.self.invariant)
 
 pub invariant_of-self : goal.invariant_of-self
 invariant_of-self c =

@@ -1,14 +1,13 @@
 -- A tick of the parts, counted.
-use Rattle.std.proofs.Common.{◌+◌, sym, subst}
+use Rattle.std.proofs.Common.{◌+◌}
 use Rattle.spec_machine.specs.Machine.{OfTick}
-use Rattle.lgx_steps.specs.Represents.{HasRoom}
 use Rattle.lgx_core.specs.ControllerView.{view_of}
 use Rattle.lgx_core.proofs.Runs.{still}
 use Rattle.lgx_core.proofs.Opened.{with-room, opened, room, counted, marked, going, unchanged, tick-gives, tick-goes}
 use Rattle.lgx_core.proofs.controller.Controller.tick.Goals as goal
 
 pub tick-requires : goal.tick-requires
-tick-requires c = subst HasRoom (sym c.deref_mut.ensures.value) (with-room c.self.inside.parts.value c.self.inside.spent c.self.invariant (room c.self.inside.parts.value c.self.inside.spent c.args.self.now c.self.view_is c.requires.room))
+tick-requires c = rw c.deref_mut.ensures.value (with-room c.self.inside.parts.value c.self.inside.spent c.self.invariant (room c.self.inside.parts.value c.self.inside.spent c.args.self.now c.self.view_is c.requires.room))
 
 pub invariant_of-self : goal.invariant_of-self
 invariant_of-self c =

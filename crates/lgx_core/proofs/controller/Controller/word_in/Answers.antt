@@ -1,10 +1,10 @@
 -- A word in, counted.
-use Rattle.std.proofs.Common.{◌+◌, ℕ, subst, w32, sym}
+use Rattle.std.proofs.Common.{◌+◌, ℕ, subst, w32}
 use Rattle.std.specs.Prelude.{ℤ}
 use Rattle.std.proofs.lemmas.Int.{to_z-of_z}
 use Rattle.spec_machine.specs.State.{State}
 use Rattle.lgx_steps.specs.PartsView.{view_of as parts_of}
-use Rattle.lgx_steps.specs.Represents.{IsLive, RepresentsState}
+use Rattle.lgx_steps.specs.Represents.{RepresentsState}
 use Rattle.lgx_steps.specs.Gives.{ActionGives as PartsAction}
 use Rattle.spec_machine.specs.declared.event.Action.TheVariants.{WordIn}
 use Rattle.spec_machine.specs.Machine.{OfAction}
@@ -15,7 +15,7 @@ use Rattle.lgx_core.proofs.Opened.{live, opened, room, counted, marked, going, a
 use Rattle.lgx_core.proofs.controller.Controller.word_in.Goals as goal
 
 pub word_in-requires : goal.word_in-requires
-word_in-requires c = subst IsLive (sym c.deref_mut.ensures.value) (live c.self.inside.parts.value c.self.inside.spent c.self.invariant)
+word_in-requires c = rw c.deref_mut.ensures.value (live c.self.inside.parts.value c.self.inside.spent c.self.invariant)
 
 pub invariant_of-self : goal.invariant_of-self
 invariant_of-self c =
