@@ -12,7 +12,7 @@ use std::marker::Model;
 /// `MAX_EVENTS`. Only an accept takes memory, once the controller is made.
 #[derive(Drop)]
 pub struct Controller {
-    pub(crate) parts: Parts,
+    pub(crate) parts: Box<Parts>,
     pub(crate) spent: u32,
 }
 
@@ -29,9 +29,9 @@ impl Model for Controller {
     ghost use Rattle.lgx_core.specs.ControllerView.{view_of};
     ghost use Rattle.lgx_core.specs.Represents.{IsController};
 
-    ghost view = { λ c. view_of c.parts c.spent };
+    ghost view = { λ c. view_of c.parts.value c.spent };
 
-    ghost invariant = { λ c. IsController (view_of c.parts c.spent) };
+    ghost invariant = { λ c. IsController (view_of c.parts.value c.spent) };
 }
 
 impl Controller {
@@ -57,7 +57,11 @@ impl Controller {
         ensures laws { IfOk result (λ _. IsLawful project) }
     {
         let parts = Parts::new(alloc, project)?;
-        Ok(Controller { parts, spent: 0 })
+        let boxed = Box::new(alloc, parts)?;
+        Ok(Controller {
+            parts: boxed,
+            spent: 0,
+        })
     }
 
     /// One processor step.

@@ -46,30 +46,27 @@ impl Parts {
         ensures { IfOk result (λ parts. Records (view_of parts) project []) }
     {
         let (names, watches) = names_and_watches(alloc, project.parts())?;
-        let mut controller = Controller::new(alloc, project)?;
-        controller.clear_marks();
-        let boxed = Box::new(alloc, controller)?;
-        Parts::of_controller(alloc, boxed, names, watches)
+        let controller = Controller::new(alloc, project)?;
+        Parts::of_controller(alloc, controller, names, watches)
     }
 
-    /// The parts of a recording over a controller that counted no event and has no mark, with the names and the watched places
-    /// of its project.
+    /// The parts of a recording over a controller that counted no event, with the names and the watched places of its project.
     fn of_controller(
         alloc: Global,
-        controller: Box<Controller>,
+        mut controller: Controller,
         names: Names,
         watches: WatchIndex,
     ) -> Result<Parts, Memory>
-        requires inside { AreInside watches controller.value.parts.image.bytes }
-        requires unmarked { (grain : ℕ) → is_marked controller.value.parts.image.marks grain ≡ false }
-        ensures { (project : Project) → StandsFor project [] controller.value → names ≡ names_of project → watches ≡ map (λ w. w.place) project.watches → IfOk result (λ parts. Records (view_of parts) project []) }
+        requires { AreInside watches controller.parts.image.bytes }
+        ensures { (project : Project) → StandsFor project [] controller → names ≡ names_of project → watches ≡ map (λ w. w.place) project.watches → IfOk result (λ parts. Records (view_of parts) project []) }
     {
+        controller.clear_marks();
         let values = numbers_at(alloc, &controller, watches.places())?;
         let log = Log::new(alloc)?;
         let journal = Journal::new(alloc);
         Ok(Parts {
             alloc,
-            controller: Box::into_inner(controller),
+            controller,
             journal,
             log,
             names,

@@ -130,10 +130,14 @@ parts_send = struct_send (shape Parts.the_type) (
   ),
 )
 
+-- as they lie in its box
+pub boxed_parts_send : IsSend Parts.the_row
+boxed_parts_send = of_fields (Parts.the_field).row _ _ (Parts.the_type).to_one parts_send
+
 controller_fields : IsSend controller.the_row
 controller_fields =
     of_fields (controller.the_field).row _ _ (controller.the_type).to_one
-    (struct_send (shape controller.the_type) (parts_send, (search (sendable, crosses) depth 200 fits 100000, tt)))
+    (struct_send (shape controller.the_type) (search (sendable, crosses, boxed_parts_send) depth 200 fits 20000, (search (sendable, crosses) depth 200 fits 100000, tt)))
 
 pub controller_send : IsSend Controller.the_row
 controller_send = view_send _ _ _ _ _ controller_fields
@@ -166,14 +170,14 @@ recorded_send = struct_send (shape Recorded.the_type) (
   ),
 )
 
--- as they lie in their box
-pub boxed_send : IsSend Recorded.the_row
-boxed_send = of_fields (Recorded.the_field).row _ _ (Recorded.the_type).to_one recorded_send
+-- as they lie in its box
+pub boxed_recorded_send : IsSend Recorded.the_row
+boxed_recorded_send = of_fields (Recorded.the_field).row _ _ (Recorded.the_type).to_one recorded_send
 
 recording_fields : IsSend recording.the_row
 recording_fields =
     of_fields (recording.the_field).row _ _ (recording.the_type).to_one
-    (struct_send (shape recording.the_type) (search (sendable, crosses, boxed_send) depth 200 fits 20000, tt))
+    (struct_send (shape recording.the_type) (search (sendable, crosses, boxed_recorded_send) depth 200 fits 20000, tt))
 
 pub recording_send : IsSend Recording.the_row
 recording_send = view_send _ _ _ _ _ recording_fields

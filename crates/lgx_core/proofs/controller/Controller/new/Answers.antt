@@ -4,10 +4,10 @@ use Rattle.lgx_core.proofs.Opened.{begins, begun}
 use Rattle.lgx_core.proofs.controller.Controller.new.Goals as goal
 
 pub invariant_of-result : goal.invariant_of-result
-invariant_of-result c = begun c.in_ok-parts.parts c.args.project c.in_ok-parts.ensures.valid c.in_ok-parts.ensures.represents
+invariant_of-result c = rw c.in_ok-boxed.ensures.ok (begun c.in_ok-parts.parts c.args.project c.in_ok-parts.ensures.valid c.in_ok-parts.ensures.represents)
 
 pub returns-clause-stands : goal.returns-clause-stands
-returns-clause-stands c = begins c.in_ok-parts.parts c.args.project c.in_ok-parts.ensures.valid c.in_ok-parts.ensures.represents
+returns-clause-stands c = rw c.in_ok-boxed.ensures.ok (begins c.in_ok-parts.parts c.args.project c.in_ok-parts.ensures.valid c.in_ok-parts.ensures.represents)
 
 pub returns-clause-laws : goal.returns-clause-laws
 returns-clause-laws c = valid-is-lawful c.args.project c.in_ok-parts.ensures.valid

@@ -3,4 +3,4 @@ use Rattle.lgx_core.proofs.Opened.{opened}
 use Rattle.lgx_core.proofs.controller.Controller.now.Goals as goal
 
 pub returns : goal.returns
-returns c = λ s h. (opened c.self.inside.parts c.self.inside.spent c.args.self.now c.self.view_is s h).parts.tick
+returns c = λ s h. rw c.deref.ensures (opened c.self.inside.parts.value c.self.inside.spent c.args.self.now c.self.view_is s h).parts.tick
