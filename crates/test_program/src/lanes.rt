@@ -1,6 +1,6 @@
 // Rows of scripts whose lanes run on threads: `KIND PROJECT SCRIPT` and what the kind needs, with files of `data/lanes`.
 //
-// Of each run it is asked that its journal is complete for the script, as far as src/complete counts, that no action was answered
+// Of each run it is asked that its journal is complete for the script, as far as `test_given` counts, that no action was answered
 // `held`, and that a replay of the journal gives its report:
 //
 // - `run`: a run with a gate that holds nobody.
