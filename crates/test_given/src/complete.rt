@@ -6,7 +6,7 @@ const LANES: usize = 32;
 
 /// Why a journal isn't complete for a script; none if nothing was found. Not counted are answers, and whether a CPS is open:
 /// after the script's steps or at the end.
-pub(crate) fn trouble_of(
+pub fn journal_trouble(
     alloc: Global,
     script: &str,
     journal: &str,
@@ -55,6 +55,12 @@ fn lanes_of(alloc: Global, script: &str) -> Result<Vec<Vec<(u64, &str)>>, AllocE
     for _ in 0..LANES {
         lanes.push(Vec::new(alloc))?;
     }
+    push_actions(script, &mut lanes)?;
+    Ok(lanes)
+}
+
+/// Adds the actions of a script to their lanes.
+fn push_actions<'a>(script: &'a str, lanes: &mut [Vec<(u64, &'a str)>]) -> Result<(), AllocError> {
     for line in script.split('\n') {
         if let Some((lane, rest)) = lane_line(line) {
             if let (Some(lane), Some((at, action))) = (lanes.get_mut(lane), rest.split_once(' ')) {
@@ -62,7 +68,7 @@ fn lanes_of(alloc: Global, script: &str) -> Result<Vec<Vec<(u64, &str)>>, AllocE
             }
         }
     }
-    Ok(lanes)
+    Ok(())
 }
 
 /// What was counted of a journal so far.

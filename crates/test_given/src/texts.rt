@@ -3,14 +3,14 @@ use std::alloc::{AllocError, Global};
 
 /// The texts by their names.
 #[derive(Drop)]
-pub(crate) struct Texts {
-    alloc: Global,
+pub struct Texts {
+    pub alloc: Global,
     texts: Vec<(String, Vec<u8>)>,
 }
 
 impl Texts {
     /// No texts.
-    pub(crate) fn new(alloc: Global) -> Texts {
+    pub fn new(alloc: Global) -> Texts {
         Texts {
             alloc,
             texts: Vec::new(alloc),
@@ -18,7 +18,7 @@ impl Texts {
     }
 
     /// Adds a text, `NAME CONTENTS`.
-    pub(crate) fn add(&mut self, line: &str) -> Result<(), AllocError> {
+    pub fn add(&mut self, line: &str) -> Result<(), AllocError> {
         let (name, contents) = line.split_once(' ').unwrap_or((line, ""));
         let name = String::from_str(self.alloc, name)?;
         let contents = unescaped(self.alloc, contents)?;
@@ -40,15 +40,26 @@ impl Texts {
     }
 
     /// The files that are listed.
-    pub(crate) fn files(&self, list: &str) -> Result<Vec<(String, Vec<u8>)>, AllocError> {
+    pub fn files(&self, list: &str) -> Result<Vec<(String, Vec<u8>)>, AllocError> {
         let mut files = Vec::new(self.alloc);
         for word in list.split_whitespace() {
             if let Some((name, contents)) = word.split_once('=') {
-                let name = String::from_str(self.alloc, name)?;
-                files.push((name, self.contents(contents)?))?;
+                self.push_file(name, contents, &mut files)?;
             }
         }
         Ok(files)
+    }
+
+    fn push_file(
+        &self,
+        name: &str,
+        contents: &str,
+        files: &mut Vec<(String, Vec<u8>)>,
+    ) -> Result<(), AllocError> {
+        let name = String::from_str(self.alloc, name)?;
+        let contents = self.contents(contents)?;
+        files.push((name, contents))?;
+        Ok(())
     }
 }
 
@@ -57,7 +68,7 @@ fn blanks(alloc: Global, count: u32) -> Result<Vec<u8>, AllocError> {
 }
 
 /// A text with its line feeds and blanks.
-pub(crate) fn unescaped(alloc: Global, text: &str) -> Result<Vec<u8>, AllocError> {
+pub fn unescaped(alloc: Global, text: &str) -> Result<Vec<u8>, AllocError> {
     let mut bytes = Vec::new(alloc);
     let mut escape = false;
     for byte in text.as_bytes() {
@@ -73,7 +84,7 @@ pub(crate) fn unescaped(alloc: Global, text: &str) -> Result<Vec<u8>, AllocError
 }
 
 /// Bytes as rows have them.
-pub(crate) fn escaped(alloc: Global, bytes: &[u8]) -> Result<String, AllocError> {
+pub fn escaped(alloc: Global, bytes: &[u8]) -> Result<String, AllocError> {
     let mut text = String::new(alloc);
     for byte in bytes {
         if *byte == b'\n' {
@@ -85,12 +96,13 @@ pub(crate) fn escaped(alloc: Global, bytes: &[u8]) -> Result<String, AllocError>
     Ok(text)
 }
 
-fn unsigned_of(digits: &str) -> u32 {
+/// A number; 0 where it can't be read.
+pub fn unsigned_of(digits: &str) -> u32 {
     digits.parse::<u32>().unwrap_or(0)
 }
 
 /// The numbers of the reads that fail.
-pub(crate) fn failing_reads(alloc: Global, list: &str) -> Result<Vec<u32>, AllocError> {
+pub fn failing_reads(alloc: Global, list: &str) -> Result<Vec<u32>, AllocError> {
     let mut numbers = Vec::new(alloc);
     for word in list.split_whitespace() {
         if let Some(number) = word.strip_prefix("read=") {
@@ -101,13 +113,33 @@ pub(crate) fn failing_reads(alloc: Global, list: &str) -> Result<Vec<u32>, Alloc
 }
 
 /// The numbers of the puts that fail, and how many bytes each keeps.
-pub(crate) fn failing_puts(alloc: Global, list: &str) -> Result<Vec<(u32, u32)>, AllocError> {
+pub fn failing_puts(alloc: Global, list: &str) -> Result<Vec<(u32, u32)>, AllocError> {
     let mut numbers = Vec::new(alloc);
     for word in list.split_whitespace() {
         if let Some(pair) = word.strip_prefix("put=") {
-            let (number, kept) = pair.split_once(':').unwrap_or((pair, ""));
-            numbers.push((unsigned_of(number), unsigned_of(kept)))?;
+            numbers.push(pair_of(pair))?;
         }
     }
     Ok(numbers)
+}
+
+fn pair_of(pair: &str) -> (u32, u32) {
+    let (first, second) = pair.split_once(':').unwrap_or((pair, ""));
+    (unsigned_of(first), unsigned_of(second))
+}
+
+/// The number of the call that fails; 0 if none does.
+pub fn failing_call(list: &str) -> u32 {
+    unsigned_of(list.strip_prefix("call=").unwrap_or(""))
+}
+
+/// The words of a list, in which `-` is none.
+pub fn words_of(alloc: Global, list: &str) -> Result<Vec<String>, AllocError> {
+    let mut words = Vec::new(alloc);
+    for word in list.split_whitespace() {
+        if word != "-" {
+            words.push(String::from_str(alloc, word)?)?;
+        }
+    }
+    Ok(words)
 }

@@ -1,14 +1,50 @@
-// Gates that hold lanes.
-use logix_run::Gate;
+// What holds lanes.
 use std::sync::atomic::{AtomicU64, Ordering};
 use std::thread;
 
 /// How often a lane looks whether another has come, at most.
 const TURNS: u32 = 2_000_000;
 
+/// Which lanes are held before an action.
+#[derive(Drop)]
+pub enum Hold {
+    Nobody,
+    Pair(Pair),
+    AtRandom(AtRandom),
+}
+
+impl Hold {
+    /// Each of two lanes waits before its second action until the other was asked for its own.
+    pub fn till_both(first: u32, second: u32) -> Hold {
+        Hold::Pair(Pair::new(first, second))
+    }
+
+    /// Each lane is held for a while that is drawn.
+    pub fn at_random(seed: u64) -> Hold {
+        Hold::AtRandom(AtRandom::new(seed))
+    }
+
+    /// Holds a lane that made so many of its actions.
+    pub fn before(&self, lane: u32, index: u32) {
+        match self {
+            Hold::Nobody => {}
+            Hold::Pair(pair) => pair.before(lane, index),
+            Hold::AtRandom(random) => random.before(lane),
+        }
+    }
+
+    /// Whether the two lanes of a pair met.
+    pub fn met(&self) -> bool {
+        match self {
+            Hold::Pair(pair) => pair.met(),
+            Hold::Nobody | Hold::AtRandom(_) => true,
+        }
+    }
+}
+
 /// Each of two lanes waits before its second action until the other was asked for its own.
 #[derive(Drop)]
-pub(crate) struct Pair {
+pub struct Pair {
     first: u32,
     second: u32,
     /// A bit for each lane that was asked for its second action.
@@ -18,7 +54,7 @@ pub(crate) struct Pair {
 }
 
 impl Pair {
-    pub(crate) fn new(first: u32, second: u32) -> Pair {
+    fn new(first: u32, second: u32) -> Pair {
         Pair {
             first,
             second,
@@ -28,7 +64,7 @@ impl Pair {
     }
 
     /// Whether both lanes were asked for their second action, and neither waited in vain.
-    pub(crate) fn met(&self) -> bool {
+    fn met(&self) -> bool {
         let asked = self.asked.load(Ordering::SeqCst);
         let both = bit(self.first) | bit(self.second);
         asked & both == both && self.vain.load(Ordering::SeqCst) == 0
@@ -44,14 +80,7 @@ impl Pair {
             None
         }
     }
-}
 
-/// The bit of a lane.
-fn bit(lane: u32) -> u64 {
-    1u64.checked_shl(lane).unwrap_or(0)
-}
-
-impl Gate for Pair {
     fn before(&self, lane: u32, index: u32) {
         if index != 1 {
             return;
@@ -70,22 +99,25 @@ impl Gate for Pair {
     }
 }
 
+/// The bit of a lane.
+fn bit(lane: u32) -> u64 {
+    1u64.checked_shl(lane).unwrap_or(0)
+}
+
 /// Holds each lane for a while that is drawn.
 #[derive(Drop)]
-pub(crate) struct AtRandom {
+pub struct AtRandom {
     drawn: AtomicU64,
 }
 
 impl AtRandom {
-    pub(crate) fn new(seed: u64) -> AtRandom {
+    fn new(seed: u64) -> AtRandom {
         AtRandom {
             drawn: AtomicU64::new(seed),
         }
     }
-}
 
-impl Gate for AtRandom {
-    fn before(&self, lane: u32, _index: u32) {
+    fn before(&self, lane: u32) {
         let step = u64::from(lane).wrapping_add(0x9e37_79b9_7f4a_7c15);
         let drawn = self.drawn.fetch_add(step, Ordering::SeqCst);
         let mixed = (drawn ^ (drawn >> 29)).wrapping_mul(0xbf58_476d_1ce4_e5b9);
