@@ -194,6 +194,7 @@ fn carried(alloc: Global, bytes: &[u8]) -> io::Result<String> {
 
 /// How many tasks, programs, routines, rungs and bytes a project has.
 fn told(alloc: Global, project: &Project) -> io::Result<String> {
+    let project = project.parts();
     let mut routines = 0u64;
     let mut rungs = 0u64;
     for program in project.texts.as_slice() {
