@@ -17,27 +17,28 @@ use std::alloc::Global;
 /// A table that isn't sealed, of so many programs, with at most so many aliases.
 #[derive(Drop)]
 pub struct Declared {
-    table: TagTable,
+    table: Box<TagTable>,
     programs: u32,
     count: u32,
-    ghost unsealed: { table.sealed ≡ false },
-    ghost scopes: { table.declarations.programs ≡ programs },
-    ghost few: { length (aliases table.declarations) ≤ count },
+    ghost unsealed: { table.value.sealed ≡ false },
+    ghost scopes: { table.value.declarations.programs ≡ programs },
+    ghost few: { length (aliases table.value.declarations) ≤ count },
 }
 
 /// A table that is sealed.
 #[derive(Drop)]
 pub struct Sealed {
-    pub table: TagTable,
-    ghost sealed: { table.sealed ≡ true },
+    pub table: Box<TagTable>,
+    ghost sealed: { table.value.sealed ≡ true },
 }
 
 impl Declared {
     /// No tags, in so many programs, over the structures of a text.
     pub fn new(alloc: Global, types: &str, programs: u32) -> Result<Declared, Refusal> {
         let types = table_of(alloc, &structures_of(alloc, types)?)?;
+        let table = Box::new(alloc, TagTable::new(alloc, types, programs)?)?;
         Ok(Declared {
-            table: TagTable::new(alloc, types, programs)?,
+            table,
             programs,
             count: 0,
         })
@@ -60,12 +61,17 @@ impl Declared {
 /// may be refused.
 pub fn sealed_table(alloc: Global, types: &str, texts: &[&str]) -> Result<Sealed, Refusal> {
     let mut declared = Declared::new(alloc, types, 1)?;
+    declare_all(&mut declared, texts)?;
+    Ok(declared.seal()?)
+}
+
+fn declare_all(declared: &mut Declared, texts: &[&str]) -> Result<(), Refusal> {
     for text in texts {
         for declaration in text.split(';') {
-            declare_text(&mut declared, declaration)??;
+            declare_text(declared, declaration)??;
         }
     }
-    Ok(declared.seal()?)
+    Ok(())
 }
 
 /// Declares a tag, `NAME TYPE` or `NAME TYPE LENGTH`, or an alias, `NAME = TARGET`. A name `a@0` is one of the program 0.

@@ -1,15 +1,14 @@
 // What operands stand for, in words.
 use lgx_num::{Block, Flag, Index, Kind, Operand, Path};
-use std::alloc::AllocError;
-use test_rows::Said;
+use test_rows::Told;
 
 /// Says an operand: of a path the kind and the first bit, and then for each subscript `by`, the bit of its number, its stride
 /// and its length.
-pub fn say_operand(said: &mut Said, operand: &Operand) -> Result<(), AllocError> {
+pub fn say_operand(said: &mut Told, operand: &Operand) {
     match operand {
         Operand::Number(number) => {
-            said.word("number")?;
-            said.number(i64::from(*number))
+            said.word("number");
+            said.number(i64::from(*number));
         }
         Operand::Cell(path) => say_path(said, "cell", path),
         Operand::Timer(path) => say_path(said, "timer", path),
@@ -23,61 +22,52 @@ pub fn say_operand(said: &mut Said, operand: &Operand) -> Result<(), AllocError>
     }
 }
 
-fn say_number(said: &mut Said, word: &str, number: u64) -> Result<(), AllocError> {
-    said.word(word)?;
-    match i64::try_from(number) {
-        Ok(number) => said.number(number),
-        Err(_) => said.word("large"),
-    }
+fn say_number(said: &mut Told, word: &str, number: u64) {
+    said.word(word);
+    said.shown(&number);
 }
 
-fn say_flag(said: &mut Said, flag: Flag) -> Result<(), AllocError> {
-    said.word("flag")?;
+fn say_flag(said: &mut Told, flag: Flag) {
+    said.word("flag");
     said.word(match flag {
         Flag::First => "S:FS",
         Flag::Overflow => "S:V",
         Flag::Zero => "S:Z",
         Flag::Negative => "S:N",
-    })
+    });
 }
 
-fn say_block(said: &mut Said, block: &Block) -> Result<(), AllocError> {
-    said.word("block")?;
+fn say_block(said: &mut Told, block: &Block) {
+    said.word("block");
     let size = block.size;
     let stop = block.stop;
-    said.number(i64::from(size))?;
-    say_place(said, stop, &block.path)
+    said.number(i64::from(size));
+    said.number(i64::from(stop));
+    say_steps(said, &block.path);
 }
 
-/// A number, and then a path.
-fn say_place(said: &mut Said, stop: u32, path: &Path) -> Result<(), AllocError> {
-    said.number(i64::from(stop))?;
-    say_steps(said, path)
+fn say_path(said: &mut Told, word: &str, path: &Path) {
+    said.word(word);
+    say_steps(said, path);
 }
 
-fn say_path(said: &mut Said, word: &str, path: &Path) -> Result<(), AllocError> {
-    said.word(word)?;
-    say_steps(said, path)
-}
-
-fn say_steps(said: &mut Said, path: &Path) -> Result<(), AllocError> {
+fn say_steps(said: &mut Told, path: &Path) {
     said.word(match path.kind {
         Kind::Bool => "BOOL",
         Kind::Sint => "SINT",
         Kind::Int => "INT",
         Kind::Dint => "DINT",
-    })?;
+    });
     let at = path.at;
-    said.number(i64::from(at))?;
+    said.number(i64::from(at));
     for index in path.steps.as_slice() {
-        say_index(said, *index)?;
+        say_index(said, *index);
     }
-    Ok(())
 }
 
-fn say_index(said: &mut Said, index: Index) -> Result<(), AllocError> {
-    said.word("by")?;
-    said.number(i64::from(index.of.at))?;
-    said.number(i64::from(index.stride))?;
-    said.number(i64::from(index.length))
+fn say_index(said: &mut Told, index: Index) {
+    said.word("by");
+    said.number(i64::from(index.of.at));
+    said.number(i64::from(index.stride));
+    said.number(i64::from(index.length));
 }

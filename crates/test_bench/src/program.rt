@@ -88,12 +88,22 @@ fn read_one(alloc: Global, text: &[u8]) -> Result<SourceRung, Refusal> {
 
 /// These routines checked, or the fault of the first that has one.
 fn check_all(alloc: Global, sources: &[Vec<SourceRung>]) -> Result<Routines, Refusal> {
-    let tags = sealed_table(alloc, "", &TAGS)?;
     let names = routine_names(alloc, sources.len())?;
     let tasks = event_tasks(alloc)?;
+    let tags = sealed_table(alloc, "", &TAGS)?;
+    check_each(alloc, sources, &tags, &names, &tasks)
+}
+
+fn check_each(
+    alloc: Global,
+    sources: &[Vec<SourceRung>],
+    tags: &Sealed,
+    names: &[Name],
+    tasks: &[TaskName],
+) -> Result<Routines, Refusal> {
     let mut rungs = Vec::new(alloc);
     for source in sources {
-        let checked = check(alloc, source, &tags, &names, &tasks)?;
+        let checked = check(alloc, source, tags, names, tasks)?;
         rungs.push(checked)?;
     }
     Ok(Routines { rungs })

@@ -27,8 +27,12 @@ pub fn judge_row(alloc: Global, row: &str) -> Result<Option<String>, Refusal> {
 /// What the steps of one scan of a program do, and the tags that aren't 0 after it.
 fn run_row(alloc: Global, program: &str, before: &str) -> Result<String, Refusal> {
     let mut bench = Bench::load(alloc, program)?;
+    run_on(alloc, &mut bench, before)
+}
+
+fn run_on(alloc: Global, bench: &mut Bench, before: &str) -> Result<String, Refusal> {
     bench.set(before)?;
-    let steps = run_scan(alloc, &mut bench, 0, false, MAX_STEPS)?;
+    let steps = run_scan(alloc, bench, 0, false, MAX_STEPS)?;
     let after = bench.shown(alloc)?;
     Ok(format!(in alloc; "{steps} / {after}")?)
 }

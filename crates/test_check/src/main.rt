@@ -12,7 +12,7 @@ mod world;
 use std::alloc::Global;
 use std::io;
 use test_bench::{Refusal, read_rungs};
-use test_rows::{judge_rows, parts};
+use test_rows::{Told, judge_rows, parts};
 use world::World;
 
 fn main(rt: HostRuntime) -> io::Result<()> {
@@ -22,26 +22,37 @@ fn main(rt: HostRuntime) -> io::Result<()> {
 /// What comes out in place of what the row says, if that differs.
 fn found(alloc: Global, row: &str) -> io::Result<Option<String>> {
     let (kind, given, wanted) = parts(row);
-    match said(alloc, kind, given) {
-        Ok(said) if said.as_str() == wanted => Ok(None),
-        Ok(said) => Ok(Some(said)),
+    let mut said = Told::new(alloc);
+    match said_of(alloc, &mut said, kind, given) {
+        Ok(()) => Ok(said.other_than(wanted)),
         Err(refusal) => Ok(Some(format!(in alloc; "{refusal:?}")?)),
     }
 }
 
-fn said(alloc: Global, kind: &str, given: &str) -> Result<String, Refusal> {
+fn said_of(alloc: Global, said: &mut Told, kind: &str, given: &str) -> Result<(), Refusal> {
     let world = World::new(alloc)?;
+    say(alloc, said, &world, kind, given)
+}
+
+fn say(
+    alloc: Global,
+    said: &mut Told,
+    world: &World,
+    kind: &str,
+    given: &str,
+) -> Result<(), Refusal> {
     match kind {
-        "check" => check_row(alloc, &world, given),
-        "means" => world::means_row(alloc, &world, given),
-        "many" => many::many_row(alloc, &world, given),
-        "labels" => many::labels_row(alloc, &world, given),
-        "operands" => operands::operands_row(alloc, &world, given),
+        "check" => say_check(alloc, said, world, given),
+        "means" => world::say_meaning(alloc, said, world, given),
+        "many" => many::say_many(alloc, said, world, given),
+        "labels" => many::say_labels(alloc, said, world, given),
+        "operands" => operands::say_operands(alloc, said, world, given),
         _ => Err(Refusal::Form),
     }
 }
 
 /// `check | RUNGS | ..`: `ok`, or the code of the first fault, its rung and its instruction.
-fn check_row(alloc: Global, world: &World, given: &str) -> Result<String, Refusal> {
-    world.answer(alloc, &read_rungs(alloc, given)?)
+fn say_check(alloc: Global, said: &mut Told, world: &World, given: &str) -> Result<(), Refusal> {
+    let rungs = read_rungs(alloc, given)?;
+    world.say_answer(alloc, said, &rungs)
 }

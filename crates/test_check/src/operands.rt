@@ -1,9 +1,10 @@
 // Each mnemonic with each number of operands, and with each sample in each operand's place.
 use crate::rules::{SAMPLES, code_of, right_text};
 use crate::world::World;
-use lgx_rung::{CheckCode, Op, OperandKind};
-use std::alloc::Global;
+use lgx_rung::{CheckCode, CheckFault, Op, OperandKind};
+use std::alloc::{AllocError, Global};
 use test_bench::{Refusal, read_rungs};
+use test_rows::Told;
 
 /// More operands than are tried.
 const MAX_GIVEN: usize = 8;
@@ -16,20 +17,21 @@ const INPUTS: i32 = 2;
 ///
 /// Each mnemonic is tried with up to 7 operands, a JSR with the count 2. If so many aren't its own, that is C1. Else each
 /// sample is tried in the place of each, but for the count.
-pub fn operands_row(alloc: Global, world: &World, given: &str) -> Result<String, Refusal> {
+pub fn say_operands(
+    alloc: Global,
+    said: &mut Told,
+    world: &World,
+    given: &str,
+) -> Result<(), Refusal> {
     let mut trial = Trial {
         alloc,
         world,
         count: 0,
         first: None,
     };
-    for mnemonic in given.split_whitespace() {
-        let op = Op::read(mnemonic.as_bytes()).ok_or(Refusal::Form)?;
-        for given in 0..MAX_GIVEN {
-            trial.with_operands(op, mnemonic, given)?;
-        }
-    }
-    trial.said()
+    trial.with_all(given)?;
+    trial.say(said);
+    Ok(())
 }
 
 /// How many instructions were tried, and the first that was answered otherwise.
@@ -42,13 +44,29 @@ struct Trial<'a> {
 }
 
 impl Trial<'_> {
+    /// Tries each mnemonic with each number of operands.
+    fn with_all(&mut self, mnemonics: &str) -> Result<(), Refusal> {
+        for mnemonic in mnemonics.split_whitespace() {
+            self.with_mnemonic(mnemonic)?;
+        }
+        Ok(())
+    }
+
+    fn with_mnemonic(&mut self, mnemonic: &str) -> Result<(), Refusal> {
+        let op = Op::read(mnemonic.as_bytes()).ok_or(Refusal::Form)?;
+        for given in 0..MAX_GIVEN {
+            self.with_operands(op, mnemonic, given)?;
+        }
+        Ok(())
+    }
+
     /// Tries so many operands.
     fn with_operands(&mut self, op: Op, mnemonic: &str, given: usize) -> Result<(), Refusal> {
         match op.operand_kinds(Some(INPUTS), given) {
             Some(kinds) => self.with_kinds(mnemonic, kinds.as_slice()),
             None => {
                 let text = wrong_number(self.alloc, mnemonic, given)?;
-                self.instruction(text, Some(CheckCode::C1))
+                self.instruction(text.as_str(), Some(CheckCode::C1))
             }
         }
     }
@@ -73,48 +91,46 @@ impl Trial<'_> {
     ) -> Result<(), Refusal> {
         for (sample, what) in SAMPLES {
             let text = with_sample(self.alloc, mnemonic, kinds, place, sample)?;
-            self.instruction(text, code_of(kind, what))?;
+            self.instruction(text.as_str(), code_of(kind, what))?;
         }
         Ok(())
     }
 
     /// Tries an instruction, alone in its rung, in a routine with a label.
-    fn instruction(&mut self, text: String, code: Option<CheckCode>) -> Result<(), Refusal> {
-        let alloc = self.alloc;
+    fn instruction(&mut self, text: &str, code: Option<CheckCode>) -> Result<(), Refusal> {
         self.count = self.count.saturating_add(1);
-        let rungs = read_rungs(alloc, format!(in alloc; "{text};LBL(here);")?.as_str())?;
-        let answer = self.world.answer(alloc, &rungs)?;
-        let wanted = answer_of(alloc, code)?;
-        if self.first.is_none() && answer.as_str() != wanted.as_str() {
-            self.first = Some(format!(in alloc; "{text}: {answer}")?);
+        let fault = self.fault_of(text)?;
+        if self.first.is_none() && fault != code.map(at_first) {
+            self.first = Some(format!(in self.alloc; "{text}: {fault:?}")?);
         }
         Ok(())
     }
 
-    fn said(self) -> Result<String, Refusal> {
-        let Trial {
-            alloc,
-            count,
-            first,
-            ..
-        } = self;
-        match first {
-            Some(first) => Ok(format!(in alloc; "{count} {first}")?),
-            None => Ok(format!(in alloc; "{count}")?),
+    fn fault_of(&self, text: &str) -> Result<Option<CheckFault>, Refusal> {
+        let text = format!(in self.alloc; "{text};LBL(here);")?;
+        let rungs = read_rungs(self.alloc, text.as_str())?;
+        self.world.fault(self.alloc, &rungs)
+    }
+
+    fn say(&self, said: &mut Told) {
+        said.number(i64::from(self.count));
+        if let Some(first) = &self.first {
+            said.word(first.as_str());
         }
     }
 }
 
-/// The answer to an instruction with this code.
-fn answer_of(alloc: Global, code: Option<CheckCode>) -> Result<String, Refusal> {
-    match code {
-        Some(code) => Ok(format!(in alloc; "{code:?} 0 0")?),
-        None => Ok(String::from_str(alloc, "ok")?),
+/// The fault with this code of the first instruction of the first rung.
+fn at_first(code: CheckCode) -> CheckFault {
+    CheckFault {
+        code,
+        rung: 0,
+        ins: 0,
     }
 }
 
 /// The instruction with so many operands: a routine's name, the count of inputs, and then integers.
-fn wrong_number(alloc: Global, mnemonic: &str, given: usize) -> Result<String, Refusal> {
+fn wrong_number(alloc: Global, mnemonic: &str, given: usize) -> Result<String, AllocError> {
     let mut text = format!(in alloc; "{mnemonic}(")?;
     for place in 0..given {
         push_operand(
@@ -138,27 +154,33 @@ fn with_sample(
     kinds: &[OperandKind],
     place: usize,
     sample: &str,
-) -> Result<String, Refusal> {
+) -> Result<String, AllocError> {
     let mut text = format!(in alloc; "{mnemonic}(")?;
-    for (i, kind) in kinds.iter().enumerate() {
-        push_operand(
-            &mut text,
-            i,
-            if i == place {
-                sample
-            } else {
-                right_text(*kind)
-            },
-        )?;
-    }
+    push_operands(&mut text, kinds, place, sample)?;
     text.push(')')?;
     Ok(text)
 }
 
-fn push_operand(text: &mut String, place: usize, operand: &str) -> Result<(), Refusal> {
+fn push_operands(
+    text: &mut String,
+    kinds: &[OperandKind],
+    place: usize,
+    sample: &str,
+) -> Result<(), AllocError> {
+    for (i, kind) in kinds.iter().enumerate() {
+        let operand = if i == place {
+            sample
+        } else {
+            right_text(*kind)
+        };
+        push_operand(text, i, operand)?;
+    }
+    Ok(())
+}
+
+fn push_operand(text: &mut String, place: usize, operand: &str) -> Result<(), AllocError> {
     if place > 0 {
         text.push(',')?;
     }
-    text.push_str(operand)?;
-    Ok(())
+    text.push_str(operand)
 }

@@ -1,12 +1,12 @@
 // What rows are checked against.
 use lgx_check::{CheckScope, check_routine};
-use lgx_num::Name;
-use lgx_prog::{Node, Rungs};
-use lgx_rung::SourceRung;
+use lgx_num::{Name, Operand};
+use lgx_prog::{Node, Rung, Rungs};
+use lgx_rung::{CheckFault, SourceRung};
 use spec_language::TaskName;
 use std::alloc::Global;
 use test_bench::{Refusal, Sealed, name_of, read_rungs, say_operand, sealed_table};
-use test_rows::Said;
+use test_rows::Told;
 
 /// The structures: arrays in one another, and a timer beside a counter.
 const TYPES: &str =
@@ -35,10 +35,13 @@ pub struct World {
 
 impl World {
     pub fn new(alloc: Global) -> Result<World, Refusal> {
+        let routines = routine_names(alloc)?;
+        let tasks = task_names(alloc)?;
+        let tags = sealed_table(alloc, TYPES, &TAGS)?;
         Ok(World {
-            tags: sealed_table(alloc, TYPES, &TAGS)?,
-            routines: routine_names(alloc)?,
-            tasks: task_names(alloc)?,
+            tags,
+            routines,
+            tasks,
         })
     }
 
@@ -56,18 +59,39 @@ impl World {
         Ok(check_routine(alloc, rungs, &scope)?)
     }
 
-    /// `ok`, or the code of the first fault, its rung and its instruction.
-    pub fn answer(&self, alloc: Global, rungs: &[SourceRung]) -> Result<String, Refusal> {
+    /// The first fault of a routine's rungs, if they have one.
+    pub fn fault(
+        &self,
+        alloc: Global,
+        rungs: &[SourceRung],
+    ) -> Result<Option<CheckFault>, Refusal> {
         match self.check(alloc, rungs) {
-            Ok(_) => Ok(String::from_str(alloc, "ok")?),
-            Err(Refusal::Check(fault)) => {
-                let rung = fault.rung;
-                let ins = fault.ins;
-                Ok(format!(in alloc; "{:?} {rung} {ins}", fault.code)?)
-            }
+            Ok(_) => Ok(None),
+            Err(Refusal::Check(fault)) => Ok(Some(fault)),
             Err(refusal) => Err(refusal),
         }
     }
+
+    /// Says `ok`, or the code of the first fault, its rung and its instruction.
+    pub fn say_answer(
+        &self,
+        alloc: Global,
+        said: &mut Told,
+        rungs: &[SourceRung],
+    ) -> Result<(), Refusal> {
+        match self.fault(alloc, rungs)? {
+            Some(fault) => say_fault(said, fault),
+            None => said.word("ok"),
+        }
+        Ok(())
+    }
+}
+
+fn say_fault(said: &mut Told, fault: CheckFault) {
+    let CheckFault { code, rung, ins } = fault;
+    said.shown(&code);
+    said.shown(&rung);
+    said.shown(&ins);
 }
 
 fn routine_names(alloc: Global) -> Result<Vec<Name>, Refusal> {
@@ -90,22 +114,29 @@ fn task_names(alloc: Global) -> Result<Vec<TaskName>, Refusal> {
 }
 
 /// `means | RUNGS | ..`: what the operands of the instructions stand for that are in no fork.
-pub fn means_row(alloc: Global, world: &World, given: &str) -> Result<String, Refusal> {
+pub fn say_meaning(
+    alloc: Global,
+    said: &mut Told,
+    world: &World,
+    given: &str,
+) -> Result<(), Refusal> {
     let checked = world.check(alloc, &read_rungs(alloc, given)?)?;
-    let mut said = Said::new(alloc);
     for rung in checked.as_slice() {
-        for node in rung.nodes() {
-            say_node(&mut said, node)?;
-        }
-    }
-    Ok(said.into_text())
-}
-
-fn say_node(said: &mut Said, node: &Node) -> Result<(), Refusal> {
-    if let Node::Ins(ins) = node {
-        for operand in ins.args.as_slice() {
-            say_operand(said, operand)?;
-        }
+        say_rung(said, rung);
     }
     Ok(())
+}
+
+fn say_rung(said: &mut Told, rung: &Rung) {
+    for node in rung.nodes() {
+        if let Node::Ins(ins) = node {
+            say_operands(said, ins.args.as_slice());
+        }
+    }
+}
+
+fn say_operands(said: &mut Told, operands: &[Operand]) {
+    for operand in operands {
+        say_operand(said, operand);
+    }
 }

@@ -1,47 +1,53 @@
 // Connections.
-ghost use Rattle.std.specs.Prelude.{◌≡◌, ◌+◌, ◌*◌, ◌≤◌, IfOk};
+ghost use Rattle.std.specs.Prelude.{◌≡◌, ◌+◌, ◌*◌, ◌≤◌, IfSome};
 ghost use Rattle.spec_base.specs.declared.limits.TheConstants.{MAX_CONNECTION_WORDS, MAX_IMAGE_BYTES};
 
 use crate::trouble::Trouble;
-use crate::words::{Said, name, number, word};
+use crate::words::{Told, name_at, number_at, word_at};
 use lgx_conn::Conns;
-use lgx_num::Memory;
+use lgx_num::{Memory, Name};
 use spec_base::limits::MAX_CONNECTION_WORDS;
 use spec_tables::{ConnDef, ConnFault, Slot};
-use std::alloc::{AllocError, Global};
+use std::alloc::Global;
 
 /// `conns | CONNECTION, CONNECTION ? CALL; .. | ..`: what the calls answer.
 ///
 /// A connection is `NAME in BYTE WORDS TASK` or the same with `out`. A call is `in NAME WORD`, `out NAME WORD`, `io NAME
 /// WORD` or `words NAME WORD`; a slot is its byte, its number and its task, and `words` answers how many words there are.
-pub fn conns_row(alloc: Global, text: &str) -> Result<String, Trouble> {
-    let (defs, calls) = text.split_once('?').ok_or(Trouble::Form)?;
-    let (first, second) = defs.split_once(',').ok_or(Trouble::Form)?;
-    let conns = conns(alloc, conn(first)?, conn(second)?)?;
-    let mut said = Said::new(alloc);
+pub fn say_conns(alloc: Global, said: &mut Told, defs: &str, calls: &str) -> Result<(), Trouble> {
+    let conns = conns_of(alloc, said, defs)?;
     for call in calls.split(';') {
-        run(alloc, &mut said, &conns, call)?;
+        run(said, &conns, call);
     }
-    Ok(said.into_text())
+    Ok(())
 }
 
-fn conn(text: &str) -> Result<ConnDef, Trouble>
-    ensures { IfOk result (λ c. (c.words ≤ MAX_CONNECTION_WORDS) × (c.byte + 4 * c.words ≤ MAX_IMAGE_BYTES)) }
-{
-    let mut words = text.split_whitespace();
-    let name = name(&mut words)?;
-    let output = word(&mut words)? == "out";
-    let byte = number(&mut words)?;
-    let count = number(&mut words)?;
-    let task = number(&mut words)?;
-    if byte > 1000 || count > MAX_CONNECTION_WORDS {
+fn conns_of(alloc: Global, said: &mut Told, defs: &str) -> Result<Conns, Trouble> {
+    let (first, second) = defs.split_once(',').ok_or(Trouble::Form)?;
+    let Some(first) = conn(said, first) else {
         return Err(Trouble::Form);
+    };
+    let Some(second) = conn(said, second) else {
+        return Err(Trouble::Form);
+    };
+    Ok(conns(alloc, first, second)?)
+}
+
+fn conn(said: &mut Told, text: &str) -> Option<ConnDef>
+    ensures { IfSome result (λ c. (c.words ≤ MAX_CONNECTION_WORDS) × (c.byte + 4 * c.words ≤ MAX_IMAGE_BYTES)) }
+{
+    let output = word_at(text, 1) == "out";
+    let byte = number_at(said, text, 2);
+    let words = number_at(said, text, 3);
+    let task = number_at(said, text, 4);
+    if byte > 1000 || words > MAX_CONNECTION_WORDS {
+        return None;
     }
-    Ok(ConnDef {
-        name,
+    Some(ConnDef {
+        name: name_at(text, 0)?,
         output,
         byte,
-        words: count,
+        words,
         trigger: Some(task),
     })
 }
@@ -53,32 +59,31 @@ fn conns(alloc: Global, first: ConnDef, second: ConnDef) -> Result<Conns, Memory
     Conns::new(alloc, &[first, second])
 }
 
-fn run(alloc: Global, said: &mut Said, conns: &Conns, call: &str) -> Result<(), Trouble> {
-    let mut words = call.split_whitespace();
-    let what = word(&mut words)?;
-    let name = name(&mut words)?;
-    let number = number(&mut words)?;
-    match what {
-        "in" => say_slot(alloc, said, conns.word_in(&name, number))?,
-        "out" => say_slot(alloc, said, conns.word_out(&name, number))?,
-        "io" => said.or_none(conns.io_word(&name, number))?,
-        "words" => said.number(i64::from(conns.words()))?,
-        _ => return Err(Trouble::Form),
+fn run(said: &mut Told, conns: &Conns, call: &str) {
+    match name_at(call, 1) {
+        Some(name) => say(said, conns, call, &name),
+        None => said.malformed(),
     }
-    Ok(())
 }
 
-fn say_slot(
-    alloc: Global,
-    said: &mut Said,
-    slot: Result<Slot, ConnFault>,
-) -> Result<(), AllocError> {
+fn say(said: &mut Told, conns: &Conns, call: &str, name: &Name) {
+    let number = number_at(said, call, 2);
+    match word_at(call, 0) {
+        "in" => say_slot(said, conns.word_in(name, number)),
+        "out" => say_slot(said, conns.word_out(name, number)),
+        "io" => said.or_none(conns.io_word(name, number)),
+        "words" => said.number(i64::from(conns.words())),
+        _ => said.malformed(),
+    }
+}
+
+fn say_slot(said: &mut Told, slot: Result<Slot, ConnFault>) {
     match slot {
         Ok(slot) => {
-            said.number(i64::from(slot.byte))?;
-            said.number(i64::from(slot.io))?;
-            said.or_none(slot.trigger)
+            said.number(i64::from(slot.byte));
+            said.number(i64::from(slot.io));
+            said.or_none(slot.trigger);
         }
-        Err(fault) => said.word(format!(in alloc; "{fault:?}")?.as_str()),
+        Err(fault) => said.shown(&fault),
     }
 }

@@ -1,26 +1,28 @@
 // The log of faults.
-use crate::trouble::Trouble;
-use crate::words::{Said, number};
+use crate::words::{Told, number_at};
 use lgx_fault::FaultLog;
+use lgx_num::Memory;
 use spec_tables::{Fault, Severity};
 use std::alloc::Global;
 
 /// `log | COUNT ? NUMBER .. | ..`: after so many faults, one a tick from tick 0 on, whether the log is empty, how many
 /// it keeps, and the ticks of those of these numbers.
-pub fn log_row(alloc: Global, text: &str) -> Result<String, Trouble> {
-    let (count, numbers) = text.split_once('?').ok_or(Trouble::Form)?;
+pub fn say_log(alloc: Global, said: &mut Told, count: &str, numbers: &str) -> Result<(), Memory> {
     let mut log = FaultLog::new(alloc)?;
-    for tick in 0..number(&mut count.split_whitespace())? {
+    for tick in 0..number_at(said, count, 0) {
         log.note(fault_at(tick));
     }
-    let mut said = Said::new(alloc);
-    said.truth(log.is_empty())?;
-    said.number(i64::from(log.len()))?;
-    for word in numbers.split_whitespace() {
-        let number = word.parse::<u32>().ok().ok_or(Trouble::Form)?;
-        said.or_none(tick_of(log.get(number)))?;
+    say_kept(said, &log, numbers);
+    Ok(())
+}
+
+fn say_kept(said: &mut Told, log: &FaultLog, numbers: &str) {
+    said.truth(log.is_empty());
+    said.number(i64::from(log.len()));
+    for number in numbers.split_whitespace() {
+        let number = number_at(said, number, 0);
+        said.or_none(tick_of(log.get(number)));
     }
-    Ok(said.into_text())
 }
 
 fn fault_at(tick: u32) -> Fault {

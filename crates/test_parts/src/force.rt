@@ -1,11 +1,11 @@
 // Forces.
 ghost use Rattle.std.specs.Prelude.{◌≡◌, length};
 
-use crate::trouble::Trouble;
-use crate::words::{Said, number, value, word};
+use crate::words::{Told, number_at, value_at, word_at};
 use lgx_force::ForceTable;
+use lgx_num::Memory;
 use spec_tables::ForceFault;
-use std::alloc::{AllocError, Global};
+use std::alloc::Global;
 
 /// A table of forces, and how many words it has.
 #[derive(Drop)]
@@ -19,70 +19,52 @@ struct Forces {
 ///
 /// `install FIRST LAST MASK VALUE` answers the last fault of the words from the first to the last, `force WORD VALUE`
 /// what becomes of the value of a word.
-pub fn forces_row(alloc: Global, text: &str) -> Result<String, Trouble> {
-    let (words, calls) = text.split_once('?').ok_or(Trouble::Form)?;
-    let words = number(&mut words.split_whitespace())?;
-    let mut forces = Forces {
-        table: ForceTable::new(alloc, words)?,
-        words,
-    };
-    let mut said = Said::new(alloc);
+pub fn say_forces(alloc: Global, said: &mut Told, words: &str, calls: &str) -> Result<(), Memory> {
+    let words = number_at(said, words, 0);
+    let table = ForceTable::new(alloc, words)?;
+    let mut forces = Forces { table, words };
     for call in calls.split(';') {
-        run(alloc, &mut said, &mut forces, call)?;
-    }
-    Ok(said.into_text())
-}
-
-fn run(alloc: Global, said: &mut Said, forces: &mut Forces, call: &str) -> Result<(), Trouble> {
-    let mut words = call.split_whitespace();
-    let words = &mut words;
-    match word(words)? {
-        "install" => {
-            let first = number(words)?;
-            let last = number(words)?;
-            let installed = install(forces, first, last, value(words)?, value(words)?);
-            say_answer(alloc, said, installed)?;
-        }
-        "enable" => say_answer(alloc, said, forces.table.enable())?,
-        "disable" => forces.table.disable(),
-        "remove" => say_answer(alloc, said, forces.table.remove_all())?,
-        "force" => {
-            let word = number(words)?;
-            said.number(i64::from(forced(forces, word, value(words)?)?))?;
-        }
-        _ => return Err(Trouble::Form),
+        run(said, &mut forces, call);
     }
     Ok(())
 }
 
-fn install(
-    forces: &mut Forces,
-    first: u32,
-    last: u32,
-    mask: i32,
-    value: i32,
-) -> Result<(), ForceFault> {
+fn run(said: &mut Told, forces: &mut Forces, call: &str) {
+    match word_at(call, 0) {
+        "install" => install(said, forces, call),
+        "force" => say_forced(said, forces, call),
+        "enable" => say_answer(said, forces.table.enable()),
+        "remove" => say_answer(said, forces.table.remove_all()),
+        "disable" => forces.table.disable(),
+        _ => said.malformed(),
+    }
+}
+
+fn install(said: &mut Told, forces: &mut Forces, call: &str) {
+    let first = number_at(said, call, 1);
+    let last = number_at(said, call, 2);
+    let mask = value_at(said, call, 3);
+    let value = value_at(said, call, 4);
     let mut answer = Ok(());
     for word in first..last.saturating_add(1) {
         answer = forces.table.install(word, mask, value);
     }
-    answer
+    say_answer(said, answer);
 }
 
-fn forced(forces: &Forces, word: u32, value: i32) -> Result<i32, Trouble> {
-    if word >= forces.words {
-        return Err(Trouble::Form);
+fn say_forced(said: &mut Told, forces: &Forces, call: &str) {
+    let word = number_at(said, call, 1);
+    let value = value_at(said, call, 2);
+    if word < forces.words {
+        said.number(i64::from(forces.table.forced(word, value)));
+    } else {
+        said.malformed();
     }
-    Ok(forces.table.forced(word, value))
 }
 
-fn say_answer(
-    alloc: Global,
-    said: &mut Said,
-    answer: Result<(), ForceFault>,
-) -> Result<(), AllocError> {
+fn say_answer(said: &mut Told, answer: Result<(), ForceFault>) {
     match answer {
         Ok(()) => said.word("ok"),
-        Err(fault) => said.word(format!(in alloc; "{fault:?}")?.as_str()),
+        Err(fault) => said.shown(&fault),
     }
 }

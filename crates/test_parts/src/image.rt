@@ -4,59 +4,57 @@ ghost use Rattle.lgx_num.specs.Image.{InBounds, InBoundsAt};
 ghost use Rattle.lgx_num.specs.Paths.{PathInBounds};
 
 use crate::trouble::Trouble;
-use crate::words::{Said, kind, number, value, word};
+use crate::words::{Told, kind_at, number_at, value_at, word_at};
 use lgx_image::{Arg, GRAIN, Image, grain_of};
-use lgx_num::{Index, Kind, Operand, Path, Place, Steps};
+use lgx_num::{Index, Kind, Memory, Operand, Path, Place, Steps};
 use spec_base::limits::MAX_IMAGE_BYTES;
-use std::alloc::{AllocError, Global};
-use std::str::SplitWhitespace;
+use std::alloc::Global;
 
 /// `image | LENGTH ? COMMAND; .. | ..`: what the commands answer in an image of so many bytes.
 ///
 /// `put KIND AT VALUE`, `get KIND AT`, `set AT BIT` and `bit AT` write and read at a bit; `copy FROM TO SIZE` copies
 /// bytes; `next GRAIN` answers the least marked grain from there on, and `clear` takes the marks.
-pub fn image_row(alloc: Global, text: &str) -> Result<String, Trouble> {
-    let (length, commands) = text.split_once('?').ok_or(Trouble::Form)?;
-    let mut image = image(alloc, length)?;
-    let mut said = Said::new(alloc);
-    for command in commands.split(';') {
-        run(&mut said, &mut image, command)?;
-    }
-    Ok(said.into_text())
-}
-
-fn image(alloc: Global, length: &str) -> Result<Image, Trouble> {
-    let length = number(&mut length.split_whitespace())?;
+pub fn say_image(
+    alloc: Global,
+    said: &mut Told,
+    length: &str,
+    commands: &str,
+) -> Result<(), Trouble> {
+    let length = number_at(said, length, 0);
     if length > MAX_IMAGE_BYTES {
         return Err(Trouble::Form);
     }
-    Ok(Image::new(alloc, length)?)
+    let mut image = Image::new(alloc, length)?;
+    for command in commands.split(';') {
+        run(said, &mut image, command);
+    }
+    Ok(())
 }
 
-fn run(said: &mut Said, image: &mut Image, command: &str) -> Result<(), Trouble> {
-    let mut words = command.split_whitespace();
-    let words = &mut words;
-    match word(words)? {
-        "put" => put(image, place(words)?, value(words)?),
-        "get" => say_number(said, image, place(words)?),
-        "set" => put_bit(image, number(words)?, number(words)? == 1),
-        "bit" => say_bit(said, image, number(words)?),
-        "copy" => copy(image, number(words)?, number(words)?, number(words)?),
-        "next" => Ok(said.or_none(image.next_marked(number(words)?))?),
-        "clear" => {
-            image.clear_marks();
-            Ok(())
-        }
-        "len" => Ok(said.number(i64::from(image.len()))?),
-        _ => Err(Trouble::Form),
+fn run(said: &mut Told, image: &mut Image, command: &str) {
+    match word_at(command, 0) {
+        "put" => put(said, image, command),
+        "get" => say_number(said, image, command),
+        "set" => put_bit(said, image, command),
+        "bit" => say_bit(said, image, command),
+        "copy" => copy(said, image, command),
+        "clear" => image.clear_marks(),
+        "next" => say_next(said, image, command),
+        "len" => said.number(i64::from(image.len())),
+        _ => said.malformed(),
     }
 }
 
-fn place(words: &mut SplitWhitespace<'_>) -> Result<Place, Trouble> {
-    Ok(Place {
-        kind: kind(words)?,
-        at: number(words)?,
-    })
+fn say_next(said: &mut Told, image: &Image, command: &str) {
+    let grain = number_at(said, command, 1);
+    said.or_none(image.next_marked(grain));
+}
+
+/// The place of the kind and the bit that stand after a command's word.
+fn place_of(said: &mut Told, command: &str) -> Place {
+    let kind = kind_at(said, command, 1);
+    let at = number_at(said, command, 2);
+    Place { kind, at }
 }
 
 /// Whether a place lies in an image of `len` bytes.
@@ -73,89 +71,108 @@ fn is_in(place: Place, len: u32) -> bool
     }
 }
 
-fn put(image: &mut Image, place: Place, value: i32) -> Result<(), Trouble> {
-    if !is_in(place, image.len()) {
-        return Err(Trouble::Form);
-    }
-    image.put(place, value);
-    Ok(())
+fn put(said: &mut Told, image: &mut Image, command: &str) {
+    let place = place_of(said, command);
+    let value = value_at(said, command, 3);
+    put_value(said, image, place, value);
 }
 
-fn say_number(said: &mut Said, image: &Image, place: Place) -> Result<(), Trouble> {
-    if !is_in(place, image.len()) {
-        return Err(Trouble::Form);
+fn put_value(said: &mut Told, image: &mut Image, place: Place, value: i32) {
+    if is_in(place, image.len()) {
+        image.put(place, value);
+    } else {
+        said.malformed();
     }
-    Ok(said.number(i64::from(image.get(place)))?)
 }
 
-fn put_bit(image: &mut Image, at: u32, bit: bool) -> Result<(), Trouble> {
-    let place = Place {
+fn say_number(said: &mut Told, image: &Image, command: &str) {
+    let place = place_of(said, command);
+    if is_in(place, image.len()) {
+        said.number(i64::from(image.get(place)));
+    } else {
+        said.malformed();
+    }
+}
+
+/// The place of the BOOL at the bit that stands after a command's word.
+fn bit_of(said: &mut Told, command: &str) -> Place
+    ensures { result.kind ≡ Kind.Bool }
+{
+    Place {
         kind: Kind::Bool,
-        at,
-    };
-    if !is_in(place, image.len()) {
-        return Err(Trouble::Form);
+        at: number_at(said, command, 1),
     }
-    image.put_bit(place, bit);
-    Ok(())
 }
 
-fn say_bit(said: &mut Said, image: &Image, at: u32) -> Result<(), Trouble> {
-    let place = Place {
-        kind: Kind::Bool,
-        at,
-    };
-    if !is_in(place, image.len()) {
-        return Err(Trouble::Form);
+fn put_bit(said: &mut Told, image: &mut Image, command: &str) {
+    let place = bit_of(said, command);
+    let bit = number_at(said, command, 2);
+    if is_in(place, image.len()) {
+        image.put_bit(place, bit == 1);
+    } else {
+        said.malformed();
     }
-    Ok(said.truth(image.bit(place))?)
 }
 
-fn copy(image: &mut Image, source: u32, target: u32, size: u32) -> Result<(), Trouble> {
+fn say_bit(said: &mut Told, image: &Image, command: &str) {
+    let place = bit_of(said, command);
+    if is_in(place, image.len()) {
+        said.truth(image.bit(place));
+    } else {
+        said.malformed();
+    }
+}
+
+fn copy(said: &mut Told, image: &mut Image, command: &str) {
+    let source = number_at(said, command, 1);
+    let target = number_at(said, command, 2);
+    let size = number_at(said, command, 3);
     let len = u64::from(image.len());
     let size_read = u64::from(source) + u64::from(size);
     let size_written = u64::from(target) + u64::from(size);
     if size_read > len || size_written > len {
-        return Err(Trouble::Form);
+        said.malformed();
+    } else {
+        image.copy_element(source, target, size);
     }
-    image.copy_element(source, target, size);
-    Ok(())
 }
 
 /// `grain | BYTE .. | ..`: the bytes of a grain, and the grain of each byte.
-pub fn grain_row(alloc: Global, text: &str) -> Result<String, Trouble> {
-    let mut said = Said::new(alloc);
-    said.number(i64::from(GRAIN))?;
-    for word in text.split_whitespace() {
-        let byte = word.parse::<u32>().ok().ok_or(Trouble::Form)?;
-        said.number(i64::from(grain_of(byte)))?;
+pub fn say_grains(said: &mut Told, text: &str) {
+    said.number(i64::from(GRAIN));
+    for byte in text.split_whitespace() {
+        let byte = number_at(said, byte, 0);
+        said.number(i64::from(grain_of(byte)));
     }
-    Ok(said.into_text())
 }
 
 /// `subscripts | A B C D | ..`: the first bit of element `[A,B,C,D]` of an array of 2 by 3 by 4 by 5 SINTs from byte 16
 /// on, or `none` if one is out of range.
-pub fn subscripts_row(alloc: Global, text: &str) -> Result<String, Trouble> {
+pub fn say_element(alloc: Global, said: &mut Told, text: &str) -> Result<(), Memory> {
     let mut image = Image::new(alloc, 136)?;
-    let mut words = text.split_whitespace();
+    put_subscripts(said, &mut image, text);
+    say_place(said, &image);
+    Ok(())
+}
+
+fn put_subscripts(said: &mut Told, image: &mut Image, text: &str) {
     for i in 0..4u32 {
         let place = Place {
             kind: Kind::Dint,
             at: 32 * i,
         };
-        put(&mut image, place, value(&mut words)?)?;
+        let value = value_at(said, text, i as usize);
+        put_value(said, image, place, value);
     }
-    let mut said = Said::new(alloc);
-    said.or_none(element(&image)?)?;
-    Ok(said.into_text())
 }
 
-fn element(image: &Image) -> Result<Option<u32>, Trouble> {
+fn say_place(said: &mut Told, image: &Image) {
     let path = nested();
-    if image.len() != 136 {
-        return Err(Trouble::Form);
+    if image.len() == 136 {
+        said.or_none(image.place(&path).map(|place| place.at));
+    } else {
+        said.malformed();
     }
-    Ok(image.place(&path).map(|place| place.at))
 }
 
 fn subscript(at: u32, stride: u32, length: u32) -> Index
@@ -186,61 +203,56 @@ fn nested() -> Path
 
 /// `bind | NUMBER VALUE | ..`: a TIMER at byte 16, a number, a DINT at byte 4 that holds the value, and `?`, each with
 /// what it is when it is bound, and then the numbers of the second and of the third.
-pub fn bind_row(alloc: Global, text: &str) -> Result<String, Trouble> {
-    let mut words = text.split_whitespace();
-    let number = value(&mut words)?;
+pub fn say_bound(alloc: Global, said: &mut Told, text: &str) -> Result<(), Memory> {
     let mut image = Image::new(alloc, 32)?;
     let place = Place {
         kind: Kind::Dint,
         at: 32,
     };
-    put(&mut image, place, value(&mut words)?)?;
-    let mut said = Said::new(alloc);
-    bind(&mut said, &image, number)?;
-    bind_blank(&mut said, &image)?;
-    Ok(said.into_text())
+    let value = value_at(said, text, 1);
+    put_value(said, &mut image, place, value);
+    let number = value_at(said, text, 0);
+    bind(said, &image, number);
+    bind_blank(said, &image);
+    Ok(())
 }
 
-fn bind(said: &mut Said, image: &Image, number: i32) -> Result<(), Trouble> {
-    if image.len() != 32 {
-        return Err(Trouble::Form);
-    }
+fn bind(said: &mut Told, image: &Image, number: i32) {
     let args = [
         Operand::Timer(plain(128)),
         Operand::Number(number),
         Operand::Cell(plain(32)),
     ];
-    let bound = image.bind(&args).ok_or(Trouble::Form)?;
-    for arg in bound.as_slice() {
-        say_arg(said, *arg)?;
+    if image.len() == 32 {
+        if let Some(bound) = image.bind(&args) {
+            for arg in bound.as_slice() {
+                say_arg(said, *arg);
+            }
+            said.number(i64::from(image.value(bound.at(1))));
+            said.number(i64::from(image.value(bound.at(2))));
+        }
     }
-    said.number(i64::from(image.value(bound.at(1))))?;
-    said.number(i64::from(image.value(bound.at(2))))?;
-    Ok(())
 }
 
-fn bind_blank(said: &mut Said, image: &Image) -> Result<(), Trouble> {
-    let bound = image.bind(&[Operand::Blank]).ok_or(Trouble::Form)?;
-    say_arg(said, bound.at(0))?;
-    Ok(said.count(bound.len())?)
+fn bind_blank(said: &mut Told, image: &Image) {
+    if let Some(bound) = image.bind(&[Operand::Blank]) {
+        say_arg(said, bound.at(0));
+        said.count(bound.len());
+    }
 }
 
-fn say_arg(said: &mut Said, arg: Arg) -> Result<(), AllocError> {
+fn say_arg(said: &mut Told, arg: Arg) {
     match arg {
-        Arg::Number(number) => {
-            said.word("number")?;
-            said.number(i64::from(number))
-        }
-        Arg::Cell(place) => {
-            said.word("cell")?;
-            said.number(i64::from(place.at))
-        }
-        Arg::Timer(byte) => {
-            said.word("timer")?;
-            said.number(i64::from(byte))
-        }
+        Arg::Number(number) => say_of(said, "number", i64::from(number)),
+        Arg::Cell(place) => say_of(said, "cell", i64::from(place.at)),
+        Arg::Timer(byte) => say_of(said, "timer", i64::from(byte)),
         _ => said.word("other"),
     }
+}
+
+fn say_of(said: &mut Told, word: &str, number: i64) {
+    said.word(word);
+    said.number(number);
 }
 
 /// A DINT without subscripts.

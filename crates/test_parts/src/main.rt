@@ -20,7 +20,7 @@ mod words;
 
 use std::alloc::Global;
 use std::io;
-use test_rows::{judge_rows, parts};
+use test_rows::{Told, judge_rows, parts};
 use trouble::Trouble;
 
 fn main(rt: HostRuntime) -> io::Result<()> {
@@ -30,41 +30,44 @@ fn main(rt: HostRuntime) -> io::Result<()> {
 /// What comes out in place of what the row says, if that differs.
 fn found(alloc: Global, row: &str) -> io::Result<Option<String>> {
     let (kind, given, wanted) = parts(row);
-    match said(alloc, kind, given) {
-        Ok(said) if said.as_str() == wanted => Ok(None),
-        Ok(said) => Ok(Some(said)),
+    let mut said = Told::new(alloc);
+    match say(alloc, &mut said, kind, given) {
+        Ok(()) => Ok(said.other_than(wanted)),
         Err(trouble) => Ok(Some(format!(in alloc; "{trouble:?}")?)),
     }
 }
 
-fn said(alloc: Global, kind: &str, given: &str) -> Result<String, Trouble> {
+fn say(alloc: Global, said: &mut Told, kind: &str, given: &str) -> Result<(), Trouble> {
     match kind {
-        "name" => num::name_row(alloc, given),
-        "same" => num::same_row(alloc, given),
-        "keep" => num::keep_row(alloc, given),
-        "bytes" => num::bytes_row(alloc, given),
-        "items" => num::items_row(alloc, given),
-        "copy" => num::copy_row(alloc, given),
-        "op" => rung::op_row(alloc, given),
-        "rung" => rung::rung_row(alloc, given),
-        "image" => image::image_row(alloc, given),
-        "grain" => image::grain_row(alloc, given),
-        "subscripts" => image::subscripts_row(alloc, given),
-        "bind" => image::bind_row(alloc, given),
-        _ => said_of_tables(alloc, kind, given),
+        "rung" => return rung::say_rung(alloc, said, given),
+        "code" => return prog::say_routine(alloc, said, given),
+        "items" => num::say_items(alloc, said, given)?,
+        "subscripts" => image::say_element(alloc, said, given)?,
+        "bind" => image::say_bound(alloc, said, given)?,
+        "name" => num::say_name(said, given),
+        "same" => num::say_same(said, given),
+        "keep" => num::say_kept(said, given),
+        "bytes" => num::say_bytes(said, given),
+        "copy" => num::say_copy(said, given),
+        "op" => rung::say_op(said, given),
+        "grain" => image::say_grains(said, given),
+        _ => return say_calls(alloc, said, kind, given),
     }
+    Ok(())
 }
 
-fn said_of_tables(alloc: Global, kind: &str, given: &str) -> Result<String, Trouble> {
+/// The kinds of which something is made first, and then calls on it are answered.
+fn say_calls(alloc: Global, said: &mut Told, kind: &str, given: &str) -> Result<(), Trouble> {
+    let (made, calls) = given.split_once('?').ok_or(Trouble::Form)?;
     match kind {
-        "types" => types::types_row(alloc, given),
-        "tags" => tags::tags_row(alloc, given),
-        "code" => prog::code_row(alloc, given),
-        "program" => prog::program_row(alloc, given),
-        "log" => fault::log_row(alloc, given),
-        "tasks" => sched::tasks_row(alloc, given),
-        "conns" => conn::conns_row(alloc, given),
-        "forces" => force::forces_row(alloc, given),
+        "program" => prog::say_program(alloc, said, made, calls),
+        "image" => image::say_image(alloc, said, made, calls),
+        "types" => types::say_types(alloc, said, made, calls),
+        "tags" => tags::say_tags(alloc, said, made, calls),
+        "tasks" => sched::say_tasks(alloc, said, made, calls),
+        "conns" => conn::say_conns(alloc, said, made, calls),
+        "log" => Ok(fault::say_log(alloc, said, made, calls)?),
+        "forces" => Ok(force::say_forces(alloc, said, made, calls)?),
         _ => Err(Trouble::Form),
     }
 }

@@ -1,143 +1,157 @@
 // Numbers, names and operands.
-use crate::trouble::Trouble;
-use crate::words::{Said, kind, name, number, value, word};
+ghost use Rattle.std.specs.Prelude.{◌≤◌, ◌<◌};
+
+use crate::words::{Told, kind_at, name_at, number_at, value_at, word_at};
 use lgx_num::{
-    Block, Flag, Index, Items, Kind, Name, Operand, Path, Place, Steps, bytes_of, dint_of, fits,
-    same, store_low,
+    Block, Flag, Index, Items, Kind, Memory, Name, Operand, Path, Place, Steps, bytes_of, dint_of,
+    fits, same, store_low,
 };
 use spec_base::limits::MAX_SUBSCRIPTS;
 use std::alloc::Global;
-use std::str::SplitWhitespace;
 use test_bench::say_operand;
 
 /// `name | TEXT | ..`: the name that it is, or `no`.
-pub fn name_row(alloc: Global, text: &str) -> Result<String, Trouble> {
-    let mut said = Said::new(alloc);
+pub fn say_name(said: &mut Told, text: &str) {
     match Name::read(text.as_bytes()) {
-        Some(name) => said.bytes(name.copied().bytes())?,
-        None => said.word("no")?,
+        Some(name) => said.bytes(name.copied().bytes()),
+        None => said.word("no"),
     }
-    Ok(said.into_text())
 }
 
 /// `same | NAME NAME | ..`: whether the names are one, and whether their texts are.
-pub fn same_row(alloc: Global, text: &str) -> Result<String, Trouble> {
-    let mut words = text.split_whitespace();
-    let left = name(&mut words)?;
-    let right = name(&mut words)?;
-    let mut said = Said::new(alloc);
-    said.truth(left.same(&right))?;
-    said.truth(same(left.bytes(), right.bytes()))?;
-    Ok(said.into_text())
+pub fn say_same(said: &mut Told, text: &str) {
+    match (name_at(text, 0), name_at(text, 1)) {
+        (Some(left), Some(right)) => {
+            said.truth(left.same(&right));
+            said.truth(same(left.bytes(), right.bytes()));
+        }
+        _ => said.malformed(),
+    }
 }
 
 /// `keep | KIND VALUE | ..`: what is kept of the value, and whether it fits.
-pub fn keep_row(alloc: Global, text: &str) -> Result<String, Trouble> {
-    let mut words = text.split_whitespace();
-    let kind = kind(&mut words)?;
-    let value = word(&mut words)?.parse::<i64>().ok().ok_or(Trouble::Form)?;
-    let mut said = Said::new(alloc);
-    said.number(i64::from(store_low(kind, value)))?;
-    said.truth(fits(kind, value))?;
-    Ok(said.into_text())
+pub fn say_kept(said: &mut Told, text: &str) {
+    let kind = kind_at(said, text, 0);
+    match word_at(text, 1).parse::<i64>() {
+        Ok(value) => {
+            said.number(i64::from(store_low(kind, value)));
+            said.truth(fits(kind, value));
+        }
+        Err(_) => said.malformed(),
+    }
 }
 
 /// `bytes | VALUE | ..`: the bytes of the value, and the number of these.
-pub fn bytes_row(alloc: Global, text: &str) -> Result<String, Trouble> {
-    let mut words = text.split_whitespace();
-    let bytes = bytes_of(value(&mut words)?);
-    let mut said = Said::new(alloc);
+pub fn say_bytes(said: &mut Told, text: &str) {
+    let bytes = bytes_of(value_at(said, text, 0));
     for byte in bytes {
-        said.number(i64::from(byte))?;
+        said.number(i64::from(byte));
     }
-    said.number(i64::from(dint_of(bytes)))?;
-    Ok(said.into_text())
+    said.number(i64::from(dint_of(bytes)));
 }
 
 /// `items | VALUE .. | ..`: whether there is none, how many there are, these, and the last.
-pub fn items_row(alloc: Global, text: &str) -> Result<String, Trouble> {
-    let mut values = Vec::new(alloc);
-    let mut words = text.split_whitespace();
-    while let Some(word) = words.next() {
-        values.push(word.parse::<i32>().ok().ok_or(Trouble::Form)?)?;
-    }
-    let items = Items::of(values);
-    let mut said = Said::new(alloc);
-    said.truth(items.is_empty())?;
-    said.count(items.len())?;
-    for item in items.as_slice() {
-        said.number(i64::from(*item))?;
-    }
+pub fn say_items(alloc: Global, said: &mut Told, text: &str) -> Result<(), Memory> {
+    let items = Items::of(values_of(alloc, said, text)?);
+    say_each(said, &items);
     if let Some(last) = items.into_vec().pop() {
-        said.number(i64::from(last))?;
+        said.number(i64::from(last));
     }
-    Ok(said.into_text())
+    Ok(())
+}
+
+fn values_of(alloc: Global, said: &mut Told, text: &str) -> Result<Vec<i32>, Memory> {
+    let mut values = Vec::new(alloc);
+    for value in text.split_whitespace() {
+        values.push(value_at(said, value, 0))?;
+    }
+    Ok(values)
+}
+
+fn say_each(said: &mut Told, items: &Items<i32>) {
+    said.truth(items.is_empty());
+    said.count(items.len());
+    for item in items.as_slice() {
+        said.number(i64::from(*item));
+    }
 }
 
 /// `copy | OPERAND | ..`: the operand again.
-pub fn copy_row(alloc: Global, text: &str) -> Result<String, Trouble> {
-    let operand = operand(text)?.copied();
-    let mut said = Said::new(alloc);
-    say_operand(&mut said, &operand)?;
-    Ok(said.into_text())
-}
-
-fn operand(text: &str) -> Result<Operand, Trouble> {
-    let mut words = text.split_whitespace();
-    let words = &mut words;
-    match word(words)? {
-        "number" => Ok(Operand::Number(value(words)?)),
-        "cell" => Ok(Operand::Cell(path(words)?)),
-        "timer" => Ok(Operand::Timer(path(words)?)),
-        "counter" => Ok(Operand::Counter(path(words)?)),
-        "block" => Ok(Operand::Block(Block {
-            size: number(words)?,
-            stop: number(words)?,
-            path: path(words)?,
-        })),
-        "flag" => Ok(Operand::FlagOf(flag(word(words)?)?)),
-        "routine" => Ok(Operand::Routine(number(words)?)),
-        "label" => Ok(Operand::Label(u64::from(number(words)?))),
-        "task" => Ok(Operand::Task(number(words)?)),
-        "blank" => Ok(Operand::Blank),
-        _ => Err(Trouble::Form),
+pub fn say_copy(said: &mut Told, text: &str) {
+    match operand(said, text) {
+        Some(operand) => say_operand(said, &operand.copied()),
+        None => said.malformed(),
     }
 }
 
-fn flag(word: &str) -> Result<Flag, Trouble> {
+fn operand(said: &mut Told, text: &str) -> Option<Operand> {
+    match word_at(text, 0) {
+        "cell" => Some(Operand::Cell(path_at(said, text, 1))),
+        "timer" => Some(Operand::Timer(path_at(said, text, 1))),
+        "counter" => Some(Operand::Counter(path_at(said, text, 1))),
+        "block" => Some(Operand::Block(block(said, text))),
+        "blank" => Some(Operand::Blank),
+        "flag" => Some(Operand::FlagOf(flag(word_at(text, 1))?)),
+        what => operand_of_number(said, what, text),
+    }
+}
+
+fn block(said: &mut Told, text: &str) -> Block {
+    let size = number_at(said, text, 1);
+    let stop = number_at(said, text, 2);
+    let path = path_at(said, text, 3);
+    Block { size, stop, path }
+}
+
+fn operand_of_number(said: &mut Told, what: &str, text: &str) -> Option<Operand> {
+    if what == "number" {
+        return Some(Operand::Number(value_at(said, text, 1)));
+    }
+    let number = number_at(said, text, 1);
+    match what {
+        "routine" => Some(Operand::Routine(number)),
+        "label" => Some(Operand::Label(u64::from(number))),
+        "task" => Some(Operand::Task(number)),
+        _ => None,
+    }
+}
+
+fn flag(word: &str) -> Option<Flag> {
     match word {
-        "S:FS" => Ok(Flag::First),
-        "S:V" => Ok(Flag::Overflow),
-        "S:Z" => Ok(Flag::Zero),
-        "S:N" => Ok(Flag::Negative),
-        _ => Err(Trouble::Form),
+        "S:FS" => Some(Flag::First),
+        "S:V" => Some(Flag::Overflow),
+        "S:Z" => Some(Flag::Zero),
+        "S:N" => Some(Flag::Negative),
+        _ => None,
     }
 }
 
 /// A kind and a bit, and then for each subscript `by`, the bit of its DINT, its stride and its length.
-fn path(words: &mut SplitWhitespace<'_>) -> Result<Path, Trouble> {
-    let kind = kind(words)?;
-    let at = number(words)?;
+fn path_at(said: &mut Told, text: &str, place: usize) -> Path
+    requires { place ≤ 3 }
+{
+    let kind = kind_at(said, text, place);
+    let at = number_at(said, text, place + 1);
     let mut steps = Steps::new();
-    for _ in 0..MAX_SUBSCRIPTS {
-        let Some(word) = words.next() else {
-            break;
-        };
-        if word != "by" || steps.len() >= MAX_SUBSCRIPTS {
-            return Err(Trouble::Form);
+    for number in 0..MAX_SUBSCRIPTS {
+        let place = place + 2 + 4 * number;
+        if word_at(text, place) == "by" && steps.len() < MAX_SUBSCRIPTS {
+            steps.push(index_at(said, text, place + 1));
+        } else if !word_at(text, place).is_empty() {
+            said.malformed();
         }
-        steps.push(index(words)?);
     }
-    Ok(Path { kind, at, steps })
+    Path { kind, at, steps }
 }
 
-fn index(words: &mut SplitWhitespace<'_>) -> Result<Index, Trouble> {
-    Ok(Index {
-        of: Place {
-            kind: Kind::Dint,
-            at: number(words)?,
-        },
-        stride: number(words)?,
-        length: number(words)?,
-    })
+fn index_at(said: &mut Told, text: &str, place: usize) -> Index
+    requires { place < 100 }
+{
+    let of = Place {
+        kind: Kind::Dint,
+        at: number_at(said, text, place),
+    };
+    let stride = number_at(said, text, place + 1);
+    let length = number_at(said, text, place + 2);
+    Index { of, stride, length }
 }

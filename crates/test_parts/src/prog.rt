@@ -1,32 +1,43 @@
 // Flat code.
 use crate::trouble::Trouble;
-use crate::words::{Said, number};
+use crate::words::{Told, number_at};
 use lgx_num::Memory;
-use lgx_prog::{Code, FlatProgram, FlatRoutine, flatten};
+use lgx_prog::{Code, FlatProgram, FlatRoutine, Rung, flatten};
 use lgx_rung::Op;
-use std::alloc::Global;
-use test_bench::read_program;
+use std::alloc::{AllocError, Global};
+use test_bench::{Routines, read_program};
 
 /// `code | RUNGS | ..`: the code of a routine of these rungs, and the place at which each of its rungs starts, and one
 /// more.
 ///
 /// `R` is a rung's start, `a` a XIC and `b` a XIO, `(` a branch's start and `<` that of one that passes its condition
 /// on, `,` a leg's end and `)` a branch's end.
-pub fn code_row(alloc: Global, text: &str) -> Result<String, Trouble> {
+pub fn say_routine(alloc: Global, said: &mut Told, text: &str) -> Result<(), Trouble> {
     let program = read_program(alloc, text)?;
-    let rungs = program.as_slice().first().ok_or(Trouble::Form)?;
-    let routine = flatten(alloc, rungs.as_slice())?;
-    let mut said = Said::new(alloc);
-    said.bytes(&letters(alloc, routine.code())?)?;
-    say_places(&mut said, &routine, rungs.len())?;
-    Ok(said.into_text())
+    match program.as_slice() {
+        [rungs, ..] => Ok(say_rungs(alloc, said, rungs.as_slice())?),
+        [] => Err(Trouble::Form),
+    }
 }
 
-fn say_places(said: &mut Said, routine: &FlatRoutine, rungs: usize) -> Result<(), Trouble> {
+fn say_rungs(alloc: Global, said: &mut Told, rungs: &[Rung]) -> Result<(), Memory> {
+    let routine = flatten(alloc, rungs)?;
+    say_code(alloc, said, routine.code())?;
+    say_places(said, &routine, rungs.len());
+    Ok(())
+}
+
+fn say_places(said: &mut Told, routine: &FlatRoutine, rungs: usize) {
     for rung in 0..rungs {
-        said.count(routine.place(rung as u64))?;
+        said.count(routine.place(rung as u64));
     }
-    said.count(routine.place(rungs as u64))?;
+    said.count(routine.place(rungs as u64));
+}
+
+/// Says the letters of code as one word.
+fn say_code(alloc: Global, said: &mut Told, code: &[Code]) -> Result<(), Memory> {
+    let letters = letters(alloc, code)?;
+    said.bytes(&letters);
     Ok(())
 }
 
@@ -56,32 +67,52 @@ fn letter(piece: &Code) -> u8 {
 
 /// `program | MAIN ? RUNGS # RUNGS .. | ..`: of a program of these routines the number of the main one, those that it
 /// reaches, and then the code of each, with the place of its second rung, and of one more.
-pub fn program_row(alloc: Global, text: &str) -> Result<String, Trouble> {
-    let (main, rungs) = text.split_once('?').ok_or(Trouble::Form)?;
-    let main = number(&mut main.split_whitespace())?;
+pub fn say_program(alloc: Global, said: &mut Told, main: &str, rungs: &str) -> Result<(), Trouble> {
+    let main = number_at(said, main, 0);
+    let routines = routines_of(alloc, rungs)?;
+    let flat = flat_of(alloc, &routines, main)?;
+    say_reached(said, &flat);
+    Ok(say_codes(alloc, said, &flat, routines.as_slice().len())?)
+}
+
+fn routines_of(alloc: Global, rungs: &str) -> Result<Routines, Trouble> {
     let text = with_bars(alloc, rungs)?;
-    let program = read_program(alloc, text.as_str())?;
-    let routines = program.as_slice();
+    Ok(read_program(alloc, text.as_str())?)
+}
+
+fn flat_of(alloc: Global, routines: &Routines, main: u32) -> Result<FlatProgram, Trouble> {
+    let routines = routines.as_slice();
     if main as usize >= routines.len() {
         return Err(Trouble::Form);
     }
-    let flat = FlatProgram::build(alloc, routines, main)?;
-    let mut said = Said::new(alloc);
-    said.number(i64::from(flat.main()))?;
-    said.word("reaches")?;
+    Ok(FlatProgram::build(alloc, routines, main)?)
+}
+
+fn say_reached(said: &mut Told, flat: &FlatProgram) {
+    said.number(i64::from(flat.main()));
+    said.word("reaches");
     for routine in flat.reached() {
-        said.count(*routine)?;
+        said.count(*routine);
     }
-    for routine in 0..routines.len() {
-        said.bytes(&letters(alloc, flat.code(routine))?)?;
-        said.count(flat.place(routine, 1))?;
+}
+
+/// Says the code of each routine with the place of its second rung, and the length of the code after the last.
+fn say_codes(
+    alloc: Global,
+    said: &mut Told,
+    flat: &FlatProgram,
+    routines: usize,
+) -> Result<(), Memory> {
+    for routine in 0..routines {
+        say_code(alloc, said, flat.code(routine))?;
+        said.count(flat.place(routine, 1));
     }
-    said.count(flat.code(routines.len()).len())?;
-    Ok(said.into_text())
+    said.count(flat.code(routines).len());
+    Ok(())
 }
 
 /// The text with `|` for `#`.
-fn with_bars(alloc: Global, text: &str) -> Result<String, Trouble> {
+fn with_bars(alloc: Global, text: &str) -> Result<String, AllocError> {
     let mut bars = String::new(alloc);
     for letter in text.chars() {
         bars.push(if letter == '#' { '|' } else { letter })?;

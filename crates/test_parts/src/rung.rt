@@ -1,53 +1,58 @@
 // Mnemonics, and neutral text.
 use crate::trouble::Trouble;
-use crate::words::Said;
+use crate::words::Told;
 use lgx_neutral::{RungError, read_rung, write_rung};
-use lgx_rung::{Op, TextFault};
+use lgx_num::Memory;
+use lgx_rung::{Op, SourceRung, TextFault};
 use spec_base::limits::MAX_FILE_BYTES;
-use std::alloc::{AllocError, Global};
+use std::alloc::Global;
 
 /// `op | LETTERS | ..`: the mnemonic that they are, its family and the kinds of the operands that it always has, or `no`.
-pub fn op_row(alloc: Global, text: &str) -> Result<String, Trouble> {
-    let mut said = Said::new(alloc);
+pub fn say_op(said: &mut Told, text: &str) {
     match Op::read(text.as_bytes()) {
-        Some(op) => say_op(alloc, &mut said, op)?,
-        None => said.word("no")?,
+        Some(op) => say_kinds(said, op),
+        None => said.word("no"),
     }
-    Ok(said.into_text())
 }
 
-fn say_op(alloc: Global, said: &mut Said, op: Op) -> Result<(), AllocError> {
-    said.bytes(op.text())?;
-    let family = op.family();
-    said.word(format!(in alloc; "{family:?}")?.as_str())?;
+fn say_kinds(said: &mut Told, op: Op) {
+    said.bytes(op.text());
+    said.shown(&op.family());
     for kind in op.fixed_kinds() {
-        said.word(format!(in alloc; "{kind:?}")?.as_str())?;
+        said.shown(kind);
     }
-    Ok(())
 }
 
 /// `rung | TEXT | ..`: the canonical text of a copy of the rung that the text spells, or the code and the place of its first
 /// fault.
 ///
 /// In the text, `\s`, `\t`, `\r`, `\n`, `\0` and `\f` are the blank, the tab, CR, LF and the bytes 0 and 255.
-pub fn rung_row(alloc: Global, text: &str) -> Result<String, Trouble> {
+pub fn say_rung(alloc: Global, said: &mut Told, text: &str) -> Result<(), Trouble> {
     let bytes = unescaped(alloc, text)?;
     if bytes.len() > MAX_FILE_BYTES {
         return Err(Trouble::Form);
     }
-    let mut said = Said::new(alloc);
     match read_rung(alloc, &bytes) {
-        Ok(rung) => said.bytes(&write_rung(alloc, &rung.copied(alloc)?)?)?,
-        Err(RungError::Text(fault)) => say_fault(alloc, &mut said, fault)?,
-        Err(RungError::Memory) => return Err(Trouble::Memory),
+        Ok(rung) => Ok(say_copy(alloc, said, &rung)?),
+        Err(RungError::Text(fault)) => {
+            say_fault(said, fault);
+            Ok(())
+        }
+        Err(RungError::Memory) => Err(Trouble::Memory),
     }
-    Ok(said.into_text())
 }
 
-fn say_fault(alloc: Global, said: &mut Said, fault: TextFault) -> Result<(), AllocError> {
+fn say_copy(alloc: Global, said: &mut Told, rung: &SourceRung) -> Result<(), Memory> {
+    let copy = rung.copied(alloc)?;
+    let text = write_rung(alloc, &copy)?;
+    said.bytes(&text);
+    Ok(())
+}
+
+fn say_fault(said: &mut Told, fault: TextFault) {
     let TextFault { code, at } = fault;
-    said.word(format!(in alloc; "{code:?}")?.as_str())?;
-    said.number(i64::from(at))
+    said.shown(&code);
+    said.number(i64::from(at));
 }
 
 /// The bytes of a text, with what stands for bytes that a row can't hold.

@@ -1,15 +1,14 @@
 // Tasks.
-ghost use Rattle.std.specs.Prelude.{◌≡◌, ◌<◌, ◌≤◌, length, IfOk};
+ghost use Rattle.std.specs.Prelude.{◌≡◌, ◌<◌, ◌≤◌, length, IfSome};
 ghost use Rattle.spec_base.specs.declared.limits.TheConstants.{LEAST_PRIORITY};
 ghost use Rattle.test_parts.specs.Periods.{HasTicks};
 
 use crate::trouble::Trouble;
-use crate::words::{Said, number, word};
+use crate::words::{Told, number_at, word_at};
 use lgx_num::Memory;
 use lgx_sched::{Release, TaskDef, TaskKind, TaskTable};
 use spec_base::limits::LEAST_PRIORITY;
 use std::alloc::Global;
-use std::str::SplitWhitespace;
 
 /// A table of four tasks.
 #[derive(Drop)]
@@ -23,77 +22,77 @@ struct Tasks {
 /// A task is `E3`, `C` or `P5:10`: its kind, its priority and its period; its watchdog is 500 ticks. One after `-`
 /// is inhibited. `finish NOW`,
 /// `up`, `down`, `empty`, `cps` and `cop` are calls for the task that is chosen: they answer nothing.
-pub fn tasks_row(alloc: Global, text: &str) -> Result<String, Trouble> {
-    let (defs, calls) = text.split_once('?').ok_or(Trouble::Form)?;
-    let mut words = defs.split_whitespace();
-    let words = &mut words;
-    let mut tasks = table(
-        alloc,
-        task(words)?,
-        task(words)?,
-        task(words)?,
-        task(words)?,
-    )?;
-    let mut said = Said::new(alloc);
+pub fn say_tasks(alloc: Global, said: &mut Told, defs: &str, calls: &str) -> Result<(), Trouble> {
+    let mut tasks = tasks_of(alloc, defs)?;
     for call in calls.split(';') {
-        let mut words = call.split_whitespace();
-        let name = word(&mut words)?;
-        run(&mut said, &mut tasks, name, &mut words)?;
+        run(said, &mut tasks, call);
     }
-    Ok(said.into_text())
+    Ok(())
 }
 
-fn task(words: &mut SplitWhitespace<'_>) -> Result<TaskDef, Trouble>
-    ensures { IfOk result (λ d. (0 < d.priority) × (d.priority ≤ LEAST_PRIORITY) × HasTicks d.kind) }
+fn tasks_of(alloc: Global, defs: &str) -> Result<Tasks, Trouble> {
+    let Some(first) = task(word_at(defs, 0)) else {
+        return Err(Trouble::Form);
+    };
+    let Some(second) = task(word_at(defs, 1)) else {
+        return Err(Trouble::Form);
+    };
+    let Some(third) = task(word_at(defs, 2)) else {
+        return Err(Trouble::Form);
+    };
+    let Some(fourth) = task(word_at(defs, 3)) else {
+        return Err(Trouble::Form);
+    };
+    Ok(table(alloc, first, second, third, fourth)?)
+}
+
+fn task(text: &str) -> Option<TaskDef>
+    ensures { IfSome result (λ d. (0 < d.priority) × (d.priority ≤ LEAST_PRIORITY) × HasTicks d.kind) }
 {
-    let text = word(words)?;
     match text.strip_prefix('-') {
         Some(text) => task_of(text, true),
         None => task_of(text, false),
     }
 }
 
-fn task_of(text: &str, inhibited: bool) -> Result<TaskDef, Trouble>
-    ensures { IfOk result (λ d. (0 < d.priority) × (d.priority ≤ LEAST_PRIORITY) × HasTicks d.kind) }
+fn task_of(text: &str, inhibited: bool) -> Option<TaskDef>
+    ensures { IfSome result (λ d. (0 < d.priority) × (d.priority ≤ LEAST_PRIORITY) × HasTicks d.kind) }
 {
     if text == "C" {
-        return Ok(TaskDef {
-            kind: TaskKind::Continuous,
-            priority: LEAST_PRIORITY,
-            watchdog: 500,
-            inhibited,
-        });
+        return Some(def(TaskKind::Continuous, LEAST_PRIORITY, inhibited));
     }
     if let Some(priority) = text.strip_prefix('E') {
-        return Ok(TaskDef {
-            kind: TaskKind::Event,
-            priority: priority_of(priority)?,
-            watchdog: 500,
-            inhibited,
-        });
+        let priority = priority_of(priority)?;
+        return Some(def(TaskKind::Event, priority, inhibited));
     }
-    let text = text.strip_prefix('P').ok_or(Trouble::Form)?;
-    let (priority, period) = text.split_once(':').ok_or(Trouble::Form)?;
-    let period = period.parse::<u32>().ok().ok_or(Trouble::Form)?;
+    let (priority, period) = text.strip_prefix('P')?.split_once(':')?;
+    let priority = priority_of(priority)?;
+    let period = period.parse::<u32>().ok()?;
     if period == 0 {
-        return Err(Trouble::Form);
+        return None;
     }
-    Ok(TaskDef {
-        kind: TaskKind::Periodic(period),
-        priority: priority_of(priority)?,
-        watchdog: 500,
-        inhibited,
-    })
+    Some(def(TaskKind::Periodic(period), priority, inhibited))
 }
 
-fn priority_of(text: &str) -> Result<u8, Trouble>
-    ensures { IfOk result (λ p. (0 < p) × (p ≤ LEAST_PRIORITY)) }
+fn def(kind: TaskKind, priority: u8, inhibited: bool) -> TaskDef
+    ensures { (result.kind ≡ kind) × (result.priority ≡ priority) }
 {
-    let priority = text.parse::<u8>().ok().ok_or(Trouble::Form)?;
-    if priority == 0 || priority > LEAST_PRIORITY {
-        return Err(Trouble::Form);
+    TaskDef {
+        kind,
+        priority,
+        watchdog: 500,
+        inhibited,
     }
-    Ok(priority)
+}
+
+fn priority_of(text: &str) -> Option<u8>
+    ensures { IfSome result (λ p. (0 < p) × (p ≤ LEAST_PRIORITY)) }
+{
+    let priority = text.parse::<u8>().ok()?;
+    if priority == 0 || priority > LEAST_PRIORITY {
+        return None;
+    }
+    Some(priority)
 }
 
 fn table(
@@ -112,101 +111,107 @@ fn table(
     Ok(Tasks { table })
 }
 
-fn run(
-    said: &mut Said,
-    tasks: &mut Tasks,
-    call: &str,
-    words: &mut SplitWhitespace<'_>,
-) -> Result<(), Trouble> {
-    match call {
-        "chosen" => Ok(said.or_none(tasks.table.chosen())?),
-        "rotate" => {
-            tasks.table.rotate();
-            Ok(())
-        }
-        "stop" => {
-            tasks.table.stop();
-            Ok(())
-        }
-        "held" => Ok(said.truth(tasks.table.held())?),
-        "up" | "down" | "empty" | "cps" | "cop" => open(tasks, call),
-        "release" => say_release(said, tasks, number(words)?, number(words)?),
-        "due" => say_due(said, tasks, number(words)?, number(words)?),
-        "regions" => say_regions(said, tasks, number(words)?),
-        "ready" => say_ready(said, tasks, number(words)?, number(words)?),
-        _ => run_at(said, tasks, call, number(words)?),
+fn run(said: &mut Told, tasks: &mut Tasks, call: &str) {
+    match word_at(call, 0) {
+        "chosen" => said.or_none(tasks.table.chosen()),
+        "held" => said.truth(tasks.table.held()),
+        "rotate" => tasks.table.rotate(),
+        "stop" => tasks.table.stop(),
+        "regions" => say_regions(said, tasks, call),
+        "release" => say_release(said, tasks, call),
+        "due" => say_due(said, tasks, call),
+        "ready" => say_ready(said, tasks, call),
+        what => run_other(said, tasks, what, call),
     }
 }
 
-/// The calls that take a tick.
-fn run_at(said: &mut Said, tasks: &mut Tasks, call: &str, now: u32) -> Result<(), Trouble> {
-    match call {
-        "finish" => finish(tasks, now),
+/// The calls that take a tick, and those that open something for the task that is chosen, or close it.
+fn run_other(said: &mut Told, tasks: &mut Tasks, what: &str, call: &str) {
+    match what {
         "start" => {
+            let now = number_at(said, call, 1);
             tasks.table.start(now);
-            Ok(())
         }
-        "expired" => Ok(said.or_none(tasks.table.expired(now))?),
-        _ => Err(Trouble::Form),
+        "expired" => {
+            let now = number_at(said, call, 1);
+            said.or_none(tasks.table.expired(now));
+        }
+        "finish" => finish(said, tasks, call),
+        "up" => region_up(said, tasks),
+        _ => open(said, tasks, what),
     }
 }
 
-fn say_release(said: &mut Said, tasks: &mut Tasks, task: u32, now: u32) -> Result<(), Trouble> {
-    if task >= 4 {
-        return Err(Trouble::Form);
+fn finish(said: &mut Told, tasks: &mut Tasks, call: &str) {
+    let now = number_at(said, call, 1);
+    match tasks.table.chosen() {
+        Some(task) => tasks.table.finish(task, now),
+        None => said.malformed(),
     }
-    Ok(said.word(match tasks.table.release(task, now) {
-        Release::Released => "released",
-        Release::Overlap => "overlap",
-        Release::Inhibited => "inhibited",
-    })?)
 }
 
-fn say_due(said: &mut Said, tasks: &Tasks, task: u32, now: u32) -> Result<(), Trouble> {
-    if task >= 4 {
-        return Err(Trouble::Form);
+fn region_up(said: &mut Told, tasks: &mut Tasks) {
+    match tasks.table.chosen() {
+        Some(task) if task < 4 && tasks.table.region_count(task) <= 1000 => {
+            tasks.table.region_up(task);
+        }
+        _ => said.malformed(),
     }
-    Ok(said.truth(tasks.table.due(task, now))?)
 }
 
-fn say_regions(said: &mut Said, tasks: &Tasks, task: u32) -> Result<(), Trouble> {
-    if task >= 4 {
-        return Err(Trouble::Form);
-    }
-    Ok(said.number(i64::from(tasks.table.region_count(task)))?)
-}
-
-fn say_ready(said: &mut Said, tasks: &Tasks, priority: u32, place: u32) -> Result<(), Trouble> {
-    if priority == 0 || priority > u32::from(LEAST_PRIORITY) {
-        return Err(Trouble::Form);
-    }
-    Ok(said.or_none(tasks.table.ready(priority as u8, place))?)
-}
-
-fn finish(tasks: &mut Tasks, now: u32) -> Result<(), Trouble> {
-    let task = tasks.table.chosen().ok_or(Trouble::Form)?;
-    tasks.table.finish(task, now);
-    Ok(())
-}
-
-/// The calls that open something for the task that is chosen, or close it.
-fn open(tasks: &mut Tasks, call: &str) -> Result<(), Trouble> {
-    let task = tasks.table.chosen().ok_or(Trouble::Form)?;
-    match call {
-        "up" => return region_up(tasks),
+fn open(said: &mut Told, tasks: &mut Tasks, what: &str) {
+    let Some(task) = tasks.table.chosen() else {
+        said.malformed();
+        return;
+    };
+    match what {
         "down" => tasks.table.region_down(task),
         "empty" => tasks.table.region_clear(task),
         "cps" => tasks.table.set_copy(task, true),
-        _ => tasks.table.set_copy(task, false),
+        "cop" => tasks.table.set_copy(task, false),
+        _ => said.malformed(),
     }
-    Ok(())
 }
 
-fn region_up(tasks: &mut Tasks) -> Result<(), Trouble> {
-    let task = tasks.table.chosen().ok_or(Trouble::Form)?;
-    if task >= 4 || tasks.table.region_count(task) > 1000 {
-        return Err(Trouble::Form);
+fn say_regions(said: &mut Told, tasks: &Tasks, call: &str) {
+    let task = number_at(said, call, 1);
+    if task < 4 {
+        said.number(i64::from(tasks.table.region_count(task)));
+    } else {
+        said.malformed();
     }
-    tasks.table.region_up(task);
-    Ok(())
+}
+
+fn say_release(said: &mut Told, tasks: &mut Tasks, call: &str) {
+    let task = number_at(said, call, 1);
+    let now = number_at(said, call, 2);
+    if task < 4 {
+        said.word(match tasks.table.release(task, now) {
+            Release::Released => "released",
+            Release::Overlap => "overlap",
+            Release::Inhibited => "inhibited",
+        });
+    } else {
+        said.malformed();
+    }
+}
+
+fn say_due(said: &mut Told, tasks: &Tasks, call: &str) {
+    let task = number_at(said, call, 1);
+    let now = number_at(said, call, 2);
+    if task < 4 {
+        said.truth(tasks.table.due(task, now));
+    } else {
+        said.malformed();
+    }
+}
+
+fn say_ready(said: &mut Told, tasks: &Tasks, call: &str) {
+    let priority = number_at(said, call, 1);
+    let place = number_at(said, call, 2);
+    if 0 < priority && priority <= u32::from(LEAST_PRIORITY) {
+        said.or_none(tasks.table.ready(priority as u8, place));
+    } else {
+        said.malformed();
+    }
 }

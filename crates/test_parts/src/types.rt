@@ -1,10 +1,10 @@
 // Declared structures.
 use crate::trouble::Trouble;
-use crate::words::{Said, name, number, word};
+use crate::words::{Told, name_at, number_at, word_at};
 use lgx_types::{TypeError, TypeTable};
 use spec_base::limits::MAX_ELEMENTS;
 use spec_language::{Base, DataType, TypeFault};
-use std::alloc::{AllocError, Global};
+use std::alloc::Global;
 use test_bench::{structures_of, table_of};
 
 /// `types | STRUCTURE; .. ? CALL; .. | ..`: what the calls answer at a table of these structures, or the first fault:
@@ -12,47 +12,59 @@ use test_bench::{structures_of, table_of};
 ///
 /// A structure is `NAME: MEMBER TYPE LENGTH, ..`, with no length where it is no array. `at TYPE MEMBER` answers a
 /// member's first bit, `size TYPE LENGTH` a size in bytes, and `find NAME` a type.
-pub fn types_row(alloc: Global, text: &str) -> Result<String, Trouble> {
-    let (structures, calls) = text.split_once('?').ok_or(Trouble::Form)?;
-    let mut said = Said::new(alloc);
-    match table_of(alloc, &structures_of(alloc, structures)?) {
+pub fn say_types(
+    alloc: Global,
+    said: &mut Told,
+    structures: &str,
+    calls: &str,
+) -> Result<(), Trouble> {
+    let structures = structures_of(alloc, structures)?;
+    match table_of(alloc, &structures) {
         Ok(table) => {
-            for call in calls.split(';') {
-                run(alloc, &mut said, &table, call)?;
-            }
+            run_all(said, &table, calls);
+            Ok(())
         }
-        Err(TypeError::Fault(fault)) => say_fault(alloc, &mut said, fault)?,
-        Err(TypeError::Memory) => return Err(Trouble::Memory),
+        Err(TypeError::Fault(fault)) => {
+            say_fault(said, fault);
+            Ok(())
+        }
+        Err(TypeError::Memory) => Err(Trouble::Memory),
     }
-    Ok(said.into_text())
 }
 
-fn run(alloc: Global, said: &mut Said, table: &TypeTable, call: &str) -> Result<(), Trouble> {
-    let mut words = call.split_whitespace();
-    let words = &mut words;
-    match word(words)? {
-        "at" => {
-            let base = table.find(&name(words)?).ok_or(Trouble::Form)?;
-            let member = table.member(base, &name(words)?);
-            said.or_none(member.map(|member| member.at))?;
+fn run_all(said: &mut Told, table: &TypeTable, calls: &str) {
+    for call in calls.split(';') {
+        if word_at(call, 0) == "count" {
+            said.count(table.structures().len());
+        } else {
+            run(said, table, call);
         }
-        "size" => {
-            let base = table.find(&name(words)?).ok_or(Trouble::Form)?;
-            let dim = number(words)?;
-            said.or_none(size_of(table, DataType { base, dim }))?;
-        }
-        "find" => match table.find(&name(words)?) {
-            Some(base) => say_base(alloc, said, base)?,
-            None => said.word("none")?,
-        },
-        "count" => said.count(table.structures().len())?,
-        _ => return Err(Trouble::Form),
     }
-    Ok(())
 }
 
-fn say_base(alloc: Global, said: &mut Said, base: Base) -> Result<(), AllocError> {
-    said.word(format!(in alloc; "{base:?}")?.as_str())
+/// The calls that name a type.
+fn run(said: &mut Told, table: &TypeTable, call: &str) {
+    let Some(name) = name_at(call, 1) else {
+        said.malformed();
+        return;
+    };
+    match (word_at(call, 0), table.find(&name)) {
+        ("at", Some(base)) => say_member(said, table, call, base),
+        ("size", Some(base)) => {
+            let dim = number_at(said, call, 2);
+            said.or_none(size_of(table, DataType { base, dim }));
+        }
+        ("find", Some(base)) => said.shown(&base),
+        ("find", None) => said.word("none"),
+        _ => said.malformed(),
+    }
+}
+
+fn say_member(said: &mut Told, table: &TypeTable, call: &str, base: Base) {
+    match name_at(call, 2) {
+        Some(name) => said.or_none(table.member(base, &name).map(|member| member.at)),
+        None => said.malformed(),
+    }
 }
 
 fn size_of(table: &TypeTable, of: DataType) -> Option<u32> {
@@ -65,9 +77,9 @@ fn size_of(table: &TypeTable, of: DataType) -> Option<u32> {
     if fits { Some(table.size_of(of)) } else { None }
 }
 
-fn say_fault(alloc: Global, said: &mut Said, fault: TypeFault) -> Result<(), AllocError> {
+fn say_fault(said: &mut Told, fault: TypeFault) {
     let TypeFault { code, decl, member } = fault;
-    said.word(format!(in alloc; "{code:?}")?.as_str())?;
-    said.number(i64::from(decl))?;
-    said.or_none(member)
+    said.shown(&code);
+    said.number(i64::from(decl));
+    said.or_none(member);
 }

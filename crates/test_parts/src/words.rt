@@ -1,22 +1,49 @@
-// The words of a row.
-use crate::trouble::Trouble;
-use lgx_num::Kind;
-use std::str::SplitWhitespace;
-pub use test_bench::{name, number, word};
-pub use test_rows::Said;
+// The words of a text, by their places.
+use lgx_num::{Kind, Name};
+pub use test_rows::Told;
 
-/// The next word as a signed number.
-pub fn value(words: &mut SplitWhitespace<'_>) -> Result<i32, Trouble> {
-    word(words)?.parse::<i32>().ok().ok_or(Trouble::Form)
+/// The word at a place of a text, counted from 0; none is empty.
+pub fn word_at(text: &str, place: usize) -> &str {
+    text.split_whitespace().nth(place).unwrap_or("")
 }
 
-/// The next word as a kind.
-pub fn kind(words: &mut SplitWhitespace<'_>) -> Result<Kind, Trouble> {
-    match word(words)? {
-        "BOOL" => Ok(Kind::Bool),
-        "SINT" => Ok(Kind::Sint),
-        "INT" => Ok(Kind::Int),
-        "DINT" => Ok(Kind::Dint),
-        _ => Err(Trouble::Form),
+/// The word there as a number that isn't negative; if it is none, that is said, and it counts as 0.
+pub fn number_at(said: &mut Told, text: &str, place: usize) -> u32 {
+    match word_at(text, place).parse::<u32>() {
+        Ok(number) => number,
+        Err(_) => {
+            said.malformed();
+            0
+        }
+    }
+}
+
+/// The word there as a signed number; if it is none, that is said, and it counts as 0.
+pub fn value_at(said: &mut Told, text: &str, place: usize) -> i32 {
+    match word_at(text, place).parse::<i32>() {
+        Ok(value) => value,
+        Err(_) => {
+            said.malformed();
+            0
+        }
+    }
+}
+
+/// The word there as a name.
+pub fn name_at(text: &str, place: usize) -> Option<Name> {
+    Name::read(word_at(text, place).as_bytes())
+}
+
+/// The word there as a kind; if it is none, that is said, and it counts as BOOL.
+pub fn kind_at(said: &mut Told, text: &str, place: usize) -> Kind {
+    match word_at(text, place) {
+        "BOOL" => Kind::Bool,
+        "SINT" => Kind::Sint,
+        "INT" => Kind::Int,
+        "DINT" => Kind::Dint,
+        _ => {
+            said.malformed();
+            Kind::Bool
+        }
     }
 }

@@ -10,11 +10,13 @@
 //! and at the end how many rows there were.
 #![tactic(auto)]
 
+use lgx_edit::ProgramText;
 use lgx_json::read_described;
 use lgx_project::{Inner, Project, ProjectError, ProjectFault, migrate, read_project};
+use lgx_rung::{CheckFault, TextFault};
 use std::alloc::{AllocError, Global};
 use std::io;
-use test_rows::judge_rows;
+use test_rows::{Told, judge_rows};
 
 fn main(rt: HostRuntime) -> io::Result<()> {
     judge_rows(rt, found)
@@ -50,38 +52,63 @@ enum Judged {
 fn found(alloc: Global, row: &str) -> io::Result<Option<String>> {
     let (keys, row) = row.split_once('|').unwrap_or((row, ""));
     let (values, wanted) = row.rsplit_once('|').unwrap_or((row, ""));
-    let keys = keys.trim();
-    let wanted = wanted.trim();
-    let values = expanded(alloc, values.trim())?;
-    let said = match keys.strip_prefix("project ") {
-        Some(keys) => answer_of(alloc, Judged::Whole, keys, values.as_str(), wanted)?,
-        None => answer_of(alloc, Judged::Shape, keys, values.as_str(), wanted)?,
-    };
-    Ok((said.as_str() != wanted).then_some(said))
+    Ok(other(alloc, keys.trim(), values.trim(), wanted.trim())?)
 }
 
-/// What a row's file is answered; of beginnings, the first answer that isn't the one that is wanted.
-fn answer_of(
+fn other(
     alloc: Global,
+    keys: &str,
+    values: &str,
+    wanted: &str,
+) -> Result<Option<String>, AllocError> {
+    let values = expanded(alloc, values)?;
+    let mut said = Told::new(alloc);
+    say(alloc, &mut said, keys, values.as_str(), wanted)?;
+    Ok(said.other_than(wanted))
+}
+
+fn say(
+    alloc: Global,
+    said: &mut Told,
+    keys: &str,
+    values: &str,
+    wanted: &str,
+) -> Result<(), AllocError> {
+    match keys.strip_prefix("project ") {
+        Some(keys) => say_of(alloc, said, Judged::Whole, keys, values, wanted),
+        None => say_of(alloc, said, Judged::Shape, keys, values, wanted),
+    }
+}
+
+/// Says what a row's file is answered; of beginnings, the first answer that isn't the one that is wanted.
+fn say_of(
+    alloc: Global,
+    said: &mut Told,
     of: Judged,
     keys: &str,
     values: &str,
     wanted: &str,
-) -> io::Result<String> {
+) -> Result<(), AllocError> {
     match keys {
-        "cuts" => first_other(alloc, of, values.as_bytes(), wanted),
-        "file" => answer(alloc, of, values.as_bytes()),
-        "migrate" => carried(alloc, values.as_bytes()),
+        "cuts" => say_first_other(alloc, said, of, values.as_bytes(), wanted),
+        "file" => say_answer(alloc, said, of, values.as_bytes()),
+        "migrate" => say_carried(alloc, said, values.as_bytes()),
         _ => {
             let text = text_of(alloc, keys, values)?;
-            answer(alloc, of, text.as_bytes())
+            say_answer(alloc, said, of, text.as_bytes());
         }
     }
+    Ok(())
 }
 
 /// The text with each `{{N*TEXT}}` written out.
 fn expanded(alloc: Global, text: &str) -> Result<String, AllocError> {
     let mut made = String::new(alloc);
+    expand(&mut made, text)?;
+    Ok(made)
+}
+
+fn expand(made: &mut String, text: &str) -> Result<(), AllocError> {
     let mut rest = text;
     for _ in 0..text.len() {
         let Some((before, after)) = rest.split_once("{{") else {
@@ -89,11 +116,10 @@ fn expanded(alloc: Global, text: &str) -> Result<String, AllocError> {
         };
         let (inside, after) = after.split_once("}}").unwrap_or((after, ""));
         made.push_str(before)?;
-        repeat(&mut made, inside)?;
+        repeat(made, inside)?;
         rest = after;
     }
-    made.push_str(rest)?;
-    Ok(made)
+    made.push_str(rest)
 }
 
 /// Adds the text of `N*TEXT` so many times.
@@ -109,16 +135,28 @@ fn repeat(made: &mut String, inside: &str) -> Result<(), AllocError> {
 fn text_of(alloc: Global, keys: &str, values: &str) -> Result<String, AllocError> {
     let mut text = String::new(alloc);
     text.push('{')?;
-    for (name, usual) in &FIELDS {
-        put(&mut text, name, given(keys, values, name).unwrap_or(usual))?;
-    }
-    for (key, value) in keys.split(' ').zip(values.split(" ~ ")) {
-        if !is_field(key) {
-            put(&mut text, key, value)?;
-        }
-    }
+    put_fields(&mut text, keys, values)?;
+    put_others(&mut text, keys, values)?;
     text.push('}')?;
     Ok(text)
+}
+
+/// Adds the fields of the small project.
+fn put_fields(text: &mut String, keys: &str, values: &str) -> Result<(), AllocError> {
+    for (name, usual) in &FIELDS {
+        put(text, name, given(keys, values, name).unwrap_or(usual))?;
+    }
+    Ok(())
+}
+
+/// Adds the fields that the small project hasn't.
+fn put_others(text: &mut String, keys: &str, values: &str) -> Result<(), AllocError> {
+    for (key, value) in keys.split(' ').zip(values.split(" ~ ")) {
+        if !is_field(key) {
+            put(text, key, value)?;
+        }
+    }
+    Ok(())
 }
 
 /// The value that a row gives to a field, if it gives one.
@@ -155,82 +193,124 @@ fn put(text: &mut String, key: &str, value: &str) -> Result<(), AllocError> {
     text.push_str(value)
 }
 
-/// The first answer of a shorter beginning that isn't the one that is wanted.
-fn first_other(alloc: Global, of: Judged, text: &[u8], wanted: &str) -> io::Result<String> {
+/// Says the first answer of a shorter beginning that isn't the one that is wanted.
+fn say_first_other(alloc: Global, said: &mut Told, of: Judged, text: &[u8], wanted: &str) {
     for end in 0..text.len() {
-        let said = answer(alloc, of, &text[..end])?;
-        if said.as_str() != wanted {
-            return Ok(said);
+        if let Some(other) = other_answer(alloc, of, &text[..end], wanted) {
+            said.word(other.as_str());
+            return;
         }
     }
-    Ok(format!(in alloc; "{wanted}")?)
+    said.word(wanted);
 }
 
-/// What reading a file answers.
-fn answer(alloc: Global, of: Judged, bytes: &[u8]) -> io::Result<String> {
+/// What reading a file answers, if it isn't what is wanted.
+fn other_answer(alloc: Global, of: Judged, bytes: &[u8], wanted: &str) -> Option<String> {
+    let mut said = Told::new(alloc);
+    say_answer(alloc, &mut said, of, bytes);
+    said.other_than(wanted)
+}
+
+/// Says what reading a file answers.
+fn say_answer(alloc: Global, said: &mut Told, of: Judged, bytes: &[u8]) {
     match of {
-        Judged::Shape => match read_described(alloc, bytes) {
-            Ok(_) => Ok(format!(in alloc; "ok")?),
-            Err(error) => refused(alloc, &error),
-        },
-        Judged::Whole => match read_project(alloc, bytes) {
-            Ok(project) => told(alloc, &project),
-            Err(error) => refused(alloc, &error),
-        },
+        Judged::Shape => say_shape(alloc, said, bytes),
+        Judged::Whole => say_whole(alloc, said, bytes),
     }
 }
 
-/// The line that carries a file to the newest form, without its line feed.
-fn carried(alloc: Global, bytes: &[u8]) -> io::Result<String> {
+fn say_shape(alloc: Global, said: &mut Told, bytes: &[u8]) {
+    match read_described(alloc, bytes) {
+        Ok(_) => said.word("ok"),
+        Err(error) => say_refused(said, &error),
+    }
+}
+
+fn say_whole(alloc: Global, said: &mut Told, bytes: &[u8]) {
+    match read_project(alloc, bytes) {
+        Ok(project) => say_counts(said, &project),
+        Err(error) => say_refused(said, &error),
+    }
+}
+
+/// Says the line that carries a file to the newest form, without its line feed.
+fn say_carried(alloc: Global, said: &mut Told, bytes: &[u8]) {
     match migrate(alloc, bytes) {
         Ok(text) => {
             let line = std::str::from_utf8(text.as_slice()).unwrap_or("?");
-            let line = line.strip_suffix("\n").unwrap_or("no line feed");
-            Ok(format!(in alloc; "{line}")?)
+            said.word(line.strip_suffix("\n").unwrap_or("no line feed"));
         }
-        Err(error) => refused(alloc, &error),
+        Err(error) => say_refused(said, &error),
     }
 }
 
-/// How many tasks, programs, routines, rungs and bytes a project has.
-fn told(alloc: Global, project: &Project) -> io::Result<String> {
+/// Says how many tasks, programs, routines, rungs and bytes a project has.
+fn say_counts(said: &mut Told, project: &Project) {
     let project = project.parts();
-    let mut routines = 0u64;
-    let mut rungs = 0u64;
-    for program in project.texts.as_slice() {
+    let programs = project.texts.as_slice();
+    said.word("ok");
+    say_named(said, "tasks", project.tasks.len());
+    say_named(said, "programs", programs.len());
+    say_named(said, "routines", routines_in(programs));
+    say_named(said, "rungs", rungs_in(programs));
+    say_named(said, "bytes", project.image.len() as usize);
+}
+
+fn say_named(said: &mut Told, word: &str, count: usize) {
+    said.word(word);
+    said.count(count);
+}
+
+fn routines_in(programs: &[ProgramText]) -> usize {
+    let mut routines = 0usize;
+    for program in programs {
+        routines = routines.saturating_add(program.routines.len());
+    }
+    routines
+}
+
+fn rungs_in(programs: &[ProgramText]) -> usize {
+    let mut rungs = 0usize;
+    for program in programs {
         for routine in program.routines.as_slice() {
-            routines = routines.saturating_add(1);
-            rungs = rungs.saturating_add(routine.source.len() as u64);
+            rungs = rungs.saturating_add(routine.source.len());
         }
     }
-    let tasks = project.tasks.len();
-    let programs = project.texts.len();
-    let bytes = project.image.len();
-    Ok(format!(in alloc;
-        "ok tasks {tasks} programs {programs} routines {routines} rungs {rungs} bytes {bytes}"
-    )?)
+    rungs
 }
 
-/// What is said of a file that gives no project.
-fn refused(alloc: Global, error: &ProjectError) -> io::Result<String> {
+/// Says why a file gives no project.
+fn say_refused(said: &mut Told, error: &ProjectError) {
     match error {
-        ProjectError::Memory => Ok(format!(in alloc; "out of memory")?),
-        ProjectError::Project(fault) => refusal(alloc, fault),
+        ProjectError::Memory => said.word("out of memory"),
+        ProjectError::Project(fault) => say_fault(said, fault),
     }
 }
 
-/// The code of a refusal, its path, and what it is of.
-fn refusal(alloc: Global, fault: &ProjectFault) -> io::Result<String> {
-    let path = std::str::from_utf8(fault.path.as_slice()).unwrap_or("?");
-    let said = format!(in alloc; "{:?} {path}", fault.code)?;
-    let said = said.as_str().trim();
-    Ok(match fault.inner {
-        Inner::Nothing => format!(in alloc; "{said}")?,
-        Inner::OfType(code) => format!(in alloc; "{said} {code:?}")?,
-        Inner::OfTag(code) => format!(in alloc; "{said} {code:?}")?,
-        Inner::OfText(fault) => format!(in alloc; "{said} {:?} {}", fault.code, fault.at)?,
-        Inner::OfCheck(fault) => {
-            format!(in alloc; "{said} {:?} {} {}", fault.code, fault.rung, fault.ins)?
-        }
-    })
+/// Says the code of a refusal, its path, and what it is of.
+fn say_fault(said: &mut Told, fault: &ProjectFault) {
+    said.shown(&fault.code);
+    if !fault.path.is_empty() {
+        said.word(std::str::from_utf8(fault.path.as_slice()).unwrap_or("?"));
+    }
+    match fault.inner {
+        Inner::Nothing => {}
+        Inner::OfType(code) => said.shown(&code),
+        Inner::OfTag(code) => said.shown(&code),
+        Inner::OfText(fault) => say_text_fault(said, fault),
+        Inner::OfCheck(fault) => say_check_fault(said, fault),
+    }
+}
+
+fn say_text_fault(said: &mut Told, fault: TextFault) {
+    let TextFault { code, at } = fault;
+    said.shown(&code);
+    said.shown(&at);
+}
+
+fn say_check_fault(said: &mut Told, fault: CheckFault) {
+    let CheckFault { code, rung, ins } = fault;
+    said.shown(&code);
+    said.shown(&rung);
+    said.shown(&ins);
 }

@@ -3,7 +3,7 @@ use Rattle.std.specs.List.{AllByRecursion as Each}
 use Rattle.spec_base.proofs.Lists.{each_append}
 use Rattle.spec_scan.specs.Executable.{AreExecutable}
 use Rattle.test_bench.specs.declared.tags.TheConstants.{LEN}
-use Rattle.test_bench.proofs.program.check_all.Goals as goal
+use Rattle.test_bench.proofs.program.check_each.Goals as goal
 
 pub loop-source-preserved : goal.loop-source-preserved
 loop-source-preserved c =
