@@ -1,10 +1,8 @@
 //! The loop of a program that judges rows, and what such a program says of one.
 #![tactic(auto)]
 
-mod said;
 mod told;
 
-pub use said::Said;
 use std::alloc::Global;
 use std::io;
 pub use told::Told;
