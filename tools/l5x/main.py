@@ -99,7 +99,7 @@ def _written(project: Project, findings: Findings, logix: str) -> int:
         _say(sys.stderr, f"left out: the {_places(findings)} above")
     verdict = _verdict(text, logix)
     if verdict is None:
-        _say(sys.stderr, "check: logix isn't built here; ./logix check builds it and judges the project")
+        _say(sys.stderr, "check: no proved logix is built here; tools/prove builds it, and ./logix check judges the project")
     else:
         _say(sys.stderr, f"check: {verdict[1]}")
         if verdict[0] != 0:
