@@ -34,7 +34,7 @@ def call(words: list[str], logix: str = "/nonexistent") -> Ended:
             status = main(words, logix)
         except SystemExit as end:
             status = end.code
-    lines = [line for line in err.getvalue().splitlines() if not line.startswith("check: logix isn't built")]
+    lines = [line for line in err.getvalue().splitlines() if not line.startswith("check: no proved logix")]
     return Ended(status, out.getvalue(), lines)
 
 
