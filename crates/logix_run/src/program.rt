@@ -1,46 +1,46 @@
 // The program, over any files, any sink and any gate.
-ghost use Rattle.std.specs.Prelude.{◌≡◌, ◌≢◌, List, ℕ, None, Some, map, string_bytes};
-ghost use Rattle.lgx_plain.specs.Words.{run_of};
-ghost use Rattle.lgx_plain.specs.Causes.{IsAnswered};
-ghost use Rattle.logix_run.specs.Outcomes.{Ended};
-ghost use Rattle.logix_run.specs.RunCauses.{IsRunAnswered};
+ghost use Rattle.std.specs.Prelude.{◌≡◌, map, string_bytes};
+ghost use Rattle.lgx_answer.specs.Endings.{ending_of};
+ghost use Rattle.lgx_answer.specs.Answered.{Answered};
+ghost use Rattle.logix_run.specs.Words.{plan_of};
+ghost use Rattle.logix_run.specs.Answers.{IsAnswered, IsProcess};
 
-use crate::outcome::outcome_of;
-use crate::write::write_outcome;
-use lgx_io::{Files, Sink};
-use lgx_plain::{Status, logix_plain, run_of};
+use crate::plain::follow_plain;
+use crate::words::two_after;
+use lgx_answer::{Status, answer, exit_number};
+use lgx_io::{Files, Gathered, Sink};
 use lgx_shared::Gate;
 use std::alloc::Global;
+use std::io::Write;
 use std::sync::Wait;
 use std::thread::Threads;
+use word_run::Run;
 
-/// Runs the script of one file on the project of another, and writes what came of it.
-fn run<F: Files, K: Sink, G: Gate + Sync, R: Threads + Wait + Sync>(
+/// Follows the plan of the words.
+fn follow<F: Files, K: Sink, G: Gate + Sync, R: Threads + Wait + Sync>(
     rt: &R,
     alloc: Global,
-    project: &str,
-    script: &str,
+    words: &[String],
     files: &mut F,
     sink: &mut K,
     gate: &G,
 ) -> Status
-    ensures ended { (words : List (List ℕ)) → Ended (record {
+    ensures { Answered (plan_of (map string_bytes words.now)) (record {
       told = F.told files.old;
       failures = record { old = F.failures files.old; new = F.failures files.new };
       held = record { old = K.held sink.old; new = K.held sink.new };
       faults = record { old = K.faults sink.old; new = K.faults sink.new };
-      words = words;
-      answer = result;
-    }) (record { project = project.now; script = script.now }) }
-    ensures unfailed { result ≢ Status.WriteFault → K.faults sink.new ≡ K.faults sink.old }
+      answer = ending_of result;
+    }) }
 {
-    match outcome_of(rt, alloc, project, script, files, gate) {
-        Ok(outcome) => write_outcome(alloc, outcome, sink),
-        Err(status) => status,
+    match two_after("run", words) {
+        Some((project, script)) => answer(alloc, Run::new(rt, gate, project, script), files, sink),
+        None => follow_plain(alloc, words, files, sink),
     }
 }
 
-/// Does what the words of the command line say, and answers how the program ends: all that [`logix_plain`] does, and `run P S`.
+/// Does what the words of the command line say, and answers how the program ends: all that [`crate::logix_plain`] does, and
+/// `run P S`.
 ///
 /// `run P S` reads and judges the project of the file `P` and then the script of the file `S`. Each lane of the script
 /// takes its turns on a thread of its own, and one thread more takes turns of no lane; a turn makes its lane's next action
@@ -51,6 +51,7 @@ fn run<F: Files, K: Sink, G: Gate + Sync, R: Threads + Wait + Sync>(
 ///
 /// [`Status`] says when each answer comes. At `WriteFault` and `Memory` a first part of the output was put, at `ReadFault` and
 /// `TooLong` nothing.
+#[tactic(auto, using(crate::proofs::Laws::answered))]
 pub fn logix<F: Files, K: Sink, G: Gate + Sync, R: Threads + Wait + Sync>(
     rt: &R,
     alloc: Global,
@@ -59,25 +60,31 @@ pub fn logix<F: Files, K: Sink, G: Gate + Sync, R: Threads + Wait + Sync>(
     sink: &mut K,
     gate: &G,
 ) -> Status
-    ensures plain { run_of (map string_bytes words.now) ≡ None → IsAnswered (record {
+    ensures { IsAnswered (plan_of (map string_bytes words.now)) (record {
       told = F.told files.old;
       failures = record { old = F.failures files.old; new = F.failures files.new };
       held = record { old = K.held sink.old; new = K.held sink.new };
       faults = record { old = K.faults sink.old; new = K.faults sink.new };
-      words = map string_bytes words.now;
-      answer = result;
+      answer = ending_of result;
     }) }
-    ensures run { (p s : List ℕ) → run_of (map string_bytes words.now) ≡ Some (p, s) → IsRunAnswered (record {
-      told = F.told files.old;
-      failures = record { old = F.failures files.old; new = F.failures files.new };
-      held = record { old = K.held sink.old; new = K.held sink.new };
-      faults = record { old = K.faults sink.old; new = K.faults sink.new };
-      words = map string_bytes words.now;
-      answer = result;
-    }) (record { project = p; script = s }) }
 {
-    match run_of(words) {
-        Some(names) => run(rt, alloc, names.project, names.script, files, sink, gate),
-        None => logix_plain(alloc, words, files, sink),
-    }
+    follow(rt, alloc, words, files, sink, gate)
+}
+
+/// All that the process does with its words: what [`logix`] does, and then what still waits to be written is written. Answers
+/// the number that the process ends with.
+pub fn program<F: Files, W: Write + Drop, G: Gate + Sync, R: Threads + Wait + Sync>(
+    rt: &R,
+    alloc: Global,
+    words: &[String],
+    files: &mut F,
+    output: &mut Gathered<W>,
+    gate: &G,
+) -> u8
+    ensures { IsProcess (plan_of (map string_bytes words.now)) (F.told files.old)
+        (record { old = F.failures files.old; new = F.failures files.new })
+        output.old output.new result }
+{
+    let status = logix(rt, alloc, words, files, output, gate);
+    exit_number(status, output)
 }
