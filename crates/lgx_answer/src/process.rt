@@ -1,9 +1,12 @@
-// The end of a process.
+// The beginning and the end of a process.
 ghost use Rattle.lgx_answer.specs.Exit.{Exits};
 
 use crate::status::Status;
 use lgx_io::Gathered;
+use lgx_num::Memory;
+use std::env;
 use std::io::Write;
+use std::rt::Env;
 
 /// Writes what still waits to be written, and answers the number that the process ends with: that of the status, or that of a
 /// write fault if what waited couldn't be written, or an earlier put failed.
@@ -14,4 +17,16 @@ pub fn exit_number<W: Write + Drop>(status: Status, sink: &mut Gathered<W>) -> u
         Ok(()) => status.number(),
         Err(_) => Status::WriteFault.number(),
     }
+}
+
+/// The words of the command line, without the program's own name. Arguments that can't be read as text are wrong arguments, as
+/// none are.
+pub fn words_of<R: Env + AllocGlobal>(rt: &R) -> Result<Vec<String>, Memory> {
+    let mut words = Vec::new(rt.alloc());
+    if let Ok(args) = env::args(rt) {
+        for word in args.skip(1) {
+            words.push(word)?;
+        }
+    }
+    Ok(words)
 }
