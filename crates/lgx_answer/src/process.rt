@@ -19,14 +19,18 @@ pub fn exit_number<W: Write + Drop>(status: Status, sink: &mut Gathered<W>) -> u
     }
 }
 
-/// The words of the command line, without the program's own name. Arguments that can't be read as text are wrong arguments, as
-/// none are.
+/// The words of the command line, without the program's own name. Arguments that can't be read as text are wrong arguments: one
+/// empty word stands for them.
 pub fn words_of<R: Env + AllocGlobal>(rt: &R) -> Result<Vec<String>, Memory> {
-    let mut words = Vec::new(rt.alloc());
-    if let Ok(args) = env::args(rt) {
-        for word in args.skip(1) {
-            words.push(word)?;
+    let alloc = rt.alloc();
+    let mut words = Vec::new(alloc);
+    match env::args(rt) {
+        Ok(args) => {
+            for word in args.skip(1) {
+                words.push(word)?;
+            }
         }
+        Err(_) => words.push(String::new(alloc))?,
     }
     Ok(words)
 }
