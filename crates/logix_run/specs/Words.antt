@@ -4,8 +4,11 @@ use Rattle.std.specs.Str.{bytes_eq}
 use Rattle.spec_text.specs.TextLines.{unsigned_of}
 use Rattle.lgx_answer.specs.declared.status.Verdict.TheVariants as verdict
 use Rattle.lgx_answer.specs.Plan.{Plan, Say, only}
-use Rattle.word_project.specs.Plans.{check_plan, text_plan, migrate_plan}
-use Rattle.word_replay.specs.Plans.{replay_plan, gen_plan}
+use Rattle.word_project.specs.CheckPlan.{check_plan}
+use Rattle.word_project.specs.TextPlan.{text_plan}
+use Rattle.word_project.specs.MigratePlan.{migrate_plan}
+use Rattle.word_replay.specs.ReplayPlan.{replay_plan}
+use Rattle.word_replay.specs.GenPlan.{gen_plan}
 use Rattle.word_run.specs.RunPlan.{run_plan}
 
 -- ---- a word and what stands behind it

@@ -10,7 +10,7 @@ use lgx_answer::{Status, Verdict, answer, say};
 use lgx_io::{Files, Sink};
 use std::alloc::Global;
 use word_project::{Check, Migrate, Text};
-use word_replay::{Replay, r#gen};
+use word_replay::{Replay, generate};
 
 /// The line that tells how to use the program.
 pub const USAGE: &str = "usage: logix check P, text P, replay P J, run P S, gen N, migrate P\n";
@@ -40,10 +40,10 @@ pub(crate) fn follow_plain<F: Files, K: Sink>(
         return answer(alloc, Migrate { project }, files, sink);
     }
     if let Some((project, journal)) = two_after("replay", words) {
-        return answer(alloc, Replay::First { project, journal }, files, sink);
+        return answer(alloc, Replay::Both { project, journal }, files, sink);
     }
     if let Some(number) = number_after("gen", words) {
-        return r#gen(alloc, number, files, sink);
+        return generate(alloc, number, files, sink);
     }
     say(Verdict::Usage, USAGE.as_bytes(), files, sink)
 }

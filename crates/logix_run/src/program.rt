@@ -7,14 +7,14 @@ ghost use Rattle.logix_run.specs.Answers.{IsAnswered, IsProcess};
 
 use crate::plain::follow_plain;
 use crate::words::two_after;
-use lgx_answer::{Status, answer, exit_number};
+use lgx_answer::{Status, exit_number};
 use lgx_io::{Files, Gathered, Sink};
 use lgx_shared::Gate;
 use std::alloc::Global;
 use std::io::Write;
 use std::sync::Wait;
 use std::thread::Threads;
-use word_run::Run;
+use word_run::run;
 
 /// Follows the plan of the words.
 fn follow<F: Files, K: Sink, G: Gate + Sync, R: Threads + Wait + Sync>(
@@ -34,7 +34,7 @@ fn follow<F: Files, K: Sink, G: Gate + Sync, R: Threads + Wait + Sync>(
     }) }
 {
     match two_after("run", words) {
-        Some((project, script)) => answer(alloc, Run::new(rt, gate, project, script), files, sink),
+        Some((project, script)) => run(rt, alloc, project, script, files, sink, gate),
         None => follow_plain(alloc, words, files, sink),
     }
 }
