@@ -9,7 +9,7 @@ use Rattle.spec_machine.specs.Edits.{Book, Edited, merged, routine_at, changes_i
 use Rattle.lgx_prog.specs.FlatProgram.{Program, IsFlatProgram}
 use Rattle.lgx_versions.specs.declared.slots.Version.{Version}
 use Rattle.lgx_versions.specs.Roles.{Roles, hold, selected}
-use Rattle.lgx_versions.specs.View.{VersionsView}
+use Rattle.lgx_versions.specs.View.{VersionsView, AreSlotsOf}
 
 -- the machine's book of a program, and the program's versions
 pub record EditsView : Type 0 where
@@ -95,6 +95,10 @@ held_at all n = slice_index_or (holds all) n None
 -- the numbers in the slots of program n
 abbrev pub slots_at : List EditsView → ℕ → List (Option ℕ)
 slots_at all n = slice_index_or (map (λ e. e.versions.slots) all) n []
+
+-- each version that a program has lies in a slot of its own, and nothing else does
+abbrev pub AreSlotsAt : EditsView → Type 0
+AreSlotsAt e = AreSlotsOf e.versions.roles e.versions.slots
 
 -- Of program n a version of this number is held from now on: flat code of the rungs that are selected.
 pub record HoldsNow (n number : ℕ) (old new : List EditsView) : Type 0 where

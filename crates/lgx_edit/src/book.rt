@@ -40,7 +40,7 @@ impl EditBook {
     ghost use Rattle.std.specs.Prelude.{◌^◌, ◌≡◌, ◌<◌, true, All, map, length, IfOk, IsTrue, IsNone, None, option_map, slice_set, slice_index_or};
     ghost use Rattle.spec_machine.specs.Edits.{book_of, book_at, selected_number, program_named, routine_at, merged, changes_in, accept, on_accepted, test, untest, assemble, cancel};
     ghost use Rattle.lgx_edit.specs.Texts.{program_of};
-    ghost use Rattle.lgx_edit.specs.EditsView.{books, holds, held_at, slots_at, RunsSelected, HoldsNow, Leaves};
+    ghost use Rattle.lgx_edit.specs.EditsView.{EditsView, books, holds, held_at, slots_at, AreSlotsAt, RunsSelected, HoldsNow, Leaves};
     ghost use Rattle.lgx_edit.specs.Accepting.{LeavesAccepted, has_numbers_left};
 
     /// The book of these programs in project order, without edits. The main routine of each must be one of its routines.
@@ -175,7 +175,8 @@ impl EditBook {
     pub fn slot(&self, program: u32, i: u32) -> Option<u32>
         requires known { program < length self.now }
         requires slot { i < 3 }
-        ensures { result ≡ slice_index_or (slots_at self.now program) i None }
+        ensures number { result ≡ slice_index_or (slots_at self.now program) i None }
+        ensures slots { (d : EditsView) → AreSlotsAt (slice_index_or self.now program d) }
     {
         self.programs[program as usize].slot(i)
     }
