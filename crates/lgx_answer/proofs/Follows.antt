@@ -9,7 +9,7 @@ use Rattle.lgx_answer.specs.Endings.{Ending}
 use Rattle.lgx_answer.specs.Endings as ending
 use Rattle.lgx_answer.specs.Plan.{Texts, Plan, Say, Read}
 use Rattle.lgx_answer.specs.Answered.{Change, Told, Failures, Call, Came, Gains, AddsOf, Writes, Misses, Answered}
-use Rattle.lgx_answer.specs.Laws.{Reaches, Comes, IsSure, IsAnswered}
+use Rattle.lgx_answer.specs.Laws.{Reaches, Comes, IsSure, FollowsPlan}
 
 -- a call as its parts, so that its answer can be matched
 abbrev call_of : Told → Change Failures → Change (Option (List ℕ)) → Change ℕ → Ending → Call
@@ -143,8 +143,8 @@ is_exact (Read name next) call said wanted text (inr (b, came, more)) (bytes, to
     let P : List ℕ → Type 0 = λ l. IsSure call.told (next l) wanted text in
     is_exact (next b) call said wanted text more (subst P (sym (came_told call.told name b bytes came told)) sure) is
 
-pub is_answered : (plan : Plan) (call : Call) → Answered plan call → IsAnswered plan call
-is_answered plan call a = record {
+pub follows_plan : (plan : Plan) (call : Call) → Answered plan call → FollowsPlan plan call
+follows_plan plan call a = record {
   ends = a;
   only = λ said is. only_if plan call said a is;
   comes = λ wanted c. if_comes plan call wanted a c;

@@ -28,8 +28,8 @@ abbrev pub IsSure : Told → Plan → Verdict → List ℕ → Type 0
 IsSure told (Say verdict texts) wanted text = (wanted ≡ verdict) × ((t : List ℕ) → texts t → t ≡ text)
 IsSure told (Read name next) wanted text = (bytes : List ℕ) × (told name ≡ Some bytes) × IsSure told (next bytes) wanted text
 
--- All that is said of a call. Everything follows from `ends`; the others say it by the status.
-pub record IsAnswered (plan : Plan) (call : Call) : Type 0 where
+-- All that is said of a call of a plan. Everything follows from `ends`; the others say it by the status.
+pub record FollowsPlan (plan : Plan) (call : Call) : Type 0 where
   -- what was read, what was written and what was noted
   pub ends : Answered plan call
   -- a verdict comes only if the plan has it there, and then all of a text of it was added
