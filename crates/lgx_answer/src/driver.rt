@@ -5,9 +5,9 @@ ghost use Rattle.lgx_answer.specs.Endings.{ending_of, after_puts, after_read};
 ghost use Rattle.lgx_answer.specs.Answered.{Answered};
 
 use crate::lines::Lines;
+use crate::puts::{put_text, write_lines};
 use crate::status::{Status, Verdict};
 use crate::word::{Step, Word};
-use crate::puts::{put_text, write_lines};
 use lgx_io::{FileFault, Files, Sink, SinkFault};
 use lgx_num::Memory;
 use std::alloc::Global;

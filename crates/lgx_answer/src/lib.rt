@@ -8,14 +8,14 @@
 #![tactic(auto)]
 
 mod driver;
-mod exit;
 mod lines;
+mod process;
+mod puts;
 mod status;
 mod word;
-mod puts;
 
 pub use driver::{answer, say, write};
-pub use exit::exit_number;
 pub use lines::{Lines, NoLines};
+pub use process::{exit_number, words_of};
 pub use status::{Status, Verdict};
 pub use word::{Step, Word};

@@ -1,7 +1,7 @@
 use Rattle.std.proofs.Common.{◌++◌, length-append, take, arith}
 use Rattle.std.proofs.KnownBytes.{Consumes-trans}
 use Rattle.std.proofs.lemmas.List.{length-take-le}
-use Rattle.lgx_io.proofs.host.read_to_end.Goals as goal
+use Rattle.lgx_io.proofs.reading.read_to_end.Goals as goal
 
 pub returns-then-taken-gt-MAX_FILE_BYTES-clause-came : goal.returns-then-taken-gt-MAX_FILE_BYTES-clause-came
 returns-then-taken-gt-MAX_FILE_BYTES-clause-came g c =
