@@ -1,5 +1,6 @@
 // A script, run by a thread for each lane and one for the processor.
-ghost use Rattle.std.specs.Prelude.{◌≡◌, ◌+◌, length, true, IfOk};
+ghost use Rattle.std.specs.Prelude.{◌≡◌, ◌+◌, length, true, IfOk, IsTrue};
+ghost use Rattle.spec_text.specs.Scripts.{is_script};
 ghost use Rattle.lgx_shared.specs.Follows.{Follows, HasCompleted};
 
 use lgx_journal::Script;
@@ -56,6 +57,7 @@ pub(crate) fn run_script<G: Gate + Sync, R: Threads + Wait + Sync>(
 ) -> Result<Recorder, Memory>
     ensures follows { IfOk result (λ recorder. Follows project script recorder) }
     ensures complete { IfOk result (λ recorder. HasCompleted project script recorder) }
+    ensures script { IsTrue (is_script script) }
 {
     let parts = script.lanes.len() as u64 + 1;
     let mut recorder = run_shared::<Brand, Brand, Brand, Brand, G, R>(

@@ -1,8 +1,8 @@
 // The text of a run, line by line.
-ghost use Rattle.std.specs.Prelude.{◌≡◌, ◌<◌, ◌++◌, ◌∷◌, [], codes, length, OnOk};
+ghost use Rattle.std.specs.Prelude.{◌≡◌, ◌<◌, ◌++◌, ◌∷◌, [], codes, length, IsTrue, OnOk};
 ghost use Rattle.spec_machine.specs.Project.{Project};
 ghost use Rattle.spec_text.specs.JournalText.{joined};
-ghost use Rattle.spec_text.specs.Scripts.{Script};
+ghost use Rattle.spec_text.specs.Scripts.{Script, is_script};
 ghost use Rattle.lgx_shared.specs.Follows.{Follows, HasCompleted};
 ghost use Rattle.word_run.specs.RunText.{IsRunText};
 ghost use Rattle.word_run.specs.RunLines.{run_at, run_line, rest_of, left_of};
@@ -35,7 +35,7 @@ pub struct RunLines {
 impl RunLines {
     /// All lines of what was recorded.
     pub(crate) fn of(recorder: Recorder) -> RunLines
-        ensures { (project : Project) (script : Script) → Follows project script recorder → HasCompleted project script recorder
+        ensures { (project : Project) (script : Script) → IsTrue (is_script script) → Follows project script recorder → HasCompleted project script recorder
             → IsRunText project script (rest_of result.recorder result.end result.place) }
     {
         show_kept(recorder.journal());
