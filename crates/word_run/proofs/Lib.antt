@@ -1,0 +1,6 @@
+pub mod JournalLines
+pub mod KeptRuns
+pub mod Leads
+pub mod ReadBack
+pub mod Reading
+pub mod RunTexts
