@@ -2,15 +2,15 @@
 //! call follows the plan of its words. What a word does stands in its own crate; what is said of every call, in `lgx_answer`.
 #![tactic(auto)]
 
+mod call;
 mod gate;
+mod host;
 mod plain;
-mod process;
-mod program;
 mod words;
 
+pub use call::{logix, program};
 pub use gate::Open;
+pub use host::process;
 pub use lgx_answer::Status;
 pub use lgx_shared::Gate;
 pub use plain::{USAGE, logix_plain};
-pub use process::process;
-pub use program::{logix, program};
