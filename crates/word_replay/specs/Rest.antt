@@ -19,9 +19,11 @@ told_from next.Counts n log end = count_line n (length log.lines) log.lost ++ en
 told_from next.Last n log end = end_line log end
 told_from next.Nothing n log end = []
 
+-- what `gen` tells from the next line on
 abbrev pub counts_rest : Counts → List ℕ
 counts_rest l = told_from l.next l.number l.recording.log l.end
 
+-- how many lines these are
 abbrev pub counts_left : Next → ℕ
 counts_left next.Counts = 2
 counts_left next.Last = 1

@@ -86,5 +86,10 @@ pub(crate) fn counts_of(
 {
     let recording = replayed(alloc, project, journal)?;
     let end = end_of(recording.controller(), recording.steps());
-    Ok(Counts { number, recording, end, next: Next::Counts })
+    Ok(Counts {
+        number,
+        recording,
+        end,
+        next: Next::Counts,
+    })
 }

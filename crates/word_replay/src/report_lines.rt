@@ -48,5 +48,9 @@ pub(crate) fn report_of(
 {
     let recording = replayed(alloc, project, journal)?;
     let end = end_of(recording.controller(), recording.steps());
-    Ok(ReportLines { recording, end, next: 0 })
+    Ok(ReportLines {
+        recording,
+        end,
+        next: 0,
+    })
 }
