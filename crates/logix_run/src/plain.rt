@@ -6,11 +6,11 @@ ghost use Rattle.logix_run.specs.Words.{plain_plan_of};
 ghost use Rattle.logix_run.specs.Answers.{IsAnswered};
 
 use crate::words::{number_after, one_after, two_after};
-use lgx_answer::{Status, Verdict, answer, say};
+use lgx_answer::{Status, Verdict, say};
 use lgx_io::{Files, Sink};
 use std::alloc::Global;
-use word_project::{Check, Migrate, Text};
-use word_replay::{Replay, generate};
+use word_project::{check_project, migrate_project, spell_project};
+use word_replay::{generate, replay_journal};
 
 /// The line that tells how to use the program.
 pub const USAGE: &str = "usage: logix check P, text P, replay P J, run P S, gen N, migrate P\n";
@@ -31,16 +31,16 @@ pub(crate) fn follow_plain<F: Files, K: Sink>(
     }) }
 {
     if let Some(project) = one_after("check", words) {
-        return answer(alloc, Check { project }, files, sink);
+        return check_project(alloc, project, files, sink);
     }
     if let Some(project) = one_after("text", words) {
-        return answer(alloc, Text { project }, files, sink);
+        return spell_project(alloc, project, files, sink);
     }
     if let Some(project) = one_after("migrate", words) {
-        return answer(alloc, Migrate { project }, files, sink);
+        return migrate_project(alloc, project, files, sink);
     }
     if let Some((project, journal)) = two_after("replay", words) {
-        return answer(alloc, Replay::Both { project, journal }, files, sink);
+        return replay_journal(alloc, project, journal, files, sink);
     }
     if let Some(number) = number_after("gen", words) {
         return generate(alloc, number, files, sink);

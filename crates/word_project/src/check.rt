@@ -3,9 +3,12 @@ ghost use Rattle.std.specs.Prelude.{◌≡◌, ◌^◌, ◌<◌, [], ◌∷◌, 
 ghost use Rattle.std.specs.Fmt.{decimal};
 ghost use Rattle.lgx_answer.specs.declared.status.Verdict.TheVariants as verdict;
 ghost use Rattle.lgx_watch.specs.Spaces.{after_spaces};
-ghost use Rattle.word_project.specs.CheckPlan.{routine_count, rung_count, check_line, check_judged};
+ghost use Rattle.word_project.specs.CheckPlan.{routine_count, rung_count, check_line, check_judged, check_plan};
+ghost use Rattle.lgx_answer.specs.Endings.{ending_of};
+ghost use Rattle.lgx_answer.specs.Answered.{Answered};
 
-use lgx_answer::{NoLines, Step, Verdict, Word};
+use lgx_answer::{NoLines, Status, Step, Verdict, Word, answer};
+use lgx_io::{Files, Sink};
 use lgx_edit::{PlantParts, ProgramText, RoutineText};
 use lgx_judge::{Judged, judge_project};
 use lgx_num::{Items, Memory};
@@ -15,7 +18,7 @@ use std::alloc::Global;
 
 /// `check P`: says how many tasks, programs, routines and rungs the project has, and how many bytes its tags take.
 #[derive(Drop)]
-pub struct Check<'a> {
+pub(crate) struct Check<'a> {
     /// The name of the project's file.
     pub project: &'a str,
 }
@@ -144,4 +147,22 @@ impl<'a> Word for Check<'a> {
             Err(Memory) => Err(Memory),
         }
     }
+}
+
+/// `check P`: writes the line of the counts of a file's project.
+pub fn check_project<F: Files, K: Sink>(
+    alloc: Global,
+    project: &str,
+    files: &mut F,
+    sink: &mut K,
+) -> Status
+    ensures { Answered (check_plan project.now) (record {
+      told = F.told files.old;
+      failures = record { old = F.failures files.old; new = F.failures files.new };
+      held = record { old = K.held sink.old; new = K.held sink.new };
+      faults = record { old = K.faults sink.old; new = K.faults sink.new };
+      answer = ending_of result;
+    }) }
+{
+    answer(alloc, Check { project }, files, sink)
 }

@@ -6,7 +6,6 @@ mod lines;
 mod migrate;
 mod text;
 
-pub use check::Check;
-pub use lines::TextLines;
-pub use migrate::Migrate;
-pub use text::Text;
+pub use check::check_project;
+pub use migrate::migrate_project;
+pub use text::spell_project;

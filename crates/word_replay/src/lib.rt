@@ -9,5 +9,4 @@ mod replay;
 mod report_lines;
 
 pub use generated::generate;
-pub use replay::Replay;
-pub use report_lines::ReportLines;
+pub use replay::replay_journal;
