@@ -1,5 +1,4 @@
 // The word `replay P J`.
-ghost use Rattle.std.specs.Prelude.{◌≡◌};
 ghost use Rattle.word_replay.specs.ReplayState.{replay_file, replay_next, replay_left};
 
 use crate::report_lines::{ReportLines, report_of};
