@@ -51,7 +51,7 @@ fn made_by(alloc: Global, number: u32) -> Result<Made, Memory>
 }
 
 /// `gen N`: runs the journal that a number makes on the project that it makes, and writes how many lines the report has, and its
-/// end line. No file is read.
+/// end line, or why one of the two is refused. No file is read.
 pub fn generate<F: Files, K: Sink>(alloc: Global, number: u32, files: &F, sink: &mut K) -> Status
     ensures { Answered (gen_plan number) (record {
       told = F.told files.now;

@@ -1,5 +1,4 @@
 // The word `replay P J`.
-ghost use Rattle.std.specs.Prelude.{◌≡◌};
 ghost use Rattle.word_replay.specs.ReplayState.{replay_file, replay_next, replay_left};
 ghost use Rattle.lgx_answer.specs.Endings.{ending_of};
 ghost use Rattle.lgx_answer.specs.Answered.{Answered};
