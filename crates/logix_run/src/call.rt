@@ -17,6 +17,7 @@ use std::thread::Threads;
 use word_run::run;
 
 /// Follows the plan of the words.
+#[tactic(auto, using(crate::proofs::Ways::run_answered, crate::proofs::Ways::plain_answered))]
 fn follow<F: Files, K: Sink, G: Gate + Sync, R: Threads + Wait + Sync>(
     rt: &R,
     alloc: Global,

@@ -13,9 +13,10 @@ use word_project::{check_project, migrate_project, spell_project};
 use word_replay::{generate, replay_journal};
 
 /// The line that tells how to use the program.
-pub const USAGE: &str = "usage: logix check P, text P, replay P J, run P S, gen N, migrate P\n";
+pub const USAGE: &[u8] = b"usage: logix check P, text P, replay P J, run P S, gen N, migrate P\n";
 
 /// Follows the plan of the words.
+#[tactic(auto, using(crate::proofs::Ways::check_answered, crate::proofs::Ways::text_answered, crate::proofs::Ways::migrate_answered, crate::proofs::Ways::replay_answered, crate::proofs::Ways::gen_answered, crate::proofs::Ways::usage_answered))]
 pub(crate) fn follow_plain<F: Files, K: Sink>(
     alloc: Global,
     words: &[String],
@@ -45,7 +46,7 @@ pub(crate) fn follow_plain<F: Files, K: Sink>(
     if let Some(number) = number_after("gen", words) {
         return generate(alloc, number, files, sink);
     }
-    say(Verdict::Usage, USAGE.as_bytes(), files, sink)
+    say(Verdict::Usage, USAGE, files, sink)
 }
 
 /// Does what the words of the command line say, and answers how the program ends: [`crate::logix`] without the words

@@ -82,6 +82,6 @@ fn show_status(
     found: &mut String,
 ) -> Result<(), AllocError> {
     let status = format!(in alloc; "{status:?}")?;
-    let shown = if held == USAGE.as_bytes() { b"USAGE" } else { held };
+    let shown = if held == USAGE { b"USAGE" } else { held };
     show_answer(alloc, status.as_str(), shown, found)
 }
