@@ -24,7 +24,7 @@ fn after_puts(done: Result<(), SinkFault>, whole: Verdict) -> Status
 }
 
 /// The status after a read that gave no bytes.
-fn after_read(fault: FileFault) -> Status
+pub fn after_read(fault: FileFault) -> Status
     ensures { ending_of result ≡ after_read fault }
 {
     match fault {

@@ -14,7 +14,7 @@ mod puts;
 mod status;
 mod word;
 
-pub use driver::{answer, say, write};
+pub use driver::{after_read, answer, say, write};
 pub use lines::{Lines, NoLines};
 pub use process::{exit_number, words_of};
 pub use status::{Status, Verdict};
