@@ -7,14 +7,16 @@ use Rattle.spec_machine.specs.declared.event.Event.{Event}
 use Rattle.spec_text.specs.declared.script.EventRun.{EventRun}
 use Rattle.lgx_journal.specs.Written.{event_run, is_kept_run}
 
-one_more : (rs : List EventRun) (i : ℕ) (d : EventRun) → i < length rs → IsTrue (list_all is_kept_run (take i rs)) → IsTrue (is_kept_run (slice_index_or rs i d)) → IsTrue (list_all is_kept_run (take (suc i) rs))
+one_more : (rs : List EventRun) (i : ℕ) (d : EventRun) → i < length rs → IsTrue (list_all is_kept_run (take i rs))
+    → IsTrue (is_kept_run (slice_index_or rs i d)) → IsTrue (list_all is_kept_run (take (suc i) rs))
 one_more [] i d below h k = absurd (omega arith)
 one_more (r ∷ rs) zero d below h k = and_from _ _ k refl
 one_more (r ∷ rs) (suc i) d below h k =
     let two = and_parts (is_kept_run r) (list_all is_kept_run (take i rs)) h in
     and_from _ _ two.0 (one_more rs i d (omega arith) two.1 k)
 
-pub kept_next : (rs : List EventRun) (i : ℕ) (d : EventRun) (e : Event) (n : ℕ) → i < length rs → e ≡ (slice_index_or rs i d).event → n ≡ (slice_index_or rs i d).count
+pub kept_next : (rs : List EventRun) (i : ℕ) (d : EventRun) (e : Event) (n : ℕ) → i < length rs
+    → e ≡ (slice_index_or rs i d).event → n ≡ (slice_index_or rs i d).count
     → IsTrue (list_all is_kept_run (take i rs)) → IsTrue (is_kept_run (event_run e n)) → IsTrue (list_all is_kept_run (take (i + 1) rs))
 kept_next rs i d e n below event count h k =
     let P : EventRun → Type 0 = λ r. IsTrue (is_kept_run r) in

@@ -1,4 +1,3 @@
-pub mod JournalLines
 pub mod KeptRuns
 pub mod Leads
 pub mod ReadBack

@@ -1,5 +1,5 @@
 -- A text that is read as a journal is read as the same one with anything behind it: the line `end` ends it.
-use Rattle.std.proofs.Common.{◌≡◌, ℕ, ◌+◌, List, [], ◌∷◌, ◌++◌, map, Bool, true, false, ◌&&◌, nat_eq, Result, Ok, Err, codes, refl, sym, ap, ◌∙◌, append_assoc, append-nil, subst}
+use Rattle.std.proofs.Common.{◌≡◌, ℕ, ◌+◌, List, [], ◌∷◌, ◌++◌, map, Bool, true, false, ◌&&◌, nat_eq, Result, Ok, Err, codes, refl, sym, ap, ◌∙◌, append_assoc, append-nil}
 use Rattle.std.specs.List.{flat_map}
 use Rattle.spec_base.specs.Pieces.{pieces, cut}
 use Rattle.spec_base.proofs.Splits.{some_piece}
@@ -55,8 +55,10 @@ on_end n t ls b x = elim b [ true ↦ Ok [] | false ↦ on_read n t ls x ]
 abbrev on_skip : ℕ → Tally → List (List ℕ) → Bool → Bool → Result EventRun JournalCode → Runs
 on_skip n t ls a b x = elim a [ true ↦ runs_from (n + 1) t ls | false ↦ on_end n t ls b x ]
 
-module _ (n : ℕ) (ls more : List (List ℕ)) (rs : List EventRun) (rest : (t : Tally) (qs : List EventRun) → runs_from (n + 1) t ls ≡ Ok qs → runs_from (n + 1) t (ls ++ more) ≡ Ok qs) where
-  rest_more : (t : Tally) (r : EventRun) (x : Runs) → runs_from (n + 1) t ls ≡ x → before_rest r x ≡ Ok rs → before_rest r (runs_from (n + 1) t (ls ++ more)) ≡ Ok rs
+module _ (n : ℕ) (ls more : List (List ℕ)) (rs : List EventRun)
+    (rest : (t : Tally) (qs : List EventRun) → runs_from (n + 1) t ls ≡ Ok qs → runs_from (n + 1) t (ls ++ more) ≡ Ok qs) where
+  rest_more : (t : Tally) (r : EventRun) (x : Runs) → runs_from (n + 1) t ls ≡ x → before_rest r x ≡ Ok rs
+      → before_rest r (runs_from (n + 1) t (ls ++ more)) ≡ Ok rs
   rest_more t r (Err e) is h = absurd (cc h)
   rest_more t r (Ok qs) is h = ap (before_rest r) (rest t qs is) ∙ h
 
@@ -89,7 +91,7 @@ journal_more before behind es h =
     let alone : lines (before ++ 10 ∷ []) ≡ front = lines_more before [] ∙ append-nil front in
     ap (λ ls. all_events (runs_from 1 no_events ls)) (lines_more before behind)
     ∙ events_more (runs_from 1 no_events front) (runs_from 1 no_events (front ++ lines behind)) es (λ rs is. runs_more 1 no_events front (lines behind) rs is)
-      (ap (λ ls. all_events (runs_from 1 no_events ls)) (sym alone) ∙ h)
+    (ap (λ ls. all_events (runs_from 1 no_events ls)) (sym alone) ∙ h)
 
 -- within its limits a journal is read off its text, whatever stands behind it
 pub journal_before : (es : List Event) (behind : List ℕ) → AreWritten (joined es) → IsReadable es → journal_of (text es ++ behind) ≡ Ok es

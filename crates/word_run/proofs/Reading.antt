@@ -34,7 +34,8 @@ lanes_within lanes (e ∷ es) few h =
     let two = and_parts (is_of_lane lanes e) (list_all (is_of_lane lanes) es) h in
     and_from _ _ (lane_within lanes e few two.0) (lanes_within lanes es few two.1)
 
-pub journal_lanes : (lanes : ℕ) (es : List Event) → lanes ≤ OWN_LANE → take 1 es ≡ Act OWN_LANE ModeRun ∷ [] → list_all (is_of_lane lanes) (drop 1 es) ≡ true → list_all has_lane es ≡ true
+pub journal_lanes : (lanes : ℕ) (es : List Event) → lanes ≤ OWN_LANE → take 1 es ≡ Act OWN_LANE ModeRun ∷ []
+    → list_all (is_of_lane lanes) (drop 1 es) ≡ true → list_all has_lane es ≡ true
 journal_lanes lanes [] few opening h = absurd (cc)
 journal_lanes lanes (e ∷ es) few opening h =
     let first : e ≡ Act OWN_LANE ModeRun = cc in
@@ -68,11 +69,13 @@ read_on (r ∷ rs) rest h =
     ∙ ap (λ qs. r ∷ qs) (read_on rs rest two.1)
 
 -- with whatever behind it, the text of a journal is read as this journal's
-pub begins_with_one : (journal : List Event) (after : List ℕ) → list_all is_kept_run (joined journal) ≡ true → list_all has_lane journal ≡ true → BeginsWithOne (text journal ++ after) journal
+pub begins_with_one : (journal : List Event) (after : List ℕ) → list_all is_kept_run (joined journal) ≡ true
+    → list_all has_lane journal ≡ true → BeginsWithOne (text journal ++ after) journal
 begins_with_one journal after kept lanes =
     let written : AreWritten (joined journal) = journal_written journal kept lanes in
     record {
       written = written;
       one = λ runs rest h e.
-          ap events_of (sym (read_on runs rest h) ∙ ap (λ t. until_none (map run_of (lines t))) e ∙ read_on (joined journal) after written) ∙ runs_expand journal;
+          ap events_of (sym (read_on runs rest h) ∙ ap (λ t. until_none (map run_of (lines t))) e ∙ read_on (joined journal) after written)
+          ∙ runs_expand journal;
     }

@@ -1,5 +1,5 @@
 -- The lines of what was recorded are a text of the run.
-use Rattle.std.proofs.Common.{◌≡◌, List, ◌++◌, length, sym, ap, ◌∙◌, subst}
+use Rattle.std.proofs.Common.{◌≡◌, ◌++◌, length, sym, ap, ◌∙◌, subst}
 use Rattle.std.specs.Prelude.{IsTrue}
 use Rattle.std.specs.List.{list_all}
 use Rattle.spec_machine.specs.Project.{Project}
@@ -28,7 +28,8 @@ pub is_run_text : (project : Project) (script : Script) (v : RecorderView) (end 
 is_run_text project script v end proper records complete kept is_end =
     let journal = journal_of v in
     let after = report project journal in
-    let whole : rest_of v end (Journal 0) ≡ run_text project journal = ap (λ t. text journal ++ t) (report_from_start v.recording.names v.recording.log end project journal records.names records.log is_end) in
+    let behind = report_from_start v.recording.names v.recording.log end project journal records.names records.log is_end in
+    let whole : rest_of v end (Journal 0) ≡ run_text project journal = ap (λ t. text journal ++ t) behind in
     let lanes = journal_lanes (length script.lanes) journal (proper_of script proper).lanes complete.partial.opening complete.partial.rest in
     let one : BeginsWithOne (run_text project journal) journal = begins_with_one journal after kept lanes in
     record {

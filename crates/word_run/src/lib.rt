@@ -11,5 +11,4 @@ mod lines;
 mod word;
 
 pub use lgx_shared::Gate;
-pub use lines::RunLines;
 pub use word::run;

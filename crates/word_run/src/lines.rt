@@ -26,7 +26,7 @@ pub(crate) enum Place {
 /// The lines of a run: a line for each run of equal events of the journal that was recorded, the line `end`, and the lines of
 /// its report.
 #[derive(Drop)]
-pub struct RunLines {
+pub(crate) struct RunLines {
     recorder: Recorder,
     end: End,
     place: Place,

@@ -1,13 +1,12 @@
 // The word.
-ghost use Rattle.std.specs.Prelude.{◌≡◌};
-ghost use Rattle.lgx_answer.specs.Endings.{ending_of, after_read};
+ghost use Rattle.lgx_answer.specs.Endings.{ending_of};
 ghost use Rattle.lgx_answer.specs.Answered.{Answered};
 ghost use Rattle.word_run.specs.RunPlan.{script_ran, script_read, run_plan};
 
 use crate::lanes::run_script;
 use crate::lines::RunLines;
-use lgx_answer::{Status, Verdict, say, write};
-use lgx_io::{FileFault, Files, Sink};
+use lgx_answer::{Status, Verdict, after_read, say, write};
+use lgx_io::{Files, Sink};
 use lgx_journal::Script;
 use lgx_judge::{Judged, judge_project, judge_script};
 use lgx_num::Memory;
@@ -16,17 +15,6 @@ use lgx_shared::Gate;
 use std::alloc::Global;
 use std::sync::Wait;
 use std::thread::Threads;
-
-/// The status after a read that gave no bytes.
-fn after_read(fault: FileFault) -> Status
-    ensures { ending_of result ≡ after_read fault }
-{
-    match fault {
-        FileFault::Failed => Status::ReadFault,
-        FileFault::TooLong { .. } => Status::TooLong,
-        FileFault::Memory => Status::Memory,
-    }
-}
 
 /// Runs a script on a project, and writes the text of the run.
 fn run_and_write<F: Files, K: Sink, G: Gate + Sync, R: Threads + Wait + Sync>(
@@ -75,7 +63,9 @@ fn run_on<F: Files, K: Sink, G: Gate + Sync, R: Threads + Wait + Sync>(
         Err(fault) => return after_read(fault),
     };
     match judge_script(alloc, &bytes) {
-        Ok(Judged::Accepted(script)) => run_and_write(rt, alloc, project, script, files, sink, gate),
+        Ok(Judged::Accepted(script)) => run_and_write(
+            rt, alloc, project, script, files, sink, gate,
+        ),
         Ok(Judged::Refused(line)) => say(Verdict::Script, line.as_slice(), files, sink),
         Err(Memory) => Status::Memory,
     }
