@@ -3,7 +3,7 @@ use Rattle.spec_base.specs.Pieces.{pieces}
 use Rattle.spec_base.specs.declared.limits.TheConstants.{MAX_REPORT_LINES}
 use Rattle.lgx_chart.specs.Charts.{chart_from, chart_of}
 use Rattle.lgx_chart.specs.Reading.{with_entries}
-use Rattle.lgx_chart.proofs.chart.read_chart.Given as goal
+use Rattle.lgx_chart.proofs.chart.read_lines.Given as goal
 
 abbrev pub invariant-loop-line : goal.invariant-loop-line
 invariant-loop-line l = record {

@@ -1,6 +1,6 @@
 use Rattle.std.proofs.Common.{sym, ◌∙◌}
 use Rattle.lgx_chart.proofs.Lines.{refused_at}
-use Rattle.lgx_chart.proofs.chart.read_chart.Goals as goal
+use Rattle.lgx_chart.proofs.chart.read_lines.Goals as goal
 
 pub returns-in-Err-clause-fault : goal.returns-in-Err-clause-fault
 returns-in-Err-clause-fault c =
