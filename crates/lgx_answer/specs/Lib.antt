@@ -4,3 +4,4 @@ pub mod Answered
 pub mod Puts
 pub mod Laws
 pub mod Exit
+pub mod Process

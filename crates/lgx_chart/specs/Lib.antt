@@ -6,4 +6,3 @@ pub mod Reading
 pub mod Vcd
 pub mod ChartPlan
 pub mod WavePlan
-pub mod Process

@@ -3,7 +3,7 @@ ghost use Rattle.std.specs.Prelude.{[], map, string_bytes};
 ghost use Rattle.lgx_answer.specs.Answered.{Failures};
 ghost use Rattle.lgx_answer.specs.Endings.{ending_of};
 ghost use Rattle.lgx_answer.specs.Laws.{FollowsPlan};
-ghost use Rattle.lgx_chart.specs.Process.{IsProcess};
+ghost use Rattle.lgx_answer.specs.Process.{IsProcess};
 ghost use Rattle.lgx_picture.specs.Svg.{svg_text};
 ghost use Rattle.lgx_picture.specs.TimelinePlan.{timeline_plan};
 

@@ -3,7 +3,8 @@ ghost use Rattle.std.specs.Prelude.{◌≡◌, map, string_bytes};
 ghost use Rattle.lgx_answer.specs.Endings.{ending_of};
 ghost use Rattle.lgx_answer.specs.Answered.{Answered};
 ghost use Rattle.logix_run.specs.Words.{plan_of};
-ghost use Rattle.logix_run.specs.Answers.{IsAnswered, IsProcess};
+ghost use Rattle.lgx_answer.specs.Process.{IsProcess};
+ghost use Rattle.logix_run.specs.Answers.{IsAnswered};
 
 use crate::plain::follow_plain;
 use crate::words::two_after;
