@@ -153,6 +153,13 @@ impl Recording {
         &self.parts.names
     }
 
+    /// The numbers at the watched places, in their order, as they were after the last event.
+    pub fn values(&self) -> &[i32]
+        ensures { result.now ≡ self.now.values }
+    {
+        &self.parts.values
+    }
+
     /// The number of processor steps so far.
     pub fn steps(&self) -> u32
         ensures { result ≡ self.now.steps }
