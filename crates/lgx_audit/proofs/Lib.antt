@@ -1,0 +1,13 @@
+pub mod Masks
+pub mod TurnsNow
+pub mod WaysNow
+pub mod WaysStep
+pub mod Decided
+pub mod Listed
+pub mod MoreEvents
+pub mod OneTask
+pub mod Watched
+pub mod OneWatch
+pub mod Tallies
+pub mod MorePasses
+pub mod Judged

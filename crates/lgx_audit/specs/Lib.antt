@@ -1,0 +1,4 @@
+pub mod Watching
+pub mod Along
+pub mod OnePass
+pub mod Breaches
