@@ -1,4 +1,6 @@
 pub mod Masks
+pub mod ReadLines
+pub mod LinesBack
 pub mod TurnsNow
 pub mod WaysNow
 pub mod WaysStep
