@@ -1,4 +1,5 @@
 pub mod Masks
+pub mod TableBounds
 pub mod ReadLines
 pub mod LinesBack
 pub mod TurnsNow

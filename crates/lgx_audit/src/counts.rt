@@ -1,12 +1,12 @@
 // What is counted of each task along a trace.
-ghost use Rattle.std.specs.Prelude.{◌≡◌, ◌+◌, ◌<◌, ◌≤◌, ◌&&◌, ◌||◌, not, if◌then◌else◌, ℕ, List, Bool, true, false, length, take, slice_index_or, nat_lt, IsTrue, IfOk, MatchOption, IfSome};
-ghost use Rattle.std.specs.List.{list_any, list_all, All};
-ghost use Rattle.spec_schedule.specs.declared.trace.TraceEvent.TheVariants.{Idle};
-ghost use Rattle.spec_schedule.specs.Counting.{Counted, uncounted, Numbers, is_open, marked, program_ended, stepped, stepping, stops, has_bit, releases, counted, counted_all, counted_tasks, counted_events, CountedTask, CountedEvent};
+ghost use Rattle.std.specs.Prelude.{◌≡◌, ◌+◌, ◌<◌, ◌≤◌, if◌then◌else◌, ℕ, List, length, replicate, slice_index_or, IfOk};
+ghost use Rattle.spec_schedule.specs.Counting.{Counted, marked, program_ended, stepped, stepping, stops, has_bit, releases, counted, counted_all};
 ghost use Rattle.spec_schedule.specs.Legal.{no_task};
 ghost use Rattle.lgx_audit.specs.Along.{shown, no_count, Shown, IsWithin, is_for_all};
 
+use lgx_num::Memory;
 use spec_schedule::{AuditTask, StepFault, TraceAnswer, TraceEvent, TraceMark, Verb};
+use std::alloc::Global;
 
 /// What is counted of a task: whether it is up, its ended programs, its open regions, whether a CPS of it is open, and how
 /// often it has gone down.
@@ -17,6 +17,20 @@ pub struct Count {
     pub regions: u64,
     pub cps_open: bool,
     pub downs: u64,
+}
+
+/// The counts of tasks before the first event.
+pub(crate) fn no_counts(alloc: Global, tasks: usize) -> Result<Vec<Count>, Memory>
+    ensures { IfOk result (λ counts. counts.items ≡ replicate tasks no_count) }
+{
+    let none = Count {
+        up: false,
+        ended: 0,
+        regions: 0,
+        cps_open: false,
+        downs: 0,
+    };
+    Ok(vec![in alloc; none; tasks]?)
 }
 
 /// The counts after a mark.

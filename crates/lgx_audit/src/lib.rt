@@ -14,7 +14,7 @@ mod write;
 
 pub use error::{AuditError, TraceCode, TraceError, TraceFault};
 pub use laws::one_pass_decides;
-pub use one_pass::{Breach, audit};
+pub use one_pass::audit;
 pub use read::read_trace;
 pub use spec_schedule::{
     AuditTask, StepFault, Table, TraceAnswer, TraceEvent, TraceMark, Verb,

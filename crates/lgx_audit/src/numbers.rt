@@ -1,10 +1,12 @@
 // The numbers of a program's texts along a trace.
-ghost use Rattle.std.specs.Prelude.{◌≡◌, ◌<◌, ℕ, List, length, slice_index_or};
+ghost use Rattle.std.specs.Prelude.{◌≡◌, ◌<◌, ℕ, List, length, replicate, slice_index_or, IfOk};
 ghost use Rattle.spec_schedule.specs.Counting.{Counted, Numbers, edited, edited_all, selected_number};
 ghost use Rattle.spec_schedule.specs.Legal.{keeps_version};
-ghost use Rattle.lgx_audit.specs.Along.{told, Told, IsOfPrograms};
+ghost use Rattle.lgx_audit.specs.Along.{told, no_tally, Told, IsOfPrograms};
 
+use lgx_num::Memory;
 use spec_schedule::{TraceAnswer, TraceEvent, Verb};
+use std::alloc::Global;
 
 /// The numbers of a program's base and merged text, and whether it is testing.
 #[derive(Clone, Copy)]
@@ -12,6 +14,18 @@ pub struct Tally {
     pub base: u32,
     pub merged: u32,
     pub testing: bool,
+}
+
+/// The numbers of programs before the first edit.
+pub(crate) fn no_tallies(alloc: Global, programs: usize) -> Result<Vec<Tally>, Memory>
+    ensures { IfOk result (λ tallies. tallies.items ≡ replicate programs no_tally) }
+{
+    let none = Tally {
+        base: 0,
+        merged: 0,
+        testing: false,
+    };
+    Ok(vec![in alloc; none; programs]?)
 }
 
 /// The numbers after an edit that was answered so.

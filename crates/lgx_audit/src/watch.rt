@@ -1,5 +1,5 @@
 // What is watched along a trace beside what is counted.
-ghost use Rattle.std.specs.Prelude.{◌≡◌, ◌&&◌, ◌||◌, not, if◌then◌else◌, nat_lt, nat_eq, ◌<◌, ◌≤◌, ℕ, List, Bool, Option, length, slice_index_or, IfSome, Some, None};
+ghost use Rattle.std.specs.Prelude.{◌≡◌, ◌&&◌, ◌||◌, not, if◌then◌else◌, nat_lt, nat_eq, ◌<◌, ◌≤◌, ℕ, List, Bool, Option, length, replicate, slice_index_or, IfOk, IfSome, Some, None};
 ghost use Rattle.std.specs.List.{list_any};
 ghost use Rattle.spec_schedule.specs.Counting.{Counted, counted, is_open, counted_tasks, uncounted, Numbers, counted_all};
 ghost use Rattle.spec_schedule.specs.declared.trace.TraceEvent.{TraceEvent};
@@ -9,7 +9,9 @@ ghost use Rattle.lgx_audit.specs.Watching.{gives_at, is_rival_of, watch_by, watc
 
 use crate::counts::{Count, counted, is_for_all, stepping};
 use crate::priority::higher_up;
+use lgx_num::Memory;
 use spec_schedule::{Table, TraceEvent};
+use std::alloc::Global;
 
 /// Of a task: it has stepped since the last tick and stays up since; another one of its priority has stepped after that;
 /// it was up at the last tick when another was to give way to it, and stays up since.
@@ -18,6 +20,18 @@ pub struct Watch {
     pub stepped: bool,
     pub passed: bool,
     pub awaited: bool,
+}
+
+/// What is watched of tasks before the first event.
+pub(crate) fn no_watches(alloc: Global, tasks: usize) -> Result<Vec<Watch>, Memory>
+    ensures { IfOk result (λ watches. watches.items ≡ replicate tasks unwatched) }
+{
+    let none = Watch {
+        stepped: false,
+        passed: false,
+        awaited: false,
+    };
+    Ok(vec![in alloc; none; tasks]?)
 }
 
 /// The task that gives way at a tick.

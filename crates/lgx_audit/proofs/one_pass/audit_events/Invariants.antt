@@ -3,7 +3,7 @@ use Rattle.std.specs.Prelude.{slice_index_or, Some}
 use Rattle.lgx_audit.specs.Along.{no_count, Shown, Told, counts_after, numbers_after}
 use Rattle.lgx_audit.specs.Breaches.{keeps}
 use Rattle.lgx_audit.specs.Watching.{keeps_turn_now, gives_way_now, passes, watching_after}
-use Rattle.lgx_audit.proofs.one_pass.audit.Given as goal
+use Rattle.lgx_audit.proofs.one_pass.audit_events.Given as goal
 
 -- all that is kept is that of the events so far, of which each passed its tests
 abbrev pub invariant-loop-i : goal.invariant-loop-i
