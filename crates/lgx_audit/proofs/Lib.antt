@@ -14,3 +14,5 @@ pub mod OneWatch
 pub mod Tallies
 pub mod MorePasses
 pub mod Judged
+pub mod LegalParts
+pub mod Breaching

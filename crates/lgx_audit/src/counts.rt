@@ -190,9 +190,11 @@ pub(crate) fn counted(d: AuditTask, t: usize, e: &TraceEvent, c: Count) -> Count
         c
     };
     if releases(d, e, t) {
+        // Its ended programs are counted anew.
+        let ended = 0;
         Count {
             up: true,
-            ended: 0,
+            ended,
             ..after
         }
     } else {

@@ -32,10 +32,7 @@ pub enum TraceError {
 pub enum AuditError {
     /// The least law that is broken (1 the priority law, 2 the turn law, 3 the version law) with the first event that
     /// breaks one, counted from 0.
-    Breach {
-        law: u8,
-        at: u64,
-    },
+    Breach { law: u8, at: u64 },
     Memory,
 }
 

@@ -13,15 +13,12 @@ mod words;
 mod write;
 
 pub use error::{AuditError, TraceCode, TraceError, TraceFault};
-pub use laws::one_pass_decides;
+pub use laws::{breaches_are_told, one_pass_decides, words_are_read_back};
+use lgx_num::Items;
 pub use one_pass::audit;
 pub use read::read_trace;
-pub use spec_schedule::{
-    AuditTask, StepFault, Table, TraceAnswer, TraceEvent, TraceMark, Verb,
-};
+pub use spec_schedule::{AuditTask, StepFault, Table, TraceAnswer, TraceEvent, TraceMark, Verb};
 pub use write::write_line;
-
-use lgx_num::Items;
 
 /// The tasks of a table.
 pub type AuditTasks = Items<AuditTask>;

@@ -21,10 +21,7 @@ use std::alloc::Global;
 fn breach(law: u8, at: usize) -> AuditError
     ensures { result ≡ Breach law at }
 {
-    AuditError::Breach {
-        law,
-        at: at as u64,
-    }
+    AuditError::Breach { law, at: at as u64 }
 }
 
 /// The first event of the trace with which a law is broken.

@@ -285,7 +285,9 @@ fn is_in_table(table: &Table, event: TraceEvent) -> bool
             program,
             mark,
             ..
-        } => is_tasks(table, task) && is_programs(table, program) && if_task(table, triggered(mark)),
+        } => is_tasks(table, task)
+            && is_programs(table, program)
+            && if_task(table, triggered(mark)),
         TraceEvent::Left { task, program, .. } => is_of(table, task, program),
         TraceEvent::Tick {
             released,
