@@ -1,5 +1,5 @@
 -- What follows of a plan from what a reader tells of the bytes.
-use Rattle.std.proofs.Common.{◌≡◌, ℕ, List, Result, Ok, Err, refl, sym, subst}
+use Rattle.std.proofs.Common.{◌≡◌, ℕ, List, Result, Ok, refl, sym, subst}
 use Rattle.spec_machine.specs.declared.event.Event.{Event}
 use Rattle.spec_machine.specs.Project.{Project}
 use Rattle.spec_text.specs.declared.script.JournalFault.{JournalFault}
@@ -18,9 +18,9 @@ use Rattle.lgx_judge.specs.Judged.{IsNoProject, IsNoJournal, IsNoScript}
 -- ---- a project
 
 pub project_refused : (accepted : Project → Plan) (bytes line : List ℕ) → IsNoProject bytes line → Says (on_project accepted bytes) verdict.Project line
-project_refused accepted bytes line no =
+project_refused accepted bytes line refusal =
     let P : Result Project ProjectFault → Type 0 = λ r. Says (of_project accepted r) verdict.Project line in
-    subst P (sym no.refused) (refl, no.line_is)
+    subst P (sym refusal.refused) (refl, refusal.line_is)
 
 pub project_says : (accepted : Project → Plan) (bytes : List ℕ) (project : Project) (said : Verdict) (text : List ℕ)
     → project_of bytes ≡ Ok project → Says (accepted project) said text → Says (on_project accepted bytes) said text
@@ -37,9 +37,9 @@ project_leads accepted bytes project next is leads =
 -- ---- a journal
 
 pub journal_refused : (accepted : List Event → Plan) (bytes line : List ℕ) → IsNoJournal bytes line → Says (on_journal accepted bytes) verdict.Script line
-journal_refused accepted bytes line no =
+journal_refused accepted bytes line refusal =
     let P : Result (List Event) JournalFault → Type 0 = λ r. Says (of_journal accepted r) verdict.Script line in
-    subst P (sym no.refused) (refl, no.line_is)
+    subst P (sym refusal.refused) (refl, refusal.line_is)
 
 pub journal_says : (accepted : List Event → Plan) (bytes : List ℕ) (journal : List Event) (said : Verdict) (text : List ℕ)
     → journal_of bytes ≡ Ok journal → Says (accepted journal) said text → Says (on_journal accepted bytes) said text
@@ -50,9 +50,9 @@ journal_says accepted bytes journal said text is says =
 -- ---- a script
 
 pub script_refused : (accepted : Script → Plan) (bytes line : List ℕ) → IsNoScript bytes line → Says (on_script accepted bytes) verdict.Script line
-script_refused accepted bytes line no =
+script_refused accepted bytes line refusal =
     let P : Result Script JournalFault → Type 0 = λ r. Says (of_script accepted r) verdict.Script line in
-    subst P (sym no.refused) (refl, no.line_is)
+    subst P (sym refusal.refused) (refl, refusal.line_is)
 
 pub script_says : (accepted : Script → Plan) (bytes : List ℕ) (script : Script) (said : Verdict) (text : List ℕ)
     → script_of bytes ≡ Ok script → Says (accepted script) said text → Says (on_script accepted bytes) said text

@@ -1,1 +1,2 @@
+pub mod CauseLine
 pub mod Follow

@@ -77,18 +77,19 @@ project_cause f = codes "project" ∷ project_code f.code ∷ (path_words f.path
 unfoldable pub project_cause_line : ProjectFault → List ℕ
 project_cause_line f = line_of (project_cause f)
 
--- ---- the journal's line: its code and the number of the line
+-- ---- the line of a journal, or of a script: its code and the number of the line
+
+abbrev pub line_words : JournalFault → List (List ℕ)
+line_words f = journal_code f.code ∷ codes "line" ∷ decimal f.line ∷ []
 
 abbrev pub journal_cause : JournalFault → List (List ℕ)
-journal_cause f = codes "journal" ∷ journal_code f.code ∷ codes "line" ∷ decimal f.line ∷ []
+journal_cause f = codes "journal" ∷ line_words f
 
 unfoldable pub journal_cause_line : JournalFault → List ℕ
 journal_cause_line f = line_of (journal_cause f)
 
--- ---- the script's line: its code and the number of the line
-
 abbrev pub script_cause : JournalFault → List (List ℕ)
-script_cause f = codes "script" ∷ journal_code f.code ∷ codes "line" ∷ decimal f.line ∷ []
+script_cause f = codes "script" ∷ line_words f
 
 unfoldable pub script_cause_line : JournalFault → List ℕ
 script_cause_line f = line_of (script_cause f)

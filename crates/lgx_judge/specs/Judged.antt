@@ -1,9 +1,6 @@
 -- What a reader tells of the bytes of a file.
-use Rattle.std.specs.Prelude.{◌≡◌, ℕ, List, Ok, Err}
-use Rattle.spec_machine.specs.Project.{Project}
-use Rattle.spec_machine.specs.declared.event.Event.{Event}
+use Rattle.std.specs.Prelude.{◌≡◌, ℕ, List, Err}
 use Rattle.spec_text.specs.declared.script.JournalFault.{JournalFault}
-use Rattle.spec_text.specs.Scripts.{Script}
 use Rattle.spec_text.specs.JournalText.{journal_of}
 use Rattle.spec_text.specs.ScriptText.{script_of}
 use Rattle.spec_project.specs.declared.fault.ProjectFault.{ProjectFault}

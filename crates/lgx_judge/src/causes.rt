@@ -1,6 +1,6 @@
 // The lines that tell why a file is no project, no journal or no script.
 ghost use Rattle.std.specs.Prelude.{◌≡◌, ◌++◌, IfOk, OnOk};
-ghost use Rattle.lgx_judge.specs.CauseLines.{path_words, inner_words, project_cause_line, journal_cause_line, script_cause_line};
+ghost use Rattle.lgx_judge.specs.CauseLines.{path_words, inner_words, line_words, project_cause_line, journal_cause_line, script_cause_line};
 ghost use Rattle.lgx_watch.specs.Spaces.{after_spaces};
 
 use crate::codes::{journal_code, project_code, tag_code, type_code};
@@ -33,9 +33,18 @@ fn push_inner(text: &mut Vec<u8>, inner: Inner) -> Result<(), Memory>
     }
 }
 
-/// The line that tells why a file is no project.
-#[tactic(auto, unfolding(crate::specs::CauseLines::project_cause_line))]
-pub(crate) fn project_cause_line(alloc: Global, fault: &ProjectFault) -> Result<Vec<u8>, Memory>
+/// Adds the code of a line that is refused, and its number.
+fn push_line(text: &mut Vec<u8>, fault: JournalFault) -> Result<(), Memory>
+    ensures { OnOk result (text.new.items ≡ text.old.items ++ after_spaces (line_words fault)) }
+{
+    push_word(text, journal_code(fault.code))?;
+    push_word(text, b"line")?;
+    push_count(text, fault.line)
+}
+
+/// The line that tells why a file is no project, with an LF at its end.
+#[tactic(auto, using(crate::proofs::CauseLine::cause_line), unfolding(crate::specs::CauseLines::project_cause_line))]
+pub fn project_cause_line(alloc: Global, fault: &ProjectFault) -> Result<Vec<u8>, Memory>
     ensures { IfOk result (λ text. text.items ≡ project_cause_line fault.now) }
 {
     let mut text = Vec::new(alloc);
@@ -54,9 +63,7 @@ pub(crate) fn journal_cause_line(alloc: Global, fault: JournalFault) -> Result<V
 {
     let mut text = Vec::new(alloc);
     text.extend_from_slice(b"journal")?;
-    push_word(&mut text, journal_code(fault.code))?;
-    text.extend_from_slice(b" line")?;
-    push_count(&mut text, fault.line)?;
+    push_line(&mut text, fault)?;
     text.push(b'\n')?;
     Ok(text)
 }
@@ -68,9 +75,7 @@ pub(crate) fn script_cause_line(alloc: Global, fault: JournalFault) -> Result<Ve
 {
     let mut text = Vec::new(alloc);
     text.extend_from_slice(b"script")?;
-    push_word(&mut text, journal_code(fault.code))?;
-    text.extend_from_slice(b" line")?;
-    push_count(&mut text, fault.line)?;
+    push_line(&mut text, fault)?;
     text.push(b'\n')?;
     Ok(text)
 }

@@ -1,5 +1,6 @@
 // What a file is judged to be.
 ghost use Rattle.std.specs.Prelude.{◌≡◌, List, ℕ, Ok};
+ghost use Rattle.spec_machine.specs.Project.{Project};
 ghost use Rattle.spec_text.specs.JournalText.{journal_of};
 ghost use Rattle.spec_text.specs.ScriptText.{script_of};
 ghost use Rattle.spec_project.specs.Projects.{project_of};

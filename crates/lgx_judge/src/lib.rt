@@ -6,4 +6,5 @@ mod causes;
 mod codes;
 mod judged;
 
+pub use causes::project_cause_line;
 pub use judged::{Judged, judge_journal, judge_project, judge_script};
