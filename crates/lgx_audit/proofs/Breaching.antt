@@ -169,3 +169,7 @@ module _ (table : Table) (trace : List TraceEvent) (known : AreInTable table tra
 
   pub some_is_breach : (b : Breach) → (breach table trace ≡ Some b → IsBreach table trace b.law b.at) × (IsBreach table trace b.law b.at → breach table trace ≡ Some b)
   some_is_breach b = ((λ h. is_breach table [] trace b first_legal h), (λ is. told b is (breach table trace) refl))
+
+-- without a breach all is legal, also where the trace isn't one of the table
+pub legal_without : (table : Table) (trace : List TraceEvent) → breach table trace ≡ None → Legal table trace
+legal_without table trace h = stays_legal table [] trace (record { priority = refl; turns = refl; ticks = refl; versions = refl }) h
