@@ -1,0 +1,4 @@
+pub mod Says
+pub mod FewPrograms
+pub mod Tables
+pub mod Judging

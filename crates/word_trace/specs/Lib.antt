@@ -1,0 +1,4 @@
+pub mod AuditPlan
+pub mod AuditState
+pub mod Refusals
+pub mod AuditLaws
