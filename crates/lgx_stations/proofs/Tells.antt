@@ -1,6 +1,6 @@
 -- How far a replay comes with one event.
-use Rattle.std.proofs.Common.{◌≡◌, ℕ, zero, suc, ◌+◌, ◌-◌, ◌≤◌, ◌<◌, replicate, Bool, false, List, [], ◌∷◌, ◌++◌, length, drop, get_or, refl, sym, ◌∙◌, ap, subst, inl, inr, ◌⊎◌, ⊎_elim, arith}
-use Rattle.std.specs.Prelude.{if◌then◌else◌}
+use Rattle.std.proofs.Common.{◌≡◌, ℕ, zero, suc, ◌+◌, ◌-◌, ◌≤◌, ◌<◌, replicate, Bool, false, List, [], ◌∷◌, ◌++◌, length, drop, refl, sym, ◌∙◌, ap, subst, inl, inr, ◌⊎◌, ⊎_elim, arith}
+use Rattle.std.specs.Prelude.{if◌then◌else◌, slice_index_or}
 use Rattle.std.proofs.lemmas.Bool.{cases_lt, lt-ltb}
 use Rattle.std.proofs.lemmas.List.{append-nil, append_assoc, length-append, length-take}
 use Rattle.std.proofs.Math.Seq.{drop-cons}
@@ -8,7 +8,7 @@ use Rattle.spec_base.specs.declared.limits.TheConstants.{MAX_EVENTS}
 use Rattle.spec_text.specs.declared.script.EventRun.{EventRun}
 use Rattle.spec_text.specs.JournalText.{events_of}
 use Rattle.spec_machine.specs.declared.event.Event.{Event}
-use Rattle.spec_machine.specs.declared.event.Event.TheVariants.{Tick}
+use Rattle.spec_machine.specs.declared.event.Event.TheVariants.{Cpu, Tick}
 use Rattle.spec_machine.specs.Events.{is_tick}
 use Rattle.spec_machine.specs.Machine.{run}
 use Rattle.spec_machine.specs.Project.{Project}
@@ -70,13 +70,20 @@ module _ {V : Type 0} (records : V → Project → List Event → Type 0) (p : P
 pub one_less : (n k : ℕ) (e : Event) (left : List Event) → k < n → replicate (n - k) e ++ left ≡ e ∷ (replicate (n - (k + 1)) e ++ left)
 one_less n k e left less = let m : n - k ≡ suc (n - (k + 1)) = omega arith in ap (λ i. replicate i e ++ left) m
 
+-- no run of equal events
+pub no_run : EventRun
+no_run = record { event = Cpu; count = 0 }
+
 -- the runs that are left, one shorter
-pub next_run : (runs : List EventRun) (i : ℕ) (x : EventRun) → i < length runs → x ≡ get_or runs i x → events_of (drop i runs) ≡ replicate x.count x.event ++ events_of (drop (i + 1) runs)
-next_run runs i x less is =
+pub next_run : (runs : List EventRun) (i : ℕ) (event : Event) (count : ℕ) → i < length runs → event ≡ (slice_index_or runs i no_run).event → count ≡ (slice_index_or runs i no_run).count
+    → events_of (drop i runs) ≡ replicate count event ++ events_of (drop (i + 1) runs)
+next_run runs i event count less named counted =
     let n : suc i ≡ i + 1 = omega arith in
-    ap events_of (drop-cons runs i x less)
-    ∙ (ap (λ (y : EventRun). replicate y.count y.event ++ events_of (drop (suc i) runs)) (sym is)
-    ∙ ap (λ k. replicate x.count x.event ++ events_of (drop k runs)) n)
+    let run = slice_index_or runs i no_run in
+    ap events_of (drop-cons runs i no_run less)
+    ∙ (ap (λ k. replicate run.count run.event ++ events_of (drop k runs)) n
+    ∙ (ap (λ e. replicate run.count e ++ events_of (drop (i + 1) runs)) (sym named)
+    ∙ ap (λ m. replicate m event ++ events_of (drop (i + 1) runs)) (sym counted)))
 
 -- with nothing left all was made, and told
 module _ {V : Type 0} (records : V → Project → List Event → Type 0) (p : Project) (journal : List Event) (v : V) (board : List Snapshot) (h : IsAt records p journal v board []) where

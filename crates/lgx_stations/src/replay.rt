@@ -7,8 +7,8 @@ ghost use Rattle.spec_machine.specs.Project.{Project};
 ghost use Rattle.spec_story.specs.Snapshots.{snapshot};
 
 use lgx_hmi::Snapshot;
+use lgx_journal::Event;
 use lgx_num::Memory;
-use spec_machine::Event;
 
 /// A recording of a run, by what it records: the events of a project's run, oldest first.
 pub trait Replay {

@@ -1,7 +1,6 @@
 // Stations on threads, beside the replay that they read.
 ghost use Rattle.std.specs.Prelude.{◌≡◌, ◌<◌, ◌≤◌, [], All, IfOk, OnOk, length, vec_len, vec_capacity};
 ghost use Rattle.spec_base.specs.declared.limits.TheConstants.{MAX_EVENTS};
-ghost use Rattle.spec_text.specs.JournalText.{events_of};
 ghost use Rattle.spec_story.specs.Snapshots.{snapshots};
 ghost use Rattle.lgx_stations.specs.Telling.{IsAt, IsFirstOf, AreReadingsOf};
 ghost use Rattle.lgx_stations.specs.declared.stations.TheConstants.{MAX_STATIONS};
@@ -11,8 +10,8 @@ use crate::replay::Replay;
 use crate::telling::{Gate, tell_journal};
 use crate::watcher::{Readings, Watcher};
 use lgx_hmi::{Board, Station, Story};
+use lgx_journal::Journal;
 use lgx_num::Memory;
-use spec_text::EventRun;
 use std::alloc::Global;
 use std::sync::Wait;
 use std::thread::{Threads, for_each_mut, join_mut};
@@ -58,9 +57,9 @@ fn run_beside<I: Input + Send, V: Replay, G: Gate + Sync, R: Threads + Wait + Sy
     replay: &mut V,
     board: &mut Board<Tells<I>>,
     watchers: &mut [Watcher<Tells<I>>],
-    runs: &[EventRun],
+    journal: &Journal,
 ) -> Result<(), Memory>
-    requires so_far { IsAt V.records I.project I.journal replay.old board.old (events_of runs.now) }
+    requires so_far { IsAt V.records I.project I.journal replay.old board.old journal.now.events }
     requires some { (0 < length watchers.old) × (length watchers.old ≤ MAX_STATIONS) }
     ensures records { OnOk result (V.records replay.new I.project I.journal) }
     ensures told { OnOk result (board.new ≡ snapshots I.project I.journal) }
@@ -76,10 +75,10 @@ fn run_beside<I: Input + Send, V: Replay, G: Gate + Sync, R: Threads + Wait + Sy
             ensures len { length watchers.exit.now ≡ length watchers.entry.now }
         { watch_all(rt, gate, watchers) },
         &mut || -> Result<(), Memory>
-            requires { IsAt V.records I.project I.journal replay.now board.now (events_of runs.now) }
+            requires { IsAt V.records I.project I.journal replay.now board.now journal.now.events }
             ensures records { OnOk result (V.records replay.exit.now I.project I.journal) }
             ensures told { OnOk result (board.exit.now ≡ snapshots I.project I.journal) }
-        { tell_journal(rt, gate, lane, replay, board, runs) },
+        { tell_journal(rt, gate, lane, replay, board, journal) },
     );
     told
 }
@@ -111,16 +110,16 @@ fn watch_through<I: Input + Send, V: Replay, G: Gate + Sync, R: Threads + Wait +
     replay: &mut V,
     board: &mut Board<Tells<I>>,
     watchers: Vec<Watcher<Tells<I>>>,
-    runs: &[EventRun],
+    journal: &Journal,
 ) -> Result<Vec<Readings>, Memory>
-    requires so_far { IsAt V.records I.project I.journal replay.old board.old (events_of runs.now) }
+    requires so_far { IsAt V.records I.project I.journal replay.old board.old journal.now.events }
     requires some { (0 < vec_len watchers) × (vec_len watchers ≤ MAX_STATIONS) }
     ensures records { OnOk result (V.records replay.new I.project I.journal) }
     ensures count { IfOk result (λ readings. vec_len readings ≡ vec_len watchers) }
     ensures readings { IfOk result (λ readings. All (λ r. AreReadingsOf (snapshots I.project I.journal) r) readings.items) }
 {
     let mut watchers = watchers;
-    run_beside(rt, gate, replay, board, watchers.as_mut_slice(), runs)?;
+    run_beside(rt, gate, replay, board, watchers.as_mut_slice(), journal)?;
     finish_all(alloc, board, watchers)
 }
 
@@ -132,12 +131,12 @@ pub fn watch_journal<I: Input + Send, V: Replay, G: Gate + Sync, R: Threads + Wa
     alloc: Global,
     gate: &G,
     replay: &mut V,
-    runs: &[EventRun],
+    journal: &Journal,
     stations: u32,
 ) -> Result<Vec<Readings>, Memory>
     requires stations { (0 < stations) × (stations ≤ MAX_STATIONS) }
     requires new { V.records replay.old I.project [] }
-    requires journal { events_of runs.now ≡ I.journal }
+    requires journal { journal.now.events ≡ I.journal }
     requires few { length I.journal ≤ MAX_EVENTS }
     ensures records { OnOk result (V.records replay.new I.project I.journal) }
     ensures count { IfOk result (λ readings. vec_len readings ≡ stations) }
@@ -146,7 +145,7 @@ pub fn watch_journal<I: Input + Send, V: Replay, G: Gate + Sync, R: Threads + Wa
     let mut watchers = Vec::with_capacity(alloc, stations as usize)?;
     let (mut board, list) = Board::<Tells<I>>::open(alloc, &replay.snapshot(), stations)?;
     number_all(list, &mut watchers);
-    let readings = watch_through(rt, alloc, gate, replay, &mut board, watchers, runs);
+    let readings = watch_through(rt, alloc, gate, replay, &mut board, watchers, journal);
     board.close(rt);
     readings
 }

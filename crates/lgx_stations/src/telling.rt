@@ -1,16 +1,14 @@
 // A journal that is replayed, and told to a board.
 ghost use Rattle.std.specs.Prelude.{◌≡◌, List, [], ◌∷◌, ◌++◌, OnOk, replicate};
 ghost use Rattle.spec_machine.specs.declared.event.Event.{Event as Events};
-ghost use Rattle.spec_text.specs.JournalText.{events_of};
 ghost use Rattle.spec_story.specs.Snapshots.{snapshots};
 ghost use Rattle.lgx_stations.specs.Telling.{IsAt};
 
 use crate::input::{Input, Tells};
 use crate::replay::Replay;
 use lgx_hmi::Board;
+use lgx_journal::{Event, Journal};
 use lgx_num::Memory;
-use spec_machine::Event;
-use spec_text::EventRun;
 use std::sync::Wait;
 
 /// What a station waits for before each of its reads, and the replay before it publishes. Nothing is known of it.
@@ -42,20 +40,21 @@ fn tell_event<I: Input, V: Replay, G: Gate, R: Wait>(
     Ok(())
 }
 
-/// A run of equal events, of which each tick is published.
+/// An event so many times, which is published each time if it is a tick.
 fn tell_run<I: Input, V: Replay, G: Gate, R: Wait>(
     rt: &R,
     gate: &G,
     lane: u32,
     replay: &mut V,
     board: &mut Board<Tells<I>>,
-    run: &EventRun,
+    event: &Event,
+    count: u32,
 ) -> Result<(), Memory>
-    requires { (left : List Events) × IsAt V.records I.project I.journal replay.old board.old (replicate run.now.count run.now.event ++ left) }
-    ensures { (left : List Events) → IsAt V.records I.project I.journal replay.old board.old (replicate run.now.count run.now.event ++ left) → OnOk result (IsAt V.records I.project I.journal replay.new board.new left) }
+    requires { (left : List Events) × IsAt V.records I.project I.journal replay.old board.old (replicate count event.now ++ left) }
+    ensures { (left : List Events) → IsAt V.records I.project I.journal replay.old board.old (replicate count event.now ++ left) → OnOk result (IsAt V.records I.project I.journal replay.new board.new left) }
 {
-    for _ in 0..run.count {
-        tell_event(rt, gate, lane, replay, board, &run.event)?;
+    for _ in 0..count {
+        tell_event(rt, gate, lane, replay, board, event)?;
     }
     Ok(())
 }
@@ -67,14 +66,15 @@ pub(crate) fn tell_journal<I: Input, V: Replay, G: Gate, R: Wait>(
     lane: u32,
     replay: &mut V,
     board: &mut Board<Tells<I>>,
-    runs: &[EventRun],
+    journal: &Journal,
 ) -> Result<(), Memory>
-    requires { IsAt V.records I.project I.journal replay.old board.old (events_of runs.now) }
+    requires { IsAt V.records I.project I.journal replay.old board.old journal.now.events }
     ensures records { OnOk result (V.records replay.new I.project I.journal) }
     ensures told { OnOk result (board.new ≡ snapshots I.project I.journal) }
 {
-    for run in runs {
-        tell_run(rt, gate, lane, replay, board, run)?;
+    for i in 0..journal.runs() {
+        let (event, count) = (journal.event_at(i), journal.count_at(i));
+        tell_run(rt, gate, lane, replay, board, event, count)?;
     }
     Ok(())
 }

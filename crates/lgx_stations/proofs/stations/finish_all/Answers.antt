@@ -1,6 +1,5 @@
 use Rattle.std.proofs.Common.{rules}
 use Rattle.std.proofs.lemmas.List.Elements.{All-same, All-pop, All-push}
-use Rattle.lgx_hmi.specs.declared.snapshot.Snapshot.{Snapshot}
 use Rattle.lgx_stations.specs.Telling.{IsFirstOf, AreReadingsOf}
 use Rattle.lgx_stations.proofs.stations.finish_all.Goals as goal
 

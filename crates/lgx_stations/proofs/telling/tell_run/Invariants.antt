@@ -5,5 +5,5 @@ use Rattle.lgx_stations.proofs.telling.tell_run.Given as goal
 
 -- what is left of the run, whatever comes after it
 abbrev pub invariant-loop : goal.invariant-loop
-invariant-loop g l = (left : List Events) → IsAt g.V.Replay.records g.I.Input.project g.I.Input.journal l.initial.replay l.initial.board (replicate l.run.count l.run.event ++ left)
-    → IsAt g.V.Replay.records g.I.Input.project g.I.Input.journal l.replay l.board (replicate (l.run.count - l.counter) l.run.event ++ left)
+invariant-loop g l = (left : List Events) → IsAt g.V.Replay.records g.I.Input.project g.I.Input.journal l.initial.replay l.initial.board (replicate l.count l.event ++ left)
+    → IsAt g.V.Replay.records g.I.Input.project g.I.Input.journal l.replay l.board (replicate (l.count - l.counter) l.event ++ left)
