@@ -1,8 +1,9 @@
 -- The plan of `audit P T`: whether a trace keeps the laws of the schedule.
-use Rattle.std.specs.Prelude.{ℕ, List, [], ◌∷◌, length, Option, Some, None, Result, Ok, Err, codes, decimal}
+use Rattle.std.specs.Prelude.{◌≡◌, ℕ, List, [], ◌∷◌, length, Option, Some, None, Result, Ok, Err, codes, decimal}
 use Rattle.spec_text.specs.TextLines.{line_of}
 use Rattle.spec_schedule.specs.declared.trace.Table.{Table}
 use Rattle.spec_schedule.specs.declared.trace.TraceEvent.{TraceEvent}
+use Rattle.spec_schedule.specs.Legal.{Legal}
 use Rattle.spec_schedule.specs.TraceView.{table_of}
 use Rattle.lgx_answer.specs.declared.status.Verdict.TheVariants as verdict
 use Rattle.lgx_answer.specs.Plan.{Plan, Say, Read, only}
@@ -11,7 +12,7 @@ use Rattle.lgx_audit.specs.declared.error.TraceCode.{TraceCode}
 use Rattle.lgx_audit.specs.declared.error.TraceCode.TheVariants.{K1, K2}
 use Rattle.lgx_audit.specs.declared.error.TraceFault.{TraceFault}
 use Rattle.lgx_audit.specs.TraceReading.{trace_of}
-use Rattle.lgx_audit.specs.Breaches.{Breach, breach}
+use Rattle.lgx_audit.specs.Breaches.{Breach, breach, IsBreach}
 
 -- ---- lines
 
@@ -33,13 +34,15 @@ trace_cause_line f = line_of (codes "trace" ∷ code_word f.code ∷ codes "line
 
 -- ---- the plan
 
-abbrev pub by_breach : Option Breach → ℕ → Plan
-by_breach None events = Say verdict.Ok (only (yes_line events))
-by_breach (Some b) events = Say verdict.Breach (only (no_line b))
+-- Yes is said of a trace that is legal, and of no other; else the breach is told that it has. That this is so is part of what may be
+-- written: a text that says yes of another trace is none of these.
+abbrev pub by_breach : Table → List TraceEvent → Option Breach → Plan
+by_breach table trace None = Say verdict.Ok (λ text. (text ≡ yes_line (length trace)) × Legal table trace)
+by_breach table trace (Some b) = Say verdict.Breach (λ text. (text ≡ no_line b) × IsBreach table trace b.law b.at)
 
 -- what a trace is told
 abbrev pub judged : Table → List TraceEvent → Plan
-judged table trace = by_breach (breach table trace) (length trace)
+judged table trace = by_breach table trace (breach table trace)
 
 abbrev pub of_trace : (List TraceEvent → Plan) → Result (List TraceEvent) TraceFault → Plan
 of_trace accepted (Err fault) = Say verdict.Script (only (trace_cause_line fault))

@@ -1,4 +1,3 @@
 pub mod AuditPlan
 pub mod AuditState
 pub mod Refusals
-pub mod AuditLaws

@@ -2,14 +2,17 @@
 ghost use Rattle.std.specs.Prelude.{◌≡◌, ℕ, List, Ok, IfOk};
 ghost use Rattle.lgx_answer.specs.declared.status.Verdict.{Verdict as Said};
 ghost use Rattle.lgx_answer.specs.Plan.{Says};
+ghost use Rattle.lgx_answer.specs.Endings.{ending_of};
+ghost use Rattle.lgx_answer.specs.Answered.{Answered};
 ghost use Rattle.lgx_audit.specs.TraceTable.{AreInTable};
-ghost use Rattle.word_trace.specs.AuditPlan.{judged, on_trace};
+ghost use Rattle.word_trace.specs.AuditPlan.{judged, on_trace, audit_plan};
 ghost use Rattle.word_trace.specs.AuditState.{audit_file, audit_next, audit_left};
 
 use crate::lines::{no_line, trace_cause_line, yes_line};
 use crate::table::table_of;
-use lgx_answer::{NoLines, Step, Verdict, Word};
+use lgx_answer::{NoLines, Status, Step, Verdict, Word, answer};
 use lgx_audit::{AuditError, Table, Trace, TraceError, audit, read_trace};
+use lgx_io::{Files, Sink};
 use lgx_judge::{Judged, judge_project};
 use lgx_num::{Items, Memory};
 use lgx_project::Project;
@@ -17,7 +20,7 @@ use std::alloc::Global;
 
 /// `audit P T`: the project's file is to be read, or the trace's.
 #[derive(Drop)]
-pub enum Audit<'a> {
+pub(crate) enum Audit<'a> {
     /// Nothing was read yet. These are the names of the files.
     Both { project: &'a str, trace: &'a str },
     /// The project is accepted, and this is its table.
@@ -103,4 +106,24 @@ impl<'a> Word for Audit<'a> {
             }
         }
     }
+}
+
+/// `audit P T`: says whether one file's trace, of a run of the project of another, keeps the priority law, the turn law and the
+/// version law: `yes` and the number of its events, or `no` with the law and the event, counted from 0, that breaks it first.
+pub fn audit_trace<F: Files, K: Sink>(
+    alloc: Global,
+    project: &str,
+    trace: &str,
+    files: &mut F,
+    sink: &mut K,
+) -> Status
+    ensures { Answered (audit_plan project.now trace.now) (record {
+      told = F.told files.old;
+      failures = record { old = F.failures files.old; new = F.failures files.new };
+      held = record { old = K.held sink.old; new = K.held sink.new };
+      faults = record { old = K.faults sink.old; new = K.faults sink.new };
+      answer = ending_of result;
+    }) }
+{
+    answer(alloc, Audit::Both { project, trace }, files, sink)
 }

@@ -5,4 +5,4 @@ mod audit_word;
 mod lines;
 mod table;
 
-pub use audit_word::Audit;
+pub use audit_word::audit_trace;
