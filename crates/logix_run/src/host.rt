@@ -1,6 +1,6 @@
 // The process.
-use crate::gate::Open;
 use crate::call::program;
+use crate::gate::Open;
 use lgx_answer::{Status, words_of};
 use lgx_io::{HostFiles, HostSink};
 use std::alloc::AllocGlobal;

@@ -8,8 +8,8 @@ ghost use Rattle.lgx_answer.specs.Endings.{ending_of};
 ghost use Rattle.lgx_answer.specs.Answered.{Answered};
 
 use lgx_answer::{NoLines, Status, Step, Verdict, Word, answer};
-use lgx_io::{Files, Sink};
 use lgx_edit::{PlantParts, ProgramText, RoutineText};
+use lgx_io::{Files, Sink};
 use lgx_judge::{Judged, judge_project};
 use lgx_num::{Items, Memory};
 use lgx_project::Project;
