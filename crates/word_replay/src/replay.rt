@@ -1,0 +1,51 @@
+// The word `replay P J`.
+ghost use Rattle.word_replay.specs.ReplayState.{replay_file, replay_next, replay_left};
+
+use crate::report_lines::{ReportLines, report_of};
+use lgx_answer::{Step, Verdict, Word};
+use lgx_judge::{Judged, judge_journal, judge_project};
+use lgx_num::Memory;
+use lgx_project::Project;
+use std::alloc::Global;
+
+/// `replay P J`: the project's file is to be read, or the journal's.
+#[derive(Drop)]
+pub enum Replay<'a> {
+    /// Nothing was read yet. These are the names of the files.
+    Both { project: &'a str, journal: &'a str },
+    /// The project is accepted.
+    OnProject { project: Project, journal: &'a str },
+}
+
+impl<'a> Word for Replay<'a> {
+    type Text = ReportLines;
+
+    ghost file = { replay_file };
+
+    ghost next = { replay_next };
+
+    ghost left = { replay_left };
+
+    fn name(&self) -> &str {
+        match self {
+            Replay::Both { project, .. } => project,
+            Replay::OnProject { journal, .. } => journal,
+        }
+    }
+
+    fn judge(self, alloc: Global, bytes: Vec<u8>) -> Result<Step<Self, ReportLines>, Memory> {
+        match self {
+            Replay::Both { journal, .. } => match judge_project(alloc, &bytes)? {
+                Judged::Accepted(project) => Ok(Step::Read(Replay::OnProject { project, journal })),
+                Judged::Refused(line) => Ok(Step::Say(Verdict::Project, line)),
+            },
+            Replay::OnProject { project, .. } => match judge_journal(alloc, &bytes)? {
+                Judged::Accepted(journal) => {
+                    let lines = report_of(alloc, project, &journal)?;
+                    Ok(Step::Write(Verdict::Ok, lines))
+                }
+                Judged::Refused(line) => Ok(Step::Say(Verdict::Script, line)),
+            },
+        }
+    }
+}
