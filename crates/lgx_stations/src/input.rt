@@ -1,6 +1,6 @@
 // What is replayed.
 use lgx_hmi::Story;
-use std::marker::PhantomData;
+use std::marker::{Brand, PhantomData};
 
 /// Names one project and one journal: those that are replayed. It has no calls.
 pub trait Input {
@@ -22,4 +22,14 @@ impl<I: Input> Story for Tells<I> {
     ghost use Rattle.spec_story.specs.Snapshots.{snapshots};
 
     ghost story = { snapshots I.project I.journal };
+}
+
+// A caller that passes `Brand` says at the call what it names; by itself it names none.
+impl Input for Brand {
+    ghost use Rattle.std.specs.Prelude.{[]};
+    ghost use Rattle.lgx_shared.specs.Lanes.{no_project};
+
+    ghost project = { no_project };
+
+    ghost journal = { [] };
 }

@@ -2,13 +2,14 @@
 #![tactic(auto)]
 
 mod input;
+mod recorded;
 mod replay;
 mod stations;
 mod telling;
 mod watcher;
 
 pub use input::Input;
+pub use lgx_shared::Gate;
 pub use replay::Replay;
 pub use stations::{MAX_STATIONS, watch_journal};
-pub use telling::Gate;
 pub use watcher::Readings;

@@ -15,7 +15,7 @@ pub trait Replay {
     ghost records: { Self → Project → List Events → Type 0 };
 
     /// One more event. Out of memory is the one fault.
-    fn apply(&mut self, event: &Event) -> Result<(), Memory>
+    fn take(&mut self, event: &Event) -> Result<(), Memory>
         requires { (p : Project) × (events : List Events) × records self.old p events × (length events < MAX_EVENTS) }
         ensures { (p : Project) (events : List Events) → records self.old p events → OnOk result (records self.new p (events ++ event.now ∷ [])) };
 

@@ -7,11 +7,12 @@ ghost use Rattle.lgx_stations.specs.declared.stations.TheConstants.{MAX_STATIONS
 
 use crate::input::{Input, Tells};
 use crate::replay::Replay;
-use crate::telling::{Gate, tell_journal};
+use crate::telling::tell_journal;
 use crate::watcher::{Readings, Watcher};
 use lgx_hmi::{Board, Station, Story};
 use lgx_journal::Journal;
 use lgx_num::Memory;
+use lgx_shared::Gate;
 use std::alloc::Global;
 use std::sync::Wait;
 use std::thread::{Threads, for_each_mut, join_mut};
@@ -125,7 +126,8 @@ fn watch_through<I: Input + Send, V: Replay, G: Gate + Sync, R: Threads + Wait +
 
 /// Replays a journal, while as many stations as are asked for watch it on threads of their own; what each gave, in their order.
 /// Each reads 1,000 times while the journal is replayed, and once more when all is published. Where no thread can be made they
-/// read before it. Out of memory is the one fault.
+/// read before it. The gate is called before each of the 1,000 reads with the station's number and the read's, both counted from
+/// 0, and before each tick is published with the number of stations and that of what is published. Out of memory is the one fault.
 pub fn watch_journal<I: Input + Send, V: Replay, G: Gate + Sync, R: Threads + Wait + Sync>(
     rt: &R,
     alloc: Global,

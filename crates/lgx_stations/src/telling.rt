@@ -9,14 +9,8 @@ use crate::replay::Replay;
 use lgx_hmi::Board;
 use lgx_journal::{Event, Journal};
 use lgx_num::Memory;
+use lgx_shared::Gate;
 use std::sync::Wait;
-
-/// What a station waits for before each of its reads, and the replay before it publishes. Nothing is known of it.
-pub trait Gate {
-    /// Called with the station's number and the number of its read, both counted from 0; for the replay with the number of
-    /// stations, and the number of what it publishes.
-    fn before(&self, lane: u32, index: u32);
-}
 
 /// One event, which is published if it is a tick.
 fn tell_event<I: Input, V: Replay, G: Gate, R: Wait>(
@@ -30,7 +24,7 @@ fn tell_event<I: Input, V: Replay, G: Gate, R: Wait>(
     requires { (left : List Events) × IsAt V.records I.project I.journal replay.old board.old (event.now ∷ left) }
     ensures { (left : List Events) → IsAt V.records I.project I.journal replay.old board.old (event.now ∷ left) → OnOk result (IsAt V.records I.project I.journal replay.new board.new left) }
 {
-    replay.apply(event)?;
+    replay.take(event)?;
     if let Event::Tick = event {
         let snapshot = replay.snapshot();
         // Ticks are counted from 1, what is published from 0.

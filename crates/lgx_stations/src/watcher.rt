@@ -3,8 +3,8 @@ ghost use Rattle.std.specs.Prelude.{◌≡◌, ℕ, Some, slice_get};
 ghost use Rattle.lgx_hmi.specs.Stories.{IsPrefix};
 ghost use Rattle.lgx_stations.specs.Telling.{IsFirstOf, AreReadingsOf};
 
-use crate::telling::Gate;
 use lgx_hmi::{Board, Snapshot, Station, Story};
+use lgx_shared::Gate;
 
 /// How often a station reads while the journal is replayed.
 const READS: u32 = 1000;
