@@ -1,5 +1,6 @@
 -- The lines of stations, one station more; and the whole text.
-use Rattle.std.proofs.Common.{◌≡◌, ℕ, suc, ◌+◌, ◌<◌, List, ◌++◌, length, drop, sym, ap, ◌∙◌, arith}
+use Rattle.std.proofs.Common.{◌≡◌, ℕ, suc, ◌+◌, ◌-◌, ◌<◌, List, [], ◌++◌, length, drop, take, take_all, length-drop, sym, ap, ◌∙◌, arith}
+use Rattle.std.proofs.lemmas.List.{take-append-drop, drop-drop}
 use Rattle.std.specs.Prelude.{slice_index_or}
 use Rattle.std.specs.List.{All}
 use Rattle.std.proofs.Math.Seq.{drop-cons}
@@ -26,6 +27,14 @@ next_station rs i r below is =
     ap (lines_from i) (drop-cons rs i r below)
     ∙ (ap (λ x. station_lines i x ++ lines_from (i + 1) (drop (suc i) rs)) (sym is)
     ∙ ap (λ k. station_lines i r ++ lines_from (i + 1) (drop k rs)) n)
+
+-- a first line, cut off what stands from a byte on, and what stands behind it
+pub next_line : (xs shown front line : List ℕ) (at n : ℕ) → shown ≡ xs → front ≡ [] → line ≡ front ++ take n (take (length shown - at) (drop at shown))
+    → drop at xs ≡ line ++ drop (at + n) xs
+next_line xs shown front line at n same empty is =
+    let whole : take (length shown - at) (drop at shown) ≡ drop at shown = take_all (length shown - at) (drop at shown) (omega (arith, length-drop at shown)) in
+    let is_front : line ≡ take n (drop at xs) = is ∙ (ap (λ f. f ++ take n (take (length shown - at) (drop at shown))) empty ∙ (ap (λ l. take n l) whole ∙ ap (λ l. take n (drop at l)) same)) in
+    sym (take-append-drop n (drop at xs)) ∙ (ap (λ t. t ++ drop n (drop at xs)) (sym is_front) ∙ ap (λ t. line ++ t) (drop-drop n at xs))
 
 -- the report of what was recorded, and the lines of the stations
 pub is_stations_text : (project : Project) (journal : List Event) (count : ℕ) (v : RecordingView) (end : End) (rs : List Readings) (text : List ℕ)

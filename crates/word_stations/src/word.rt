@@ -77,8 +77,8 @@ fn watch_on<F: Files, K: Sink, G: Gate + Sync, R: Threads + Wait + Sync>(
 }
 
 /// `stations P J C`: replays the journal of one file on the project of another while 1 to 8 stations watch it, and writes the
-/// report, each line by one put, and then by one put two lines a station, in their order: what it gave at its first read, and
-/// what it gave once it had been told of all that was published. The journal is read only if the project isn't refused.
+/// report and then two lines a station, in their order: what it gave at its first read, and what it gave once it had been told
+/// of all that was published. Each line is one put. The journal is read only if the project isn't refused.
 ///
 /// Each station reads 1,000 times on a thread of its own, beside the replay, which publishes the watched values after each tick,
 /// for at most 4,096 snapshots with the opening one. The gate is called before each of these reads with the station's number
