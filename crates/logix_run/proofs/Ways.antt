@@ -8,8 +8,9 @@ use Rattle.word_project.specs.MigratePlan.{migrate_plan}
 use Rattle.word_replay.specs.ReplayPlan.{replay_plan}
 use Rattle.word_replay.specs.GenPlan.{gen_plan}
 use Rattle.word_run.specs.RunPlan.{run_plan}
+use Rattle.word_stations.specs.StationsPlan.{stations_plan}
 use Rattle.word_trace.specs.AuditPlan.{audit_plan}
-use Rattle.logix_run.specs.Words.{one_after, two_after, number_after, or_one, or_two, or_number, usage_plan, plain_plan_of, plan_of}
+use Rattle.logix_run.specs.Words.{one_after, two_after, number_after, watched_after, or_one, or_two, or_number, or_watched, usage_plan, plain_plan_of, plan_of}
 
 -- ---- the words are these
 
@@ -25,6 +26,10 @@ take_number : (plan : ℕ → Plan) (found : Option ℕ) (other : Plan) (n : ℕ
     → Some n ≡ found → Answered (plan n) call → Answered (or_number plan found other) call
 take_number plan found other n call is a = subst (λ o. Answered (or_number plan o other) call) is a
 
+take_watched : (plan : List ℕ → List ℕ → ℕ → Plan) (found : Option (List ℕ × List ℕ × ℕ)) (other : Plan) (p j : List ℕ) (n : ℕ) (call : Call)
+    → Some (p, j, n) ≡ found → Answered (plan p j n) call → Answered (or_watched plan found other) call
+take_watched plan found other p j n call is a = subst (λ o. Answered (or_watched plan o other) call) is a
+
 -- ---- they aren't these
 
 pass_one : (plan : List ℕ → Plan) (found : Option (List ℕ)) (other : Plan) (call : Call)
@@ -38,6 +43,10 @@ pass_two plan found other call is a = subst (λ o. Answered (or_two plan o other
 pass_number : (plan : ℕ → Plan) (found : Option ℕ) (other : Plan) (call : Call)
     → None ≡ found → Answered other call → Answered (or_number plan found other) call
 pass_number plan found other call is a = subst (λ o. Answered (or_number plan o other) call) is a
+
+pass_watched : (plan : List ℕ → List ℕ → ℕ → Plan) (found : Option (List ℕ × List ℕ × ℕ)) (other : Plan) (call : Call)
+    → None ≡ found → Answered other call → Answered (or_watched plan found other) call
+pass_watched plan found other call is a = subst (λ o. Answered (or_watched plan o other) call) is a
 
 -- ---- word by word
 
@@ -78,6 +87,10 @@ pub run_answered : (words : List (List ℕ)) (p s : List ℕ) (call : Call) → 
 unfolding plan_of
 run_answered words p s call is a = take_two run_plan _ _ p s call is a
 
-pub plain_answered : (words : List (List ℕ)) (call : Call) → None ≡ two_after (codes "run") words → Answered (plain_plan_of words) call → Answered (plan_of words) call
+pub stations_answered : (words : List (List ℕ)) (p j : List ℕ) (n : ℕ) (call : Call) → None ≡ two_after (codes "run") words → Some (p, j, n) ≡ watched_after (codes "stations") words → Answered (stations_plan p j n) call → Answered (plan_of words) call
 unfolding plan_of
-plain_answered words call is a = pass_two run_plan _ _ call is a
+stations_answered words p j n call r is a = pass_two run_plan _ _ call r (take_watched stations_plan _ _ p j n call is a)
+
+pub plain_answered : (words : List (List ℕ)) (call : Call) → None ≡ two_after (codes "run") words → None ≡ watched_after (codes "stations") words → Answered (plain_plan_of words) call → Answered (plan_of words) call
+unfolding plan_of
+plain_answered words call r w a = pass_two run_plan _ _ call r (pass_watched stations_plan _ _ call w a)

@@ -7,7 +7,7 @@ ghost use Rattle.lgx_answer.specs.Process.{IsProcess};
 ghost use Rattle.logix_run.specs.Answers.{IsAnswered};
 
 use crate::plain::follow_plain;
-use crate::words::two_after;
+use crate::words::{Watched, two_after, watched_after};
 use lgx_answer::{Status, exit_number};
 use lgx_io::{Files, Gathered, Sink};
 use lgx_shared::Gate;
@@ -16,9 +16,10 @@ use std::io::Write;
 use std::sync::Wait;
 use std::thread::Threads;
 use word_run::run;
+use word_stations::stations;
 
 /// Follows the plan of the words.
-#[tactic(auto, using(crate::proofs::Ways::run_answered, crate::proofs::Ways::plain_answered))]
+#[tactic(auto, using(crate::proofs::Ways::run_answered, crate::proofs::Ways::stations_answered, crate::proofs::Ways::plain_answered))]
 fn follow<F: Files, K: Sink, G: Gate + Sync, R: Threads + Wait + Sync>(
     rt: &R,
     alloc: Global,
@@ -35,14 +36,24 @@ fn follow<F: Files, K: Sink, G: Gate + Sync, R: Threads + Wait + Sync>(
       answer = ending_of result;
     }) }
 {
-    match two_after("run", words) {
-        Some((project, script)) => run(rt, alloc, project, script, files, sink, gate),
-        None => follow_plain(alloc, words, files, sink),
+    if let Some((project, script)) = two_after("run", words) {
+        return run(rt, alloc, project, script, files, sink, gate);
     }
+    if let Some(
+        Watched {
+            project,
+            journal,
+            stations: count,
+        },
+    ) = watched_after("stations", words)
+    {
+        return stations(rt, alloc, project, journal, count, files, sink, gate);
+    }
+    follow_plain(alloc, words, files, sink)
 }
 
-/// Does what the words of the command line say, and answers how the program ends: all that [`crate::logix_plain`] does, and
-/// `run P S`.
+/// Does what the words of the command line say, and answers how the program ends: all that [`crate::logix_plain`] does,
+/// `run P S` and `stations P J C`.
 ///
 /// `run P S` reads and judges the project of the file `P` and then the script of the file `S`. Each lane of the script
 /// takes its turns on a thread of its own, and one thread more takes turns of no lane; a turn makes its lane's next action
@@ -50,6 +61,10 @@ fn follow<F: Files, K: Sink, G: Gate + Sync, R: Threads + Wait + Sync>(
 /// the run is written, and its report: each line is one put. Whatever turns the threads take, every action stands in the
 /// journal once, in its lane's order. The call may wait for its threads, for the lock and for the gate; no answer speaks of
 /// a thread that couldn't be started.
+///
+/// `stations P J C` replays the journal of the file `J` on the project of the file `P`, while C operator stations on threads of
+/// their own read the watched values, and then writes what each gave first and last. They take no lock, and the gate is called
+/// before each of their reads and before each tick is published.
 ///
 /// [`Status`] says when each answer comes. At `WriteFault` and `Memory` a first part of the output was put, at `ReadFault` and
 /// `TooLong` nothing.

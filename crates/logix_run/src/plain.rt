@@ -15,7 +15,7 @@ use word_trace::audit_trace;
 
 /// The line that tells how to use the program.
 pub const USAGE: &[u8] =
-    b"usage: logix check P, text P, replay P J, run P S, gen N, migrate P, audit P T\n";
+    b"usage: logix check P, text P, replay P J, run P S, gen N, migrate P, audit P T, stations P J C\n";
 
 /// Follows the plan of the words.
 #[tactic(auto, using(crate::proofs::Ways::check_answered, crate::proofs::Ways::text_answered, crate::proofs::Ways::migrate_answered, crate::proofs::Ways::replay_answered, crate::proofs::Ways::gen_answered, crate::proofs::Ways::audit_answered, crate::proofs::Ways::usage_answered))]
@@ -55,7 +55,7 @@ pub(crate) fn follow_plain<F: Files, K: Sink>(
 }
 
 /// Does what the words of the command line say, and answers how the program ends: [`crate::logix`] without the words
-/// `run P S`, which it answers with the usage line. It waits for nobody.
+/// `run P S` and `stations P J C`, which it answers with the usage line. It waits for nobody.
 ///
 /// `check P` tells how many there are of each part of the project of the file `P`, `text P` writes the rungs of its routines,
 /// `migrate P` writes the file in the newest schema, `replay P J` runs the journal of the file `J` on the project and writes

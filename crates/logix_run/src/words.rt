@@ -1,7 +1,8 @@
 // The words of the command line, read by hand.
-ghost use Rattle.std.specs.Prelude.{◌≡◌, map, option_map, string_bytes};
+ghost use Rattle.std.specs.Prelude.{◌≡◌, ◌<◌, ◌≤◌, map, option_map, string_bytes, IfSome};
+ghost use Rattle.lgx_stations.specs.declared.stations.TheConstants.{MAX_STATIONS};
 ghost use Rattle.spec_text.specs.TextLines.{unsigned_of};
-ghost use Rattle.logix_run.specs.Words.{one_after, two_after, number_after};
+ghost use Rattle.logix_run.specs.Words.{one_after, two_after, number_after, station_count, watched_after};
 
 /// The name, if the words are this one and a name.
 pub(crate) fn one_after<'a>(verb: &str, words: &'a [String]) -> Option<&'a str>
@@ -54,4 +55,45 @@ pub(crate) fn number_after(verb: &str, words: &[String]) -> Option<u32>
         return None;
     }
     number_of(number.as_str())
+}
+
+/// Two names, and how many stations watch: 1 to 8.
+#[derive(Clone, Copy)]
+pub(crate) struct Watched<'a> {
+    pub project: &'a str,
+    pub journal: &'a str,
+    pub stations: u32,
+}
+
+/// The number that one digit from 1 to 8 is.
+fn station_count(digit: &str) -> Option<u32>
+    ensures count { result ≡ station_count digit.now }
+    ensures few { IfSome result (λ count. (0 < count) × (count ≤ MAX_STATIONS)) }
+{
+    let [digit] = digit.as_bytes() else {
+        return None;
+    };
+    if *digit > b'0' && *digit < b'9' {
+        return Some(u32::from(*digit - b'0'));
+    }
+    None
+}
+
+/// The two names and the count, if the words are this one with two names and a count.
+pub(crate) fn watched_after<'a>(verb: &str, words: &'a [String]) -> Option<Watched<'a>>
+    ensures found { option_map (λ w. (w.project.now, w.journal.now, w.stations)) result ≡ watched_after verb.now (map string_bytes words.now) }
+    ensures few { IfSome result (λ w. (0 < w.stations) × (w.stations ≤ MAX_STATIONS)) }
+{
+    let [word, project, journal, count] = words else {
+        return None;
+    };
+    if word.as_str() != verb {
+        return None;
+    }
+    let stations = station_count(count.as_str())?;
+    Some(Watched {
+        project: project.as_str(),
+        journal: journal.as_str(),
+        stations,
+    })
 }
