@@ -1,5 +1,5 @@
 -- What a trace is told, by what the audit finds.
-use Rattle.std.proofs.Common.{◌≡◌, ℕ, List, length, Option, Some, None, Result, Ok, Err, refl, sym, ◌∙◌, ap, subst}
+use Rattle.std.proofs.Common.{◌≡◌, ℕ, List, length, Option, Some, None, Result, Ok, Err, refl, sym, subst}
 use Rattle.spec_machine.specs.Project.{Project}
 use Rattle.spec_project.specs.Projects.{project_of}
 use Rattle.spec_project.specs.declared.fault.ProjectFault.{ProjectFault}
@@ -9,8 +9,8 @@ use Rattle.spec_schedule.specs.Legal.{Legal}
 use Rattle.spec_schedule.specs.TraceView.{table_of}
 use Rattle.lgx_answer.specs.declared.status.Verdict.{Verdict}
 use Rattle.lgx_answer.specs.declared.status.Verdict.TheVariants as verdict
-use Rattle.lgx_answer.specs.Plan.{Plan, Texts, Read, Says}
-use Rattle.lgx_answer.specs.Answered.{Told, Came}
+use Rattle.lgx_answer.specs.Plan.{Texts, Read, Says}
+use Rattle.lgx_answer.specs.Answered.{Told}
 use Rattle.lgx_answer.specs.Laws.{Reaches}
 use Rattle.lgx_judge.specs.Plans.{of_project}
 use Rattle.lgx_audit.specs.declared.error.TraceFault.{TraceFault}

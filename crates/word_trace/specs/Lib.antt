@@ -2,3 +2,7 @@ pub mod AuditPlan
 pub mod AuditState
 pub mod Refusals
 pub mod AuditLaws
+pub mod Seen
+pub mod TraceLeft
+pub mod TracePlan
+pub mod TraceState
