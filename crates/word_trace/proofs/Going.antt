@@ -1,5 +1,5 @@
 -- A run goes on with the next event of its journal.
-use Rattle.std.proofs.Common.{◌≡◌, ℕ, zero, suc, ◌+◌, ◌<◌, ◌≤◌, ◌^◌, List, [], ◌∷◌, ◌++◌, length, take, drop, map, Bool, true, false, cond, Option, Some, None, Result, Ok, refl, sym, ◌∙◌, ap, subst, append_assoc, append-nil, add-one, arith}
+use Rattle.std.proofs.Common.{◌≡◌, ℕ, zero, suc, ◌+◌, ◌<◌, ◌≤◌, List, [], ◌∷◌, ◌++◌, length, take, drop, map, Bool, true, false, cond, Option, Some, None, Result, Ok, refl, sym, ◌∙◌, ap, subst, append_assoc, append-nil, add-one, arith}
 use Rattle.std.specs.Prelude.{flat_map}
 use Rattle.std.specs.List.{position_from}
 use Rattle.std.proofs.lemmas.List.{take-append-drop, length-map}
@@ -23,7 +23,6 @@ use Rattle.word_trace.specs.Seen.{numbered, seen_by, Makes}
 use Rattle.word_trace.specs.TraceLeft.{text_left, file_left, events_left, HasNext, IsUnderWay}
 use Rattle.word_trace.specs.TracePlan.{trace_text}
 use Rattle.word_trace.proofs.Places.{whole_runs, run_begins}
-use Rattle.word_trace.proofs.FewPrograms.{few_in_project}
 
 -- ---- lists
 
@@ -102,13 +101,6 @@ file_text bytes p journal made ended is = ap (λ (r : Result Project ProjectFaul
 module _ (bytes : List ℕ) (names : List (List ℕ)) (old : ControllerView) (journal : List Event) (run_now done_now : ℕ) (h : IsUnderWay bytes names old journal run_now done_now) where
   abbrev n : ℕ
   n = old.spent
-
-  pub few_names : length names < 2 ^ 32
-  few_names =
-      let few = few_in_project h.project h.stands.valid in
-      let same = ap length h.names_are in
-      let many = length-map h.project.programs (λ (q : ProgramText). q.name) in
-      omega arith
 
   -- nothing is left but the line `end`
   pub ends : length (joined journal) ≤ run_now → file_left (project_of bytes) journal n false ≡ end_line

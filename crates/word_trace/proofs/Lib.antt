@@ -5,3 +5,4 @@ pub mod Judging
 pub mod Places
 pub mod Going
 pub mod ProgramNames
+pub mod Traced

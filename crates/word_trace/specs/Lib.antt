@@ -1,8 +1,8 @@
 pub mod AuditPlan
 pub mod AuditState
-pub mod Refusals
 pub mod AuditLaws
 pub mod Seen
 pub mod TraceLeft
 pub mod TracePlan
 pub mod TraceState
+pub mod TraceLaws

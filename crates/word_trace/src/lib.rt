@@ -2,6 +2,7 @@
 #![tactic(auto)]
 
 mod audit_word;
+mod laws;
 mod lines;
 mod next;
 mod place;
@@ -11,5 +12,6 @@ mod trace_lines;
 mod trace_word;
 
 pub use audit_word::Audit;
+pub use laws::traces_are_legal;
 pub use trace_lines::{ReadProject, TraceLines};
 pub use trace_word::Trace;
