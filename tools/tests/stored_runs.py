@@ -11,7 +11,7 @@ import tempfile
 import unittest
 
 TOP = os.path.dirname(os.path.dirname(os.path.dirname(os.path.abspath(__file__))))
-USAGE = b"usage: logix check P, text P, replay P J, run P S, gen N, migrate P, audit P T, stations P J C\n"
+USAGE = b"usage: logix check P, text P, replay P J, run P S, gen N, migrate P, trace P J, audit P T, stations P J C\n"
 CONVEYOR = f"{TOP}/examples/conveyor"
 MOST_BYTES = 16_777_216
 

@@ -1,6 +1,6 @@
 -- What is legal is so from its beginning on.
-use Rattle.std.proofs.Common.{◌≡◌, ℕ, ◌≤◌, ◌<◌, Bool, true, List, [], ◌∷◌, ◌++◌, length, refl, sym, ◌∙◌, ap, subst}
-use Rattle.std.specs.Prelude.{slice_index_or, take, drop, map, replicate, ◌&&◌}
+use Rattle.std.proofs.Common.{◌≡◌, ℕ, ◌≤◌, Bool, true, List, [], ◌∷◌, ◌++◌, length, refl, sym, ◌∙◌, ap, subst}
+use Rattle.std.specs.Prelude.{take, drop, map, replicate}
 use Rattle.std.specs.List.{list_all, AllByRecursion as Each}
 use Rattle.std.proofs.lemmas.Bool.{and_from, and_parts}
 use Rattle.std.proofs.lemmas.List.{take-take, take-append-drop}
@@ -8,7 +8,7 @@ use Rattle.spec_schedule.specs.declared.trace.AuditTask.{AuditTask}
 use Rattle.spec_schedule.specs.declared.trace.Table.{Table}
 use Rattle.spec_schedule.specs.declared.trace.TraceEvent.{TraceEvent}
 use Rattle.spec_schedule.specs.declared.trace.TraceEvent.TheVariants.{Idle}
-use Rattle.spec_schedule.specs.Counting.{Counted, uncounted, counted_all, Numbers, unedited, edited_all, CountedEvent, counted_events, counted_events_from}
+use Rattle.spec_schedule.specs.Counting.{Counted, uncounted, counted_all, Numbers, unedited, edited_all, CountedEvent, counted_events_from}
 use Rattle.spec_schedule.specs.Legal.{Legal, keeps_priority, keeps_version}
 use Rattle.lgx_audit.specs.TraceTable.{AreInTable}
 use Rattle.lgx_audit.specs.Along.{IsWithin}

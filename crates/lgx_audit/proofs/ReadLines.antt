@@ -1,11 +1,9 @@
 -- The lines of a trace, one by one.
-use Rattle.std.proofs.Common.{◌≡◌, ℕ, zero, suc, ◌+◌, ◌<◌, List, [], ◌∷◌, ◌++◌, length, Bool, true, false, Result, Ok, Err, Option, Some, None, IsTrue, inl, inr, refl, sym, ap, ◌∙◌, subst, append_assoc, length-append, arith}
-use Rattle.std.specs.Prelude.{slice_index_or, if◌then◌else◌}
-use Rattle.std.proofs.lemmas.Bool.{cases_eq}
+use Rattle.std.proofs.Common.{◌≡◌, ℕ, zero, suc, ◌+◌, List, [], ◌∷◌, ◌++◌, Bool, true, false, Result, Ok, Err, Option, Some, None, refl, sym, ap, ◌∙◌, subst, append_assoc, arith}
+use Rattle.std.specs.Prelude.{if◌then◌else◌}
 use Rattle.spec_base.specs.Pieces.{pieces}
 use Rattle.spec_base.proofs.Splits.{some_piece}
 use Rattle.spec_schedule.specs.declared.trace.TraceEvent.{TraceEvent}
-use Rattle.spec_schedule.specs.declared.trace.TraceEvent.TheVariants.{Idle}
 use Rattle.spec_schedule.specs.declared.trace.Table.{Table}
 use Rattle.lgx_audit.specs.declared.error.TraceCode.{TraceCode}
 use Rattle.lgx_audit.specs.declared.error.TraceCode.TheVariants.{K1, K2}

@@ -1,5 +1,5 @@
 -- Tasks and programs of an event of the table.
-use Rattle.std.proofs.Common.{◌≡◌, ℕ, ◌<◌, List, length, Bool, true, ◌&&◌, Option, Some, None, IsTrue, sym, ap, subst}
+use Rattle.std.proofs.Common.{◌≡◌, ℕ, ◌<◌, List, length, true, ◌&&◌, Option, Some, None, IsTrue, subst}
 use Rattle.std.specs.Prelude.{slice_index_or, nat_le}
 use Rattle.std.proofs.lemmas.Bool.{and_parts, ltb-true}
 use Rattle.spec_base.specs.declared.limits.TheConstants.{OWN_LANE}

@@ -1,5 +1,5 @@
 -- What is counted along a trace, as the audit keeps it.
-use Rattle.std.specs.Prelude.{◌≡◌, ℕ, ◌+◌, ◌<◌, List, take, length, map, replicate, fold, slice_index_or, Bool, true, false, not, nat_eq, Option, Some, None}
+use Rattle.std.specs.Prelude.{◌≡◌, ℕ, ◌<◌, List, length, map, replicate, fold, slice_index_or, Bool, true, false, not, nat_eq, Option, Some, None}
 use Rattle.lgx_audit.specs.declared.counts.Count.{Count}
 use Rattle.lgx_audit.specs.declared.numbers.Tally.{Tally}
 use Rattle.spec_schedule.specs.declared.trace.TraceEvent.{TraceEvent}
@@ -8,9 +8,7 @@ use Rattle.spec_schedule.specs.declared.trace.TraceMark.TheVariants.{Trigger}
 use Rattle.spec_schedule.specs.declared.trace.StepFault.TheVariants.{Major}
 use Rattle.spec_schedule.specs.declared.trace.Verb.TheVariants.{Program}
 use Rattle.spec_schedule.specs.declared.trace.Table.{Table}
-use Rattle.std.specs.List.{list_all}
-use Rattle.spec_schedule.specs.Counting.{Counted, uncounted, counted_all, Numbers, unedited, edited_all, stepping, CountedEvent, counted_events}
-use Rattle.spec_schedule.specs.Legal.{keeps_priority}
+use Rattle.spec_schedule.specs.Counting.{Counted, uncounted, counted_all, Numbers, unedited, edited_all, stepping, CountedEvent}
 
 -- the counts of a task
 abbrev pub shown : Counted → Count

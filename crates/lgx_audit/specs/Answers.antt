@@ -1,7 +1,6 @@
 -- How the answer of a call stands to what its definition says.
 use Rattle.std.specs.Prelude.{ℕ, List, ◌++◌, Result, Ok, Err}
 use Rattle.spec_schedule.specs.declared.trace.TraceEvent.{TraceEvent}
-use Rattle.lgx_audit.specs.declared.error.TraceCode.{TraceCode}
 use Rattle.lgx_audit.specs.declared.error.TraceFault.{TraceFault}
 use Rattle.lgx_audit.specs.declared.error.TraceError.{TraceError}
 use Rattle.lgx_audit.specs.declared.error.TraceError.TheVariants as reading

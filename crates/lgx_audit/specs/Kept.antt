@@ -1,5 +1,5 @@
 -- The numbers of an event, as their types keep them.
-use Rattle.std.specs.Prelude.{ℕ, ◌^◌, List, Bool, true, ◌&&◌, nat_lt, Option, None}
+use Rattle.std.specs.Prelude.{ℕ, ◌^◌, Bool, true, ◌&&◌, nat_lt}
 use Rattle.spec_schedule.specs.declared.trace.TraceAnswer.{TraceAnswer}
 use Rattle.spec_schedule.specs.declared.trace.TraceAnswer.TheVariants.{Number}
 use Rattle.spec_schedule.specs.declared.trace.TraceEvent.{TraceEvent}

@@ -18,7 +18,7 @@ use lgx_num::Items;
 pub use one_pass::audit;
 pub use read::read_trace;
 pub use spec_schedule::{AuditTask, StepFault, Table, TraceAnswer, TraceEvent, TraceMark, Verb};
-pub use write::write_line;
+pub use write::{push_line, write_line};
 
 /// The tasks of a table.
 pub type AuditTasks = Items<AuditTask>;

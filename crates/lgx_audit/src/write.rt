@@ -209,6 +209,16 @@ fn push_words(text: &mut Vec<u8>, alloc: Global, event: TraceEvent) -> Result<()
     }
 }
 
+/// Adds the line of an event, with its line feed. It may be a line that no reader takes: see [`write_line`].
+pub fn push_line(text: &mut Vec<u8>, alloc: Global, event: TraceEvent) -> Result<(), Memory>
+    ensures text { OnOk result (text.new.items ≡ text.old.items ++ event_line event) }
+    ensures kept { OnOk result (IsTrue (is_kept event)) }
+{
+    push_words(text, alloc, event)?;
+    text.push(b'\n')?;
+    Ok(())
+}
+
 /// The line of an event, with its line feed. An edit may name a program, an accept may have a number, and no other action does;
 /// an accept isn't `Done`.
 pub fn write_line(alloc: Global, event: &TraceEvent) -> Result<Vec<u8>, Memory>
@@ -217,7 +227,6 @@ pub fn write_line(alloc: Global, event: &TraceEvent) -> Result<Vec<u8>, Memory>
     ensures back { (table : Table) → IsTrue (is_in_table table event.now) → IfOk result (λ text. trace_of table (text.items ++ end_line) ≡ Ok (event.now ∷ [])) }
 {
     let mut text = Vec::new(alloc);
-    push_words(&mut text, alloc, *event)?;
-    text.push(b'\n')?;
+    push_line(&mut text, alloc, *event)?;
     Ok(text)
 }

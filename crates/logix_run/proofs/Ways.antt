@@ -9,6 +9,7 @@ use Rattle.word_replay.specs.ReplayPlan.{replay_plan}
 use Rattle.word_replay.specs.GenPlan.{gen_plan}
 use Rattle.word_run.specs.RunPlan.{run_plan}
 use Rattle.word_stations.specs.StationsPlan.{stations_plan}
+use Rattle.word_trace.specs.TracePlan.{trace_plan}
 use Rattle.word_trace.specs.AuditPlan.{audit_plan}
 use Rattle.logix_run.specs.Words.{one_after, two_after, number_after, watched_after, or_one, or_two, or_number, or_watched, usage_plan, plain_plan_of, plan_of}
 
@@ -73,15 +74,20 @@ unfolding plain_plan_of
 gen_answered words n call c t m r is a =
     pass_one check_plan _ _ call c (pass_one text_plan _ _ call t (pass_one migrate_plan _ _ call m (pass_two replay_plan _ _ call r (take_number gen_plan _ _ n call is a))))
 
-pub audit_answered : (words : List (List ℕ)) (p t : List ℕ) (call : Call) → None ≡ one_after (codes "check") words → None ≡ one_after (codes "text") words → None ≡ one_after (codes "migrate") words → None ≡ two_after (codes "replay") words → None ≡ number_after (codes "gen") words → Some (p, t) ≡ two_after (codes "audit") words → Answered (audit_plan p t) call → Answered (plain_plan_of words) call
+pub trace_answered : (words : List (List ℕ)) (p j : List ℕ) (call : Call) → None ≡ one_after (codes "check") words → None ≡ one_after (codes "text") words → None ≡ one_after (codes "migrate") words → None ≡ two_after (codes "replay") words → None ≡ number_after (codes "gen") words → Some (p, j) ≡ two_after (codes "trace") words → Answered (trace_plan p j) call → Answered (plain_plan_of words) call
 unfolding plain_plan_of
-audit_answered words p t call c x m r g is a =
-    pass_one check_plan _ _ call c (pass_one text_plan _ _ call x (pass_one migrate_plan _ _ call m (pass_two replay_plan _ _ call r (pass_number gen_plan _ _ call g (take_two audit_plan _ _ p t call is a)))))
+trace_answered words p j call c x m r g is a =
+    pass_one check_plan _ _ call c (pass_one text_plan _ _ call x (pass_one migrate_plan _ _ call m (pass_two replay_plan _ _ call r (pass_number gen_plan _ _ call g (take_two trace_plan _ _ p j call is a)))))
 
-pub usage_answered : (words : List (List ℕ)) (call : Call) → None ≡ one_after (codes "check") words → None ≡ one_after (codes "text") words → None ≡ one_after (codes "migrate") words → None ≡ two_after (codes "replay") words → None ≡ number_after (codes "gen") words → None ≡ two_after (codes "audit") words → Answered usage_plan call → Answered (plain_plan_of words) call
+pub audit_answered : (words : List (List ℕ)) (p t : List ℕ) (call : Call) → None ≡ one_after (codes "check") words → None ≡ one_after (codes "text") words → None ≡ one_after (codes "migrate") words → None ≡ two_after (codes "replay") words → None ≡ number_after (codes "gen") words → None ≡ two_after (codes "trace") words → Some (p, t) ≡ two_after (codes "audit") words → Answered (audit_plan p t) call → Answered (plain_plan_of words) call
 unfolding plain_plan_of
-usage_answered words call c t m r g u a =
-    pass_one check_plan _ _ call c (pass_one text_plan _ _ call t (pass_one migrate_plan _ _ call m (pass_two replay_plan _ _ call r (pass_number gen_plan _ _ call g (pass_two audit_plan _ _ call u a)))))
+audit_answered words p t call c x m r g n is a =
+    pass_one check_plan _ _ call c (pass_one text_plan _ _ call x (pass_one migrate_plan _ _ call m (pass_two replay_plan _ _ call r (pass_number gen_plan _ _ call g (pass_two trace_plan _ _ call n (take_two audit_plan _ _ p t call is a))))))
+
+pub usage_answered : (words : List (List ℕ)) (call : Call) → None ≡ one_after (codes "check") words → None ≡ one_after (codes "text") words → None ≡ one_after (codes "migrate") words → None ≡ two_after (codes "replay") words → None ≡ number_after (codes "gen") words → None ≡ two_after (codes "trace") words → None ≡ two_after (codes "audit") words → Answered usage_plan call → Answered (plain_plan_of words) call
+unfolding plain_plan_of
+usage_answered words call c x m r g n u a =
+    pass_one check_plan _ _ call c (pass_one text_plan _ _ call x (pass_one migrate_plan _ _ call m (pass_two replay_plan _ _ call r (pass_number gen_plan _ _ call g (pass_two trace_plan _ _ call n (pass_two audit_plan _ _ call u a))))))
 
 pub run_answered : (words : List (List ℕ)) (p s : List ℕ) (call : Call) → Some (p, s) ≡ two_after (codes "run") words → Answered (run_plan p s) call → Answered (plan_of words) call
 unfolding plan_of

@@ -11,6 +11,7 @@ use Rattle.word_replay.specs.ReplayPlan.{replay_plan}
 use Rattle.word_replay.specs.GenPlan.{gen_plan}
 use Rattle.word_run.specs.RunPlan.{run_plan}
 use Rattle.word_stations.specs.StationsPlan.{stations_plan}
+use Rattle.word_trace.specs.TracePlan.{trace_plan}
 use Rattle.word_trace.specs.AuditPlan.{audit_plan}
 
 -- ---- a word and what stands behind it
@@ -73,16 +74,16 @@ or_watched plan (Some found) other = plan found.0 found.1 found.2
 -- ---- the words
 
 abbrev pub usage_text : List ℕ
-usage_text = codes "usage: logix check P, text P, replay P J, run P S, gen N, migrate P, audit P T, stations P J C" ++ 10 ∷ []
+usage_text = codes "usage: logix check P, text P, replay P J, run P S, gen N, migrate P, trace P J, audit P T, stations P J C" ++ 10 ∷ []
 
 abbrev pub usage_plan : Plan
 usage_plan = Say verdict.Usage (only usage_text)
 
--- the words that need no thread of their own: `check P`, `text P`, `migrate P`, `replay P J`, `gen N`, `audit P T`; and else the
--- usage
+-- the words that need no thread of their own: `check P`, `text P`, `migrate P`, `replay P J`, `gen N`, `trace P J`, `audit P T`;
+-- and else the usage
 unfoldable pub plain_plan_of : List (List ℕ) → Plan
 plain_plan_of words =
-    or_one check_plan (one_after (codes "check") words) (or_one text_plan (one_after (codes "text") words) (or_one migrate_plan (one_after (codes "migrate") words) (or_two replay_plan (two_after (codes "replay") words) (or_number gen_plan (number_after (codes "gen") words) (or_two audit_plan (two_after (codes "audit") words) usage_plan)))))
+    or_one check_plan (one_after (codes "check") words) (or_one text_plan (one_after (codes "text") words) (or_one migrate_plan (one_after (codes "migrate") words) (or_two replay_plan (two_after (codes "replay") words) (or_number gen_plan (number_after (codes "gen") words) (or_two trace_plan (two_after (codes "trace") words) (or_two audit_plan (two_after (codes "audit") words) usage_plan))))))
 
 -- all words: `run P S`, `stations P J C`, and those above
 unfoldable pub plan_of : List (List ℕ) → Plan

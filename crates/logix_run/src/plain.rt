@@ -11,14 +11,14 @@ use lgx_io::{Files, Sink};
 use std::alloc::Global;
 use word_project::{check_project, migrate_project, spell_project};
 use word_replay::{generate, replay_journal};
-use word_trace::audit_trace;
+use word_trace::{audit_trace, trace_journal};
 
 /// The line that tells how to use the program.
 pub const USAGE: &[u8] =
-    b"usage: logix check P, text P, replay P J, run P S, gen N, migrate P, audit P T, stations P J C\n";
+    b"usage: logix check P, text P, replay P J, run P S, gen N, migrate P, trace P J, audit P T, stations P J C\n";
 
 /// Follows the plan of the words.
-#[tactic(auto, using(crate::proofs::Ways::check_answered, crate::proofs::Ways::text_answered, crate::proofs::Ways::migrate_answered, crate::proofs::Ways::replay_answered, crate::proofs::Ways::gen_answered, crate::proofs::Ways::audit_answered, crate::proofs::Ways::usage_answered))]
+#[tactic(auto, using(crate::proofs::Ways::check_answered, crate::proofs::Ways::text_answered, crate::proofs::Ways::migrate_answered, crate::proofs::Ways::replay_answered, crate::proofs::Ways::gen_answered, crate::proofs::Ways::trace_answered, crate::proofs::Ways::audit_answered, crate::proofs::Ways::usage_answered))]
 pub(crate) fn follow_plain<F: Files, K: Sink>(
     alloc: Global,
     words: &[String],
@@ -48,6 +48,9 @@ pub(crate) fn follow_plain<F: Files, K: Sink>(
     if let Some(number) = number_after("gen", words) {
         return generate(alloc, number, files, sink);
     }
+    if let Some((project, journal)) = two_after("trace", words) {
+        return trace_journal(alloc, project, journal, files, sink);
+    }
     if let Some((project, trace)) = two_after("audit", words) {
         return audit_trace(alloc, project, trace, files, sink);
     }
@@ -59,8 +62,9 @@ pub(crate) fn follow_plain<F: Files, K: Sink>(
 ///
 /// `check P` tells how many there are of each part of the project of the file `P`, `text P` writes the rungs of its routines,
 /// `migrate P` writes the file in the newest schema, `replay P J` runs the journal of the file `J` on the project and writes
-/// the report, `gen N` tells how many lines the report has of a project and a journal that the number makes, and `audit P T`
-/// says whether the trace of the file `T` keeps the laws of the schedule. Any other words are answered with the usage line. Each line is one put; the project is read and judged before the journal is read.
+/// the report, `gen N` tells how many lines the report has of a project and a journal that the number makes, `trace P J`
+/// writes what is seen of the run of the journal of the file `J`, and `audit P T` says whether the trace of the file `T` keeps
+/// the laws of the schedule. Any other words are answered with the usage line. Each line is one put; the project is read and judged before the journal is read.
 ///
 /// At `WriteFault` and `Memory` a first part of the output was put, at `ReadFault` and `TooLong` nothing.
 #[tactic(auto, using(crate::proofs::Laws::answered))]

@@ -1,5 +1,5 @@
 -- A task of a valid project has no more programs than the project.
-use Rattle.std.proofs.Common.{◌≡◌, ℕ, zero, suc, ◌+◌, ◌<◌, ◌≤◌, ◌^◌, ◌==◌, List, [], ◌∷◌, ◌++◌, length, Bool, true, false, cond, ◌&&◌, not, nat_lt, IsTrue, inl, inr, refl, sym, ◌∙◌, ap, subst, arith, eqb-true, true≢false}
+use Rattle.std.proofs.Common.{◌≡◌, ℕ, zero, suc, ◌+◌, ◌<◌, ◌≤◌, ◌^◌, ◌==◌, List, [], ◌∷◌, ◌++◌, length, Bool, true, false, cond, nat_lt, inl, inr, refl, sym, subst, arith, eqb-true}
 use Rattle.std.specs.Prelude.{slice_index_or, flat_map, count_by, if◌then◌else◌}
 use Rattle.std.specs.List.{list_all, range_with_len}
 use Rattle.std.proofs.lemmas.Bool.{and_from, and_parts, ltb-true, leb-true, lt-ltb, cases_eq, ne_eqb}
@@ -7,7 +7,7 @@ use Rattle.std.proofs.Common.{eq-eqb, nat_le}
 use Rattle.std.proofs.lemmas.List.Sums.{sum_by-cons}
 use Rattle.spec_machine.specs.declared.limits.TheConstants.{MAX_PROGRAMS}
 use Rattle.spec_machine.specs.Project.{Project}
-use Rattle.spec_machine.specs.ValidProject.{IsValidProject, is_list_of, is_listed_once, is_within}
+use Rattle.spec_machine.specs.ValidProject.{IsValidProject, is_list_of, is_listed_once}
 
 abbrev count_of : ℕ → List ℕ → ℕ
 count_of n xs = count_by (λ m. m == n) xs

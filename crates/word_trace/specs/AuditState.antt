@@ -1,9 +1,6 @@
 -- The word `audit P T` on its way.
-use Rattle.std.specs.Prelude.{◌≡◌, ℕ, List, Err}
-use Rattle.spec_schedule.specs.declared.trace.Table.{Table}
+use Rattle.std.specs.Prelude.{ℕ, List}
 use Rattle.lgx_answer.specs.Plan.{Plan}
-use Rattle.lgx_audit.specs.declared.error.TraceFault.{TraceFault}
-use Rattle.lgx_audit.specs.TraceReading.{trace_of}
 use Rattle.word_trace.specs.declared.audit_word.Audit.{Audit}
 use Rattle.word_trace.specs.declared.audit_word.Audit.TheVariants.{Both, OnTable}
 use Rattle.word_trace.specs.AuditPlan.{trace_next, on_trace}
