@@ -12,7 +12,7 @@ use Rattle.lgx_chart.specs.declared.error.ChartFault.{ChartFault}
 use Rattle.lgx_chart.specs.declared.error.ChartError.{ChartError}
 use Rattle.lgx_chart.specs.declared.error.ChartError.TheVariants as error
 use Rattle.lgx_chart.specs.Forms.{end_of}
-use Rattle.lgx_chart.specs.Charts.{Seen, seen_with, comes_after, entry_at, refused, nothing_follows, chart_at_end, with_entry, by_line, chart_from}
+use Rattle.lgx_chart.specs.Charts.{Seen, nothing, seen_with, comes_after, entry_at, refused, nothing_follows, chart_at_end, with_entry, by_line, chart_from, chart_of}
 use Rattle.lgx_chart.specs.Reading.{IfFault, refusal, with_entries}
 
 -- ---- the end
@@ -103,6 +103,13 @@ pub refused_at : (whole : Result Chart ChartFault) (error : ChartError) (done : 
 refused_at whole (error.Line fault) done seen line rest after same split no_end is =
     sym same ∙ chart_refused done fault seen line rest after split no_end is
 refused_at whole error.Memory done seen line rest after same split no_end is = tt
+
+pub chart_starts : (done : List Entry) (seen : Seen) (text : List ℕ) → seen ≡ nothing → done ≡ [] → with_entries done (chart_from seen (pieces 10 text)) ≡ chart_of text
+chart_starts done seen text none empty = rw none (rw empty (unchanged (chart_of text)))
+  where
+    unchanged : (r : Result Chart ChartFault) → with_entries [] r ≡ r
+    unchanged (Ok chart) = refl
+    unchanged (Err fault) = refl
 
 pub chart_last : (done : List Entry) (seen : Seen) (rest : List ℕ) → pieces 10 rest ≡ rest ∷ []
     → with_entries done (chart_from seen (pieces 10 rest)) ≡ refused (seen.lines + 1) V4

@@ -64,10 +64,14 @@ comes_after seen tick step = nat_le seen.tick tick && nat_le seen.step step
 
 -- ---- line by line
 
+-- what a line says, if it may stand here, or its first cause
+abbrev pub taken : Seen → Entry → Result Entry ChartCode
+taken seen e =
+    unless (comes_after seen e.tick e.step) V2 >>= λ _. unless (is_within_limits (seen_with seen e)) V3 >>= λ _. Ok e
+
 -- what a line before the end line says, or its first cause
 abbrev pub entry_at : Seen → List (List ℕ) → Result Entry ChartCode
-entry_at seen words =
-    some_or (entry_of words) V1 >>= λ e. unless (comes_after seen e.tick e.step) V2 >>= λ _. unless (is_within_limits (seen_with seen e)) V3 >>= λ _. Ok e
+entry_at seen words = some_or (entry_of words) V1 >>= taken seen
 
 abbrev pub refused : {A : Type 0} → ℕ → ChartCode → Result A ChartFault
 refused line code = Err (record { code = code; line = line })

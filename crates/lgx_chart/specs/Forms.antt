@@ -89,8 +89,13 @@ ended mode tick step lost = record { tick = tick; step = step; mode = mode; lost
 abbrev pub are_end_words : List ℕ → List ℕ → List ℕ → Bool
 are_end_words first mode lost = bytes_eq first (codes "end") && is_mode mode && bytes_eq lost (codes "lost")
 
+-- the end that these words tell
+abbrev pub end_at : List ℕ → List ℕ → List ℕ → List ℕ → Option End
+end_at tick step mode count =
+    option_and_then (λ t. option_and_then (λ s. option_map (ended mode t s) (unsigned_of count)) (unsigned_of step)) (unsigned_of tick)
+
 -- `end TICK STEP MODE lost N`
 abbrev pub end_of : List (List ℕ) → Option End
 end_of (first ∷ tick ∷ step ∷ mode ∷ lost ∷ count ∷ []) =
-    if are_end_words first mode lost then option_and_then (λ t. option_and_then (λ s. option_map (ended mode t s) (unsigned_of count)) (unsigned_of step)) (unsigned_of tick) else None
+    if are_end_words first mode lost then end_at tick step mode count else None
 end_of _ = None

@@ -4,6 +4,5 @@ pub mod Forms
 pub mod Charts
 pub mod Reading
 pub mod Vcd
-pub mod Status
-pub mod Output
-pub mod Usage
+pub mod ChartPlan
+pub mod WavePlan

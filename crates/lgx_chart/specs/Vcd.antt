@@ -24,14 +24,17 @@ binary (suc count) n = binary count (n / 2) ++ (48 + n % 2) ∷ []
 abbrev pub bits_of : ℤ → List ℕ
 bits_of value = binary 32 (cast_unsigned w32 value)
 
+-- the program that began, and its version
+abbrev pub begun : List ℕ → ℕ → List ℕ
+begun program version = codes "s" ++ program ++ codes ":" ++ decimal version
+
 -- What a line changes. A task's signal, `t:` and its name, has the program that began and its version; the signal of a
 -- watched place, `w:` and its text, has its value. Strings have no spaces.
 abbrev pub change : Note → List ℕ
-change (Begin task program version) =
-    codes "s" ++ program ++ codes ":" ++ decimal version ++ codes " t:" ++ task ++ codes "\n"
+change (Begin task program version) = begun program version ++ codes " t:" ++ task ++ codes "\n"
 change (Reply words) = codes "s" ++ join_with_byte 95 words ++ codes " reply\n"
 change (Fault words) = codes "s" ++ join_with_byte 95 words ++ codes " fault\n"
-change (Set watch value) = codes "b" ++ bits_of value ++ codes " w:" ++ watch ++ codes "\n"
+change (Set watch value) = (codes "b" ++ bits_of value) ++ codes " w:" ++ watch ++ codes "\n"
 
 -- ---- times
 
@@ -96,9 +99,12 @@ abbrev pub unit_of : Clock → List ℕ
 unit_of Step = codes "1 ns"
 unit_of Tick = codes "1 ms"
 
+-- how the report ends
+abbrev pub ending : End → List ℕ
+ending end = version_text ++ end.mode ++ lost_text ++ decimal end.lost
+
 abbrev pub opening : Clock → End → List ℕ
-opening clock end =
-    version_text ++ end.mode ++ lost_text ++ decimal end.lost ++ timescale_text ++ unit_of clock ++ end_text
+opening clock end = ending end ++ timescale_text ++ unit_of clock ++ end_text
 
 abbrev pub signals : Chart → List ℕ
 signals chart =

@@ -1,10 +1,10 @@
 // Reads a report.
-ghost use Rattle.std.specs.Prelude.{◌≡◌, ◌+◌, ◌≤◌, ◌<◌, ◌^◌, ◌∷◌, IfOk, IfErr, IsTrue, OnOk, Some, Ok, Err};
+ghost use Rattle.std.specs.Prelude.{◌≡◌, ◌+◌, ◌≤◌, ◌<◌, ◌^◌, ◌∷◌, [], IfOk, IfErr, IsTrue, OnOk, Some, Ok, Err};
 ghost use Rattle.std.specs.List.{list_any};
 ghost use Rattle.std.specs.Str.{bytes_eq};
 ghost use Rattle.spec_base.specs.Pieces.{pieces};
 ghost use Rattle.spec_base.specs.declared.limits.TheConstants.{MAX_REPORT_LINES};
-ghost use Rattle.lgx_chart.specs.Charts.{Seen as SeenSoFar, nothing, with_name, tasks_with, watches_with, seen_with, is_within_limits, comes_after, entry_at, chart_at_end, chart_of};
+ghost use Rattle.lgx_chart.specs.Charts.{Seen as SeenSoFar, nothing, with_name, tasks_with, watches_with, seen_with, is_within_limits, comes_after, taken, entry_at, chart_at_end, chart_of};
 ghost use Rattle.lgx_chart.specs.Reading.{IfFault, refusal, with_entries};
 
 use crate::entry::{Chart, End, Entry, Note};
@@ -104,8 +104,28 @@ impl Seen {
         }
     }
 
+    /// Counts a line that says this, if it may stand here.
+    fn take(&mut self, alloc: Global, entry: &Entry) -> Result<(), ChartError>
+        requires { self.old.lines < 2 ^ 63 }
+        ensures entry { OnOk result (taken self.old entry.now ≡ Ok entry.now) }
+        ensures counted { OnOk result (self.new ≡ seen_with self.old entry.now) }
+        ensures few { OnOk result (self.new.lines ≤ MAX_REPORT_LINES) }
+        ensures fault { IfErr result (IfFault (λ fault.
+            refusal (self.old.lines + 1) (taken self.old entry.now) ≡ Some fault)) }
+    {
+        let number = self.lines + 1;
+        if !self.comes_after(entry.tick, entry.step) {
+            return Err(at_line(ChartCode::V2, number));
+        }
+        self.count(alloc, entry)?;
+        if !self.is_within_limits() {
+            return Err(at_line(ChartCode::V3, number));
+        }
+        Ok(())
+    }
+
     /// Counts a line that says this.
-    fn take(&mut self, alloc: Global, entry: &Entry) -> Result<(), Memory>
+    fn count(&mut self, alloc: Global, entry: &Entry) -> Result<(), Memory>
         requires { self.old.lines < 2 ^ 63 }
         ensures { OnOk result (self.new ≡ seen_with self.old entry.now) }
     {
@@ -125,18 +145,13 @@ impl Seen {
         ensures fault { IfErr result (IfFault (λ fault.
             refusal (self.old.lines + 1) (entry_at self.old (pieces 32 line.now)) ≡ Some fault)) }
     {
-        let number = self.lines + 1;
         let Some(entry) = line_entry(alloc, line)? else {
-            return Err(at_line(ChartCode::V1, number));
+            return Err(at_line(ChartCode::V1, self.lines + 1));
         };
-        if !self.comes_after(entry.tick, entry.step) {
-            return Err(at_line(ChartCode::V2, number));
+        match self.take(alloc, &entry) {
+            Ok(()) => Ok(entry),
+            Err(error) => Err(error),
         }
-        self.take(alloc, &entry)?;
-        if !self.is_within_limits() {
-            return Err(at_line(ChartCode::V3, number));
-        }
-        Ok(entry)
     }
 
     /// The report that ends with this line and the text after it.
@@ -162,18 +177,25 @@ impl Seen {
     }
 }
 
-/// What a report says, or the first line that is none of a report, and why.
-#[tactic(auto, using(crate::proofs::Lines::chart_goes_on, crate::proofs::Lines::chart_ends, crate::proofs::Lines::chart_last))]
-pub fn read_chart(alloc: Global, bytes: &[u8]) -> Result<Chart, ChartError>
-    ensures chart { IfOk result (λ chart. chart_of bytes.now ≡ Ok chart) }
+/// Reads the lines before the end line. Answers the end line and the text after it.
+#[tactic(auto, using(crate::proofs::Lines::chart_starts, crate::proofs::Lines::chart_goes_on, crate::proofs::Lines::chart_ends, crate::proofs::Lines::chart_last))]
+fn read_lines<'a>(
+    alloc: Global,
+    seen: &mut Seen,
+    entries: &mut Vec<Entry>,
+    bytes: &'a [u8],
+) -> Result<(End, &'a [u8]), ChartError>
+    requires nothing { seen.old ≡ nothing }
+    requires none { entries.old.items ≡ [] }
+    ensures chart { IfOk result (λ ending.
+        with_entries entries.new.items (chart_at_end seen.new ending.0 (pieces 10 ending.1.now)) ≡ chart_of bytes.now) }
+    ensures few { IfOk result (λ _. seen.new.lines ≤ MAX_REPORT_LINES) }
     ensures fault { IfErr result (IfFault (λ fault. chart_of bytes.now ≡ Err fault)) }
 {
-    let mut seen = Seen::new(alloc);
-    let mut entries = Vec::new(alloc);
     let mut rest = bytes;
     while let Some((line, after)) = split_first(rest, b'\n') {
         if let Some(end) = line_end(alloc, line)? {
-            return seen.end(entries, end, after);
+            return Ok((end, after));
         }
         match seen.read_entry(alloc, line) {
             Ok(entry) => entries.push(entry)?,
@@ -182,4 +204,17 @@ pub fn read_chart(alloc: Global, bytes: &[u8]) -> Result<Chart, ChartError>
         rest = after;
     }
     Err(at_line(ChartCode::V4, seen.lines + 1))
+}
+
+/// What a report says, or the first line that is none of a report, and why.
+pub fn read_chart(alloc: Global, bytes: &[u8]) -> Result<Chart, ChartError>
+    ensures chart { IfOk result (λ chart. chart_of bytes.now ≡ Ok chart) }
+    ensures fault { IfErr result (IfFault (λ fault. chart_of bytes.now ≡ Err fault)) }
+{
+    let mut seen = Seen::new(alloc);
+    let mut entries = Vec::new(alloc);
+    match read_lines(alloc, &mut seen, &mut entries, bytes) {
+        Ok((end, after)) => seen.end(entries, end, after),
+        Err(error) => Err(error),
+    }
 }

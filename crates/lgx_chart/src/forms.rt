@@ -2,7 +2,7 @@
 ghost use Rattle.std.specs.Prelude.{◌≡◌, map, codes, IfOk};
 ghost use Rattle.std.specs.Str.{bytes_eq};
 ghost use Rattle.spec_base.specs.Pieces.{pieces};
-ghost use Rattle.lgx_chart.specs.Forms.{begun, begin_of, is_number, is_answer, reply_of, is_severity, is_fault_number, is_program, are_fault_words, fault_of, set_of, note_of, entry_of, is_mode, are_end_words, end_of};
+ghost use Rattle.lgx_chart.specs.Forms.{begun, begin_of, is_number, is_answer, reply_of, is_severity, is_fault_number, is_program, are_fault_words, fault_of, set_of, note_of, entry_of, is_mode, are_end_words, end_at, end_of};
 
 use crate::entry::{End, Entry, Note};
 use crate::words::{all_owned, are_words, is_word, owned, words_of};
@@ -226,16 +226,16 @@ fn are_end_words(first: &[u8], mode: &[u8], lost: &[u8]) -> bool
     first == b"end".as_slice() && is_mode(mode) && lost == b"lost".as_slice()
 }
 
-/// `end TICK STEP MODE lost N`
-fn end_of(alloc: Global, words: &[&[u8]]) -> Result<Option<End>, Memory>
-    ensures { IfOk result (λ end. end ≡ end_of (map (λ w. w.now) words.now)) }
+/// The end that these words tell.
+fn end_at(
+    alloc: Global,
+    tick: &[u8],
+    step: &[u8],
+    mode: &[u8],
+    count: &[u8],
+) -> Result<Option<End>, Memory>
+    ensures { IfOk result (λ end. end ≡ end_at tick.now step.now mode.now count.now) }
 {
-    let [end, tick, step, mode, lost, count] = words else {
-        return Ok(None);
-    };
-    if !are_end_words(end, mode, lost) {
-        return Ok(None);
-    }
     let Some(tick) = unsigned_of(tick) else {
         return Ok(None);
     };
@@ -251,6 +251,19 @@ fn end_of(alloc: Global, words: &[&[u8]]) -> Result<Option<End>, Memory>
         mode: owned(alloc, mode)?,
         lost,
     }))
+}
+
+/// `end TICK STEP MODE lost N`
+fn end_of(alloc: Global, words: &[&[u8]]) -> Result<Option<End>, Memory>
+    ensures { IfOk result (λ end. end ≡ end_of (map (λ w. w.now) words.now)) }
+{
+    let [end, tick, step, mode, lost, count] = words else {
+        return Ok(None);
+    };
+    if !are_end_words(end, mode, lost) {
+        return Ok(None);
+    }
+    end_at(alloc, tick, step, mode, count)
 }
 
 /// What a line before the end line says.

@@ -14,13 +14,26 @@ pub fn push(text: &mut Vec<u8>, bytes: &[u8]) -> Result<(), Memory>
     Ok(())
 }
 
-/// Adds the decimal digits of a number to a text, which may have a part of them after `Memory`.
-pub fn push_number(text: &mut Vec<u8>, alloc: Global, number: u64) -> Result<(), Memory>
+/// Adds the decimal digits of a number.
+fn push_number(text: &mut Vec<u8>, alloc: Global, number: u64) -> Result<(), Memory>
     ensures { OnOk result (text.new.items ≡ text.old.items ++ decimal number) }
 {
     let digits = number.to_string(alloc)?;
     text.extend_from_slice(digits.as_bytes())?;
     Ok(())
+}
+
+/// Adds a text and the decimal digits of a number after it to a text, which may have a part of them after `Memory`.
+pub fn push_count(
+    text: &mut Vec<u8>,
+    alloc: Global,
+    before: &[u8],
+    number: u64,
+) -> Result<(), Memory>
+    ensures { OnOk result (text.new.items ≡ text.old.items ++ before.now ++ decimal number) }
+{
+    push(text, before)?;
+    push_number(text, alloc, number)
 }
 
 /// Adds words with a byte before each.

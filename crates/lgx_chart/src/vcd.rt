@@ -1,13 +1,13 @@
 // Writes a report as a wave file.
-ghost use Rattle.std.specs.Prelude.{◌≡◌, ◌++◌, OnOk, IfOk};
-ghost use Rattle.std.specs.List.{flat_map, list_all};
+ghost use Rattle.std.specs.Prelude.{◌≡◌, ◌++◌, codes, OnOk, IfOk};
+ghost use Rattle.std.specs.List.{flat_map, join_with_byte, list_all};
 ghost use Rattle.lgx_num.specs.Name.{is_name_byte};
 ghost use Rattle.lgx_chart.specs.Clocks.{time_of};
-ghost use Rattle.lgx_chart.specs.Vcd.{binary, bits_of, change, stamp, changes_from, reference, task_signal, watch_signal, unit_of, opening, signals, vcd_text};
+ghost use Rattle.lgx_chart.specs.Vcd.{binary, bits_of, begun, change, stamp, changes_from, reference, task_signal, watch_signal, unit_of, ending, opening, signals, vcd_text};
 
 use crate::clock::{Clock, time_of};
 use crate::entry::{Chart, End, Entry, Note};
-use crate::text_out::{push, push_joined, push_number};
+use crate::text_out::{push, push_count, push_joined};
 use crate::vcd_texts::{
     end_text, lost_text, other_signals, task_text, tasks_scope, timescale_text, version_text,
     watch_text, watches_scope,
@@ -28,6 +28,68 @@ fn push_binary(text: &mut Vec<u8>, count: u32, number: u32) -> Result<(), Memory
     Ok(())
 }
 
+/// Adds the program and its version.
+fn push_version(
+    text: &mut Vec<u8>,
+    alloc: Global,
+    program: &[u8],
+    version: u32,
+) -> Result<(), Memory>
+    ensures { OnOk result (text.new.items ≡ text.old.items ++ begun program.now version) }
+{
+    push(text, b"s")?;
+    push(text, program)?;
+    push_count(text, alloc, b":", u64::from(version))
+}
+
+/// Adds the signal of a task or of a watched place, whose name has this before it.
+fn push_signal(text: &mut Vec<u8>, mark: &[u8], name: &[u8]) -> Result<(), Memory>
+    ensures { OnOk result (text.new.items ≡ text.old.items ++ mark.now ++ name.now ++ codes "\n") }
+{
+    push(text, mark)?;
+    push(text, name)?;
+    push(text, b"\n")
+}
+
+/// Adds the begin of a task's scan.
+fn push_begin(
+    text: &mut Vec<u8>,
+    alloc: Global,
+    task: &[u8],
+    program: &[u8],
+    version: u32,
+) -> Result<(), Memory>
+    ensures { OnOk result (text.new.items ≡ text.old.items ++ change (Note.Begin task.now program.now version)) }
+{
+    push_version(text, alloc, program, version)?;
+    push_signal(text, b" t:", task)
+}
+
+/// Adds a new value of a watched place.
+fn push_set(text: &mut Vec<u8>, watch: &[u8], value: i32) -> Result<(), Memory>
+    ensures { OnOk result (text.new.items ≡ text.old.items ++ change (Note.Set watch.now value)) }
+{
+    push_value(text, value)?;
+    push_signal(text, b" w:", watch)
+}
+
+/// Adds words as one string, and its signal.
+fn push_string(text: &mut Vec<u8>, words: &[Items<u8>], signal: &[u8]) -> Result<(), Memory>
+    ensures { OnOk result (text.new.items ≡ text.old.items ++ codes "s" ++ join_with_byte 95 words.now ++ signal.now) }
+{
+    push(text, b"s")?;
+    push_joined(text, b'_', words)?;
+    push(text, signal)
+}
+
+/// Adds a value.
+fn push_value(text: &mut Vec<u8>, value: i32) -> Result<(), Memory>
+    ensures { OnOk result (text.new.items ≡ text.old.items ++ codes "b" ++ bits_of value) }
+{
+    push(text, b"b")?;
+    push_binary(text, 32, value.cast_unsigned())
+}
+
 /// Adds what a line changes.
 fn push_change(text: &mut Vec<u8>, alloc: Global, note: &Note) -> Result<(), Memory>
     ensures { OnOk result (text.new.items ≡ text.old.items ++ change note.now) }
@@ -37,32 +99,10 @@ fn push_change(text: &mut Vec<u8>, alloc: Global, note: &Note) -> Result<(), Mem
             task,
             program,
             version,
-        } => {
-            push(text, b"s")?;
-            push(text, program.as_slice())?;
-            push(text, b":")?;
-            push_number(text, alloc, u64::from(*version))?;
-            push(text, b" t:")?;
-            push(text, task.as_slice())?;
-            push(text, b"\n")
-        }
-        Note::Reply(words) => {
-            push(text, b"s")?;
-            push_joined(text, b'_', words.as_slice())?;
-            push(text, b" reply\n")
-        }
-        Note::Fault(words) => {
-            push(text, b"s")?;
-            push_joined(text, b'_', words.as_slice())?;
-            push(text, b" fault\n")
-        }
-        Note::Set { watch, value } => {
-            push(text, b"b")?;
-            push_binary(text, 32, value.cast_unsigned())?;
-            push(text, b" w:")?;
-            push(text, watch.as_slice())?;
-            push(text, b"\n")
-        }
+        } => push_begin(text, alloc, task.as_slice(), program.as_slice(), *version),
+        Note::Reply(words) => push_string(text, words.as_slice(), b" reply\n"),
+        Note::Fault(words) => push_string(text, words.as_slice(), b" fault\n"),
+        Note::Set { watch, value } => push_set(text, watch.as_slice(), *value),
     }
 }
 
@@ -75,8 +115,7 @@ fn push_stamp(text: &mut Vec<u8>, alloc: Global, last: Option<u32>, time: u32) -
             return Ok(());
         }
     }
-    push(text, b"#")?;
-    push_number(text, alloc, u64::from(time))?;
+    push_count(text, alloc, b"#", u64::from(time))?;
     push(text, b"\n")
 }
 
@@ -169,14 +208,20 @@ fn unit_of(clock: Clock) -> &'static [u8]
     }
 }
 
+/// Adds how the report ends.
+fn push_ending(text: &mut Vec<u8>, alloc: Global, end: &End) -> Result<(), Memory>
+    ensures { OnOk result (text.new.items ≡ text.old.items ++ ending end.now) }
+{
+    push(text, version_text())?;
+    push(text, end.mode.as_slice())?;
+    push_count(text, alloc, lost_text(), u64::from(end.lost))
+}
+
 /// Adds what stands before the signals.
 fn push_opening(text: &mut Vec<u8>, alloc: Global, clock: Clock, end: &End) -> Result<(), Memory>
     ensures { OnOk result (text.new.items ≡ text.old.items ++ opening clock end.now) }
 {
-    push(text, version_text())?;
-    push(text, end.mode.as_slice())?;
-    push(text, lost_text())?;
-    push_number(text, alloc, u64::from(end.lost))?;
+    push_ending(text, alloc, end)?;
     push(text, timescale_text())?;
     push(text, unit_of(clock))?;
     push(text, end_text())

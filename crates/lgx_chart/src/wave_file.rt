@@ -1,22 +1,26 @@
 // The program `logix_wave`.
-ghost use Rattle.std.specs.Prelude.{◌≡◌, ◌≢◌, map, string_bytes, option_map};
-ghost use Rattle.lgx_chart.specs.Clocks.{clock_of};
-ghost use Rattle.lgx_chart.specs.Output.{IsAnswered};
+ghost use Rattle.std.specs.Prelude.{[], map, string_bytes};
+ghost use Rattle.lgx_answer.specs.Answered.{Failures};
+ghost use Rattle.lgx_answer.specs.Endings.{ending_of};
+ghost use Rattle.lgx_answer.specs.Laws.{FollowsPlan};
+ghost use Rattle.lgx_answer.specs.Process.{IsProcess};
 ghost use Rattle.lgx_chart.specs.Vcd.{vcd_text};
-ghost use Rattle.lgx_chart.specs.Usage.{wave_usage};
+ghost use Rattle.lgx_chart.specs.WavePlan.{wave_plan};
 
 use crate::clock::{Clock, clock_of};
 use crate::entry::Chart;
 use crate::picture::Picture;
-use crate::program::draw;
-use crate::status::Status;
 use crate::vcd::vcd_text;
-use lgx_io::Sink;
+use crate::word::draw;
+use lgx_answer::{Status, exit_number, words_of};
+use lgx_io::{Files, Gathered, HostSink, Input, Sink};
 use lgx_num::Memory;
-use std::alloc::Global;
-use std::io::Read;
+use std::alloc::{AllocGlobal, Global};
+use std::env::Env;
+use std::io::{Input as StandardInput, Print, Read, Write};
 
-const USAGE: &[u8] = b"usage: logix_wave < REPORT, logix_wave tick < REPORT\n";
+/// The line that tells how to use the program.
+pub const USAGE: &[u8] = b"usage: logix_wave < REPORT, logix_wave tick < REPORT\n";
 
 /// A report as a wave file.
 struct WaveFile;
@@ -29,23 +33,72 @@ impl Picture for WaveFile {
     }
 }
 
-/// The program `logix_wave`: reads a report, writes it as a wave file in one piece, and answers how the program ends.
+/// The program `logix_wave`: reads a report, writes it as a wave file by one put, and answers how the program ends. The report
+/// is the one file, and its name is empty.
 ///
-/// With no word time is the number of processor steps, with the word `tick` the tick. A text that is no report has one
-/// line written, `report CODE line N`.
-pub fn wave<R: Read, K: Sink>(
+/// With no word time is the number of processor steps, with the word `tick` the tick. A text that is no report is answered
+/// `Project`, with one line, `report CODE line N`.
+#[tactic(auto, using(lgx_answer::proofs::Follows::follows_plan))]
+pub fn wave<F: Files, K: Sink>(
     alloc: Global,
     words: &[String],
-    input: &mut R,
+    files: &mut F,
     sink: &mut K,
 ) -> Status
-    ensures answered { IsAnswered wave_usage (option_map vcd_text (clock_of (map string_bytes words.now))) (record {
-      told = R.remaining input.old;
+    ensures { FollowsPlan (wave_plan (map string_bytes words.now)) (record {
+      told = F.told files.old;
+      failures = record { old = F.failures files.old; new = F.failures files.new };
       held = record { old = K.held sink.old; new = K.held sink.new };
       faults = record { old = K.faults sink.old; new = K.faults sink.new };
-      answer = result;
+      answer = ending_of result;
     }) }
-    ensures unfailed { result ≢ Status.WriteFault → K.faults sink.new ≡ K.faults sink.old }
 {
-    draw(alloc, USAGE, &WaveFile, clock_of(words), input, sink)
+    draw(alloc, USAGE, &WaveFile, clock_of(words), files, sink)
+}
+
+/// All that the process does with its words: what [`wave`] does, and then what still waits to be written is written. Answers
+/// the number that the process ends with.
+pub fn program<F: Files, W: Write + Drop>(
+    alloc: Global,
+    words: &[String],
+    files: &mut F,
+    output: &mut Gathered<W>,
+) -> u8
+    ensures { IsProcess (wave_plan (map string_bytes words.now)) (F.told files.old)
+        (record { old = F.failures files.old; new = F.failures files.new })
+        output.old output.new result }
+{
+    let status = wave(alloc, words, files, output);
+    exit_number(status, output)
+}
+
+/// What [`program`] does, where the file is what this reader has left.
+fn program_on<R: Read + Drop, W: Write + Drop>(
+    alloc: Global,
+    words: &[String],
+    input: R,
+    output: &mut Gathered<W>,
+) -> u8
+    ensures { (noted : Failures) × IsProcess (wave_plan (map string_bytes words.now)) (λ name. R.remaining input)
+        (record { old = []; new = noted }) output.old output.new result }
+{
+    let mut files = Input::new(input, alloc);
+    program(alloc, words, &mut files, output)
+}
+
+/// What [`process`] does with these words.
+fn process_words<R: AllocGlobal + StandardInput + Print>(rt: &R, words: &[String]) -> u8 {
+    let alloc = rt.alloc();
+    let mut output = HostSink::new(rt, alloc);
+    program_on(alloc, words, rt.reader(), &mut output)
+}
+
+/// All of the process but the call of this: the words are those of the command line, the file is standard input, and the output
+/// is standard output. Answers the number that the process ends with, which is that of [`program`]; there is none for words
+/// that memory has no room for but that of `Memory`.
+pub fn process<R: Env + AllocGlobal + StandardInput + Print>(rt: &R) -> u8 {
+    match words_of(rt) {
+        Ok(words) => process_words(rt, &words),
+        Err(_) => Status::Memory.number(),
+    }
 }

@@ -8,11 +8,6 @@ pub record GatheredState : Type 0 where
   pub waiting : List ℕ
   pub faults : ℕ
 
--- `HostSink`: the bytes that wait to be written; the count of faults
-pub record HostSinkState : Type 0 where
-  pub waiting : List ℕ
-  pub faults : ℕ
-
 -- what is written, and then what waits
 abbrev pub held_by : GatheredState → Option (List ℕ)
 held_by g = append_known g.written g.waiting

@@ -10,26 +10,38 @@
 //! | [`MemFiles`], [`MemSink`] | told | at the calls that it was given |
 //! | [`SureFiles`], [`SureSink`] | told | never |
 //! | [`Gathered`] | told if its writer tells | when its writer fails, and from then on |
-//! | [`HostFiles`], [`HostSink`] | not told | when the system fails; the sink from then on |
+//! | [`OpenedFiles`] | told if its opener tells | when its opener or a file that this gave fails |
+//! | [`Input`] | told if its reader tells | when its reader fails, and at each read but the first |
 //!
-//! **The trusted edge.** No contract can say what a real file has or where the bytes of standard output go, so
-//! `HostFiles` and `HostSink` tell nothing of contents. Their causes and counts are proved, and that nothing
-//! waits once a `HostSink` is finished; so are the parts that they stand on: [`read_to_end`] reads all that a
-//! reader has whose bytes are known, and [`Gathered`] adds the whole piece over any writer that tells what it
-//! holds, or a first part of it at a fault, and has written all at the end. What is left to trust are the few
-//! lines that open a file and name standard output.
+//! **Proved of the system's too.** [`HostSink`] is a [`Gathered`] over a printer, and [`HostFiles`] is
+//! [`OpenedFiles`] over what opens the files of the system; neither has code of its own to put or to read. So what
+//! is proved over every writer and every opener is proved of them: a put adds its whole piece, or a first part of it
+//! at a fault; `finish` leaves nothing waiting and loses nothing; a read opens the file of its name, once, and what
+//! it answers is all that this file has. A body that drops or repeats bytes, or reads another file, is refused,
+//! since it would be wrong over a writer or an opener that tells.
+//!
+//! **Trusted.** No contract can say what a real file has or where the bytes of standard output go, so the system's
+//! opener and printer tell nothing. Left to trust are the one line that opens a file of the system by its name, and
+//! the lines that make a printer to standard output. And no clause says when a reader or an opener has to succeed:
+//! a read that gives up, with its `Failed` noted, isn't ruled out.
 #![tactic(auto)]
 
 mod files;
 mod gathered;
 mod host;
+mod input;
 mod memory;
+mod opened;
+mod reading;
 mod sink;
 mod sure;
 
 pub use files::{FileFault, Files, ReadCause};
 pub use gathered::{Gathered, write_all};
-pub use host::{HostFiles, HostSink, read_to_end};
+pub use host::{HostFiles, HostOpener, HostSink};
+pub use input::{Input, OnlyReader};
 pub use memory::{MemFiles, MemSink};
+pub use opened::{Open, OpenedFiles};
+pub use reading::read_to_end;
 pub use sink::{Sink, SinkFault};
 pub use sure::{SureFiles, SureSink};

@@ -2,3 +2,4 @@ pub mod Shapes
 pub mod Lanes
 pub mod Marks
 pub mod Svg
+pub mod TimelinePlan

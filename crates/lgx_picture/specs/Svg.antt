@@ -35,10 +35,15 @@ legend = LEGEND.now
 
 -- ---- lanes
 
--- a lane's name, which is shown whole when it is pointed at, and its line
+-- its name is shown whole when it is pointed at
+abbrev pub lane_title : Lane → List ℕ
+lane_title lane =
+    codes "<g class=\"" ++ class_of lane ++ codes "\"><title>" ++ escaped (name_of lane) ++ codes "</title>\n"
+
+-- a lane's name and its line
 abbrev pub lane_head : Lane → ℕ → List ℕ
 lane_head lane top =
-    codes "<g class=\"" ++ class_of lane ++ codes "\"><title>" ++ escaped (name_of lane) ++ codes "</title>\n" ++ words (codes "name") 10 (top + 36) (short (name_of lane)) ++ ground_line (top + 40)
+    lane_title lane ++ words (codes "name") 10 (top + 36) (short (name_of lane)) ++ ground_line (top + 40)
 
 -- a lane that begins at that height
 abbrev pub lane_text : Lane → ℕ → List Mark → List ℕ
@@ -103,8 +108,3 @@ front scale end bottom =
 abbrev pub svg_text : Clock → Chart → List ℕ
 svg_text clock chart =
     front (scale_of clock chart.end) chart.end (bottom_of chart) ++ lanes_from (scale_of clock chart.end) chart.entries 0 (lanes_of chart) ++ codes "</svg>\n"
-
--- ---- the program `logix_timeline`
-
-abbrev pub timeline_usage : List ℕ
-timeline_usage = codes "usage: logix_timeline < REPORT, logix_timeline tick < REPORT\n"

@@ -6,7 +6,7 @@ ghost use Rattle.lgx_picture.specs.declared.lanes.Lane.TheVariants.{Task as Task
 ghost use Rattle.lgx_picture.specs.Lanes.{lanes_of, name_of, class_of, short, begun_in, fault_in, reply_in, set_in, said_in};
 
 use crate::sizes::{CUT_LETTERS, MAX_LANES, NAME_LETTERS};
-use lgx_chart::{Chart, Note, owned, push, push_joined, push_number};
+use lgx_chart::{Chart, Note, owned, push, push_count, push_joined};
 use lgx_num::{Items, Memory};
 use std::alloc::Global;
 
@@ -96,8 +96,7 @@ fn begun(alloc: Global, program: &[u8], version: u32) -> Result<Items<u8>, Memor
 {
     let mut text = Vec::new(alloc);
     push(&mut text, program)?;
-    push(&mut text, b":")?;
-    push_number(&mut text, alloc, u64::from(version))?;
+    push_count(&mut text, alloc, b":", u64::from(version))?;
     Ok(Items::of(text))
 }
 

@@ -16,4 +16,4 @@ mod timeline;
 mod values;
 
 pub use svg::svg_text;
-pub use timeline::draw_timeline;
+pub use timeline::{USAGE, draw_timeline, process, program};

@@ -3,7 +3,7 @@ ghost use Rattle.std.specs.Prelude.{◌≡◌, ◌++◌, OnOk};
 ghost use Rattle.lgx_picture.specs.Shapes.{escaped_byte, escaped, words_from, words, line_from, down_to, to_the_end, upright, ground_line};
 
 use crate::sizes::{LEFT, RIGHT};
-use lgx_chart::{push, push_number};
+use lgx_chart::{push, push_count};
 use lgx_num::Memory;
 use std::alloc::Global;
 
@@ -51,10 +51,8 @@ fn push_words_from(
 {
     push(text, b"<text class=\"")?;
     push(text, class)?;
-    push(text, b"\" x=\"")?;
-    push_number(text, alloc, x)?;
-    push(text, b"\" y=\"")?;
-    push_number(text, alloc, y)
+    push_count(text, alloc, b"\" x=\"", x)?;
+    push_count(text, alloc, b"\" y=\"", y)
 }
 
 /// Adds words that begin at a place.
@@ -88,10 +86,8 @@ pub(crate) fn push_line_from(
 {
     push(text, b"<path class=\"")?;
     push(text, class)?;
-    push(text, b"\" d=\"M")?;
-    push_number(text, alloc, x)?;
-    push(text, b" ")?;
-    push_number(text, alloc, y)
+    push_count(text, alloc, b"\" d=\"M", x)?;
+    push_count(text, alloc, b" ", y)
 }
 
 /// Adds the way down to a place, and the line's end.
@@ -99,8 +95,7 @@ pub(crate) fn push_line_from(
 fn push_down_to(text: &mut Vec<u8>, alloc: Global, y: u64) -> Result<(), Memory>
     ensures { OnOk result (text.new.items ≡ text.old.items ++ down_to y) }
 {
-    push(text, b"V")?;
-    push_number(text, alloc, y)?;
+    push_count(text, alloc, b"V", y)?;
     push(text, b"\"/>\n")
 }
 
@@ -109,8 +104,7 @@ fn push_down_to(text: &mut Vec<u8>, alloc: Global, y: u64) -> Result<(), Memory>
 pub(crate) fn push_to_the_end(text: &mut Vec<u8>, alloc: Global) -> Result<(), Memory>
     ensures { OnOk result (text.new.items ≡ text.old.items ++ to_the_end) }
 {
-    push(text, b"H")?;
-    push_number(text, alloc, RIGHT)?;
+    push_count(text, alloc, b"H", RIGHT)?;
     push(text, b"\"/>\n")
 }
 

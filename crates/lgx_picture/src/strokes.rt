@@ -6,7 +6,7 @@ ghost use Rattle.lgx_picture.specs.Marks.{is_at, first_x, told, opening, label, 
 use crate::marks::Mark;
 use crate::shapes::{push_escaped, push_upright, push_words};
 use crate::sizes::{EDGE, LETTER};
-use lgx_chart::{push, push_number};
+use lgx_chart::{push, push_count};
 use lgx_num::Memory;
 use std::alloc::Global;
 
@@ -34,10 +34,8 @@ fn first_x(marks: &[Mark]) -> Option<u32>
 fn push_told(text: &mut Vec<u8>, alloc: Global, mark: &Mark) -> Result<(), Memory>
     ensures { OnOk result (text.new.items ≡ text.old.items ++ told mark.now) }
 {
-    push(text, b"tick ")?;
-    push_number(text, alloc, u64::from(mark.tick))?;
-    push(text, b", step ")?;
-    push_number(text, alloc, u64::from(mark.step))?;
+    push_count(text, alloc, b"tick ", u64::from(mark.tick))?;
+    push_count(text, alloc, b", step ", u64::from(mark.step))?;
     push(text, b": ")?;
     push_escaped(text, mark.label.as_slice())
 }

@@ -1,7 +1,8 @@
 // Writes a report as a drawing.
-ghost use Rattle.std.specs.Prelude.{◌≡◌, ◌+◌, ◌*◌, ◌++◌, ◌≤◌, length, find, OnOk, IfOk};
+ghost use Rattle.std.specs.Prelude.{◌≡◌, ◌+◌, ◌*◌, ◌++◌, ◌≤◌, length, codes, find, OnOk, IfOk};
 ghost use Rattle.lgx_picture.specs.declared.sizes.TheConstants.{MAX_LANES};
-ghost use Rattle.lgx_picture.specs.Svg.{lane_head, lane_text, top_of, lane_at, lanes_from, reaches, spacing, grid_line, grid, unit_of, head, ending, front, svg_text};
+ghost use Rattle.lgx_picture.specs.Shapes.{words};
+ghost use Rattle.lgx_picture.specs.Svg.{lane_title, lane_head, lane_text, top_of, lane_at, lanes_from, reaches, spacing, grid_line, grid, unit_of, head, ending, front, svg_text};
 
 use crate::lanes::{Lane, lanes_of, short};
 use crate::looks::{legend, open_text, style, view_text};
@@ -11,20 +12,27 @@ use crate::shapes::{push_escaped, push_ground_line, push_upright, push_words};
 use crate::sizes::{GRID_LINES, LANE, MAX_LANES, MAX_SPACING, SPACINGS, TOP};
 use crate::strokes::push_strokes;
 use crate::values::push_values;
-use lgx_chart::{Chart, Clock, End, Entry, push, push_number};
+use lgx_chart::{Chart, Clock, End, Entry, push, push_count};
 use lgx_num::Memory;
 use std::alloc::Global;
+
+/// Adds what a viewer shows of a lane.
+fn push_lane_title(text: &mut Vec<u8>, lane: &Lane) -> Result<(), Memory>
+    ensures { OnOk result (text.new.items ≡ text.old.items ++ lane_title lane.now) }
+{
+    push(text, b"<g class=\"")?;
+    push(text, lane.class())?;
+    push(text, b"\"><title>")?;
+    push_escaped(text, lane.name())?;
+    push(text, b"</title>\n")
+}
 
 /// Adds a lane's name and its line.
 fn push_lane_head(text: &mut Vec<u8>, alloc: Global, lane: &Lane, top: u32) -> Result<(), Memory>
     ensures { OnOk result (text.new.items ≡ text.old.items ++ lane_head lane.now top) }
 {
     let name = short(alloc, lane.name())?;
-    push(text, b"<g class=\"")?;
-    push(text, lane.class())?;
-    push(text, b"\"><title>")?;
-    push_escaped(text, lane.name())?;
-    push(text, b"</title>\n")?;
+    push_lane_title(text, lane)?;
     push_words(text, alloc, b"name", 10, u64::from(top) + 36, &name)?;
     push_ground_line(text, alloc, u64::from(top) + 40)
 }
@@ -149,29 +157,31 @@ fn unit_of(clock: Clock) -> &'static [u8]
 fn push_head(text: &mut Vec<u8>, alloc: Global, height: u64) -> Result<(), Memory>
     ensures { OnOk result (text.new.items ≡ text.old.items ++ head height) }
 {
-    push(text, open_text())?;
-    push_number(text, alloc, height)?;
-    push(text, view_text())?;
-    push_number(text, alloc, height)?;
+    push_count(text, alloc, open_text(), height)?;
+    push_count(text, alloc, view_text(), height)?;
     push(text, b"\">\n")?;
     push(text, style())
 }
 
-/// How a report ends.
+/// Adds how a report ends.
 #[tactic(auto, unfolding(crate::specs::Svg::ending))]
-fn ending(alloc: Global, end: &End) -> Result<Vec<u8>, Memory>
-    ensures { IfOk result (λ text. text.items ≡ ending end.now) }
+fn push_ending(text: &mut Vec<u8>, alloc: Global, end: &End) -> Result<(), Memory>
+    ensures { OnOk result (text.new.items ≡ text.old.items ++ ending end.now) }
 {
-    let mut text = Vec::new(alloc);
-    push(&mut text, b"ends in ")?;
-    push(&mut text, end.mode.as_slice())?;
-    push(&mut text, b" at tick ")?;
-    push_number(&mut text, alloc, u64::from(end.tick))?;
-    push(&mut text, b", step ")?;
-    push_number(&mut text, alloc, u64::from(end.step))?;
-    push(&mut text, b"; lines lost: ")?;
-    push_number(&mut text, alloc, u64::from(end.lost))?;
-    Ok(text)
+    push(text, b"ends in ")?;
+    push(text, end.mode.as_slice())?;
+    push_count(text, alloc, b" at tick ", u64::from(end.tick))?;
+    push_count(text, alloc, b", step ", u64::from(end.step))?;
+    push_count(text, alloc, b"; lines lost: ", u64::from(end.lost))
+}
+
+/// Adds the words that say how a report ends.
+fn push_head_words(text: &mut Vec<u8>, alloc: Global, end: &End) -> Result<(), Memory>
+    ensures { OnOk result (text.new.items ≡ text.old.items ++ words (codes "head") 10 22 (ending end.now)) }
+{
+    let mut ending = Vec::new(alloc);
+    push_ending(&mut ending, alloc, end)?;
+    push_words(text, alloc, b"head", 10, 22, &ending)
 }
 
 /// Adds what stands before the lanes.
@@ -184,13 +194,23 @@ fn push_front(
 ) -> Result<(), Memory>
     ensures { OnOk result (text.new.items ≡ text.old.items ++ front scale end.now bottom) }
 {
-    let ending = ending(alloc, end)?;
     let below = u64::from(bottom) + 22;
     push_head(text, alloc, u64::from(bottom) + 30)?;
-    push_words(text, alloc, b"head", 10, 22, &ending)?;
+    push_head_words(text, alloc, end)?;
     push(text, legend())?;
     push_grid(text, alloc, scale, bottom)?;
     push_words(text, alloc, b"unit", 10, below, unit_of(scale.clock))
+}
+
+/// Adds a report as a drawing.
+fn push_svg(text: &mut Vec<u8>, alloc: Global, clock: Clock, chart: &Chart) -> Result<(), Memory>
+    ensures { OnOk result (text.new.items ≡ text.old.items ++ svg_text clock chart.now) }
+{
+    let lanes = lanes_of(alloc, chart)?;
+    let scale = Scale::of(clock, &chart.end);
+    push_front(text, alloc, scale, &chart.end, top_of(lanes.len()))?;
+    push_lanes(text, alloc, scale, chart.entries.as_slice(), &lanes)?;
+    push(text, b"</svg>\n")
 }
 
 /// A report as a drawing: a lane for each task that began, the faults, the replies and each watched place that changed, with
@@ -200,10 +220,6 @@ pub fn svg_text(alloc: Global, clock: Clock, chart: &Chart) -> Result<Vec<u8>, M
     ensures { IfOk result (λ text. text.items ≡ svg_text clock chart.now) }
 {
     let mut text = Vec::new(alloc);
-    let lanes = lanes_of(alloc, chart)?;
-    let scale = Scale::of(clock, &chart.end);
-    push_front(&mut text, alloc, scale, &chart.end, top_of(lanes.len()))?;
-    push_lanes(&mut text, alloc, scale, chart.entries.as_slice(), &lanes)?;
-    push(&mut text, b"</svg>\n")?;
+    push_svg(&mut text, alloc, clock, chart)?;
     Ok(text)
 }

@@ -7,7 +7,7 @@ use crate::lanes::Lane;
 use crate::marks::Mark;
 use crate::shapes::{push_line_from, push_to_the_end};
 use crate::sizes::{FLOOR, RISE, ZERO};
-use lgx_chart::{push, push_number};
+use lgx_chart::push_count;
 use lgx_num::Memory;
 use std::alloc::Global;
 
@@ -67,10 +67,8 @@ impl Band {
 fn push_corner(text: &mut Vec<u8>, alloc: Global, band: Band, mark: &Mark) -> Result<(), Memory>
     ensures { OnOk result (text.new.items ≡ text.old.items ++ corner band mark.now) }
 {
-    push(text, b"H")?;
-    push_number(text, alloc, u64::from(mark.x))?;
-    push(text, b"V")?;
-    push_number(text, alloc, band.y_of(mark.level))
+    push_count(text, alloc, b"H", u64::from(mark.x))?;
+    push_count(text, alloc, b"V", band.y_of(mark.level))
 }
 
 /// Adds the corners at values.

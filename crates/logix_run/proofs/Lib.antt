@@ -1,5 +1,3 @@
-pub mod Lines
-pub mod Reading
-pub mod Written
-pub mod Ended
-mod Answered
+mod Numbers
+pub mod Laws
+pub mod Ways

@@ -1,5 +1,2 @@
-pub mod RunText
-pub mod RunCall
-pub mod RunCauses
-pub mod RunLines
-pub mod Outcomes
+pub mod Words
+pub mod Answers

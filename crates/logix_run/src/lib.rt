@@ -1,16 +1,16 @@
-//! The program `logix`, over any files, any sink and any gate: what [`logix_plain`] does, and the words `run P S`, for which
-//! each lane of a script is run on a thread of its own.
+//! The program `logix`, over any files, any sink and any gate: which words of the command line are which plan, and that each
+//! call follows the plan of its words. What a word does stands in its own crate; what is said of every call, in `lgx_answer`.
 #![tactic(auto)]
 
-mod causes;
+mod call;
 mod gate;
-mod journal;
-mod outcome;
-mod program;
-mod run;
-mod write;
+mod host;
+mod plain;
+mod words;
 
+pub use call::{logix, program};
 pub use gate::Open;
-pub use lgx_plain::{Status, logix_plain};
+pub use host::process;
+pub use lgx_answer::Status;
 pub use lgx_shared::Gate;
-pub use program::logix;
+pub use plain::{USAGE, logix_plain};

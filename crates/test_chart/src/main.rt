@@ -16,10 +16,10 @@
 #![tactic(auto)]
 
 use lgx_chart::{Status, wave};
-use lgx_io::MemSink;
+use lgx_io::{Input, MemSink};
 use lgx_picture::draw_timeline;
 use std::alloc::{AllocError, Global};
-use std::io;
+use std::io::{self, Cursor};
 use test_rows::judge_rows;
 
 /// What stands before the changes of a wave file.
@@ -36,7 +36,7 @@ fn main(rt: HostRuntime) -> io::Result<()> {
 fn found(alloc: Global, row: &str) -> io::Result<Option<String>> {
     let (kind, row) = row.split_once('"').unwrap_or((row, ""));
     let (report, wanted) = row.split_once('"').unwrap_or((row, ""));
-    let said = called(alloc, kind.trim(), plain(alloc, report)?.as_slice())?;
+    let said = called(alloc, kind.trim(), report)?;
     let shown = escaped(alloc, said.as_str())?;
     if shown.as_str() == wanted.trim() {
         return Ok(None);
@@ -44,8 +44,8 @@ fn found(alloc: Global, row: &str) -> io::Result<Option<String>> {
     Ok(Some(shown))
 }
 
-/// The status of a call and what the sink then holds.
-fn called(alloc: Global, kind: &str, report: &[u8]) -> Result<String, AllocError> {
+/// The status of a call and what the sink then holds; the whole usage line is shown by its name.
+fn called(alloc: Global, kind: &str, report: &str) -> Result<String, AllocError> {
     if kind == "long" {
         return strokes_of(alloc, report);
     }
@@ -55,18 +55,47 @@ fn called(alloc: Global, kind: &str, report: &[u8]) -> Result<String, AllocError
     }
     let mut sink = MemSink::new(alloc, failing);
     let words = words_of(alloc, kind)?;
+    let report = plain(alloc, report)?;
     let status = ended(alloc, kind, &words, report, &mut sink).number();
-    let text = text_after(kind, std::str::from_utf8(sink.held()).unwrap_or("no text"));
+    let text = text_after(kind, shown(kind, sink.held()));
     format!(in alloc; "{status} {text}")
 }
 
-/// How the program ends that a kind names.
-fn ended(alloc: Global, kind: &str, words: &[String], report: &[u8], sink: &mut MemSink) -> Status {
-    let mut input = report;
-    if kind.starts_with("draw") {
-        draw_timeline(alloc, words, &mut input, sink)
+/// A text, or the name of the usage line of the program that a kind names.
+fn shown<'a>(kind: &str, text: &'a [u8]) -> &'a str {
+    if text == usage(kind) {
+        return "USAGE";
+    }
+    std::str::from_utf8(text).unwrap_or("no text")
+}
+
+/// Whether a kind names `logix_timeline`.
+fn is_drawing(kind: &str) -> bool {
+    kind.starts_with("draw")
+}
+
+/// The usage line of the program that a kind names.
+fn usage(kind: &str) -> &'static [u8] {
+    if is_drawing(kind) {
+        lgx_picture::USAGE
     } else {
-        wave(alloc, words, &mut input, sink)
+        lgx_chart::USAGE
+    }
+}
+
+/// How the program ends that a kind names.
+fn ended(
+    alloc: Global,
+    kind: &str,
+    words: &[String],
+    report: Vec<u8>,
+    sink: &mut MemSink,
+) -> Status {
+    let mut files = Input::new(Cursor::new(report), alloc);
+    if is_drawing(kind) {
+        draw_timeline(alloc, words, &mut files, sink)
+    } else {
+        wave(alloc, words, &mut files, sink)
     }
 }
 
@@ -85,22 +114,20 @@ fn text_after<'a>(kind: &str, text: &'a str) -> &'a str {
 
 /// The words of a call.
 fn words_of(alloc: Global, kind: &str) -> Result<Vec<String>, AllocError> {
+    let count = match kind {
+        "tick" | "ticks" | "drawn_tick" => 1,
+        "more" | "drawing_more" => 2,
+        _ => 0,
+    };
     let mut words = Vec::new(alloc);
-    if kind == "tick" || kind == "ticks" || kind == "drawn_tick" || kind.ends_with("more") {
-        words.push(String::from_str(alloc, "tick")?)?;
-    }
-    if kind.ends_with("more") {
+    for _ in 0..count {
         words.push(String::from_str(alloc, "tick")?)?;
     }
     Ok(words)
 }
 
-/// The status of a drawing of so many lines, and its strokes, or all of its text if there are none.
-fn strokes_of(alloc: Global, lines: &[u8]) -> Result<String, AllocError> {
-    let lines: u32 = std::str::from_utf8(lines)
-        .unwrap_or("")
-        .parse()
-        .unwrap_or(0);
+/// A report of so many lines, each a begin of one task.
+fn long_report(alloc: Global, lines: u32) -> Result<String, AllocError> {
     let mut report = String::new(alloc);
     for line in 0..lines {
         let step = u64::from(line) + 1;
@@ -109,9 +136,15 @@ fn strokes_of(alloc: Global, lines: &[u8]) -> Result<String, AllocError> {
     }
     let end = format!(in alloc; "end 0 {lines} run lost 0\n")?;
     report.push_str(end.as_str())?;
+    Ok(report)
+}
+
+/// The status of a drawing of so many lines, and its strokes, or all of its text if there are none.
+fn strokes_of(alloc: Global, lines: &str) -> Result<String, AllocError> {
+    let report = long_report(alloc, lines.parse().unwrap_or(0))?.into_bytes();
     let mut sink = MemSink::new(alloc, Vec::new(alloc));
     let words = Vec::new(alloc);
-    let status = ended(alloc, "drawing", &words, report.as_bytes(), &mut sink).number();
+    let status = ended(alloc, "drawing", &words, report, &mut sink).number();
     let text = std::str::from_utf8(sink.held()).unwrap_or("no text");
     let strokes = text.split("<g><title>tick").count().saturating_sub(1);
     if strokes == 0 {

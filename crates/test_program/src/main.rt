@@ -3,7 +3,7 @@
 //! A line `text NAME CONTENTS` names a text, until another has the name. Every other line that doesn't begin with `#` is a row,
 //! and its first word is its kind. Most are `KIND WHAT / FILES / FAILING / ANSWER / HELD`:
 //!
-//! - `run` and `run-sure`: a call with the words WHAT, the status, and what the sink then holds.
+//! - `run` and `run-sure`: a call with the words WHAT, the status, and what the sink then holds: `USAGE` is the usage line.
 //! - `read` and `read-sure`: reads of the names WHAT, and their answers: a number of bytes or a fault.
 //! - `read-host`: the same where the system has the files, and the bytes that were read.
 //! - `put`: puts of the pieces WHAT, their answers, and what the sink then holds.

@@ -2,7 +2,7 @@
 use crate::calls::{called, nobody};
 use crate::{examples, lanes};
 use lgx_io::{MemFiles, MemSink, SureFiles, SureSink};
-use logix_run::Status;
+use logix_run::{Status, USAGE};
 use std::alloc::{AllocError, Global};
 use std::rt::Files as FileAccess;
 use std::sync::Wait;
@@ -74,7 +74,7 @@ fn run_sure<R: Threads + Wait + Sync>(
     show_status(alloc, status, sink.held(), found)
 }
 
-/// The status of a call, and what its sink holds.
+/// The status of a call, and what its sink holds; the whole usage line is shown by its name.
 fn show_status(
     alloc: Global,
     status: Status,
@@ -82,5 +82,6 @@ fn show_status(
     found: &mut String,
 ) -> Result<(), AllocError> {
     let status = format!(in alloc; "{status:?}")?;
-    show_answer(alloc, status.as_str(), held, found)
+    let shown = if held == USAGE { b"USAGE" } else { held };
+    show_answer(alloc, status.as_str(), shown, found)
 }

@@ -1,0 +1,96 @@
+// The driver: it follows the plan of any word.
+ghost use Rattle.std.specs.Prelude.{◌≡◌};
+ghost use Rattle.lgx_answer.specs.Plan.{Say, Read, only};
+ghost use Rattle.lgx_answer.specs.Endings.{ending_of, after_puts, after_read};
+ghost use Rattle.lgx_answer.specs.Answered.{Answered};
+
+use crate::lines::Lines;
+use crate::puts::{put_text, write_lines};
+use crate::status::{Status, Verdict};
+use crate::word::{Step, Word};
+use lgx_io::{FileFault, Files, Sink, SinkFault};
+use lgx_num::Memory;
+use std::alloc::Global;
+
+/// The status of a whole text, or of the fault that cut it off.
+fn after_puts(done: Result<(), SinkFault>, whole: Verdict) -> Status
+    ensures { ending_of result ≡ after_puts done whole }
+{
+    match done {
+        Ok(()) => whole.status(),
+        Err(SinkFault::Failed) => Status::WriteFault,
+        Err(SinkFault::Memory) => Status::Memory,
+    }
+}
+
+/// The status after a read that gave no bytes.
+pub fn after_read(fault: FileFault) -> Status
+    ensures { ending_of result ≡ after_read fault }
+{
+    match fault {
+        FileFault::Failed => Status::ReadFault,
+        FileFault::TooLong { .. } => Status::TooLong,
+        FileFault::Memory => Status::Memory,
+    }
+}
+
+/// Says a verdict with a text that is put in one piece. No file is read.
+#[tactic(auto, using(crate::proofs::Follow::says_put))]
+pub fn say<F: Files, K: Sink>(verdict: Verdict, text: &[u8], files: &F, sink: &mut K) -> Status
+    ensures { Answered (Say verdict (only text.now)) (record {
+      told = F.told files.now;
+      failures = record { old = F.failures files.now; new = F.failures files.now };
+      held = record { old = K.held sink.old; new = K.held sink.new };
+      faults = record { old = K.faults sink.old; new = K.faults sink.new };
+      answer = ending_of result;
+    }) }
+{
+    after_puts(put_text(text, sink), verdict)
+}
+
+/// Says a verdict with a text that is put line by line. No file is read.
+#[tactic(auto, using(crate::proofs::Follow::says_put))]
+pub fn write<L: Lines, F: Files, K: Sink>(
+    alloc: Global,
+    verdict: Verdict,
+    lines: L,
+    files: &F,
+    sink: &mut K,
+) -> Status
+    ensures { Answered (Say verdict (only (L.rest lines))) (record {
+      told = F.told files.now;
+      failures = record { old = F.failures files.now; new = F.failures files.now };
+      held = record { old = K.held sink.old; new = K.held sink.new };
+      faults = record { old = K.faults sink.old; new = K.faults sink.new };
+      answer = ending_of result;
+    }) }
+{
+    after_puts(write_lines(alloc, lines, sink), verdict)
+}
+
+/// Reads the files of a word one after another, up to a verdict, and writes its text.
+pub fn answer<W: Word, F: Files, K: Sink>(
+    alloc: Global,
+    word: W,
+    files: &mut F,
+    sink: &mut K,
+) -> Status
+    ensures { Answered (Read (W.file word) (W.next word)) (record {
+      told = F.told files.old;
+      failures = record { old = F.failures files.old; new = F.failures files.new };
+      held = record { old = K.held sink.old; new = K.held sink.new };
+      faults = record { old = K.faults sink.old; new = K.faults sink.new };
+      answer = ending_of result;
+    }) }
+{
+    let bytes = match files.read(word.name()) {
+        Ok(bytes) => bytes,
+        Err(fault) => return after_read(fault),
+    };
+    match word.judge(alloc, bytes) {
+        Ok(Step::Say(verdict, text)) => after_puts(put_text(text.as_slice(), sink), verdict),
+        Ok(Step::Write(verdict, lines)) => after_puts(write_lines(alloc, lines, sink), verdict),
+        Ok(Step::Read(next)) => answer(alloc, next, files, sink),
+        Err(Memory) => Status::Memory,
+    }
+}

@@ -1,0 +1,21 @@
+//! What a command is, and what each call of one answers: a plan, the driver that follows it, and the only function that
+//! puts to a sink.
+//!
+//! A command reads files one after another, each by what was read before, and then it says a verdict with a text. That is
+//! its plan. A [`Word`] is a command under way: it names the file that it reads next and judges its bytes. What a call
+//! answers is told once, by the plan alone, for all words; so a new word brings a plan of its own, its function `judge`,
+//! and nothing else.
+#![tactic(auto)]
+
+mod driver;
+mod lines;
+mod process;
+mod puts;
+mod status;
+mod word;
+
+pub use driver::{after_read, answer, say, write};
+pub use lines::{Lines, NoLines};
+pub use process::{exit_number, words_of};
+pub use status::{Status, Verdict};
+pub use word::{Step, Word};

@@ -1,0 +1,4 @@
+use Rattle.lgx_audit.proofs.counts.no_counts.Goals as goal
+
+pub returns : goal.returns
+returns c = c.in_ok-vec.ensures.items_if_clones_equal (λ y e. e)

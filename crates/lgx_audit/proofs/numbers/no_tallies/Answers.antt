@@ -1,0 +1,4 @@
+use Rattle.lgx_audit.proofs.numbers.no_tallies.Goals as goal
+
+pub returns : goal.returns
+returns c = c.in_ok-vec.ensures.items_if_clones_equal (λ y e. e)

@@ -1,0 +1,9 @@
+pub mod TraceTable
+pub mod TraceText
+pub mod Kept
+pub mod TraceReading
+pub mod Watching
+pub mod Along
+pub mod OnePass
+pub mod Breaches
+pub mod Answers

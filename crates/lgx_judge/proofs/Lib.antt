@@ -1,0 +1,2 @@
+pub mod CauseLine
+pub mod Follow

@@ -1,0 +1,3 @@
+pub mod CauseLines
+pub mod Plans
+pub mod Judged

@@ -1,0 +1,23 @@
+-- What a recording shows of the run that it records.
+use Rattle.std.proofs.Common.{◌≡◌, ℕ, List, map, ap, ◌∙◌}
+use Rattle.std.specs.Prelude.{ℤ}
+use Rattle.std.proofs.lemmas.Simd.{map-map}
+use Rattle.lgx_num.specs.Image.{number}
+use Rattle.lgx_num.specs.declared.place.Place.{Place}
+use Rattle.spec_machine.specs.declared.event.Event.{Event}
+use Rattle.spec_machine.specs.Machine.{run}
+use Rattle.spec_machine.specs.Project.{Project, Watch}
+use Rattle.lgx_record.specs.RecordingView.{RecordingView}
+use Rattle.lgx_record.specs.Records.{Records}
+use Rattle.lgx_hmi.specs.declared.snapshot.Snapshot.{Snapshot}
+use Rattle.spec_story.specs.Snapshots.{snapshot}
+
+-- the tick and the values are the run's snapshot
+pub shows_snapshot : (v : RecordingView) (p : Project) (events : List Event) (tick : ℕ) (values : List ℤ) → Records v p events → tick ≡ (run p events).tick → values ≡ v.values
+    → (let x : Snapshot = record { tick = tick; values = values } in x) ≡ snapshot p (run p events)
+shows_snapshot v p events tick values h ticks shown =
+    let image = (run p events).image in
+    let told : ℕ → List ℤ → Snapshot = λ t vs. record { tick = t; values = vs } in
+    let are : values ≡ map (λ (w : Watch). number image w.place) p.watches =
+    shown ∙ (h.values ∙ (ap (λ (places : List Place). map (number image) places) h.places ∙ map-map (number image) (λ (w : Watch). w.place) p.watches)) in
+    ap (λ t. told t values) ticks ∙ ap (λ vs. told (run p events).tick vs) are

@@ -1,0 +1,26 @@
+-- How far a replay has come that tells a board, and what its stations gave.
+use Rattle.std.specs.Prelude.{◌≡◌, ◌≤◌, ◌-◌, ◌++◌, ℕ, List, Option, Some, None, length, slice_get}
+use Rattle.spec_base.specs.declared.limits.TheConstants.{MAX_EVENTS}
+use Rattle.spec_machine.specs.declared.event.Event.{Event}
+use Rattle.spec_machine.specs.Project.{Project}
+use Rattle.lgx_hmi.specs.declared.snapshot.Snapshot.{Snapshot}
+use Rattle.spec_story.specs.Snapshots.{snapshots}
+use Rattle.lgx_stations.specs.declared.watcher.Readings.{Readings}
+
+-- The events that were made are recorded, and their story is published; with those that are left they are the journal.
+pub record IsAt {V : Type 0} (records : V → Project → List Event → Type 0) (p : Project) (journal : List Event) (v : V) (board : List Snapshot) (left : List Event) : Type 0 where
+  pub made : List Event
+  pub recorded : records v p made
+  pub told : board ≡ snapshots p made
+  pub whole : made ++ left ≡ journal
+  pub few : length journal ≤ MAX_EVENTS
+
+-- a first snapshot was kept, and the story has it
+abbrev pub IsFirstOf : List Snapshot → Option Snapshot → Type 0
+IsFirstOf story None = ⊥
+IsFirstOf story (Some x) = (i : ℕ) × (slice_get story i ≡ Some x)
+
+-- The first snapshot that a station gave is one of the story, and the last one is the story's last.
+pub record AreReadingsOf (story : List Snapshot) (r : Readings) : Type 0 where
+  pub first : (i : ℕ) × (slice_get story i ≡ Some r.first)
+  pub last : slice_get story (length story - 1) ≡ Some r.last

@@ -1,0 +1,153 @@
+// Stations on threads, beside the replay that they read.
+ghost use Rattle.std.specs.Prelude.{◌≡◌, ◌<◌, ◌≤◌, [], All, IfOk, OnOk, length, vec_len, vec_capacity};
+ghost use Rattle.spec_base.specs.declared.limits.TheConstants.{MAX_EVENTS};
+ghost use Rattle.spec_story.specs.Snapshots.{snapshots};
+ghost use Rattle.lgx_stations.specs.Telling.{IsAt, IsFirstOf, AreReadingsOf};
+ghost use Rattle.lgx_stations.specs.declared.stations.TheConstants.{MAX_STATIONS};
+
+use crate::input::{Input, Tells};
+use crate::replay::Replay;
+use crate::telling::tell_journal;
+use crate::watcher::{Readings, Watcher};
+use lgx_hmi::{Board, Station, Story};
+use lgx_journal::Journal;
+use lgx_num::Memory;
+use lgx_shared::Gate;
+use std::alloc::Global;
+use std::sync::Wait;
+use std::thread::{Threads, for_each_mut, join_mut};
+
+/// How many stations watch a replay at most.
+pub const MAX_STATIONS: u32 = 8;
+
+/// Gives each station its number. The last one comes first.
+fn number_all<S: Story>(stations: Vec<Station<S>>, watchers: &mut Vec<Watcher<S>>)
+    requires many { vec_len stations ≤ MAX_STATIONS }
+    requires room { vec_len stations ≤ vec_capacity watchers.old }
+    requires empty { watchers.old.items ≡ [] }
+    ensures { vec_len watchers.new ≡ vec_len stations }
+{
+    let mut stations = stations;
+    while let Some(station) = stations.pop() {
+        watchers.push_reserved(Watcher {
+            station,
+            lane: stations.len() as u32,
+            first: None,
+        });
+    }
+}
+
+/// The stations read, each on a thread of its own.
+fn watch_all<S: Story + Send, G: Gate + Sync, R: Threads + Sync>(
+    rt: &R,
+    gate: &G,
+    watchers: &mut [Watcher<S>],
+)
+    requires { 0 < length watchers.old }
+    ensures first { All (λ w. IsFirstOf S.story w.first) watchers.new }
+    ensures len { length watchers.new ≡ length watchers.old }
+{
+    let threads = watchers.len();
+    for_each_mut(rt, watchers, threads, &|_, watcher| watcher.watch(gate));
+}
+
+/// The journal is replayed and told, while the stations read, each on a thread of its own.
+fn run_beside<I: Input + Send, V: Replay, G: Gate + Sync, R: Threads + Wait + Sync>(
+    rt: &R,
+    gate: &G,
+    replay: &mut V,
+    board: &mut Board<Tells<I>>,
+    watchers: &mut [Watcher<Tells<I>>],
+    journal: &Journal,
+) -> Result<(), Memory>
+    requires so_far { IsAt V.records I.project I.journal replay.old board.old journal.now.events }
+    requires some { (0 < length watchers.old) × (length watchers.old ≤ MAX_STATIONS) }
+    ensures records { OnOk result (V.records replay.new I.project I.journal) }
+    ensures told { OnOk result (board.new ≡ snapshots I.project I.journal) }
+    ensures first { All (λ w. IsFirstOf (snapshots I.project I.journal) w.first) watchers.new }
+    ensures len { length watchers.new ≡ length watchers.old }
+{
+    let lane = watchers.len() as u32;
+    let (_, told) = join_mut(
+        rt,
+        &mut || -> ()
+            requires { 0 < length watchers.now }
+            ensures first { All (λ w. IsFirstOf (snapshots I.project I.journal) w.first) watchers.exit.now }
+            ensures len { length watchers.exit.now ≡ length watchers.entry.now }
+        { watch_all(rt, gate, watchers) },
+        &mut || -> Result<(), Memory>
+            requires { IsAt V.records I.project I.journal replay.now board.now journal.now.events }
+            ensures records { OnOk result (V.records replay.exit.now I.project I.journal) }
+            ensures told { OnOk result (board.exit.now ≡ snapshots I.project I.journal) }
+        { tell_journal(rt, gate, lane, replay, board, journal) },
+    );
+    told
+}
+
+/// Tells each station of the whole story, and reads it once more; the last one first.
+fn finish_all<S: Story>(
+    alloc: Global,
+    board: &Board<S>,
+    watchers: Vec<Watcher<S>>,
+) -> Result<Vec<Readings>, Memory>
+    requires told { board.now ≡ S.story }
+    requires first { All (λ w. IsFirstOf S.story w.first) watchers.items }
+    ensures count { IfOk result (λ readings. vec_len readings ≡ vec_len watchers) }
+    ensures each { IfOk result (λ readings. All (λ r. AreReadingsOf S.story r) readings.items) }
+{
+    let mut readings = Vec::with_capacity(alloc, watchers.len())?;
+    let mut watchers = watchers;
+    while let Some(watcher) = watchers.pop() {
+        readings.push_reserved(watcher.finish(board));
+    }
+    Ok(readings)
+}
+
+/// The replay with its stations, to each station's last read.
+fn watch_through<I: Input + Send, V: Replay, G: Gate + Sync, R: Threads + Wait + Sync>(
+    rt: &R,
+    alloc: Global,
+    gate: &G,
+    replay: &mut V,
+    board: &mut Board<Tells<I>>,
+    watchers: Vec<Watcher<Tells<I>>>,
+    journal: &Journal,
+) -> Result<Vec<Readings>, Memory>
+    requires so_far { IsAt V.records I.project I.journal replay.old board.old journal.now.events }
+    requires some { (0 < vec_len watchers) × (vec_len watchers ≤ MAX_STATIONS) }
+    ensures records { OnOk result (V.records replay.new I.project I.journal) }
+    ensures count { IfOk result (λ readings. vec_len readings ≡ vec_len watchers) }
+    ensures readings { IfOk result (λ readings. All (λ r. AreReadingsOf (snapshots I.project I.journal) r) readings.items) }
+{
+    let mut watchers = watchers;
+    run_beside(rt, gate, replay, board, watchers.as_mut_slice(), journal)?;
+    finish_all(alloc, board, watchers)
+}
+
+/// Replays a journal, while as many stations as are asked for watch it on threads of their own; what each gave, in their order.
+/// Each reads 1,000 times while the journal is replayed, and once more when all is published. Where no thread can be made they
+/// read before it. The gate is called before each of the 1,000 reads with the station's number and the read's, both counted from
+/// 0, and before each tick is published with the number of stations and that of what is published. Out of memory is the one fault.
+pub fn watch_journal<I: Input + Send, V: Replay, G: Gate + Sync, R: Threads + Wait + Sync>(
+    rt: &R,
+    alloc: Global,
+    gate: &G,
+    replay: &mut V,
+    journal: &Journal,
+    stations: u32,
+) -> Result<Vec<Readings>, Memory>
+    requires stations { (0 < stations) × (stations ≤ MAX_STATIONS) }
+    requires new { V.records replay.old I.project [] }
+    requires journal { journal.now.events ≡ I.journal }
+    requires few { length I.journal ≤ MAX_EVENTS }
+    ensures records { OnOk result (V.records replay.new I.project I.journal) }
+    ensures count { IfOk result (λ readings. vec_len readings ≡ stations) }
+    ensures readings { IfOk result (λ readings. All (λ r. AreReadingsOf (snapshots I.project I.journal) r) readings.items) }
+{
+    let mut watchers = Vec::with_capacity(alloc, stations as usize)?;
+    let (mut board, list) = Board::<Tells<I>>::open(alloc, &replay.snapshot(), stations)?;
+    number_all(list, &mut watchers);
+    let readings = watch_through(rt, alloc, gate, replay, &mut board, watchers, journal);
+    board.close(rt);
+    readings
+}

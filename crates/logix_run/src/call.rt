@@ -1,0 +1,107 @@
+// The program, over any files, any sink and any gate.
+ghost use Rattle.std.specs.Prelude.{◌≡◌, map, string_bytes};
+ghost use Rattle.lgx_answer.specs.Endings.{ending_of};
+ghost use Rattle.lgx_answer.specs.Answered.{Answered};
+ghost use Rattle.logix_run.specs.Words.{plan_of};
+ghost use Rattle.lgx_answer.specs.Process.{IsProcess};
+ghost use Rattle.logix_run.specs.Answers.{IsAnswered};
+
+use crate::plain::follow_plain;
+use crate::words::{Watched, two_after, watched_after};
+use lgx_answer::{Status, exit_number};
+use lgx_io::{Files, Gathered, Sink};
+use lgx_shared::Gate;
+use std::alloc::Global;
+use std::io::Write;
+use std::sync::Wait;
+use std::thread::Threads;
+use word_run::run;
+use word_stations::stations;
+
+/// Follows the plan of the words.
+#[tactic(auto, using(crate::proofs::Ways::run_answered, crate::proofs::Ways::stations_answered, crate::proofs::Ways::plain_answered))]
+fn follow<F: Files, K: Sink, G: Gate + Sync, R: Threads + Wait + Sync>(
+    rt: &R,
+    alloc: Global,
+    words: &[String],
+    files: &mut F,
+    sink: &mut K,
+    gate: &G,
+) -> Status
+    ensures { Answered (plan_of (map string_bytes words.now)) (record {
+      told = F.told files.old;
+      failures = record { old = F.failures files.old; new = F.failures files.new };
+      held = record { old = K.held sink.old; new = K.held sink.new };
+      faults = record { old = K.faults sink.old; new = K.faults sink.new };
+      answer = ending_of result;
+    }) }
+{
+    if let Some((project, script)) = two_after("run", words) {
+        return run(rt, alloc, project, script, files, sink, gate);
+    }
+    if let Some(
+        Watched {
+            project,
+            journal,
+            stations: count,
+        },
+    ) = watched_after("stations", words)
+    {
+        return stations(rt, alloc, project, journal, count, files, sink, gate);
+    }
+    follow_plain(alloc, words, files, sink)
+}
+
+/// Does what the words of the command line say, and answers how the program ends: all that [`crate::logix_plain`] does,
+/// `run P S` and `stations P J C`.
+///
+/// `run P S` reads and judges the project of the file `P` and then the script of the file `S`. Each lane of the script
+/// takes its turns on a thread of its own, and one thread more takes turns of no lane; a turn makes its lane's next action
+/// if that is due, and else a processor step. Before each turn the gate is called, without the lock. Then the journal of
+/// the run is written, and its report: each line is one put. Whatever turns the threads take, every action stands in the
+/// journal once, in its lane's order. The call may wait for its threads, for the lock and for the gate; no answer speaks of
+/// a thread that couldn't be started.
+///
+/// `stations P J C` replays the journal of the file `J` on the project of the file `P`, while C operator stations on threads of
+/// their own read the watched values, and then writes what each gave first and last. They take no lock, and the gate is called
+/// before each of their reads and before each tick is published.
+///
+/// [`Status`] says when each answer comes. At `WriteFault` and `Memory` a first part of the output was put, at `ReadFault` and
+/// `TooLong` nothing.
+#[tactic(auto, using(crate::proofs::Laws::answered))]
+pub fn logix<F: Files, K: Sink, G: Gate + Sync, R: Threads + Wait + Sync>(
+    rt: &R,
+    alloc: Global,
+    words: &[String],
+    files: &mut F,
+    sink: &mut K,
+    gate: &G,
+) -> Status
+    ensures { IsAnswered (plan_of (map string_bytes words.now)) (record {
+      told = F.told files.old;
+      failures = record { old = F.failures files.old; new = F.failures files.new };
+      held = record { old = K.held sink.old; new = K.held sink.new };
+      faults = record { old = K.faults sink.old; new = K.faults sink.new };
+      answer = ending_of result;
+    }) }
+{
+    follow(rt, alloc, words, files, sink, gate)
+}
+
+/// All that the process does with its words: what [`logix`] does, and then what still waits to be written is written. Answers
+/// the number that the process ends with.
+pub fn program<F: Files, W: Write + Drop, G: Gate + Sync, R: Threads + Wait + Sync>(
+    rt: &R,
+    alloc: Global,
+    words: &[String],
+    files: &mut F,
+    output: &mut Gathered<W>,
+    gate: &G,
+) -> u8
+    ensures { IsProcess (plan_of (map string_bytes words.now)) (F.told files.old)
+        (record { old = F.failures files.old; new = F.failures files.new })
+        output.old output.new result }
+{
+    let status = logix(rt, alloc, words, files, output, gate);
+    exit_number(status, output)
+}

@@ -1,0 +1,4 @@
+pub mod CheckPlan
+pub mod TextPlan
+pub mod TextLeft
+pub mod MigratePlan

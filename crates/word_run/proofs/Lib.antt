@@ -1,0 +1,5 @@
+pub mod KeptRuns
+pub mod Leads
+pub mod ReadBack
+pub mod Reading
+pub mod RunTexts

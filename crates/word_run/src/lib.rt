@@ -1,0 +1,14 @@
+//! The word `run P S`: the script of one file runs on the project of another, each lane on a thread of its own; the journal of
+//! the run is written, and then its report.
+//!
+//! It is no [`lgx_answer::Word`]: what threads share must be known to be safe to share, and no method of a trait knows that of
+//! the type parameters of its `impl`. So it reads its two files itself, in the order of its plan (specs/RunPlan).
+#![tactic(auto)]
+
+mod kept;
+mod lanes;
+mod lines;
+mod word;
+
+pub use lgx_shared::Gate;
+pub use word::run;

@@ -1,0 +1,3 @@
+pub mod StationsText
+pub mod StationsPlan
+pub mod Rest

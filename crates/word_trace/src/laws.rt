@@ -1,0 +1,7 @@
+// What is shown over the definitions alone. Each function is a law: it does nothing, and its contract is what is shown.
+ghost use Rattle.word_trace.specs.TraceLaws.{RunsAreLegal};
+
+/// What is seen of a run is legal by the project's table, whatever the journal is, where a file is the project.
+pub fn traces_are_legal()
+    ensures { RunsAreLegal }
+{}

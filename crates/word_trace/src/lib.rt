@@ -1,0 +1,17 @@
+//! The words `trace P J`, which writes what is seen of a journal's run, and `audit P T`: whether a trace keeps the laws of the
+//! schedule.
+#![tactic(auto)]
+
+mod audit_word;
+mod laws;
+mod lines;
+mod next;
+mod place;
+mod seen;
+mod table;
+mod trace_lines;
+mod trace_word;
+
+pub use audit_word::audit_trace;
+pub use laws::traces_are_legal;
+pub use trace_word::trace_journal;
