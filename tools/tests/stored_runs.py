@@ -5,7 +5,10 @@ call; that the process reads the words of its command line, the files of the sys
 that call, is seen here.
 """
 
+import json
 import os
+import random
+import resource
 import subprocess
 import tempfile
 import unittest
@@ -13,6 +16,7 @@ import unittest
 TOP = os.path.dirname(os.path.dirname(os.path.dirname(os.path.abspath(__file__))))
 USAGE = b"usage: logix check P, text P, replay P J, run P S, gen N, migrate P, trace P J, audit P T, stations P J C\n"
 CONVEYOR = f"{TOP}/examples/conveyor"
+AUDIT = f"{TOP}/examples/audit"
 MOST_BYTES = 16_777_216
 
 
@@ -35,9 +39,16 @@ class StoredRun(unittest.TestCase):
         with open(f"{self.room}/{name}", "w", encoding="utf-8") as file:
             file.write(text)
 
-    def runs(self, words, wanted, status, name="logix", given=b"", out=subprocess.PIPE):
+    def runs(self, words, wanted, status, name="logix", given=b"", out=subprocess.PIPE, most_memory=None):
         """The program, run with these words, writes what is wanted, nothing on standard error, and ends with the status."""
-        ran = subprocess.run([program(name), *words], cwd=self.room, input=given, stdout=out, stderr=subprocess.PIPE, timeout=60)
+
+        def limit():
+            if most_memory:
+                resource.setrlimit(resource.RLIMIT_AS, (most_memory, most_memory))
+
+        ran = subprocess.run(
+            [program(name), *words], cwd=self.room, input=given, stdout=out, stderr=subprocess.PIPE, timeout=60, preexec_fn=limit
+        )
         self.assertEqual((ran.returncode, ran.stdout or b"", ran.stderr), (status, wanted, b""))
 
 
@@ -86,6 +97,93 @@ class Logix(StoredRun):
         with open(f"{self.room}/long.json", "wb") as file:
             file.write(b" " * MOST_BYTES)
         self.runs(["check", "long.json"], b"project P1\n", 2)
+
+
+    def test_want_of_memory_ends_with_6(self):
+        with open(f"{self.room}/long.json", "wb") as file:
+            file.write(b" " * MOST_BYTES)
+        self.runs(["check", "long.json"], b"", 6, most_memory=24_000_000)
+
+    def test_a_trace_is_written_and_kept(self):
+        words = ["trace", f"{AUDIT}/project.json", f"{AUDIT}/journal.txt"]
+        self.runs(words, contents(f"{AUDIT}/trace.txt"), 0)
+        self.runs(["audit", f"{AUDIT}/project.json", f"{AUDIT}/trace.txt"], contents(f"{AUDIT}/verdict.txt"), 0)
+
+    def test_a_breach_ends_with_8(self):
+        self.runs(["audit", f"{AUDIT}/project.json", f"{AUDIT}/doctored.txt"], b"no L1 4\n", 8)
+
+
+class Stations(StoredRun):
+    """Made runs with stations, judged by their report alone: what is watched right after a tick follows from its lines."""
+
+    PROJECT = {
+        "schema": 2, "controller": "Made",
+        "tags": [{"name": name, "type": kind} for name, kind in (("a", "BOOL"), ("n", "DINT"), ("t", "TIMER"))],
+        "programs": [{"name": "P", "main": "M", "routines": [{"name": "M", "rungs": ["ADD(n,1,n);", "XIC(a)OTE(a);", "TON(t,?,?);"]}]}],
+        "tasks": [{"name": "T", "kind": "continuous", "programs": ["P"]}],
+        "initial": [{"tag": "a", "value": 1}, {"tag": "t.PRE", "value": 30}],
+        "watch": ["n", "a", "t.ACC"],
+    }
+    OPENING = {"n": 0, "a": 1, "t.ACC": 0}
+
+    def test_200_made_runs(self):
+        draw = random.Random(20)
+        self.put("project.json", json.dumps(self.PROJECT))
+        for number in range(200):
+            lines, ticks = ["mode run"], 0
+            for _ in range(draw.randrange(1, 12)):
+                if draw.random() < 0.5:
+                    lines.append(f"cpu {draw.randrange(1, 40)}")
+                else:
+                    count = draw.randrange(1, 60)
+                    ticks += count
+                    lines.append(f"tick {count}")
+            self.put("journal.txt", "\n".join([*lines, "end", ""]))
+            stations = draw.randrange(1, 9)
+            self.judge(number, stations, ticks)
+
+    def judge(self, number, stations, ticks):
+        """One run: its report is the replay's, each first line is of a tick of the run, and each last line of its last tick."""
+        words = ["project.json", "journal.txt"]
+        report = self.output(["replay", *words])
+        text = self.output(["stations", *words, str(stations)])
+        self.assertTrue(text.startswith(report), number)
+        rest = [line.split() for line in text[len(report):].splitlines()]
+        story = self.story(report.splitlines(), ticks)
+        self.assertEqual(len(rest), 2 * stations, number)
+        for at, (first, last) in enumerate(zip(rest[::2], rest[1::2])):
+            self.assertEqual((first[:2], last[:2]), (["station", str(at)], ["station", str(at)]), number)
+            self.assertEqual([int(word) for word in last[2:]], story[ticks], number)
+            self.assertEqual([int(word) for word in first[2:]], story[int(first[2])], number)
+
+    def output(self, words):
+        ran = subprocess.run([program("logix"), *words], cwd=self.room, stdout=subprocess.PIPE, timeout=60)
+        self.assertEqual(ran.returncode, 0)
+        return ran.stdout.decode()
+
+    def story(self, report, ticks):
+        """The tick and the values of each snapshot: those of the opening, and right after each tick those of all lines before it, since
+        a tick itself changes no value."""
+        sets = [line.split() for line in report if line.split()[2] == "set"]
+        values, story = dict(self.OPENING), [[0, *self.OPENING.values()]]
+        for tick in range(1, ticks + 1):
+            while sets and int(sets[0][0]) < tick:
+                values[sets[0][3]] = int(sets[0][4])
+                sets.pop(0)
+            story.append([tick, *values.values()])
+        return story
+
+    def test_more_ticks_than_are_published(self):
+        self.put("project.json", json.dumps(self.PROJECT))
+        self.put("journal.txt", "mode run\ncpu 2\ntick 5000\ncpu 5\nend\n")
+        text = self.output(["stations", "project.json", "journal.txt", "8"]).splitlines()
+        self.assertEqual(text[-1], "station 7 4095 1 1 0")
+
+    def test_nothing_is_watched(self):
+        self.put("project.json", json.dumps({**self.PROJECT, "watch": []}))
+        self.put("journal.txt", "mode run\ntick 2\nend\n")
+        text = self.output(["stations", "project.json", "journal.txt", "1"]).splitlines()
+        self.assertEqual((text[-1], text[-2][:10]), ("station 0 2", "station 0 "))
 
 
 class Pictures(StoredRun):
