@@ -175,9 +175,10 @@ class Stations(StoredRun):
 
     def test_more_ticks_than_are_published(self):
         self.put("project.json", json.dumps(self.PROJECT))
+        # The prescan has cleared `a`; the one scan has added to `n`.
         self.put("journal.txt", "mode run\ncpu 2\ntick 5000\ncpu 5\nend\n")
         text = self.output(["stations", "project.json", "journal.txt", "8"]).splitlines()
-        self.assertEqual(text[-1], "station 7 4095 1 1 0")
+        self.assertEqual(text[-1], "station 7 4095 1 0 0")
 
     def test_nothing_is_watched(self):
         self.put("project.json", json.dumps({**self.PROJECT, "watch": []}))
