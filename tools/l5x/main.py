@@ -21,7 +21,9 @@ from .writing import text_of
 TAKEN, NOT_TAKEN, NO_EXPORT, WRONG_WORDS, NOT_WRITTEN, NO_MEMORY, BROKEN = 0, 1, 2, 3, 5, 6, 70
 CHECK_SECONDS = 60
 _TOP = os.path.dirname(os.path.dirname(os.path.dirname(os.path.realpath(__file__))))
-LOGIX = os.path.join(_TOP, "crates", "logix", "out", "logix")
+# Where it is built, or where the package puts it.
+_PLACES = [("crates", "logix", "out", "logix"), ("..", "..", "libexec", "logix", "logix")]
+LOGIX = next(filter(os.path.isfile, (os.path.join(_TOP, *place) for place in _PLACES)), "")
 
 
 class _Words(argparse.ArgumentParser):
@@ -52,7 +54,7 @@ def main(words: list[str], logix: str = LOGIX) -> int:
     try:
         return _called(words, logix)
     except MemoryError:
-        _say(sys.stderr, "from_l5x: want of memory")
+        _say(sys.stderr, "from_l5x: out of memory")
         return NO_MEMORY
     except Exception as fault:
         at = traceback.extract_tb(fault.__traceback__)[-1]

@@ -14,7 +14,7 @@ import tempfile
 import unittest
 
 TOP = os.path.dirname(os.path.dirname(os.path.dirname(os.path.abspath(__file__))))
-USAGE = b"usage: logix check P, text P, replay P J, run P S, gen N, migrate P, trace P J, audit P T, stations P J C\n"
+USAGE = b"usage: logix check P, text P, replay P J, run P S, gen N, migrate P, trace P J, audit P T, xref P, stations P J C, link A B L\n"
 CONVEYOR = f"{TOP}/examples/conveyor"
 AUDIT = f"{TOP}/examples/audit"
 MOST_BYTES = 16_777_216
@@ -98,7 +98,6 @@ class Logix(StoredRun):
             file.write(b" " * MOST_BYTES)
         self.runs(["check", "long.json"], b"project P1\n", 2)
 
-
     def test_want_of_memory_ends_with_6(self):
         with open(f"{self.room}/long.json", "wb") as file:
             file.write(b" " * MOST_BYTES)
@@ -108,6 +107,11 @@ class Logix(StoredRun):
         words = ["trace", f"{AUDIT}/project.json", f"{AUDIT}/journal.txt"]
         self.runs(words, contents(f"{AUDIT}/trace.txt"), 0)
         self.runs(["audit", f"{AUDIT}/project.json", f"{AUDIT}/trace.txt"], contents(f"{AUDIT}/verdict.txt"), 0)
+
+    def test_two_stations(self):
+        folder = f"{TOP}/examples/two_stations"
+        words = [f"{folder}/{name}" for name in ("a.json", "b.json", "link.txt")]
+        self.runs(["link", *words], contents(f"{folder}/output.txt"), 0)
 
     def test_a_breach_ends_with_8(self):
         self.runs(["audit", f"{AUDIT}/project.json", f"{AUDIT}/doctored.txt"], b"no L1 4\n", 8)
@@ -203,6 +207,9 @@ class Pictures(StoredRun):
         for name in ("logix_wave", "logix_timeline"):
             with open("/dev/full", "wb") as full:
                 self.runs([], b"", 5, name, self.REPORT, full)
+
+    def test_the_stored_drawing(self):
+        self.runs([], contents(f"{CONVEYOR}/report.svg"), 0, "logix_timeline", contents(f"{CONVEYOR}/report.txt"))
 
     def test_a_report_is_drawn(self):
         for name in ("logix_wave", "logix_timeline"):

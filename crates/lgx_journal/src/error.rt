@@ -13,8 +13,8 @@ pub enum JournalError {
 }
 
 /// The first cause of a line, or out of memory.
-#[derive(Clone, Copy)]
-pub(crate) enum LineError {
+#[derive(Clone, Copy, Debug)]
+pub enum LineError {
     Code(JournalCode),
     Memory,
 }

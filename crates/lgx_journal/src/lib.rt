@@ -12,13 +12,14 @@ mod script;
 mod words;
 mod write;
 
-pub use error::JournalError;
+pub use error::{JournalError, LineError};
 pub use journal::Journal;
 pub use laws::lines_have_one_reading;
-pub use read::read_journal;
+pub use lines::{is_last, is_skipped, next_line};
+pub use read::{JournalReader, read_journal};
 pub use script::read_script;
 pub use spec_machine::{Accept, Action, EditFault, Event, Mode, ModeFault, Reply, RungEdit, Text};
 pub use spec_tables::{ConnFault, ForceFault};
 pub use spec_text::{JournalCode, JournalFault, Script, Timed};
-pub use words::{signed_of, unsigned_of};
-pub use write::{write_event, write_journal};
+pub use words::{next_word, signed_of, split_word, unsigned_of};
+pub use write::{push_event, write_event, write_journal};

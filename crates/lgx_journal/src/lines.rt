@@ -26,7 +26,7 @@ fn without_return(line: &[u8]) -> &[u8]
 
 /// The first line, without a line feed, and the text after it, if there is a line.
 #[tactic(auto, using(crate::proofs::LineSplits::lines_split, crate::proofs::LineSplits::lines_last, crate::proofs::LineSplits::lines_none, crate::proofs::LineSplits::clean_without))]
-pub(crate) fn next_line(text: &[u8]) -> Option<(&[u8], &[u8])>
+pub fn next_line(text: &[u8]) -> Option<(&[u8], &[u8])>
     ensures some { IfSome result (λ r. lines text.now ≡ r.0.now ∷ lines r.1.now) }
     ensures clean { IfSome result (λ r. has_byte 10 r.0.now ≡ false) }
     ensures shorter { IfSome result (λ r. length r.1.now < length text.now) }
@@ -41,8 +41,8 @@ pub(crate) fn next_line(text: &[u8]) -> Option<(&[u8], &[u8])>
     Some(text.split_at(text.len()))
 }
 
-/// Whether a line is passed over.
-pub(crate) fn is_skipped(line: &[u8]) -> bool
+/// Whether a line is passed over: it is empty, or begins with `#`.
+pub fn is_skipped(line: &[u8]) -> bool
     ensures { result ≡ is_skipped line.now }
 {
     match line {
@@ -66,7 +66,7 @@ fn is_end(line: &[u8]) -> bool
 }
 
 /// Whether a line ends a text: it is the word `end`, and isn't too long.
-pub(crate) fn is_last(line: &[u8]) -> bool
+pub fn is_last(line: &[u8]) -> bool
     ensures { result ≡ (is_end line.now && is_line line.now) }
 {
     line.len() <= MAX_LINE_BYTES && is_end(line)

@@ -1,5 +1,5 @@
 // Reads a journal.
-ghost use Rattle.std.specs.Prelude.{◌≡◌, ℕ, ◌+◌, ◌≤◌, ◌∷◌, [], false, nat_le, Ok, Err, IfOk, OnOk, IfErr, IfSome, IsTrue};
+ghost use Rattle.std.specs.Prelude.{◌≡◌, ℕ, ◌+◌, ◌≤◌, ◌∷◌, [], false, nat_le, Ok, Err, IfOk, OnOk, IfErr, OnErr, IfSome, IsTrue};
 ghost use Rattle.spec_base.specs.declared.limits.TheConstants.{OWN_LANE};
 ghost use Rattle.spec_text.specs.TextLines.{words};
 ghost use Rattle.spec_text.specs.ActionText.{action_of};
@@ -21,20 +21,21 @@ use spec_text::{EventRun, JournalCode, JournalFault};
 use std::alloc::Global;
 use std::marker::Model;
 
-/// How many processor steps, ticks and actions stand in a text so far; they are within their limits.
+/// Reads a journal line by line, and keeps how many processor steps, ticks and actions stand in its lines so far; they are within
+/// the limits of a journal.
 #[derive(Drop)]
-struct Tally {
+pub struct JournalReader {
     steps: u32,
     ticks: u32,
     actions: u32,
 }
 
-impl Model for Tally {
+impl Model for JournalReader {
     ghost use Rattle.std.specs.Prelude.{IsTrue};
-    ghost use Rattle.spec_text.specs.JournalText.{Tally as Counts, is_allowed};
+    ghost use Rattle.spec_text.specs.JournalText.{Tally, is_allowed};
     ghost use Rattle.lgx_journal.specs.Reading.{counts};
 
-    ghost Value = { Counts };
+    ghost Value = { Tally };
 
     ghost view = { λ t. counts t.steps t.ticks t.actions };
 
@@ -55,12 +56,12 @@ fn add_within(total: &mut u32, more: u32, most: u32) -> bool
     true
 }
 
-impl Tally {
-    /// No event.
-    fn new() -> Tally
+impl JournalReader {
+    /// A reader before the first line: no event.
+    pub fn new() -> JournalReader
         ensures { result ≡ no_events }
     {
-        Tally {
+        JournalReader {
             steps: 0,
             ticks: 0,
             actions: 0,
@@ -171,32 +172,37 @@ fn is_lane(lane: Option<u32>) -> bool
     }
 }
 
-/// What a line says after a text with this tally, which then counts it, or its first cause.
-#[tactic(auto, using(crate::proofs::Parts::line_is_plain))]
-fn read_line(alloc: Global, tally: &mut Tally, line: &[u8]) -> Result<EventRun, LineError>
-    requires { has_byte 10 line.now ≡ false }
-    ensures run { IfOk result (λ run. read_line tally.old line.now ≡ Ok run) }
-    ensures counted { IfOk result (λ run. tally.new ≡ with_run tally.old run) }
-    ensures allowed { IfOk result (λ run. IsTrue (is_allowed (with_run tally.old run))) }
-    ensures form { IfOk result (λ run. IsTrue (is_run run)) }
-    ensures code { IfErr result (λ e. IfCode e (λ code. read_line tally.old line.now ≡ Err code)) }
-{
-    if line.len() > MAX_LINE_BYTES {
-        return Err(LineError::Code(JournalCode::J1));
+impl JournalReader {
+    /// What a line says after the lines so far, which then counts with them, or its first cause: J1 for a line of more than
+    /// 65,536 bytes or without one of the forms, J2 for a lane that is none of a journal's, J4 for a count of 0 or one with which
+    /// a limit would be passed. A line with a cause doesn't count.
+    #[tactic(auto, using(crate::proofs::Parts::line_is_plain))]
+    pub fn read_line(&mut self, alloc: Global, line: &[u8]) -> Result<EventRun, LineError>
+        requires { has_byte 10 line.now ≡ false }
+        ensures run { IfOk result (λ run. read_line self.old line.now ≡ Ok run) }
+        ensures counted { IfOk result (λ run. self.new ≡ with_run self.old run) }
+        ensures allowed { IfOk result (λ run. IsTrue (is_allowed (with_run self.old run))) }
+        ensures form { IfOk result (λ run. IsTrue (is_run run)) }
+        ensures code { IfErr result (λ e. IfCode e (λ code. read_line self.old line.now ≡ Err code)) }
+        ensures same { OnErr result (self.new ≡ self.old) }
+    {
+        if line.len() > MAX_LINE_BYTES {
+            return Err(LineError::Code(JournalCode::J1));
+        }
+        let Some(run) = run_of(alloc, line)? else {
+            return Err(LineError::Code(JournalCode::J1));
+        };
+        if !is_lane(lane_of(line)) {
+            return Err(LineError::Code(JournalCode::J2));
+        }
+        if run.count == 0 {
+            return Err(LineError::Code(JournalCode::J4));
+        }
+        if !self.take(&run) {
+            return Err(LineError::Code(JournalCode::J4));
+        }
+        Ok(run)
     }
-    let Some(run) = run_of(alloc, line)? else {
-        return Err(LineError::Code(JournalCode::J1));
-    };
-    if !is_lane(lane_of(line)) {
-        return Err(LineError::Code(JournalCode::J2));
-    }
-    if run.count == 0 {
-        return Err(LineError::Code(JournalCode::J4));
-    }
-    if !tally.take(&run) {
-        return Err(LineError::Code(JournalCode::J4));
-    }
-    Ok(run)
 }
 
 /// Puts the events of a text into a journal without one, or tells its first line with a cause and the line's first cause.
@@ -205,7 +211,7 @@ fn read_lines(alloc: Global, journal: &mut Journal, bytes: &[u8]) -> Result<(), 
     ensures journal { OnOk result (journal_of bytes.now ≡ Ok journal.new.events) }
     ensures fault { IfErr result (λ e. IfLine e (λ fault. journal_of bytes.now ≡ Err fault)) }
 {
-    let mut tally = Tally::new();
+    let mut tally = JournalReader::new();
     let mut number = 0u64;
     let mut rest = bytes;
     while let Some((line, after)) = next_line(rest) {
@@ -218,7 +224,7 @@ fn read_lines(alloc: Global, journal: &mut Journal, bytes: &[u8]) -> Result<(), 
             return Ok(());
         }
         journal.reserve(1)?;
-        match read_line(alloc, &mut tally, line) {
+        match tally.read_line(alloc, line) {
             Ok(run) => journal.add_run(run),
             Err(error) => return Err(at_line(error, number)),
         }

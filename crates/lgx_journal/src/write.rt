@@ -247,8 +247,13 @@ fn push_count(text: &mut Vec<u8>, alloc: Global, verb: &[u8], count: u32) -> Res
     push_number(text, alloc, count)
 }
 
-/// The line of an event.
-fn push_event(text: &mut Vec<u8>, alloc: Global, event: &Event, count: u32) -> Result<(), Memory>
+/// Adds the line of an event that stands there so often, with its line feed: see [`write_event`].
+pub fn push_event(
+    text: &mut Vec<u8>,
+    alloc: Global,
+    event: &Event,
+    count: u32,
+) -> Result<(), Memory>
     ensures text { OnOk result (text.new.items ≡ text.old.items ++ line_of (event_words event.now count)) }
     ensures kept { OnOk result (IsTrue (is_kept_run (event_run event.now count))) }
 {

@@ -4,11 +4,12 @@ use Rattle.std.specs.Cmp.Lexicographic.{pointwise}
 use Rattle.std.specs.List.{list_any, position_or_len, before_first, after_first}
 use Rattle.spec_base.proofs.Lists.{pointwise_sym}
 use Rattle.spec_base.specs.Pieces.{has_byte}
+use Rattle.lgx_num.specs.Name.{is_name}
 use Rattle.spec_language.specs.declared.tag.Scope.TheVariants.{Controller, Program}
 use Rattle.spec_language.specs.declared.tag.TagCode.TheVariants.{G3}
 use Rattle.spec_language.specs.Resolution.{found_fixed}
 use Rattle.spec_project.specs.declared.described.Described.{Described}
-use Rattle.spec_project.specs.Places.{found_in, has_scope, prefix}
+use Rattle.spec_project.specs.Places.{found_in, has_scope, is_prefixed, prefix, scope_name}
 use Rattle.spec_project.specs.Schedules.{program_named}
 use Rattle.spec_project.specs.Tags.{declarations}
 use Rattle.lgx_places.specs.Naming.{IsScopedAs}
@@ -50,22 +51,37 @@ first_dot (c ∷ name) rest none = go (is_dot c) refl none (λ h. first_dot name
 begins : (text : List ℕ) (b : Bool) → pointwise nat_eq (take (length prefix) text) prefix ≡ b → pointwise nat_eq prefix (take (length prefix) text) ≡ b
 begins text b e = pointwise_sym prefix (take (length prefix) text) ∙ e
 
-pub scoped_as : (text after name rest : List ℕ) → pointwise nat_eq (take (length prefix) text) prefix ≡ true → after ≡ drop (length prefix) text → after ≡ name ++ 46 ∷ rest → has_byte 46 name ≡ false → IsScopedAs text name rest
-scoped_as text after name rest begun is parts none =
-    let r = first_dot name rest none in
-    let e : drop (length prefix) text ≡ name ++ 46 ∷ rest = sym is ∙ parts in
-    record {
-      scoped = ap (λ b. b && list_any is_dot (drop (length prefix) text)) (begins text true begun) ∙ ap (list_any is_dot) e ∙ r.2;
-      named = ap (before_first is_dot) e ∙ r.0;
-      after = ap (after_first is_dot) e ∙ r.1;
-    }
+-- the prefix and then a name with a dot behind it
+prefixed : (text after name rest : List ℕ) → pointwise nat_eq (take (length prefix) text) prefix ≡ true → after ≡ drop (length prefix) text → after ≡ name ++ 46 ∷ rest → has_byte 46 name ≡ false → is_prefixed text ≡ true
+prefixed text after name rest begun is parts none =
+    ap (λ b. b && list_any is_dot (drop (length prefix) text)) (begins text true begun) ∙ ap (list_any is_dot) (sym is ∙ parts) ∙ (first_dot name rest none).2
+
+named_as : (text after name rest : List ℕ) → after ≡ drop (length prefix) text → after ≡ name ++ 46 ∷ rest → has_byte 46 name ≡ false → scope_name text ≡ name
+named_as text after name rest is parts none = ap (before_first is_dot) (sym is ∙ parts) ∙ (first_dot name rest none).0
+
+-- whether it is a name decides
+scoped_if : (text after name rest : List ℕ) (b : Bool) → pointwise nat_eq (take (length prefix) text) prefix ≡ true → after ≡ drop (length prefix) text → after ≡ name ++ 46 ∷ rest → has_byte 46 name ≡ false → is_name name ≡ b → has_scope text ≡ b
+scoped_if text after name rest b begun is parts none e =
+    ap (λ (d : Bool). d && is_name (scope_name text)) (prefixed text after name rest begun is parts none)
+    ∙ (ap is_name (named_as text after name rest is parts none) ∙ e)
+
+pub scoped_as : (text after name rest : List ℕ) → pointwise nat_eq (take (length prefix) text) prefix ≡ true → after ≡ drop (length prefix) text → after ≡ name ++ 46 ∷ rest → has_byte 46 name ≡ false → is_name name ≡ true → IsScopedAs text name rest
+scoped_as text after name rest begun is parts none named = record {
+  scoped = scoped_if text after name rest true begun is parts none named;
+  named = named_as text after name rest is parts none;
+  after = ap (after_first is_dot) (sym is ∙ parts) ∙ (first_dot name rest none).1;
+}
+
+pub no_name : (text after name rest : List ℕ) → pointwise nat_eq (take (length prefix) text) prefix ≡ true → after ≡ drop (length prefix) text → after ≡ name ++ 46 ∷ rest → has_byte 46 name ≡ false → is_name name ≡ false → has_scope text ≡ false
+no_name text after name rest begun is parts none other = scoped_if text after name rest false begun is parts none other
 
 pub not_begun : (text : List ℕ) → pointwise nat_eq (take (length prefix) text) prefix ≡ false → has_scope text ≡ false
-not_begun text other = ap (λ b. b && list_any is_dot (drop (length prefix) text)) (begins text false other)
+not_begun text other = ap (λ b. (b && list_any is_dot (drop (length prefix) text)) && is_name (scope_name text)) (begins text false other)
 
 pub no_dot : (text after : List ℕ) → pointwise nat_eq (take (length prefix) text) prefix ≡ true → after ≡ drop (length prefix) text → has_byte 46 after ≡ false → has_scope text ≡ false
 no_dot text after begun is none =
-    ap (λ b. b && list_any is_dot (drop (length prefix) text)) (begins text true begun) ∙ ap (list_any is_dot) (sym is) ∙ none
+    ap (λ (b : Bool). b && is_name (scope_name text))
+    (ap (λ b. b && list_any is_dot (drop (length prefix) text)) (begins text true begun) ∙ ap (list_any is_dot) (sym is) ∙ none)
 
 -- ---- what a text names
 

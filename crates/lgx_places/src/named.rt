@@ -16,7 +16,7 @@ ghost use Rattle.lgx_json.specs.Answers.{fault_of};
 ghost use Rattle.lgx_places.specs.Naming.{IsScopedAs, Names};
 
 use lgx_json::ProjectError;
-use lgx_num::{same, split_first};
+use lgx_num::{is_name, same, split_first};
 use lgx_tags::{Found, Scope, TagCode, TagError, TagTable};
 use spec_project::{Described, Inner, ProjectCode};
 use std::alloc::Global;
@@ -63,14 +63,17 @@ fn program_named(file: &Described, name: &[u8]) -> Option<u32>
 }
 
 /// The name of the program that a text is seen from, and the rest of the text: what stands before and after the first dot
-/// behind `Program:`. None of a text without the prefix, or without a dot after it.
+/// behind `Program:`. None of a text without the prefix, without a dot after it, or with something else than a name between.
 fn scoped(text: &[u8]) -> Option<(&[u8], &[u8])>
     ensures some { IfSome result (λ r. IsScopedAs text.now r.0.now r.1.now) }
     ensures none { IfNone result (has_scope text.now ≡ false) }
 {
     let rest = text.strip_prefix(b"Program:")?;
     let (name, after) = split_first(rest, b'.')?;
-    Some((name, after))
+    if is_name(name) {
+        return Some((name, after));
+    }
+    None
 }
 
 /// What a text names: the controller's tags alone are seen, but from a program if its name stands before the text. P9 if

@@ -1,10 +1,12 @@
--- Every text that is a project is one that keeps the laws of the schedule.
+-- Every text that is a project is one whose runs keep the laws, and whose tags only their writers change.
 use Rattle.std.proofs.Common.{◌≡◌, ℕ, List, Result, Ok, Err, IfOk, refl}
 use Rattle.spec_machine.specs.Project.{Project}
 use Rattle.spec_project.specs.declared.fault.ProjectFault.{ProjectFault}
 use Rattle.spec_project.specs.Projects.{project_of}
 use Rattle.spec_valid.proofs.Given.{given_is_valid}
 use Rattle.lgx_core.proofs.Lawful.{valid-is-lawful}
+use Rattle.spec_duties.proofs.Duties.{runs_keep_duties}
+use Rattle.spec_writers.proofs.Writers.{changes_have_writers}
 use Rattle.lgx_answer.specs.Plan.{Plan}
 use Rattle.lgx_answer.specs.Answered.{Call, Answered}
 use Rattle.lgx_answer.proofs.Follows.{follows_plan}
@@ -17,7 +19,7 @@ given_lawful bytes = go (project_of bytes) refl
     go (Err fault) is = tt
     go (Ok p) is =
         let valid = given_is_valid bytes p is in
-        record { valid = valid; lawful = valid-is-lawful p valid }
+        record { valid = valid; lawful = valid-is-lawful p valid; duties = runs_keep_duties p valid; changes = changes_have_writers p valid }
 
 pub answered : (plan : Plan) (call : Call) → Answered plan call → IsAnswered plan call
 answered plan call a = record { follows = follows_plan plan call a; laws = given_lawful }

@@ -11,7 +11,9 @@ use Rattle.word_run.specs.RunPlan.{run_plan}
 use Rattle.word_stations.specs.StationsPlan.{stations_plan}
 use Rattle.word_trace.specs.TracePlan.{trace_plan}
 use Rattle.word_trace.specs.AuditPlan.{audit_plan}
-use Rattle.logix_run.specs.Words.{one_after, two_after, number_after, watched_after, or_one, or_two, or_number, or_watched, usage_plan, plain_plan_of, plan_of}
+use Rattle.word_xref.specs.XrefPlan.{xref_plan}
+use Rattle.word_link.specs.LinkPlan.{link_plan}
+use Rattle.logix_run.specs.Words.{one_after, two_after, three_after, number_after, watched_after, or_one, or_two, or_three, or_number, or_watched, usage_plan, plain_plan_of, plan_of}
 
 -- ---- the words are these
 
@@ -22,6 +24,10 @@ take_one plan found other p call is a = subst (λ o. Answered (or_one plan o oth
 take_two : (plan : List ℕ → List ℕ → Plan) (found : Option (List ℕ × List ℕ)) (other : Plan) (p q : List ℕ) (call : Call)
     → Some (p, q) ≡ found → Answered (plan p q) call → Answered (or_two plan found other) call
 take_two plan found other p q call is a = subst (λ o. Answered (or_two plan o other) call) is a
+
+take_three : (plan : List ℕ → List ℕ → List ℕ → Plan) (found : Option (List ℕ × List ℕ × List ℕ)) (other : Plan) (a b l : List ℕ) (call : Call)
+    → Some (a, b, l) ≡ found → Answered (plan a b l) call → Answered (or_three plan found other) call
+take_three plan found other a b l call is x = subst (λ o. Answered (or_three plan o other) call) is x
 
 take_number : (plan : ℕ → Plan) (found : Option ℕ) (other : Plan) (n : ℕ) (call : Call)
     → Some n ≡ found → Answered (plan n) call → Answered (or_number plan found other) call
@@ -40,6 +46,10 @@ pass_one plan found other call is a = subst (λ o. Answered (or_one plan o other
 pass_two : (plan : List ℕ → List ℕ → Plan) (found : Option (List ℕ × List ℕ)) (other : Plan) (call : Call)
     → None ≡ found → Answered other call → Answered (or_two plan found other) call
 pass_two plan found other call is a = subst (λ o. Answered (or_two plan o other) call) is a
+
+pass_three : (plan : List ℕ → List ℕ → List ℕ → Plan) (found : Option (List ℕ × List ℕ × List ℕ)) (other : Plan) (call : Call)
+    → None ≡ found → Answered other call → Answered (or_three plan found other) call
+pass_three plan found other call is a = subst (λ o. Answered (or_three plan o other) call) is a
 
 pass_number : (plan : ℕ → Plan) (found : Option ℕ) (other : Plan) (call : Call)
     → None ≡ found → Answered other call → Answered (or_number plan found other) call
@@ -84,10 +94,20 @@ unfolding plain_plan_of
 audit_answered words p t call c x m r g n is a =
     pass_one check_plan _ _ call c (pass_one text_plan _ _ call x (pass_one migrate_plan _ _ call m (pass_two replay_plan _ _ call r (pass_number gen_plan _ _ call g (pass_two trace_plan _ _ call n (take_two audit_plan _ _ p t call is a))))))
 
-pub usage_answered : (words : List (List ℕ)) (call : Call) → None ≡ one_after (codes "check") words → None ≡ one_after (codes "text") words → None ≡ one_after (codes "migrate") words → None ≡ two_after (codes "replay") words → None ≡ number_after (codes "gen") words → None ≡ two_after (codes "trace") words → None ≡ two_after (codes "audit") words → Answered usage_plan call → Answered (plain_plan_of words) call
+pub xref_answered : (words : List (List ℕ)) (p : List ℕ) (call : Call) → None ≡ one_after (codes "check") words → None ≡ one_after (codes "text") words → None ≡ one_after (codes "migrate") words → None ≡ two_after (codes "replay") words → None ≡ number_after (codes "gen") words → None ≡ two_after (codes "trace") words → None ≡ two_after (codes "audit") words → Some p ≡ one_after (codes "xref") words → Answered (xref_plan p) call → Answered (plain_plan_of words) call
 unfolding plain_plan_of
-usage_answered words call c x m r g n u a =
-    pass_one check_plan _ _ call c (pass_one text_plan _ _ call x (pass_one migrate_plan _ _ call m (pass_two replay_plan _ _ call r (pass_number gen_plan _ _ call g (pass_two trace_plan _ _ call n (pass_two audit_plan _ _ call u a))))))
+xref_answered words p call c x m r g n u is a =
+    pass_one check_plan _ _ call c (pass_one text_plan _ _ call x (pass_one migrate_plan _ _ call m (pass_two replay_plan _ _ call r (pass_number gen_plan _ _ call g (pass_two trace_plan _ _ call n (pass_two audit_plan _ _ call u (take_one xref_plan _ _ p call is a)))))))
+
+pub link_answered : (words : List (List ℕ)) (p q l : List ℕ) (call : Call) → None ≡ one_after (codes "check") words → None ≡ one_after (codes "text") words → None ≡ one_after (codes "migrate") words → None ≡ two_after (codes "replay") words → None ≡ number_after (codes "gen") words → None ≡ two_after (codes "trace") words → None ≡ two_after (codes "audit") words → None ≡ one_after (codes "xref") words → Some (p, q, l) ≡ three_after (codes "link") words → Answered (link_plan p q l) call → Answered (plain_plan_of words) call
+unfolding plain_plan_of
+link_answered words p q l call c x m r g n u f is a =
+    pass_one check_plan _ _ call c (pass_one text_plan _ _ call x (pass_one migrate_plan _ _ call m (pass_two replay_plan _ _ call r (pass_number gen_plan _ _ call g (pass_two trace_plan _ _ call n (pass_two audit_plan _ _ call u (pass_one xref_plan _ _ call f (take_three link_plan _ _ p q l call is a))))))))
+
+pub usage_answered : (words : List (List ℕ)) (call : Call) → None ≡ one_after (codes "check") words → None ≡ one_after (codes "text") words → None ≡ one_after (codes "migrate") words → None ≡ two_after (codes "replay") words → None ≡ number_after (codes "gen") words → None ≡ two_after (codes "trace") words → None ≡ two_after (codes "audit") words → None ≡ one_after (codes "xref") words → None ≡ three_after (codes "link") words → Answered usage_plan call → Answered (plain_plan_of words) call
+unfolding plain_plan_of
+usage_answered words call c x m r g n u f k a =
+    pass_one check_plan _ _ call c (pass_one text_plan _ _ call x (pass_one migrate_plan _ _ call m (pass_two replay_plan _ _ call r (pass_number gen_plan _ _ call g (pass_two trace_plan _ _ call n (pass_two audit_plan _ _ call u (pass_one xref_plan _ _ call f (pass_three link_plan _ _ call k a))))))))
 
 pub run_answered : (words : List (List ℕ)) (p s : List ℕ) (call : Call) → Some (p, s) ≡ two_after (codes "run") words → Answered (run_plan p s) call → Answered (plan_of words) call
 unfolding plan_of

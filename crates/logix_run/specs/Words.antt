@@ -13,6 +13,8 @@ use Rattle.word_run.specs.RunPlan.{run_plan}
 use Rattle.word_stations.specs.StationsPlan.{stations_plan}
 use Rattle.word_trace.specs.TracePlan.{trace_plan}
 use Rattle.word_trace.specs.AuditPlan.{audit_plan}
+use Rattle.word_xref.specs.XrefPlan.{xref_plan}
+use Rattle.word_link.specs.LinkPlan.{link_plan}
 
 -- ---- a word and what stands behind it
 
@@ -30,6 +32,15 @@ two_after verb (word ∷ []) = None
 two_after verb (word ∷ p ∷ []) = None
 two_after verb (word ∷ p ∷ q ∷ []) = if bytes_eq word verb then Some (p, q) else None
 two_after verb (word ∷ p ∷ q ∷ next ∷ more) = None
+
+-- three names
+abbrev pub three_after : List ℕ → List (List ℕ) → Option (List ℕ × List ℕ × List ℕ)
+three_after verb [] = None
+three_after verb (word ∷ []) = None
+three_after verb (word ∷ a ∷ []) = None
+three_after verb (word ∷ a ∷ b ∷ []) = None
+three_after verb (word ∷ a ∷ b ∷ l ∷ []) = if bytes_eq word verb then Some (a, b, l) else None
+three_after verb (word ∷ a ∷ b ∷ l ∷ next ∷ more) = None
 
 -- 1 to 10 decimal digits up to 4294967295, needless zeros among them or not
 abbrev pub number_after : List ℕ → List (List ℕ) → Option ℕ
@@ -63,6 +74,10 @@ abbrev pub or_two : (List ℕ → List ℕ → Plan) → Option (List ℕ × Lis
 or_two plan None other = other
 or_two plan (Some names) other = plan names.0 names.1
 
+abbrev pub or_three : (List ℕ → List ℕ → List ℕ → Plan) → Option (List ℕ × List ℕ × List ℕ) → Plan → Plan
+or_three plan None other = other
+or_three plan (Some names) other = plan names.0 names.1 names.2
+
 abbrev pub or_number : (ℕ → Plan) → Option ℕ → Plan → Plan
 or_number plan None other = other
 or_number plan (Some n) other = plan n
@@ -74,16 +89,16 @@ or_watched plan (Some found) other = plan found.0 found.1 found.2
 -- ---- the words
 
 abbrev pub usage_text : List ℕ
-usage_text = codes "usage: logix check P, text P, replay P J, run P S, gen N, migrate P, trace P J, audit P T, stations P J C" ++ 10 ∷ []
+usage_text = codes "usage: logix check P, text P, replay P J, run P S, gen N, migrate P, trace P J, audit P T, xref P, stations P J C, link A B L" ++ 10 ∷ []
 
 abbrev pub usage_plan : Plan
 usage_plan = Say verdict.Usage (only usage_text)
 
--- the words that need no thread of their own: `check P`, `text P`, `migrate P`, `replay P J`, `gen N`, `trace P J`, `audit P T`;
--- and else the usage
+-- the words that need no thread of their own: `check P`, `text P`, `migrate P`, `replay P J`, `gen N`, `trace P J`, `audit P T`,
+-- `xref P`, `link A B L`; and else the usage
 unfoldable pub plain_plan_of : List (List ℕ) → Plan
 plain_plan_of words =
-    or_one check_plan (one_after (codes "check") words) (or_one text_plan (one_after (codes "text") words) (or_one migrate_plan (one_after (codes "migrate") words) (or_two replay_plan (two_after (codes "replay") words) (or_number gen_plan (number_after (codes "gen") words) (or_two trace_plan (two_after (codes "trace") words) (or_two audit_plan (two_after (codes "audit") words) usage_plan))))))
+    or_one check_plan (one_after (codes "check") words) (or_one text_plan (one_after (codes "text") words) (or_one migrate_plan (one_after (codes "migrate") words) (or_two replay_plan (two_after (codes "replay") words) (or_number gen_plan (number_after (codes "gen") words) (or_two trace_plan (two_after (codes "trace") words) (or_two audit_plan (two_after (codes "audit") words) (or_one xref_plan (one_after (codes "xref") words) (or_three link_plan (three_after (codes "link") words) usage_plan))))))))
 
 -- all words: `run P S`, `stations P J C`, and those above
 unfoldable pub plan_of : List (List ℕ) → Plan

@@ -5,20 +5,22 @@ ghost use Rattle.lgx_answer.specs.Answered.{Answered};
 ghost use Rattle.logix_run.specs.Words.{plain_plan_of};
 ghost use Rattle.logix_run.specs.Answers.{IsAnswered};
 
-use crate::words::{number_after, one_after, two_after};
+use crate::words::{Joined, number_after, one_after, three_after, two_after};
 use lgx_answer::{Status, Verdict, say};
 use lgx_io::{Files, Sink};
 use std::alloc::Global;
+use word_link::link_projects;
 use word_project::{check_project, migrate_project, spell_project};
 use word_replay::{generate, replay_journal};
 use word_trace::{audit_trace, trace_journal};
+use word_xref::xref_project;
 
 /// The line that tells how to use the program.
 pub const USAGE: &[u8] =
-    b"usage: logix check P, text P, replay P J, run P S, gen N, migrate P, trace P J, audit P T, stations P J C\n";
+    b"usage: logix check P, text P, replay P J, run P S, gen N, migrate P, trace P J, audit P T, xref P, stations P J C, link A B L\n";
 
 /// Follows the plan of the words.
-#[tactic(auto, using(crate::proofs::Ways::check_answered, crate::proofs::Ways::text_answered, crate::proofs::Ways::migrate_answered, crate::proofs::Ways::replay_answered, crate::proofs::Ways::gen_answered, crate::proofs::Ways::trace_answered, crate::proofs::Ways::audit_answered, crate::proofs::Ways::usage_answered))]
+#[tactic(auto, using(crate::proofs::Ways::check_answered, crate::proofs::Ways::text_answered, crate::proofs::Ways::migrate_answered, crate::proofs::Ways::replay_answered, crate::proofs::Ways::gen_answered, crate::proofs::Ways::trace_answered, crate::proofs::Ways::audit_answered, crate::proofs::Ways::xref_answered, crate::proofs::Ways::link_answered, crate::proofs::Ways::usage_answered))]
 pub(crate) fn follow_plain<F: Files, K: Sink>(
     alloc: Global,
     words: &[String],
@@ -54,6 +56,12 @@ pub(crate) fn follow_plain<F: Files, K: Sink>(
     if let Some((project, trace)) = two_after("audit", words) {
         return audit_trace(alloc, project, trace, files, sink);
     }
+    if let Some(project) = one_after("xref", words) {
+        return xref_project(alloc, project, files, sink);
+    }
+    if let Some(Joined { a, b, link }) = three_after("link", words) {
+        return link_projects(alloc, a, b, link, files, sink);
+    }
     say(Verdict::Usage, USAGE, files, sink)
 }
 
@@ -63,8 +71,10 @@ pub(crate) fn follow_plain<F: Files, K: Sink>(
 /// `check P` tells how many there are of each part of the project of the file `P`, `text P` writes the rungs of its routines,
 /// `migrate P` writes the file in the newest schema, `replay P J` runs the journal of the file `J` on the project and writes
 /// the report, `gen N` tells how many lines the report has of a project and a journal that the number makes, `trace P J`
-/// writes what is seen of the run of the journal of the file `J`, and `audit P T` says whether the trace of the file `T` keeps
-/// the laws of the schedule. Any other words are answered with the usage line. Each line is one put; the project is read and judged before the journal is read.
+/// writes what is seen of the run of the journal of the file `J`, `audit P T` says whether the trace of the file `T` keeps the
+/// laws of the schedule, `xref P` lists the instructions that may write each tag and those that read it, and `link A B L` runs
+/// the projects of `A` and `B` over the link script of the file `L`. Any other words are answered with the usage line. Each line
+/// is one put; the project is read and judged before the journal is read.
 ///
 /// At `WriteFault` and `Memory` a first part of the output was put, at `ReadFault` and `TooLong` nothing.
 #[tactic(auto, using(crate::proofs::Laws::answered))]

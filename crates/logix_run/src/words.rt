@@ -2,7 +2,7 @@
 ghost use Rattle.std.specs.Prelude.{◌≡◌, ◌<◌, ◌≤◌, map, option_map, string_bytes, IfSome};
 ghost use Rattle.lgx_stations.specs.declared.stations.TheConstants.{MAX_STATIONS};
 ghost use Rattle.spec_text.specs.TextLines.{unsigned_of};
-ghost use Rattle.logix_run.specs.Words.{one_after, two_after, number_after, station_count, watched_after};
+ghost use Rattle.logix_run.specs.Words.{one_after, two_after, three_after, number_after, station_count, watched_after};
 
 /// The name, if the words are this one and a name.
 pub(crate) fn one_after<'a>(verb: &str, words: &'a [String]) -> Option<&'a str>
@@ -28,6 +28,31 @@ pub(crate) fn two_after<'a>(verb: &str, words: &'a [String]) -> Option<(&'a str,
         return None;
     }
     Some((first.as_str(), second.as_str()))
+}
+
+/// Two projects and the link script between them.
+#[derive(Clone, Copy)]
+pub(crate) struct Joined<'a> {
+    pub a: &'a str,
+    pub b: &'a str,
+    pub link: &'a str,
+}
+
+/// The three names, if the words are this one and three names.
+pub(crate) fn three_after<'a>(verb: &str, words: &'a [String]) -> Option<Joined<'a>>
+    ensures { option_map (λ j. (j.a.now, j.b.now, j.link.now)) result ≡ three_after verb.now (map string_bytes words.now) }
+{
+    let [word, a, b, link] = words else {
+        return None;
+    };
+    if word.as_str() != verb {
+        return None;
+    }
+    Some(Joined {
+        a: a.as_str(),
+        b: b.as_str(),
+        link: link.as_str(),
+    })
 }
 
 /// The number that 1 to 10 decimal digits are, up to 4,294,967,295. Zeros in front do no harm, and a sign does.

@@ -3,7 +3,7 @@ use Rattle.std.specs.Prelude.{ℕ, ◌*◌, ◌/◌, ◌==◌, ◌&&◌, ◌||�
 use Rattle.std.specs.List.{list_any, starts_with, before_first, after_first}
 use Rattle.std.specs.Prelude.{nat_eq, length}
 use Rattle.spec_base.specs.declared.limits.TheConstants.{MAX_CONNECTION_WORDS}
-use Rattle.lgx_num.specs.Name.{same}
+use Rattle.lgx_num.specs.Name.{is_name, same}
 use Rattle.lgx_num.specs.Number.{fits}
 use Rattle.lgx_num.specs.Image.{write}
 use Rattle.lgx_num.specs.declared.place.Place.{Place}
@@ -95,12 +95,16 @@ connections_fault p = in_field (codes "connections") (first_at (connection_fault
 abbrev pub prefix : List ℕ
 prefix = codes "Program:"
 
--- a text with the prefix, and a dot after it, is seen from the program whose name stands between them
-abbrev pub has_scope : List ℕ → Bool
-has_scope text = starts_with nat_eq text prefix && list_any (λ c. c == 46) (drop (length prefix) text)
+-- the prefix, and a dot after it
+abbrev pub is_prefixed : List ℕ → Bool
+is_prefixed text = starts_with nat_eq text prefix && list_any (λ c. c == 46) (drop (length prefix) text)
 
 abbrev pub scope_name : List ℕ → List ℕ
 scope_name text = before_first (λ c. c == 46) (drop (length prefix) text)
+
+-- a text with the prefix, a name and a dot is seen from the program of this name; what stands there otherwise is no scope
+abbrev pub has_scope : List ℕ → Bool
+has_scope text = is_prefixed text && is_name (scope_name text)
 
 abbrev pub scope_rest : List ℕ → List ℕ
 scope_rest text = after_first (λ c. c == 46) (drop (length prefix) text)

@@ -8,6 +8,7 @@ pub mod CheckCases
 pub mod ParameterCases
 pub mod JournalCases
 pub mod LegalCases
+pub mod DutyCases
 pub mod LadderRuns
 pub mod ParameterRuns
 pub mod TimerRuns
@@ -19,3 +20,4 @@ pub mod WordRuns
 pub mod ConveyorRun
 pub mod LawRuns
 pub mod ProjectCases
+pub mod LinkRuns

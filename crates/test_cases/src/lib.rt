@@ -2,13 +2,16 @@
 //! function is a law: it does nothing, and its contract is what is computed.
 #![tactic(auto)]
 
+mod duty_cases;
 mod journal_cases;
 mod law_runs;
 mod legal_cases;
+mod link_cases;
 mod project_cases;
 mod runs;
 mod text_cases;
 
+pub use duty_cases::{duties_are_broken, duties_are_kept};
 pub use journal_cases::{
     journals_are_read, journals_are_refused, journals_are_written, scripts_are_read,
     scripts_are_refused,
@@ -18,6 +21,7 @@ pub use law_runs::{
     scripts_are_not_run, scripts_are_run,
 };
 pub use legal_cases::{laws_are_broken, laws_hold};
+pub use link_cases::{links_are_refused, links_are_run};
 pub use project_cases::{project_is_valid, projects_are_invalid};
 pub use runs::{
     arithmetic_runs, conveyor_run, copy_runs, edit_runs, inhibited_runs, ladder_runs,

@@ -1,4 +1,4 @@
-use Rattle.std.proofs.Common.{◌≡◌, ◌++◌, Some, map, option_map, ap, sym, ◌∙◌}
+use Rattle.std.proofs.Common.{◌++◌, map, option_map, ap, sym, ◌∙◌}
 use Rattle.spec_base.specs.Pieces.{pieces}
 use Rattle.spec_text.specs.ActionText.{edit_of, each_some}
 use Rattle.lgx_journal.proofs.Parts.{part_added, plain_after}

@@ -1,4 +1,4 @@
-use Rattle.std.proofs.Common.{◌≡◌, ◌+◌, List, ◌++◌, length, length-append, replicate, false, ap, sym, ◌∙◌, arith}
+use Rattle.std.proofs.Common.{◌+◌, List, ◌++◌, length, length-append, replicate, ap, sym, ◌∙◌, arith}
 use Rattle.std.proofs.lemmas.List.{length-replicate}
 use Rattle.spec_machine.specs.declared.event.Event.{Event}
 use Rattle.spec_text.specs.TextLines.{lines}
@@ -33,7 +33,7 @@ loop-line-preserved c =
     let added = c.add_run.ensures.events ∙ ap (λ (xs : List Event). xs ++ replicate run.count run.event) c.in_ok-reserve.ensures.events in
     record {
       same =
-          ap (λ (xs : List Event). after_events xs (runs_from (n + 1) c.read_line.new.tally ls)) added
+          ap (λ (xs : List Event). after_events xs (runs_from (n + 1) c.read_line.new.self ls)) added
           ∙ ap (λ (u : Tally). after_events (es ++ replicate run.count run.event) (runs_from (n + 1) u ls)) c.in-Ok.ensures.counted
           ∙ sym told ∙ c.loop-line.invariant.same;
       size = ap length added ∙ length-append es (replicate run.count run.event) ∙ omega (arith, length-replicate run.count run.event, run_counted t run, c.loop-line.invariant.size) ∙ sym (ap tally_events c.in-Ok.ensures.counted);

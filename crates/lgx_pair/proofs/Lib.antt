@@ -1,0 +1,5 @@
+pub mod Words
+pub mod Links
+pub mod Added
+pub mod UnderWay
+pub mod Room

@@ -1,0 +1,10 @@
+pub mod Chosen
+pub mod Placing
+pub mod Tagged
+pub mod Returned
+pub mod Beside
+pub mod Listed
+pub mod Noted
+pub mod Sites
+pub mod TagsApart
+pub mod Indexed

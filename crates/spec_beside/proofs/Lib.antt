@@ -1,0 +1,15 @@
+pub mod Beside
+pub mod Words
+pub mod Handed
+pub mod Rows
+pub mod Copies
+pub mod Steps
+pub mod Prescanned
+pub mod Frames
+pub mod InTags
+pub mod OperandTags
+pub mod TagsApart
+pub mod TextLists
+pub mod SiteTags
+pub mod Routines
+pub mod Prescans

@@ -1,0 +1,197 @@
+-- An instruction changes no byte that its written operands miss.
+use Rattle.std.specs.Prelude.{not, ◌&&◌, map, nat_lt}
+use Rattle.std.specs.List.{AllByRecursion as Each}
+use Rattle.std.proofs.Common.{◌≡◌, ℕ, ◌+◌, ◌⊎◌, inl, inr, Bool, true, false, ◌||◌, if◌then◌else◌, List, [], ◌∷◌, ℤ, length, arith, get_or, Option, Some, None, refl, ◌∙◌}
+use Rattle.std.proofs.lemmas.Bool.{cond_both}
+use Rattle.spec_base.specs.declared.limits.TheConstants.{MAX_FRAMES, TIMER_BYTES, COUNTER_BYTES}
+use Rattle.lgx_num.specs.declared.place.Flags.{Flags}
+use Rattle.lgx_num.specs.declared.place.Operand.{Operand}
+use Rattle.lgx_num.specs.declared.place.Place.{Place}
+use Rattle.lgx_num.specs.Image.{write}
+use Rattle.lgx_rung.specs.declared.op.Op.{Op}
+use Rattle.lgx_rung.specs.declared.op.Op.TheVariants.{Add, Sub, Mul, Div, Mod, Neg, Abs, Mov, And, Or, Xor, Not, Mvm, Clr, Xic, Xio, Ote, Otl, Otu, Ons, Osr, Osf, Afi, Ton, Rto, Tof, Ctu, Ctd, Res, Cop, Cps, Fll, Jsr, Sbr, Ret}
+use Rattle.lgx_rung.specs.declared.operands.Family.TheVariants.{Bit, Arithmetic}
+use Rattle.lgx_rung.specs.OperandTable.{fixed_kinds, family_of, further, NoMore}
+use Rattle.spec_scan.specs.declared.bound.Arg.{Arg}
+use Rattle.spec_scan.specs.declared.bound.Arg.TheVariants as bound
+use Rattle.spec_scan.specs.declared.bound.Copying.{Copying}
+use Rattle.spec_scan.specs.Copies.{start_copy}
+use Rattle.spec_scan.specs.Counters.{counter}
+use Rattle.spec_scan.specs.Parameters.{inputs_handed, returns_wanted, store_all}
+use Rattle.spec_scan.specs.StatusWords.{reset}
+use Rattle.spec_scan.specs.Timers.{timer}
+use Rattle.spec_scan.specs.Arguments.{arg, bind, bit_value, byte_of, place_of, put_bit, value_of}
+use Rattle.spec_scan.specs.Bits.{bits}
+use Rattle.spec_scan.specs.Arithmetic.{math, dest}
+use Rattle.spec_scan.specs.Fits.{OperandsFit, ArgsFit, IsPlace, IsTimerPlace, IsCounterPlace}
+use Rattle.spec_scan.specs.Instructions.{Control, Nothing, Return, Row, acts_when_false, call_row, copy_row, executed, pass_on, store_row, timer_row, with_bound}
+use Rattle.spec_scan.specs.Position.{Frame}
+use Rattle.spec_scan.proofs.KeptKinds.{args_fit}
+use Rattle.spec_beside.specs.Misses.{IsBeside, PlaceMisses, WritesBeside}
+use Rattle.spec_beside.specs.Rows.{RowsWriteBeside}
+use Rattle.spec_beside.proofs.Beside.{ArgMisses, ArgsMissFrom, write_beside, place_misses, args_miss}
+use Rattle.spec_beside.proofs.Handed.{entry_misses}
+use Rattle.spec_beside.proofs.Words.{SameSome, timer_same, counter_same, reset_same}
+
+-- the image that a row leaves has this byte as it was
+abbrev Stays : List ℕ → List ℕ → ℕ → Type 0
+Stays after image b = get_or after b 0 ≡ get_or image b 0
+
+-- numbers that are stored at places change no byte that all these places miss
+store_keeps : (image : List ℕ) (places : List Place) (numbers : List ℤ) (b : ℕ) → Each (PlaceMisses b) places → Stays (store_all image places numbers) image b
+store_keeps image [] numbers b h = refl
+store_keeps image (p ∷ ps) [] b h = refl
+store_keeps image (p ∷ ps) (v ∷ vs) b h = store_keeps (write image p v) ps vs b h.1 ∙ write_beside image p v b h.0
+
+-- ---- bound operands: arithmetic stores at its destination alone
+
+math_stays : (op : Op) (args : List Arg) (image : List ℕ) (b : ℕ) → IsPlace (arg args (dest op)) → ArgMisses b (arg args (dest op)) → Stays (math op args image).image image b
+math_stays op args image b is h = write_beside image (place_of (arg args (dest op))) _ b (place_misses (arg args (dest op)) b is h)
+
+pub bit_stays : (a : Arg) (on : Bool) (image : List ℕ) (b : ℕ) → IsPlace a → ArgMisses b a → Stays (put_bit image a on) image b
+bit_stays a on image b is h = write_beside image (place_of a) _ b (place_misses a b is h)
+
+-- a timer's and a counter's bytes
+pub timer_beside : (b : ℕ) (a : Arg) → IsTimerPlace a → ArgMisses b a → IsBeside (byte_of a) (byte_of a + TIMER_BYTES) b
+timer_beside b (bound.Timer at) is h = h
+timer_beside b _ is h = absurd is
+
+pub counter_beside : (b : ℕ) (a : Arg) → IsCounterPlace a → ArgMisses b a → IsBeside (byte_of a) (byte_of a + COUNTER_BYTES) b
+counter_beside b (bound.Counter at) is h = h
+counter_beside b _ is h = absurd is
+
+module _ (args : List Operand) (on : Bool) (now : ℕ) (first : Bool) (frames : List Frame) (flags : Flags) (image : List ℕ) (b : ℕ) where
+  -- an instruction with its operands bound keeps a byte that those which it writes miss
+  abbrev Keeps : Op → Type 0
+  Keeps op = (bound : List Arg) → ArgsFit op bound → ArgsMissFrom b 0 (fixed_kinds op) bound → Stays (executed args on now first frames flags image op bound).image image b
+
+  arithmetic_keeps : (op : Op) → family_of op ≡ Arithmetic → Keeps op
+  arithmetic_keeps Add is bound fit h = math_stays Add bound image b fit.1.1.0 h.1.1.0
+  arithmetic_keeps Sub is bound fit h = math_stays Sub bound image b fit.1.1.0 h.1.1.0
+  arithmetic_keeps Mul is bound fit h = math_stays Mul bound image b fit.1.1.0 h.1.1.0
+  arithmetic_keeps Div is bound fit h = math_stays Div bound image b fit.1.1.0 h.1.1.0
+  arithmetic_keeps Mod is bound fit h = math_stays Mod bound image b fit.1.1.0 h.1.1.0
+  arithmetic_keeps And is bound fit h = math_stays And bound image b fit.1.1.0 h.1.1.0
+  arithmetic_keeps Or is bound fit h = math_stays Or bound image b fit.1.1.0 h.1.1.0
+  arithmetic_keeps Xor is bound fit h = math_stays Xor bound image b fit.1.1.0 h.1.1.0
+  arithmetic_keeps Mvm is bound fit h = math_stays Mvm bound image b fit.1.1.0 h.1.1.0
+  arithmetic_keeps Neg is bound fit h = math_stays Neg bound image b fit.1.0 h.1.0
+  arithmetic_keeps Abs is bound fit h = math_stays Abs bound image b fit.1.0 h.1.0
+  arithmetic_keeps Mov is bound fit h = math_stays Mov bound image b fit.1.0 h.1.0
+  arithmetic_keeps Not is bound fit h = math_stays Not bound image b fit.1.0 h.1.0
+  arithmetic_keeps Clr is bound fit h = math_stays Clr bound image b fit.0 h.0
+  arithmetic_keeps _ is bound fit h = absurd (cc is)
+
+  -- the bit instructions put bits at the operands that they write
+  if_stays : (c : Bool) (a : Arg) (v : Bool) → IsPlace a → ArgMisses b a → Stays (if c then put_bit image a v else image) image b
+  if_stays true a v is h = bit_stays a v image b is h
+  if_stays false a v is h = refl
+
+  bits_keep : (op : Op) → family_of op ≡ Bit → Keeps op
+  bits_keep Xic is bound fit h = refl
+  bits_keep Xio is bound fit h = refl
+  bits_keep Ote is bound fit h = bit_stays (arg bound 0) on image b fit.0 h.0
+  bits_keep Otl is bound fit h = if_stays on (arg bound 0) true fit.0 h.0
+  bits_keep Otu is bound fit h = if_stays on (arg bound 0) false fit.0 h.0
+  bits_keep Ons is bound fit h = bit_stays (arg bound 0) on image b fit.0 h.0
+  bits_keep Osr is bound fit h =
+      let v = on && not (bit_value first flags image (arg bound 0)) in
+      bit_stays (arg bound 0) on (put_bit image (arg bound 1) v) b fit.0 h.0 ∙ bit_stays (arg bound 1) v image b fit.1.0 h.1.0
+  bits_keep Osf is bound fit h = by_condition on
+    where
+      by_condition : (c : Bool) → Stays (bits Osf bound c first flags image).image image b
+      by_condition true = bit_stays (arg bound 1) false (put_bit image (arg bound 0) true) b fit.1.0 h.1.0 ∙ bit_stays (arg bound 0) true image b fit.0 h.0
+      by_condition false =
+          let v = bit_value first flags image (arg bound 0) in
+          bit_stays (arg bound 0) false (put_bit image (arg bound 1) v) b fit.0 h.0 ∙ bit_stays (arg bound 1) v image b fit.1.0 h.1.0
+  bits_keep Afi is bound fit h = refl
+  bits_keep _ is bound fit h = absurd (cc is)
+
+  -- timers, counters and RES
+  timer_row_stays : (o : Option (List ℕ)) → SameSome b o image → Stays (timer_row args on now first frames flags image o).image image b
+  timer_row_stays (Some after) h = h
+  timer_row_stays None h = refl
+
+  timer_keeps : (op : Op) (a : Arg) → IsTimerPlace a → ArgMisses b a → Stays (timer_row args on now first frames flags image (timer op (byte_of a) on now image)).image image b
+  timer_keeps op a is h = timer_row_stays (timer op (byte_of a) on now image) (timer_same (byte_of a) TIMER_BYTES b (timer_beside b a is h) (omega arith) op on now image)
+
+  counter_keeps : (op : Op) (a : Arg) → IsCounterPlace a → ArgMisses b a → Stays (counter op (byte_of a) on image) image b
+  counter_keeps op a is h = counter_same (byte_of a) COUNTER_BYTES b (counter_beside b a is h) (omega arith) op on image
+
+  reset_keeps : (a : Arg) → IsTimerPlace a ⊎ IsCounterPlace a → ArgMisses b a → Stays (reset (byte_of a) on image) image b
+  reset_keeps a (inl is) h = reset_same (byte_of a) TIMER_BYTES b (timer_beside b a is h) (omega arith) on image
+  reset_keeps a (inr is) h = reset_same (byte_of a) COUNTER_BYTES b (counter_beside b a is h) (omega arith) on image
+
+  -- a copy's start changes nothing
+  copy_stays : (o : Option Copying) → Stays (copy_row args on now first frames flags image o).image image b
+  copy_stays (Some c) = refl
+  copy_stays None = refl
+
+  -- ---- a call, an SBR and a RET
+
+  call_stays : (bound : List Arg) → Stays (call_row args on now first frames flags image bound).image image b
+  call_stays bound = cond_both (nat_lt (length frames) MAX_FRAMES) _ _ (λ (r : Row). Stays r.image image b) (λ e. refl) (λ e. refl)
+
+  store_stays : (places : List Place) (numbers : List ℤ) (control : Control) → Each (PlaceMisses b) places → Stays (store_row args on now first frames flags image places numbers control).image image b
+  store_stays places numbers control h = cond_both (nat_lt (length numbers) (length places)) _ _ (λ (r : Row). Stays r.image image b) (λ e. refl) (λ e. store_keeps image places numbers b h)
+
+  -- the places at which an SBR and a RET store
+  pub record Stores (op : Op) (bound : List Arg) : Type 0 where
+    pub entry : op ≡ Sbr → Each (PlaceMisses b) (map place_of bound)
+    pub leave : op ≡ Ret → Each (PlaceMisses b) (returns_wanted frames)
+
+  -- ---- every instruction
+
+  keeps : (op : Op) (bound : List Arg) → ArgsFit op bound → (further op ≡ NoMore → ArgsMissFrom b 0 (fixed_kinds op) bound) → Stores op bound → Stays (executed args on now first frames flags image op bound).image image b
+  keeps Xic bound fit h s = bits_keep Xic refl bound fit (h refl)
+  keeps Xio bound fit h s = bits_keep Xio refl bound fit (h refl)
+  keeps Ote bound fit h s = bits_keep Ote refl bound fit (h refl)
+  keeps Otl bound fit h s = bits_keep Otl refl bound fit (h refl)
+  keeps Otu bound fit h s = bits_keep Otu refl bound fit (h refl)
+  keeps Ons bound fit h s = bits_keep Ons refl bound fit (h refl)
+  keeps Osr bound fit h s = bits_keep Osr refl bound fit (h refl)
+  keeps Osf bound fit h s = bits_keep Osf refl bound fit (h refl)
+  keeps Afi bound fit h s = bits_keep Afi refl bound fit (h refl)
+  keeps Add bound fit h s = arithmetic_keeps Add refl bound fit (h refl)
+  keeps Sub bound fit h s = arithmetic_keeps Sub refl bound fit (h refl)
+  keeps Mul bound fit h s = arithmetic_keeps Mul refl bound fit (h refl)
+  keeps Div bound fit h s = arithmetic_keeps Div refl bound fit (h refl)
+  keeps Mod bound fit h s = arithmetic_keeps Mod refl bound fit (h refl)
+  keeps Neg bound fit h s = arithmetic_keeps Neg refl bound fit (h refl)
+  keeps Abs bound fit h s = arithmetic_keeps Abs refl bound fit (h refl)
+  keeps Mov bound fit h s = arithmetic_keeps Mov refl bound fit (h refl)
+  keeps And bound fit h s = arithmetic_keeps And refl bound fit (h refl)
+  keeps Or bound fit h s = arithmetic_keeps Or refl bound fit (h refl)
+  keeps Xor bound fit h s = arithmetic_keeps Xor refl bound fit (h refl)
+  keeps Not bound fit h s = arithmetic_keeps Not refl bound fit (h refl)
+  keeps Mvm bound fit h s = arithmetic_keeps Mvm refl bound fit (h refl)
+  keeps Clr bound fit h s = arithmetic_keeps Clr refl bound fit (h refl)
+  keeps Ton bound fit h s = timer_keeps Ton (arg bound 0) fit.0 (h refl).0
+  keeps Rto bound fit h s = timer_keeps Rto (arg bound 0) fit.0 (h refl).0
+  keeps Tof bound fit h s = timer_keeps Tof (arg bound 0) fit.0 (h refl).0
+  keeps Ctu bound fit h s = counter_keeps Ctu (arg bound 0) fit.0 (h refl).0
+  keeps Ctd bound fit h s = counter_keeps Ctd (arg bound 0) fit.0 (h refl).0
+  keeps Res bound fit h s = reset_keeps (arg bound 0) fit.0 (h refl).0
+  keeps Cop bound fit h s = copy_stays (start_copy Cop bound image)
+  keeps Cps bound fit h s = copy_stays (start_copy Cps bound image)
+  keeps Fll bound fit h s = copy_stays (start_copy Fll bound image)
+  keeps Jsr bound fit h s = call_stays bound
+  keeps Sbr bound fit h s = store_stays (map place_of bound) (inputs_handed frames) Nothing (s.entry refl)
+  keeps Ret bound fit h s = store_stays (returns_wanted frames) (map (value_of image) bound) Return (s.leave refl)
+  keeps _ bound fit h s = refl
+
+-- an instruction changes no byte that what it writes misses
+pub rows_keep : RowsWriteBeside
+rows_keep i on now first frames flags image b fit h returns = by_condition (on || acts_when_false i.op)
+  where
+    entry : (op : Op) (bound : List Arg) → OperandsFit op i.args → WritesBeside b (record { op = op; args = i.args }) → bind image i.args ≡ Some bound → op ≡ Sbr → Each (PlaceMisses b) (map place_of bound)
+    entry Sbr bound fits misses found is = entry_misses image i.args bound b fits misses found
+    entry _ bound fits misses found is = absurd (cc is)
+
+    by_bound : (found : Option (List Arg)) → bind image i.args ≡ found → Stays (with_bound i.args on now first frames flags image i.op found).image image b
+    by_bound (Some bound) found = keeps i.args on now first frames flags image b i.op bound (args_fit image i.args bound i.op found fit) (λ no_more. args_miss image i bound b no_more fit found h) (record { entry = entry i.op bound fit h found; leave = returns })
+    by_bound None found = refl
+
+    by_condition : (c : Bool) → Stays (if c then with_bound i.args on now first frames flags image i.op (bind image i.args) else pass_on i.args on now first frames flags image Nothing).image image b
+    by_condition true = by_bound (bind image i.args) refl
+    by_condition false = refl

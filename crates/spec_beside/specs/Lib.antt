@@ -1,0 +1,9 @@
+pub mod Misses
+pub mod InTags
+pub mod Sites
+pub mod Rows
+pub mod Copies
+pub mod Prescans
+pub mod Frames
+pub mod Routines
+pub mod Steps

@@ -1,0 +1,18 @@
+-- The laws along a run.
+use Rattle.spec_duties.specs.Duties.{RunsKeepDuties}
+use Rattle.spec_duties.specs.TickReleases.{keeps_releases}
+use Rattle.spec_duties.specs.Watchdogs.{keeps_watchdogs}
+use Rattle.spec_duties.proofs.AtTicks.{watchdogs_here, releases_here}
+use Rattle.spec_duties.proofs.CheckedBooks.{books_are_checked}
+use Rattle.spec_duties.proofs.Places.{all_of_run}
+use Rattle.spec_duties.proofs.Replies.{answers_are_right}
+use Rattle.spec_duties.proofs.Triggered.{runs_keep_triggers}
+
+pub runs_keep_duties : RunsKeepDuties
+runs_keep_duties p valid = record {
+  answers = answers_are_right p;
+  watchdogs = all_of_run p valid (keeps_watchdogs p.tasks) (λ s e cs ns past h. watchdogs_here p valid s cs ns past h e);
+  releases = all_of_run p valid (keeps_releases p.tasks) (λ s e cs ns past h. releases_here p valid s cs ns past h e);
+  triggers = runs_keep_triggers p valid;
+  books = books_are_checked p valid;
+}

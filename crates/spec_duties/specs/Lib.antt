@@ -1,0 +1,7 @@
+pub mod Answers
+pub mod CheckedBooks
+pub mod CountedBack
+pub mod Watchdogs
+pub mod TickReleases
+pub mod Triggers
+pub mod Duties

@@ -1,0 +1,12 @@
+pub mod Growth
+pub mod Journals
+pub mod Reports
+pub mod Texts
+pub mod Unwritten
+pub mod Tags
+pub mod Lines
+pub mod Whole
+pub mod Takes
+pub mod Sends
+pub mod Theorem
+pub mod Scripts

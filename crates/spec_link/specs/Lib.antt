@@ -1,0 +1,4 @@
+pub mod LinkText
+pub mod Links
+pub mod LinkOutput
+pub mod Consumed

@@ -1,0 +1,4 @@
+pub mod LinkCauses
+pub mod LinkTexts
+pub mod LinkPlan
+pub mod LinkState

@@ -1,0 +1,3 @@
+pub mod NamesAt
+pub mod UsesOf
+pub mod XrefLefts

@@ -1,0 +1,3 @@
+pub mod XrefText
+pub mod XrefLeft
+pub mod XrefPlan

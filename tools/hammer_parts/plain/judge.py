@@ -1,0 +1,204 @@
+"""What the program answers to its words, by the plain interpreter: a status and a text."""
+
+from .audit import Table, read_trace, verdict
+from .gen import journal_of, project_of
+from .journal import LONGEST, Bad, Reader, lines_of, read_journal
+from .link import Link, LinkScript
+from .machine import Machine
+from .project import Project, read
+from .reader import Fault
+from .rungs import spelled
+from .xref import xref
+
+MOST_LINES = 100_000
+MOST_EVENTS = 20_000
+MOST_SNAPSHOTS = 4_096
+
+
+def answer(words, contents):
+    """The status and the output of the word over these contents of its files; None of a long run."""
+    verb = words[0]
+    try:
+        projects = [Project(contents[0])]
+    except Fault as fault:
+        return 2, ("a " if verb == "link" else "") + fault.line() + "\n"
+    if verb in OF_PROJECT:
+        return 0, OF_PROJECT[verb](projects[0])
+    try:
+        if verb == "link":
+            projects.append(Project(contents[1]))
+        return OF_MORE[verb](*projects, contents[-1])
+    except Fault as fault:
+        return 2, f"b {fault.line()}\n"
+    except Bad as bad:
+        return 3, f"{KIND_OF.get(verb, 'journal')} {bad.code} line {bad.line}\n"
+
+
+def is_long(events):
+    return sum(event.count for event in events) > MOST_EVENTS
+
+
+def replayed(project, contents):
+    events = read_journal(contents)
+    return None if is_long(events) else (0, report(project, events))
+
+
+def traced(project, contents):
+    events = read_journal(contents)
+    return None if is_long(events) else (0, trace(project, events))
+
+
+def audited(project, contents):
+    table = Table(project)
+    return verdict(read_trace(contents, table), table)
+
+
+def live(contents, lines):
+    """What is written of lines that come one by one: the report's lines of those that are done, and the cause of each that isn't."""
+    try:
+        reporter = Reporter(Project(contents))
+    except Fault as fault:
+        return 2, fault.line() + "\n"
+    written = []
+    for number, line in lines_of(lines)[1]:
+        if len(line) <= LONGEST and line.strip(" ") == "end":
+            break
+        reader, seen = Reader(), len(reporter.lines)
+        try:
+            if len(line) > LONGEST:
+                raise Bad("J1")
+            reader.take(line)
+        except Bad as bad:
+            written.append(f"line {bad.code} {number}")
+            continue
+        if is_long(reader.events):
+            return None
+        run(reporter, reader.events)
+        written += reporter.lines[seen:]
+    return 0, "".join(line + "\n" for line in [*written, reporter.end()])
+
+
+def linked(a, b, contents):
+    script = LinkScript(contents, a, b)
+    if is_long([step[1] for step in script.steps if step[0] in ("a", "b")]):
+        return None
+    return 0, Link(Reporter(a), Reporter(b), script).run()
+
+
+def counted(project):
+    routines = [rungs for program in project.texts for rungs in program]
+    return (f"ok tasks {len(project.tasks)} programs {len(project.programs)} routines {len(routines)} "
+            f"rungs {sum(map(len, routines))} bytes {project.tags.bytes}\n")
+
+
+def texts(project):
+    lines = []
+    for program, routines in zip(project.programs, project.texts):
+        for routine, rungs in zip(program["routines"], routines):
+            lines.append(f"program {program['name']} routine {routine['name']}")
+            lines += [spelled(rung) for rung in rungs]
+    return "".join(line + "\n" for line in lines)
+
+
+class Reporter:
+    """The report's lines, event by event."""
+
+    def __init__(self, project):
+        self.project, self.machine, self.lines, self.lost = project, Machine(project), [], 0
+        self.tasks = [task["name"] for task in project.tasks]
+        self.programs = [program["name"] for program in project.programs]
+        self.values, self.image = self.watched(), bytes(self.machine.image)
+
+    def watched(self):
+        return [read(self.machine.image, kind, at) for _, kind, at in self.project.watches]
+
+    def put(self, text):
+        if len(self.lines) < MOST_LINES:
+            self.lines.append(f"{self.machine.now} {self.machine.steps} {text}")
+        else:
+            self.lost += 1
+
+    def event(self, verb, lane=None, action=None):
+        said = self.machine.event(verb, lane, action)
+        if said.what == "began":
+            self.put(f"begin {self.tasks[said.task]} {self.programs[said.program]} {said.version}")
+        if said.what == "act":
+            self.put(f"reply {lane} {said.reply}")
+        for severity, kind, code, task, program in said.faults:
+            self.put(f"fault {severity} {kind}/{code} {self.tasks[task]} {'-' if program is None else self.programs[program]}")
+        if self.machine.image != self.image:
+            self.image, now = bytes(self.machine.image), self.watched()
+            for (name, _, _), old, new in zip(self.project.watches, self.values, now):
+                if old != new:
+                    self.put(f"set {name} {new}")
+            self.values = now
+        return said
+
+    def end(self):
+        return f"end {self.machine.now} {self.machine.steps} {self.machine.mode} lost {self.lost}"
+
+
+def generated(number):
+    """What `gen N` writes."""
+    reporter = run(Reporter(Project(project_of(number))), read_journal(journal_of(number)))
+    return f"gen {number} lines {len(reporter.lines)} lost {reporter.lost}\n{reporter.end()}\n"
+
+
+def story(project, events):
+    """The snapshots: tick and watched values before the first event, and right after each tick; the first of them alone are kept."""
+    reporter = Reporter(project)
+    snapshots = [(0, *reporter.values)]
+    for event in events:
+        for _ in range(event.count):
+            reporter.event(event.verb, event.lane, event.action)
+            if event.verb == "tick":
+                snapshots.append((reporter.machine.now, *reporter.values))
+    return snapshots[:MOST_SNAPSHOTS]
+
+
+def run(reporter, events):
+    for event in events:
+        for _ in range(event.count):
+            reporter.event(event.verb, event.lane, event.action)
+    return reporter
+
+
+def report(project, events):
+    reporter = run(Reporter(project), events)
+    return "".join(line + "\n" for line in [*reporter.lines, reporter.end()])
+
+
+def trace(project, events):
+    machine, lines = Machine(project), []
+    for event in events:
+        for _ in range(event.count):
+            lines.append(seen(machine.event(event.verb, event.lane, event.action), event))
+    return "".join(line + "\n" for line in [*lines, "end"])
+
+
+VERBS = {"mode run": "run", "mode program": "program"}
+
+
+def seen(said, event):
+    """A line of the trace."""
+    if said.what == "idle":
+        return "idle"
+    if said.what == "began":
+        return f"began {said.task} {said.program} {said.version}"
+    if said.what == "left":
+        return f"left {said.task} {said.program} {said.left}"
+    if said.what == "tick":
+        return f"tick {said.released} {said.overlapped} {'-' if said.watchdog is None else said.watchdog}"
+    if said.what == "step":
+        return f"step {said.task} {said.program} {said.mark} {said.faults[0][0] if said.faults else '-'}"
+    verb = VERBS.get(event.action.verb, event.action.verb)
+    known = verb in ("accept", "test", "untest", "assemble", "cancel", "run", "program", "clear")
+    program = "-" if said.program is None else said.program
+    done = said.reply.startswith("ok")
+    number = ":" + said.reply[3:] if verb == "accept" and done else ""
+    return f"act {event.lane} {verb if known else 'other'} {program} {'ok' + number if done else 'no'} {said.released}"
+
+
+OF_PROJECT = {"check": counted, "text": texts, "migrate": Project.migrated, "xref": xref}
+OF_MORE = {"replay": replayed, "trace": traced, "audit": audited, "link": linked}
+KIND_OF = {"audit": "trace", "link": "link"}

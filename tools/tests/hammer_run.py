@@ -1,0 +1,39 @@
+"""A short run of the hammer over the program that the gate has built: fixed cases of each kind, and every limit.
+
+It takes some forty seconds of one processor. What differs is printed, and the status is 1 then.
+"""
+
+import os
+import sys
+import tempfile
+
+TOP = os.path.dirname(os.path.dirname(os.path.dirname(os.path.abspath(__file__))))
+sys.path.insert(0, f"{TOP}/tools")
+
+from hammer_parts.limits import LIMITS  # noqa: E402
+from hammer_parts.main import Hammer  # noqa: E402
+from hammer_parts.program import Program  # noqa: E402
+
+COUNTS = {
+    "whole": 1500, "long runs": 20, "projects": 800, "journals": 500, "texts": 40, "cuts": 400, "traces": 200, "walks": 300, "links": 200, "link laws": 40,
+    "project laws": 40, "journal laws": 40, "stations": 60, "scripts": 150, "lanes": 20, "closed pipes": 60, "full devices": 12,
+    "little memory": 60, "lost files": 20, "live": 60, "limits": len(LIMITS), "numbers": 1,
+}
+
+
+def main():
+    sys.setrecursionlimit(20_000)
+    program = Program(f"{TOP}/crates/logix/out/logix")
+    with tempfile.TemporaryDirectory() as found:
+        hammer = Hammer(program, "gate", found)
+        try:
+            for kind in hammer.known_kinds([]):
+                for number in range(COUNTS[kind]):
+                    hammer.try_case(kind, number)
+        finally:
+            program.close()
+    return 1 if hammer.differences else 0
+
+
+if __name__ == "__main__":
+    sys.exit(main())

@@ -1,0 +1,87 @@
+"""The examples of the documents, each run on the built program.
+
+A block of a document that is marked `project`, `journal` or `script` is a file; `report` is what the last journal gives on the last
+project, `uses` the cross reference of examples/parameters, and `refused` the one line that answers the file right above it. The gate runs
+this after `rt ci`.
+"""
+
+import json
+import os
+import re
+import subprocess
+import tempfile
+import unittest
+
+TOP = os.path.dirname(os.path.dirname(os.path.dirname(os.path.abspath(__file__))))
+LOGIX = f"{TOP}/crates/logix/out/logix"
+BLOCK = re.compile(r"^```(\w+)\n(.*?)^```$", re.MULTILINE | re.DOTALL)
+WORDS = {"project": ["check", "project"], "journal": ["replay", "project", "journal"], "script": ["run", "project", "script"]}
+REFUSED = {"project": 2, "journal": 3, "script": 3}
+
+
+def document(name):
+    with open(f"{TOP}/{name}", encoding="utf-8") as file:
+        return file.read()
+
+
+class Documents(unittest.TestCase):
+    def setUp(self):
+        room = tempfile.TemporaryDirectory()
+        self.addCleanup(room.cleanup)
+        self.room = room.name
+
+    def put(self, name, text):
+        with open(f"{self.room}/{name}", "w", encoding="utf-8") as file:
+            file.write(text)
+
+    def call(self, words):
+        ran = subprocess.run([LOGIX, *words], cwd=self.room, stdout=subprocess.PIPE, stderr=subprocess.STDOUT, timeout=60, check=False)
+        return ran.returncode, ran.stdout.decode()
+
+    def judge(self, name):
+        """Each answer of a document is the program's; how many there are."""
+        last, answers, waiting = None, 0, None
+        for kind, text in BLOCK.findall(document(name)):
+            with self.subTest(document=name, text=text):
+                if kind == "uses":
+                    answers += 1
+                    self.assertEqual(self.call(["xref", f"{TOP}/examples/parameters/project.json"]), (0, text))
+                elif kind in WORDS:
+                    self.assertIsNone(waiting, "a journal or script without an answer")
+                    self.put(kind, text)
+                    last, waiting = kind, kind if kind != "project" else None
+                elif kind == "report":
+                    answers, waiting = answers + 1, None
+                    self.assertEqual((last, self.call(WORDS["journal"])), ("journal", (0, text)))
+                elif kind == "refused":
+                    answers, waiting = answers + 1, None
+                    self.assertEqual(self.call(WORDS[last]), (REFUSED[last], text))
+        self.assertIsNone(waiting)
+        return answers
+
+    def test_the_readme(self):
+        self.assertEqual(self.judge("README.md"), 1)
+
+    def test_the_rules(self):
+        self.assertGreaterEqual(self.judge("docs/CONTROLLER.md"), 17)
+
+    def test_the_formats(self):
+        self.assertGreaterEqual(self.judge("docs/FORMATS.md"), 14)
+
+    def test_the_readme_shows_the_example_that_it_runs(self):
+        shown = dict(BLOCK.findall(document("README.md")))
+        self.assertEqual(json.loads(shown["project"]), json.loads(document("examples/blink/project.json")))
+        self.assertEqual(shown["journal"], document("examples/blink/edit.txt"))
+        self.assertEqual(shown["report"], document("examples/blink/edited.txt"))
+
+    def test_what_gen_writes(self):
+        lines = re.search(r"`gen 1` writes:\n\n((?:    .*\n)+)", document("docs/FORMATS.md")).group(1)
+        self.assertEqual(self.call(["gen", "1"]), (0, re.sub(r"^ {4}", "", lines, flags=re.MULTILINE)))
+
+    def test_the_usage(self):
+        shown = re.search(r"^\| 1 \|.*`(usage: .*?)`", document("docs/FORMATS.md"), re.MULTILINE).group(1)
+        self.assertEqual(self.call([]), (1, shown + "\n"))
+
+
+if __name__ == "__main__":
+    unittest.main()

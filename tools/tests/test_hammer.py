@@ -1,0 +1,105 @@
+"""The hammer's own parts: made cases, mutations, the counting of scripts, and how a case becomes smaller."""
+
+import json
+import os
+import random
+import sys
+import unittest
+
+TOP = os.path.dirname(os.path.dirname(os.path.dirname(os.path.abspath(__file__))))
+sys.path.insert(0, f"{TOP}/tools")
+
+from hammer_parts import lanes, limits  # noqa: E402
+from hammer_parts.bent import Bender  # noqa: E402
+from hammer_parts.cases import file_text, journal_text  # noqa: E402
+from hammer_parts.laws import Broken  # noqa: E402
+from hammer_parts.made import Maker  # noqa: E402
+from hammer_parts.plain.journal import Script, read_journal  # noqa: E402
+from hammer_parts.plain.judge import answer  # noqa: E402
+from hammer_parts.program import Ran  # noqa: E402
+from hammer_parts.shrink import Shrinker  # noqa: E402
+from hammer_parts.sound import unsound  # noqa: E402
+
+
+class Made(unittest.TestCase):
+    def test_most_projects_are_sound(self):
+        answers = [answer(["check"], [file_text(Maker(random.Random(seed)).project())])[0] for seed in range(60)]
+        self.assertGreater(answers.count(0), 40)
+
+    def test_a_seed_makes_one_case(self):
+        def drawn():
+            maker = Maker(random.Random(7), 0.01)
+            return maker.project(), maker.journal(), maker.script()
+        self.assertEqual(drawn(), drawn())
+
+    def test_scripts_are_read(self):
+        for seed in range(20):
+            maker = Maker(random.Random(seed))
+            maker.project()
+            Script(journal_text(maker.script(5)))
+
+    def test_mutations_differ(self):
+        text = b"mode run\ncpu 10\nend\n"
+        self.assertGreater(len({Bender(random.Random(seed)).text(text) for seed in range(50)}), 30)
+
+
+class Smaller(unittest.TestCase):
+    def test_the_line_that_matters_is_left(self):
+        lines = b"\n".join(b"tick %d" % at for at in range(1, 40))
+        self.assertEqual(Shrinker(lambda files: b"tick 17" in files[0].split(b"\n")).shrink([lines]), [b"tick 17"])
+
+    def test_lists_and_rungs_become_smaller(self):
+        made = {"watch": ["a", "b"], "rungs": ["XIC(a)OTE(b);", "XIC(c)[NOP(),TND()]OTE(d);"]}
+        smaller = Shrinker(lambda files: b"TND" in files[0]).shrink([json.dumps(made).encode()])
+        self.assertEqual(json.loads(smaller[0]), {"rungs": ["[NOP(),TND()];"]})
+
+
+class Complete(unittest.TestCase):
+    """A journal is complete for its script; a doctored one isn't."""
+
+    SCRIPT = b"run 5 2 2\n@0 1 clear\n@0 1 mode program\n@1 0 clear\nend\n"
+    JOURNAL = b"mode run\n@1 clear\ncpu 2\ntick 1\n@0 clear\ncpu 2\ntick 1\n@0 mode program\ncpu 1\nend\n"
+
+    def breaks(self, old, new):
+        with self.assertRaises(Broken, msg=old):
+            lanes.complete(Script(self.SCRIPT), read_journal(self.JOURNAL.replace(old, new, 1)), b"")
+
+    def test_it_is_complete(self):
+        lanes.complete(Script(self.SCRIPT), read_journal(self.JOURNAL), b"")
+
+    def test_doctored_journals(self):
+        self.breaks(b"mode run\n", b"")
+        self.breaks(b"@1 clear\n", b"")
+        self.breaks(b"@1 clear\n", b"@1 clear\n@1 clear\n")
+        self.breaks(b"cpu 2\ntick 1\n@0 clear\n", b"@0 clear\ncpu 2\ntick 1\n")
+        self.breaks(b"tick 1\n@0 clear\n", b"@0 clear\ntick 1\n")
+        self.breaks(b"cpu 2", b"cpu 3")
+        self.breaks(b"tick 1", b"tick 2")
+        self.breaks(b"cpu 1", b"tick 1")
+        self.breaks(b"@0 mode program", b"@0 mode run")
+
+
+class Sound(unittest.TestCase):
+    def test_answers(self):
+        def wrong(status, out, err=b""):
+            return unsound(Ran(status, out, err, 0.0, 0), {0, 1, 2, 3, 4, 5, 7, 8})
+        self.assertIsNone(wrong(0, b"ok\n"))
+        self.assertIsNone(wrong(2, b"project P10 programs.0.routines.0.rungs.1 T4 12\n"))
+        self.assertIsNone(wrong(3, b"journal J4 line 7\n"))
+        bad = [(0, b"ok\n", b"x"), (0, b"ok"), (4, b"x\n"), (6, b""), (-11, b""), (None, b""), (2, b"journal J1 line 1\n")]
+        for ran in (*bad, (3, b"journal J1\n")):
+            self.assertIsNotNone(wrong(*ran), ran)
+
+
+class Limits(unittest.TestCase):
+    """What the cheap rows say agrees with the plain interpreter."""
+
+    def test_rows(self):
+        for row in limits.LIMITS:
+            files = row.make(row.most + row.by)
+            if row.word in ("check", "replay") and sum(map(len, files)) < 20_000 and row.most < 10_000:
+                self.assertEqual(answer([row.word], files), (row.status, row.text), row.what)
+
+
+if __name__ == "__main__":
+    unittest.main()

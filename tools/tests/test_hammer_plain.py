@@ -1,0 +1,136 @@
+"""The plain interpreter of the hammer, held against the documents' examples, the example folders and the rows of test_project."""
+
+import json
+import os
+import re
+import sys
+import unittest
+
+TOP = os.path.dirname(os.path.dirname(os.path.dirname(os.path.abspath(__file__))))
+sys.path.insert(0, f"{TOP}/tools")
+
+from hammer_parts.plain.judge import answer  # noqa: E402
+from hammer_parts.plain.reader import Fault, described  # noqa: E402
+
+FIELDS = {
+    "schema": "1", "controller": '"C"', "types": "[]", "tags": "[]",
+    "programs": '[{"name":"P","main":"M","routines":[{"name":"M","rungs":[]}]}]',
+    "tasks": '[{"name":"T","kind":"continuous","programs":["P"]}]', "connections": "[]", "initial": "[]", "watch": "[]",
+}
+
+
+def contents(path):
+    with open(path, "rb") as file:
+        return file.read()
+
+
+class Documents(unittest.TestCase):
+    """Each journal runs on the last project above it, and a report or a refusal is what comes out."""
+
+    def judge(self, name):
+        text = contents(f"{TOP}/docs/{name}").decode()
+        found = re.findall(r"^```(project|journal|report|refused)\n(.*?)^```", text, re.DOTALL | re.MULTILINE)
+        files, judged = {}, 0
+        for at, (kind, text) in enumerate(found):
+            if kind in ("project", "journal"):
+                files[kind] = text.encode()
+                continue
+            before = found[at - 1][0]
+            words = ["replay", [files["project"], files["journal"]]] if before == "journal" else ["check", [files["project"]]]
+            if before in ("project", "journal"):
+                self.assertEqual(answer([words[0]], words[1])[1], text, f"{name}: {files[before].decode()}")
+                judged += 1
+        return judged
+
+    def test_the_rules(self):
+        self.assertGreater(self.judge("CONTROLLER.md"), 12)
+
+    def test_the_formats(self):
+        self.assertGreater(self.judge("FORMATS.md"), 8)
+
+
+class Examples(unittest.TestCase):
+    def test_reports(self):
+        for folder in sorted(os.listdir(f"{TOP}/examples")):
+            path = f"{TOP}/examples/{folder}"
+            if os.path.exists(f"{path}/report.txt") and os.path.exists(f"{path}/journal.txt"):
+                files = [contents(f"{path}/project.json"), contents(f"{path}/journal.txt")]
+                self.assertEqual(answer(["replay"], files)[1].encode(), contents(f"{path}/report.txt"), folder)
+
+    def test_traces(self):
+        path = f"{TOP}/examples/audit"
+        project, trace = contents(f"{path}/project.json"), contents(f"{path}/trace.txt")
+        self.assertEqual(answer(["trace"], [project, contents(f"{path}/journal.txt")])[1].encode(), trace)
+        self.assertEqual(answer(["audit"], [project, trace])[1].encode(), contents(f"{path}/verdict.txt"))
+        self.assertEqual(answer(["audit"], [project, contents(f"{path}/doctored.txt")]), (8, "no L1 4\n"))
+
+
+MOST_BYTES = 100_000
+
+
+class Rows(unittest.TestCase):
+    """The rows of test_project, `KEYS | VALUES | ANSWER`, but for the largest."""
+
+    def test_project(self):
+        for line in contents(f"{TOP}/crates/test_project/stdin").decode().splitlines():
+            if line.strip() and not line.startswith("--"):
+                keys, rest = line.split("|", 1)
+                values, wanted = rest.rsplit("|", 1)
+                values = re.sub(r"\{\{(\d+)\*(.*?)\}\}", lambda found: found[2] * int(found[1]), values.strip())
+                if len(values) < MOST_BYTES:
+                    self.assertEqual(self.answered(keys.strip(), values, wanted.strip()), wanted.strip(), line[:300])
+
+    def answered(self, keys, values, wanted):
+        judge = self.whole if keys.startswith("project ") else self.shape
+        keys = keys.removeprefix("project ")
+        if keys == "migrate":
+            return answer(["migrate"], [values.encode()])[1].strip().removeprefix("project ")
+        if keys == "cuts":
+            answers = {judge(values.encode()[:at]) for at in range(len(values.encode()))}
+            return wanted if answers == {wanted} else str(answers)
+        return judge(values.encode() if keys == "file" else self.file(keys, values))
+
+    @staticmethod
+    def file(keys, values):
+        fields = {**FIELDS, **dict(zip(keys.split(), values.split(" ~ ")))}
+        return ("{" + ",".join(f'"{key}":{value}' for key, value in fields.items() if value != "-") + "}").encode()
+
+    @staticmethod
+    def whole(text):
+        return answer(["check"], [text])[1].strip().removeprefix("project ")
+
+    @staticmethod
+    def shape(text):
+        try:
+            described(text)
+            return "ok"
+        except Fault as fault:
+            return fault.line().removeprefix("project ")
+
+
+def project(rungs, tags, **more):
+    routines = [{"name": name, "rungs": texts} for name, texts in rungs.items()]
+    made = {"schema": 1, "controller": "C", "tags": tags, "programs": [{"name": "P", "main": "M", "routines": routines}],
+            "tasks": [{"name": "T", "kind": "continuous", "programs": ["P"]}], **more}
+    return json.dumps(made).encode()
+
+
+class Uses(unittest.TestCase):
+    """Who writes and who reads, and two controllers: worked rows."""
+
+    def test_a_subscript_is_read(self):
+        tags = [{"name": "arr", "type": "DINT", "dim": 4}, {"name": "i", "type": "DINT"}, {"name": "n", "type": "DINT"}]
+        self.assertEqual(answer(["xref"], [project({"M": ["MOV(9,n)MOV(1,arr[i]);"]}, tags)])[1],
+                         "tag arr\n  write P M 0 1 MOV\ntag i\n  read P M 0 1 MOV\ntag n\n  write P M 0 0 MOV\n")
+
+    def test_a_packet_is_new_once(self):
+        a = project({"M": ["ADD(o,1,o);"]}, [{"name": "o", "type": "DINT"}], connections=[{"name": "Out1", "tag": "o", "direction": "out"}])
+        b = project({"M": []}, [{"name": "i", "type": "DINT"}], connections=[{"name": "In1", "tag": "i", "direction": "in"}], watch=["i"])
+        text = b"link Out1 In1\na mode run\na cpu 2\nsend\ndeliver 0\ndeliver 0\ndeliver 1\nend\n"
+        self.assertEqual(answer(["link"], [a, b, text])[1],
+                         "a 0 0 reply 31 ok\na 0 1 begin T P 0\na 0 2 reply 31 ok 1\nsend 0\nb 0 0 reply 31 ok\nb 0 0 set i 1\n"
+                         "deliver 0 new\ndeliver 0 stale\ndeliver 1 none\na end 0 2 run lost 0\nb end 0 0 program lost 0\n")
+
+
+if __name__ == "__main__":
+    unittest.main()
