@@ -1,7 +1,7 @@
 # What the tools of this folder share about the programs of this repository. To be sourced, with `top` set to its top folder.
 
 # All programs that a user runs.
-programs=(logix logix_timeline logix_wave)
+programs=(logix logix_live logix_timeline logix_wave)
 
 # The crates that these programs stand on, themselves among them, lowest first, a line each.
 crates_of() {

@@ -76,6 +76,35 @@ def long_runs(draw, _):
     return judged("replay"), [file_text(maker.project()), journal_text(maker.journal(maker.between(50, 300)))]
 
 
+ONE_ROUTINE = {
+    "schema": 1, "controller": "C", "tags": [{"name": "n", "type": "DINT"}],
+    "programs": [{"name": "P", "main": "M", "routines": [{"name": "M", "rungs": ["MOV(1,n);", "MOV(2,n);", "MOV(3,n);"]}]}],
+    "tasks": [{"name": "T", "kind": "continuous", "programs": ["P"]}], "watch": ["n"],
+}
+
+
+EDIT_VERBS = ("accept", "accept", "accept", "accept", "accept", "test", "test", "untest", "assemble", "cancel", "cpu", "cpu")
+
+
+def edit_runs(draw, _):
+    """Some thousand edit commands of two clients on one routine, each of whose rungs stores another number, with a few steps between."""
+    lines, number = ["mode run"], 3
+    for _ in range(2000):
+        client, verb = draw.choice((0, 0, 0, 0, 0, 0, 0, 1)), draw.choice(EDIT_VERBS)
+        if verb == "cpu":
+            lines.append(f"cpu {draw.randint(1, 8)}")
+        elif verb == "accept":
+            edits = []
+            for _ in range(draw.randint(1, 4)):
+                number += 1
+                what, rung = draw.choice("rddii"), draw.randint(0, 6)
+                edits.append(f"d {rung}" if what == "d" else f"{what} {rung} MOV({number},n);")
+            lines.append(f"@{client} accept P M " + " | ".join(edits))
+        else:
+            lines.append(f"@{client} {verb} P")
+    return judged("replay"), [file_text(ONE_ROUTINE), journal_text([*lines, "cpu 20", "end"])]
+
+
 def projects(draw, program):
     """A made or an example's project with mutations."""
     if draw.random() < 0.4:

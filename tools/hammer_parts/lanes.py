@@ -1,12 +1,11 @@
 """Scripts: `run` writes a journal that is complete for its script, counted here, and the report of that journal."""
 
 from .bent import Bender
-from .cases import file_text, journal_text, told
+from .cases import file_text, first_difference, journal_text, told
 from .laws import Broken, got, law
 from .made import Maker
 from .plain.journal import Bad, Script, line_of, read_journal
-from .plain.judge import answer
-from .plain.machine import Machine
+from .plain.judge import Reporter
 from .plain.project import Project
 from .sound import shown
 
@@ -14,7 +13,7 @@ MOST_PLAIN = 3_000
 
 
 @law
-def of_script(program, contents):
+def of_script(program, contents, plain=True):
     project, text = contents
     checked = program.answer("check", project)
     try:
@@ -25,7 +24,12 @@ def of_script(program, contents):
         return told(program.answer("run", project, text), checked.status, checked.out)
     if checked.status:
         return told(program.answer("run", project, text), checked.status, checked.out)
-    out = got(program, {0}, "run", project, text).out
+    judge_answer(program, project, script, got(program, {0}, "run", project, text).out, plain or b"cps" in (project + text).lower())
+    return None
+
+
+def judge_answer(program, project, script, out, plain=True):
+    """Raises what is wrong with the output of a `run`. Its report is that of `replay`; is it that of the plain interpreter too?"""
     journal, end, report = out.partition(b"\nend\n")
     journal += end
     replayed = got(program, {0}, "replay", project, out)
@@ -34,16 +38,18 @@ def of_script(program, contents):
     events = read_journal(journal)
     if "".join(line_of(event) + "\n" for event in events) + "end\n" != journal.decode("latin-1"):
         raise Broken("the journal isn't canonical")
-    complete(script, events, report)
-    if script.steps <= MOST_PLAIN:
-        needed(Project(project), events, script.steps)
-        status, wanted = answer(["replay"], [project, journal])
-        return told(replayed, status, wanted.encode("latin-1"))
-    return None
+    steps = complete(script, events, report)
+    if script.steps <= MOST_PLAIN and (plain or steps != script.steps):
+        wanted = needed(Project(project), events, script.steps).encode("latin-1")
+        if wanted != report:
+            raise Broken(f"the report: {first_difference(report, wanted)}")
 
 
 def complete(script, events, report):
-    """Lane 31's `mode run` first; each lane's actions once, in order, none too early; a tick after each PACE-th step; all steps."""
+    """Lane 31's `mode run` first; each lane's actions once, in order, none too early; a tick after each PACE-th step; all steps.
+
+    Answers how many there are.
+    """
     if not events or line_of(events[0]) != "mode run":
         raise Broken("no mode run first")
     steps = ticks = 0
@@ -67,18 +73,21 @@ def complete(script, events, report):
         raise Broken(f"{steps} steps and {ticks} ticks")
     if b" held\n" in report:
         raise Broken("an action is held")
+    return steps
 
 
 def needed(project, events, steps):
-    """Steps beyond the script's are made only while a CPS is open, and at the end none is."""
-    machine = Machine(project)
+    """The plain report. Steps beyond the script's are made only while a CPS is open, and at the end none is."""
+    reporter = Reporter(project)
+    machine = reporter.machine
     for event in events:
         for _ in range(event.count):
             if event.verb == "cpu" and machine.steps >= steps and not machine.is_syncing():
                 raise Broken(f"step {machine.steps + 1} of {steps}, and no CPS is open")
-            machine.event(event.verb, event.lane, event.action)
+            reporter.event(event.verb, event.lane, event.action)
     if machine.is_syncing():
         raise Broken("a CPS is open at the end")
+    return "".join(line + "\n" for line in [*reporter.lines, reporter.end()])
 
 
 def take(rest, event, ticks):
@@ -100,18 +109,34 @@ def scripts(draw, _):
 
 def many_lanes(draw, _):
     """1 to 31 lanes, with many actions."""
+    return of_script, on_lanes(draw, (200, 3_000), (1, 2, 5, 10, 50), 12)
+
+
+@law
+def of_threads(program, contents):
+    """The same, on so many processors; the plain interpreter's report only where a CPS may be open."""
+    *files, processors = contents
+    with program.on(int(processors)):
+        return of_script(program, files, plain=False)
+
+
+def threads(draw, _):
+    """1 to 31 lanes that meet often, on 2 and on 4 processors."""
+    return of_threads, [*on_lanes(draw, (10, 250), (1, 2, 5, 20), 4), draw.choice((b"2", b"4"))]
+
+
+def on_lanes(draw, steps, paces, most):
+    """A project, and a script of 1 to 31 lanes with up to so many actions each."""
     maker = Maker(draw, 0.0)
     project = file_text(maker.project())
-    lanes = maker.between(1, 31)
-    steps, pace = maker.between(200, 3_000), maker.pick((1, 2, 5, 10, 50))
-    lines = [f"run {steps} {pace} {lanes}"]
+    lanes, steps, pace = maker.between(1, 31), maker.between(*steps), maker.pick(paces)
+    lines = []
     for lane in range(lanes):
-        ticks = sorted(maker.between(0, steps // pace) for _ in range(maker.between(0, 12)))
+        ticks = sorted(maker.between(0, steps // pace) for _ in range(maker.between(0, most)))
         lines += [f"@{lane} {tick} {maker.action()}" for tick in ticks]
-    head, *others = lines
     if draw.random() < 0.5:
-        others = interleaved(draw, others)
-    return of_script, [project, journal_text([head, *others, "end"])]
+        lines = interleaved(draw, lines)
+    return [project, journal_text([f"run {steps} {pace} {lanes}", *lines, "end"])]
 
 
 def interleaved(draw, lines):

@@ -27,9 +27,9 @@ def got(program, statuses, verb, *contents, more=()):
 
 def law(judge):
     """A judge of files that raises what is broken."""
-    def whole(program, contents):
+    def whole(program, contents, **more):
         try:
-            return judge(program, contents)
+            return judge(program, contents, **more)
         except Broken as broken:
             return str(broken)
     return whole

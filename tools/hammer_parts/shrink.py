@@ -6,6 +6,7 @@ import time
 from .plain.rungs import TextFault, element_text, read_rung
 
 MOST_SECONDS = 60
+MOST_PIECES = 100_000
 
 
 class Shrinker:
@@ -40,7 +41,8 @@ class Shrinker:
             self.halve(lines, lambda: holds(b"\n".join(lines)))
             contents[at] = b"\n".join(lines)
         else:
-            text = [contents[at][place:place + 1] for place in range(len(contents[at]))]
+            piece = 1 + len(contents[at]) // MOST_PIECES
+            text = [contents[at][place:place + piece] for place in range(0, len(contents[at]), piece)]
             self.halve(text, lambda: holds(b"".join(text)))
             contents[at] = b"".join(text)
 

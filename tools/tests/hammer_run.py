@@ -1,6 +1,6 @@
-"""A short run of the hammer over the program that the gate has built: fixed cases of each kind, and every limit.
+"""A short run of the hammer over the program that the gate has built: fixed cases of each kind, every limit, and each fault in turn.
 
-It takes some forty seconds of one processor. What differs is printed, and the status is 1 then.
+It takes a minute or so of one processor. What differs is printed, and the status is 1 then.
 """
 
 import os
@@ -14,10 +14,13 @@ from hammer_parts.limits import LIMITS  # noqa: E402
 from hammer_parts.main import Hammer  # noqa: E402
 from hammer_parts.program import Program  # noqa: E402
 
+ALL = sys.maxsize
 COUNTS = {
-    "whole": 1500, "long runs": 20, "projects": 800, "journals": 500, "texts": 40, "cuts": 400, "traces": 200, "walks": 300, "links": 200, "link laws": 40,
-    "project laws": 40, "journal laws": 40, "stations": 60, "scripts": 150, "lanes": 20, "closed pipes": 60, "full devices": 12,
-    "little memory": 60, "lost files": 20, "live": 60, "limits": len(LIMITS), "numbers": 1,
+    "whole": 1500, "long runs": 20, "edit runs": 3, "projects": 800, "journals": 500, "texts": 40, "cuts": 400, "traces": 200, "walks": 300, "links": 200, "link laws": 40,
+    "project laws": 40, "journal laws": 40, "stations": 60, "scripts": 150, "lanes": 20, "threads": 150, "closed pipes": ALL,
+    "failed allocations": ALL, "failed in threads": ALL, "failed calls": ALL, "full devices": ALL, "little memory": 60, "lost files": ALL,
+    "live": 60,
+    "limits": len(LIMITS), "numbers": 1,
 }
 
 
@@ -28,8 +31,7 @@ def main():
         hammer = Hammer(program, "gate", found)
         try:
             for kind in hammer.known_kinds([]):
-                for number in range(COUNTS[kind]):
-                    hammer.try_case(kind, number)
+                hammer.run_cases([kind], 0, COUNTS[kind])
         finally:
             program.close()
     return 1 if hammer.differences else 0

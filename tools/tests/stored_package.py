@@ -55,6 +55,7 @@ class Package(unittest.TestCase):
             open(f"{root}/var/lib/dpkg/status", "wb").close()
             self.dpkg(root, "--force-depends", "--install", self.package)
             self.runs_an_example(root)
+            self.talks_with_the_plant(root)
             self.explains_a_refusal(root)
             self.takes_an_export(root)
             self.dpkg(root, "--purge", "logix")
@@ -72,6 +73,13 @@ class Package(unittest.TestCase):
         self.assertEqual((ran.returncode, ran.stdout, ran.stderr), (0, contents(f"{example}/report.txt"), b""))
         drawn = subprocess.run([f"{root}/usr/bin/logix_timeline"], input=ran.stdout, capture_output=True, timeout=60, check=False)
         self.assertEqual((drawn.returncode, drawn.stdout), (0, contents(f"{example}/report.svg")))
+
+    def talks_with_the_plant(self, root):
+        example = f"{root}/usr/share/doc/logix/examples/plant"
+        words = [sys.executable, f"{example}/plant.py"]
+        path = f"{root}/usr/bin:{os.environ['PATH']}"
+        ran = subprocess.run(words, env={**os.environ, "PATH": path}, capture_output=True, timeout=60, check=False)
+        self.assertEqual((ran.returncode, ran.stdout, ran.stderr), (0, contents(f"{example}/table.txt"), b""))
 
     def explains_a_refusal(self, root):
         with tempfile.NamedTemporaryFile() as project:

@@ -3,13 +3,15 @@
 import json
 import os
 import random
+import subprocess
 import sys
+import tempfile
 import unittest
 
 TOP = os.path.dirname(os.path.dirname(os.path.dirname(os.path.abspath(__file__))))
 sys.path.insert(0, f"{TOP}/tools")
 
-from hammer_parts import lanes, limits  # noqa: E402
+from hammer_parts import failing, lanes, limits  # noqa: E402
 from hammer_parts.bent import Bender  # noqa: E402
 from hammer_parts.cases import file_text, journal_text  # noqa: E402
 from hammer_parts.laws import Broken  # noqa: E402
@@ -89,6 +91,67 @@ class Sound(unittest.TestCase):
         bad = [(0, b"ok\n", b"x"), (0, b"ok"), (4, b"x\n"), (6, b""), (-11, b""), (None, b""), (2, b"journal J1 line 1\n")]
         for ran in (*bad, (3, b"journal J1\n")):
             self.assertIsNotNone(wrong(*ran), ran)
+
+
+class Head:
+    """`head` as a program of the hammer, and a call of it."""
+
+    def __init__(self, room):
+        self.room = room
+
+    def put(self, name, text):
+        path = f"{self.room}/{name}"
+        with open(path, "wb") as file:
+            file.write(text)
+        return path
+
+    def run(self, _, variables, seconds):
+        with open(self.put("out", b""), "r+b") as out:
+            words, variables = ["head", "-c", "99", f"{self.room}/text"], variables | {"PATH": os.environ["PATH"]}
+            ran = subprocess.run(words, env=variables, stdout=out, stderr=subprocess.PIPE, timeout=seconds, check=False)
+            out.seek(0)
+            return Ran(ran.returncode, out.read(), b"", 0.0, 0)
+
+
+class Failing(unittest.TestCase):
+    """The reads of `head` are counted, and fail one by one."""
+
+    TEXT = b"0123456789\n" * 10
+    WHOLE = (TEXT[:99], 0)
+
+    def setUp(self):
+        folder = tempfile.TemporaryDirectory()
+        self.addCleanup(folder.cleanup)
+        head = Head(folder.name)
+        head.put("text", self.TEXT)
+        self.failing, self.call = failing.Failing(head), head
+        if not self.failing.library:
+            self.skipTest("there is no C compiler")
+
+    def answer(self, *fault):
+        """What is written, and the status."""
+        ran = self.failing.run(self.call, *fault)
+        return ran.out, ran.status
+
+    def test_calls_are_counted(self):
+        self.assertEqual(self.answer(), self.WHOLE)
+        self.assertIn(self.failing.counts()["read"], (1, 2))
+
+    def test_a_read_fails(self):
+        self.assertEqual(self.answer("read", failing.ERRORS["an error"], 1), (b"", 1))
+
+    def test_reads_move_one_byte(self):
+        self.assertEqual(self.answer("read", failing.SHORT), self.WHOLE)
+        self.assertGreaterEqual(self.failing.counts()["read"], 99)
+
+    def test_a_call_that_never_comes_fails_nothing(self):
+        self.assertEqual(self.answer("read", failing.ERRORS["an error"], 1000), self.WHOLE)
+
+    def test_each_read_fails(self):
+        last, answers = self.failing.each(self.call, "read", failing.ERRORS["an error"], 1)
+        self.assertEqual((last.out, last.status), self.WHOLE)
+        self.assertEqual(list(answers), list(range(1, self.failing.counts()["read"] + 1)))
+        self.assertEqual((answers[1].out, answers[1].status), (b"", 1))
 
 
 class Limits(unittest.TestCase):

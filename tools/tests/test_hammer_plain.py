@@ -1,4 +1,4 @@
-"""The plain interpreter of the hammer, held against the documents' examples, the example folders and the rows of test_project."""
+"""The plain interpreter of the hammer, held against the documents' examples, the example folders and the rows of test_program."""
 
 import json
 import os
@@ -10,7 +10,6 @@ TOP = os.path.dirname(os.path.dirname(os.path.dirname(os.path.abspath(__file__))
 sys.path.insert(0, f"{TOP}/tools")
 
 from hammer_parts.plain.judge import answer  # noqa: E402
-from hammer_parts.plain.reader import Fault, described  # noqa: E402
 
 FIELDS = {
     "schema": "1", "controller": '"C"', "types": "[]", "tags": "[]",
@@ -68,27 +67,36 @@ class Examples(unittest.TestCase):
 MOST_BYTES = 100_000
 
 
+def plain(text):
+    """What stands in a row for a text."""
+    escapes = {"n": "\n", "s": " ", "t": "\t", "\\": "\\"}
+    return re.sub(r"\\(.)", lambda found: escapes.get(found[1], found[0]), text)
+
+
 class Rows(unittest.TestCase):
-    """The rows of test_project, `KEYS | VALUES | ANSWER`, but for the largest."""
+    """The rows of test_program of project files, `KIND | GIVEN | WANTED`, but for the largest."""
 
     def test_project(self):
-        for line in contents(f"{TOP}/crates/test_project/stdin").decode().splitlines():
-            if line.strip() and not line.startswith("--"):
-                keys, rest = line.split("|", 1)
-                values, wanted = rest.rsplit("|", 1)
-                values = re.sub(r"\{\{(\d+)\*(.*?)\}\}", lambda found: found[2] * int(found[1]), values.strip())
-                if len(values) < MOST_BYTES:
-                    self.assertEqual(self.answered(keys.strip(), values, wanted.strip()), wanted.strip(), line[:300])
+        texts, judged = {}, 0
+        for line in contents(f"{TOP}/crates/test_program/stdin").decode().splitlines():
+            kind, given, wanted = (part.strip() for part in (line.split("|", 2) + ["", ""])[:3])
+            if kind in ("text", "more"):
+                texts[given] = (texts[given] if kind == "more" else "") + plain(wanted)
+            elif kind in ("check", "cuts", "migrate"):
+                judged += 1
+                self.assertEqual(self.answered(kind, given, wanted, texts), wanted, line[:300])
+        self.assertGreater(judged, 300)
 
-    def answered(self, keys, values, wanted):
-        judge = self.whole if keys.startswith("project ") else self.shape
-        keys = keys.removeprefix("project ")
-        if keys == "migrate":
-            return answer(["migrate"], [values.encode()])[1].strip().removeprefix("project ")
-        if keys == "cuts":
-            answers = {judge(values.encode()[:at]) for at in range(len(values.encode()))}
+    def answered(self, kind, given, wanted, texts):
+        if kind == "migrate":
+            return answer(["migrate"], [given.encode()])[1].strip().removeprefix("project ")
+        if kind == "cuts":
+            answers = {self.whole(given.encode()[:at]) for at in range(len(given.encode()))}
             return wanted if answers == {wanted} else str(answers)
-        return judge(values.encode() if keys == "file" else self.file(keys, values))
+        keys, values = (part.strip() for part in given.split("=", 1))
+        values = re.sub(r"\{\{(\d+)\*(.*?)\}\}", lambda found: found[2] * int(found[1]), texts.get(values, values))
+        file = values.encode() if keys == "file" else self.file(keys, values)
+        return self.whole(file) if len(file) < MOST_BYTES else wanted
 
     @staticmethod
     def file(keys, values):
@@ -98,14 +106,6 @@ class Rows(unittest.TestCase):
     @staticmethod
     def whole(text):
         return answer(["check"], [text])[1].strip().removeprefix("project ")
-
-    @staticmethod
-    def shape(text):
-        try:
-            described(text)
-            return "ok"
-        except Fault as fault:
-            return fault.line().removeprefix("project ")
 
 
 def project(rungs, tags, **more):

@@ -1,4 +1,4 @@
-"""The man page and the completion: both name the commands of the usage line, and the page has no warning."""
+"""The man page and the completion: both name the commands of the usage line, the page each program, and it has no warning."""
 
 import os
 import re
@@ -22,6 +22,12 @@ def usage_words():
     return [command.split()[0] for command in usage.split(", ")]
 
 
+def programs():
+    """The programs that a user runs, as the tools have them, and the two tools that a package has beside them."""
+    listed = re.search(r"^programs=\((.*)\)$", text(f"{TOP}/tools/programs.sh"), re.MULTILINE).group(1)
+    return [*listed.split(), "logix_from_l5x", "logix_explain"]
+
+
 class Manual(unittest.TestCase):
     def warnings(self, *words):
         if not shutil.which(words[0]):
@@ -38,6 +44,12 @@ class Manual(unittest.TestCase):
     def test_the_page_has_each_command(self):
         for form in (r"^\.B logix (\w+)$", r'^\.BI (\w+) "'):
             self.assertEqual(sorted(re.findall(form, text(PAGE), re.MULTILINE)), sorted(usage_words()))
+
+    def test_the_page_has_each_program(self):
+        names, _, _ = text(PAGE).partition(".SH NAME\n")[2].replace("\n", " ").partition(" \\- ")
+        synopsis, _, _ = text(PAGE).partition(".SH SYNOPSIS\n")[2].partition(".SH ")
+        self.assertEqual(names.split(", "), programs())
+        self.assertEqual(list(dict.fromkeys(re.findall(r"^\.B (logix\w*)", synopsis, re.MULTILINE))), programs())
 
     def test_completion_has_each_command(self):
         script = f"source {COMPLETION}; COMP_WORDS=(logix ''); COMP_CWORD=1; _logix; printf '%s\\n' \"${{COMPREPLY[@]}}\""

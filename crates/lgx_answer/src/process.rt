@@ -5,7 +5,7 @@ use crate::status::Status;
 use lgx_io::Gathered;
 use lgx_num::Memory;
 use std::env;
-use std::io::Write;
+use std::io::{ErrorKind, Write};
 use std::rt::Env;
 
 /// Writes what still waits to be written, and answers the number that the process ends with: that of the status, or that of a
@@ -19,8 +19,8 @@ pub fn exit_number<W: Write + Drop>(status: Status, sink: &mut Gathered<W>) -> u
     }
 }
 
-/// The words of the command line, without the program's own name. Arguments that can't be read as text are wrong arguments: one
-/// empty word stands for them.
+/// The words of the command line, without the program's own name. Arguments that aren't text are wrong arguments: one empty word
+/// stands for them.
 pub fn words_of<R: Env + AllocGlobal>(rt: &R) -> Result<Vec<String>, Memory> {
     let alloc = rt.alloc();
     let mut words = Vec::new(alloc);
@@ -30,6 +30,7 @@ pub fn words_of<R: Env + AllocGlobal>(rt: &R) -> Result<Vec<String>, Memory> {
                 words.push(word)?;
             }
         }
+        Err(fault) if fault.kind() == ErrorKind::OutOfMemory => return Err(Memory),
         Err(_) => words.push(String::new(alloc))?,
     }
     Ok(words)

@@ -1,7 +1,7 @@
 //! Pictures of a report: what its lines say, read from its text alone; a program that draws it as any picture; and its
 //! wave file.
 //!
-//! A report is read without its project, so tasks, programs and watched places are the names that stand in its lines.
+//! A report is read without its project, so tasks, programs and watched places are the names in its lines.
 #![tactic(auto)]
 
 mod chart;

@@ -19,7 +19,7 @@ use std::alloc::{AllocGlobal, Global};
 use std::env::Env;
 use std::io::{Input as StandardInput, Print, Read, Write};
 
-/// The line that tells how to use the program.
+/// The line that says how to use the program.
 pub const USAGE: &[u8] = b"usage: logix_wave < REPORT, logix_wave tick < REPORT\n";
 
 /// A report as a wave file.

@@ -16,7 +16,7 @@ use std::alloc::{AllocGlobal, Global};
 use std::env::Env;
 use std::io::{Input as StandardInput, Print, Read, Write};
 
-/// The line that tells how to use the program.
+/// The line that says how to use the program.
 pub const USAGE: &[u8] = b"usage: logix_timeline < REPORT, logix_timeline tick < REPORT\n";
 
 /// A report as a drawing.

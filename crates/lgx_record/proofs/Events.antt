@@ -1,5 +1,5 @@
--- What each kind of event leaves recorded.
-use Rattle.std.proofs.Common.{◌≡◌, ℕ, ◌+◌, ◌^◌, ◌<◌, ◌≤◌, false, List, [], ◌∷◌, ◌++◌, length, map, ℤ, sym, ap, ◌∙◌, subst}
+-- What each kind of event does to a follower and to the log.
+use Rattle.std.proofs.Common.{◌≡◌, ℕ, ◌+◌, ◌^◌, ◌<◌, ◌≤◌, false, List, [], ◌∷◌, length, map, ℤ, sym, ap, ◌∙◌, subst}
 use Rattle.spec_base.specs.declared.limits.TheConstants.{MAX_TASKS}
 use Rattle.lgx_image.specs.Grains.{is_marked}
 use Rattle.spec_machine.specs.declared.answer.Moment.{Moment}
@@ -23,21 +23,21 @@ use Rattle.lgx_core.specs.ControllerView.{ControllerView}
 use Rattle.lgx_core.specs.Represents.{Represents}
 use Rattle.lgx_core.specs.Gives.{StepGives, TickGives, ActionGives}
 use Rattle.lgx_record.specs.declared.lines.Stamp.{Stamp}
-use Rattle.lgx_record.specs.RecordingView.{RecordingView}
+use Rattle.lgx_record.specs.FollowerView.{FollowerView}
 use Rattle.lgx_record.specs.Faults.{faults_in}
 use Rattle.lgx_record.specs.Changes.{numbers_at, change_lines}
 use Rattle.lgx_record.specs.EventLines.{with_event_lines, Compared}
-use Rattle.lgx_record.specs.Records.{Records}
+use Rattle.lgx_record.specs.FollowsRun.{FollowsRun, TakesEvent}
 use Rattle.lgx_record.proofs.FewLines.{few_defs}
 use Rattle.lgx_record.proofs.Logs.{three-parts}
-use Rattle.lgx_record.proofs.Taking.{records-more}
+use Rattle.lgx_record.proofs.Taking.{follows-more}
 
--- What the last part of an event does, of whatever kind it is: c is the controller before, and log is the log. The stamp is
--- that of the controller and of the steps.
-pub record Closes (old new : RecordingView) (c : ControllerView) (log : Kept) (at : Stamp) : Type 0 where
+-- What the last part of an event does, of whatever kind it is: c is the controller before, and log is the log, which end is
+-- after it. The stamp is that of the controller and of the steps.
+pub record Closes (old new : FollowerView) (c : ControllerView) (log end : Kept) (at : Stamp) : Type 0 where
   pub tick : (s : State) → Represents c s → at.tick ≡ s.tick
   pub step_is : at.step ≡ new.steps
-  pub compared : (s : State) → Represents c s → Compared log new.log at old.values new.values (numbers_at s.image old.places)
+  pub compared : (s : State) → Represents c s → Compared log end at old.values new.values (numbers_at s.image old.places)
   pub represents : (s : State) → Represents c s → Represents new.controller s
   pub spent : new.controller.spent ≡ c.spent
   pub taken : (grain : ℕ) → is_marked new.controller.parts.image.marks grain ≡ false
@@ -48,18 +48,17 @@ pub record Closes (old new : RecordingView) (c : ControllerView) (log : Kept) (a
 changes-kept : (log next : Kept) (at : Stamp) (before after now : List ℤ) → Compared log next at before after now → next ≡ with_event_lines log at (change_lines 0 before after)
 changes-kept log next at before after now h = h.log ∙ ap (λ (ns : List ℤ). with_event_lines log at (change_lines 0 before ns)) (sym h.values)
 
-module _ (old new : RecordingView) (c : ControllerView) (first second : Kept) (at : Stamp) (project : Project) (events : List Event) (r : Records old project events) (k : Closes old new c second at) (spent : c.spent ≡ old.controller.spent + 1) where
+module _ (old new : FollowerView) (c : ControllerView) (start first second end : Kept) (at : Stamp) (project : Project) (events : List Event) (r : FollowsRun old project events) (k : Closes old new c second end at) (spent : c.spent ≡ old.controller.spent + 1) where
   kept-values : (s : State) → Represents c s → new.values ≡ numbers_at s.image new.places
   kept-values s h = (k.compared s h).values ∙ ap (numbers_at s.image) (sym k.places)
 
-  pub step-recorded : (moment : Moment) → StepGives c moment (processor_step (run project events)) → new.journal.events ≡ old.journal.events ++ Cpu ∷ [] → new.steps ≡ old.steps + 1 → first ≡ with_event_lines old.log at (begin_lines moment.what) → second ≡ with_event_lines first at (map FaultLine (faults_in moment.fault)) → Records new project (events ++ Cpu ∷ [])
-  step-recorded moment g journal steps begun faulted =
+  pub step-taken : (moment : Moment) → StepGives c moment (processor_step (run project events)) → new.steps ≡ old.steps + 1 → first ≡ with_event_lines start at (begin_lines moment.what) → second ≡ with_event_lines first at (map FaultLine (faults_in moment.fault)) → TakesEvent new start end project events Cpu
+  step-taken moment g steps begun faulted =
       let s = run project events in
       let x = processor_step s in
-      let begins = begun ∙ ap (λ (m : Moment). with_event_lines old.log at (begin_lines m.what)) g.answers in
+      let begins = begun ∙ ap (λ (m : Moment). with_event_lines start at (begin_lines m.what)) g.answers in
       let faults = faulted ∙ ap (λ (m : Moment). with_event_lines first at (map FaultLine (faults_in m.fault))) g.answers in
-      records-more old new project events Cpu at r (record {
-        journal = journal;
+      follows-more old new start end project events Cpu at r (record {
         represents = k.represents x.state g.represents;
         spent = k.spent ∙ spent;
         names = k.names;
@@ -67,13 +66,13 @@ module _ (old new : RecordingView) (c : ControllerView) (first second : Kept) (a
         steps = steps;
         tick = k.tick x.state g.represents;
         step_is = k.step_is;
-        log = three-parts old.log first second new.log at (begin_lines x.moment.what) (map FaultLine (faults_in x.moment.fault)) (change_lines 0 old.values new.values) begins faults (changes-kept second new.log at old.values new.values _ (k.compared x.state g.represents));
+        log = three-parts start first second end at (begin_lines x.moment.what) (map FaultLine (faults_in x.moment.fault)) (change_lines 0 old.values new.values) begins faults (changes-kept second end at old.values new.values _ (k.compared x.state g.represents));
         values = kept-values x.state g.represents;
         taken = k.taken;
       })
 
-  pub tick-recorded : (report : TickReport) → TickGives c report (tick (run project events)) → new.journal.events ≡ old.journal.events ++ Tick ∷ [] → new.steps ≡ old.steps → first ≡ old.log → ((s : State) → s.tick ≡ at.tick → length s.table.defs ≤ MAX_TASKS → report.overlapped < 2 ^ length s.table.defs → second ≡ with_event_lines first at (map FaultLine (report_faults s report))) → Records new project (events ++ Tick ∷ [])
-  tick-recorded report g journal steps begun faulted =
+  pub tick-taken : (report : TickReport) → TickGives c report (tick (run project events)) → new.steps ≡ old.steps → first ≡ start → ((s : State) → s.tick ≡ at.tick → length s.table.defs ≤ MAX_TASKS → report.overlapped < 2 ^ length s.table.defs → second ≡ with_event_lines first at (map FaultLine (report_faults s report))) → TakesEvent new start end project events Tick
+  tick-taken report g steps begun faulted =
       let s = run project events in
       let x = tick s in
       let same = ticks_keep_tasks s in
@@ -83,8 +82,7 @@ module _ (old new : RecordingView) (c : ControllerView) (first second : Kept) (a
       (subst (λ (ds : List _). x.report.overlapped < 2 ^ length ds) (sym same) (masks_of_tasks s).1) in
       let told = faulted x.state (sym (k.tick x.state g.represents)) few mask in
       let faults = told ∙ ap (λ (m : TickReport). with_event_lines first at (map FaultLine (report_faults x.state m))) g.answers in
-      records-more old new project events Tick at r (record {
-        journal = journal;
+      follows-more old new start end project events Tick at r (record {
         represents = k.represents x.state g.represents;
         spent = k.spent ∙ spent;
         names = k.names;
@@ -92,19 +90,18 @@ module _ (old new : RecordingView) (c : ControllerView) (first second : Kept) (a
         steps = steps;
         tick = k.tick x.state g.represents;
         step_is = k.step_is;
-        log = three-parts old.log first second new.log at [] (map FaultLine (report_faults x.state x.report)) (change_lines 0 old.values new.values) begun faults (changes-kept second new.log at old.values new.values _ (k.compared x.state g.represents));
+        log = three-parts start first second end at [] (map FaultLine (report_faults x.state x.report)) (change_lines 0 old.values new.values) begun faults (changes-kept second end at old.values new.values _ (k.compared x.state g.represents));
         values = kept-values x.state g.represents;
         taken = k.taken;
       })
 
-  pub act-recorded : (lane : ℕ) (action : Action) (outcome : Outcome) → ActionGives c outcome (act (run project events) lane action) → new.journal.events ≡ old.journal.events ++ Act lane action ∷ [] → new.steps ≡ old.steps → first ≡ with_event_lines old.log at (Reply lane outcome.reply ∷ []) → second ≡ with_event_lines first at (map FaultLine (faults_in outcome.fault)) → Records new project (events ++ Act lane action ∷ [])
-  act-recorded lane action outcome g journal steps answered faulted =
+  pub act-taken : (lane : ℕ) (action : Action) (outcome : Outcome) → ActionGives c outcome (act (run project events) lane action) → new.steps ≡ old.steps → first ≡ with_event_lines start at (Reply lane outcome.reply ∷ []) → second ≡ with_event_lines first at (map FaultLine (faults_in outcome.fault)) → TakesEvent new start end project events (Act lane action)
+  act-taken lane action outcome g steps answered faulted =
       let s = run project events in
       let x = act s lane action in
-      let answers = answered ∙ ap (λ (o : Outcome). with_event_lines old.log at (Reply lane o.reply ∷ [])) g.answers in
+      let answers = answered ∙ ap (λ (o : Outcome). with_event_lines start at (Reply lane o.reply ∷ [])) g.answers in
       let faults = faulted ∙ ap (λ (o : Outcome). with_event_lines first at (map FaultLine (faults_in o.fault))) g.answers in
-      records-more old new project events (Act lane action) at r (record {
-        journal = journal;
+      follows-more old new start end project events (Act lane action) at r (record {
         represents = k.represents x.state g.represents;
         spent = k.spent ∙ spent;
         names = k.names;
@@ -112,7 +109,7 @@ module _ (old new : RecordingView) (c : ControllerView) (first second : Kept) (a
         steps = steps;
         tick = k.tick x.state g.represents;
         step_is = k.step_is;
-        log = three-parts old.log first second new.log at (Reply lane x.outcome.reply ∷ []) (map FaultLine (faults_in x.outcome.fault)) (change_lines 0 old.values new.values) answers faults (changes-kept second new.log at old.values new.values _ (k.compared x.state g.represents));
+        log = three-parts start first second end at (Reply lane x.outcome.reply ∷ []) (map FaultLine (faults_in x.outcome.fault)) (change_lines 0 old.values new.values) answers faults (changes-kept second end at old.values new.values _ (k.compared x.state g.represents));
         values = kept-values x.state g.represents;
         taken = k.taken;
       })

@@ -1,11 +1,11 @@
--- An event has few lines, so a report has few for its events.
+-- An event has few lines, so an empty log keeps them, and a report has few for its events.
 use Rattle.std.proofs.Common.{◌≡◌, ℕ, zero, suc, ◌+◌, ◌*◌, ◌≤◌, Bool, true, false, cond, List, [], ◌∷◌, ◌++◌, length, map, drop, Option, Some, None, sym, ap, ◌∙◌, subst, arith, length-append}
 use Rattle.std.specs.Prelude.{nat_eq, if◌then◌else◌}
 use Rattle.std.specs.Int.{bit_at}
 use Rattle.std.proofs.lemmas.Bool.{leb-true}
-use Rattle.std.proofs.lemmas.List.{length-map}
+use Rattle.std.proofs.lemmas.List.{length-map, take_all}
 use Rattle.std.proofs.Math.Seq.{drop-append_seam}
-use Rattle.spec_base.specs.declared.limits.TheConstants.{MAX_TASKS}
+use Rattle.spec_base.specs.declared.limits.TheConstants.{MAX_TASKS, MAX_REPORT_LINES}
 use Rattle.spec_tables.specs.declared.fault.Fault.{Fault}
 use Rattle.spec_tables.specs.declared.fault.Severity.TheVariants.{Minor}
 use Rattle.spec_machine.specs.declared.answer.What.{What}
@@ -21,15 +21,17 @@ use Rattle.spec_machine.specs.State.{State}
 use Rattle.spec_machine.specs.Releases.{task_fault}
 use Rattle.spec_machine.specs.TickLaws.{tasks_in, watchdog_fault}
 use Rattle.spec_machine.specs.Machine.{TraceEntry, OfStep, OfTick, OfAction, step, run}
-use Rattle.spec_machine.specs.Report.{Stamped, is_step, begin_lines, answer_lines, set_lines, event_lines, lines_from}
+use Rattle.spec_machine.specs.Report.{Stamped, is_step, steps_of, begin_lines, answer_lines, set_lines, event_lines, lines_from}
 use Rattle.spec_reach.proofs.Reached.{run_more}
 use Rattle.spec_reach.proofs.Sizes.{runs_keep_sizes}
 use Rattle.lgx_watch.specs.JournalLines.{lines_of_event}
+use Rattle.lgx_watch.proofs.Pushes.{keeps_the_first, same_kept}
 use Rattle.lgx_steps.proofs.Making.{few-tasks}
 use Rattle.lgx_record.specs.declared.lines.TheConstants.{MAX_EVENT_LINES}
 use Rattle.lgx_record.specs.Faults.{faults_in, told_faults}
 use Rattle.lgx_record.specs.Changes.{numbers_at}
 use Rattle.lgx_record.specs.EventLines.{EventsHaveFewLines}
+use Rattle.lgx_record.specs.FollowsRun.{KeepsAnEvent, next_lines}
 use Rattle.lgx_record.proofs.Faults.{answers_tell_faults}
 use Rattle.lgx_record.proofs.Changed.{set_lines-changes, few_changes}
 
@@ -121,16 +123,26 @@ module _ (p : Project) (valid : IsValidProject p) where
   pub few_defs : (journal : List Event) → length (run p journal).table.defs ≤ MAX_TASKS
   few_defs journal = subst (λ (ds : List _). length ds ≤ MAX_TASKS) (sym (runs_keep_sizes p journal).same_tasks) (few-tasks p valid)
 
+  few_next : (before : List Event) (n : ℕ) (e : Event) → length (lines_of_event p.watches (run p before) n e) ≤ MAX_EVENT_LINES
+  few_next before n e =
+      few_lines p.watches (run p before) n e few_watches (subst (λ (x : State). length x.table.defs ≤ MAX_TASKS) (run_more p before e) (few_defs (before ++ e ∷ [])))
+
   -- the events of a journal after those that are done
   few_from : (before : List Event) (n : ℕ) (after : List Event) → length (lines_from p.watches (run p before) n after) ≤ MAX_EVENT_LINES * length after
   few_from before n [] = omega arith
   few_from before n (e ∷ es) =
       let s = run p before in
       let n' = (if is_step e then n + 1 else n) in
-      let first = few_lines p.watches s n e few_watches (subst (λ (x : State). length x.table.defs ≤ MAX_TASKS) (run_more p before e) (few_defs (before ++ e ∷ []))) in
+      let first = few_next before n e in
       let rest = subst (λ (x : State). length (lines_from p.watches x n' es) ≤ MAX_EVENT_LINES * length es) (run_more p before e) (few_from (before ++ e ∷ []) n' es) in
       let all = length-append (lines_of_event p.watches s n e) (lines_from p.watches (step s e).state n' es) in
       omega arith
 
 pub events_have_few_lines : EventsHaveFewLines
 events_have_few_lines project journal valid = few_from project valid [] 0 journal
+
+pub keeps_an_event : KeepsAnEvent
+keeps_an_event project events e valid =
+    let lines = next_lines project events e in
+    let few = few_next project valid events (steps_of events) e in
+    keeps_the_first lines ∙ same_kept _ _ _ _ (take_all MAX_REPORT_LINES lines (omega arith)) (omega arith)

@@ -1,4 +1,4 @@
--- A recording that was just made.
+-- A follower, or a recording, that was just made.
 use Rattle.std.proofs.Common.{◌≡◌, ℕ, zero, suc, false, List, [], map, replicate, refl, sym, ap, ◌∙◌}
 use Rattle.std.proofs.lemmas.Simd.{map-map}
 use Rattle.lgx_image.specs.Grains.{is_marked}
@@ -14,8 +14,10 @@ use Rattle.lgx_watch.specs.Kept.{no_lines}
 use Rattle.lgx_watch.proofs.Pushes.{keeps_the_first}
 use Rattle.lgx_core.specs.ControllerView.{ControllerView}
 use Rattle.lgx_core.specs.Represents.{Represents, StandsFor}
-use Rattle.lgx_record.specs.RecordingView.{RecordingView}
+use Rattle.lgx_record.specs.FollowerView.{FollowerView}
+use Rattle.lgx_record.specs.RecordingView.{RecordingView, follower_of}
 use Rattle.lgx_record.specs.Changes.{numbers_at}
+use Rattle.lgx_record.specs.FollowsRun.{FollowsRun}
 use Rattle.lgx_record.specs.Records.{Records}
 
 -- the names of a project's parts are those of the project
@@ -53,14 +55,15 @@ still-stands project events old new h represents spent = record {
 }
 
 -- without an event
-pub just-made : (v : RecordingView) (project : Project) → StandsFor project [] v.controller → v.journal.events ≡ [] → v.log ≡ no_lines → v.names ≡ project_names project → v.steps ≡ 0 → v.places ≡ map (λ w. w.place) project.watches → v.values ≡ numbers_at (start project).image v.places → ((grain : ℕ) → is_marked v.controller.parts.image.marks grain ≡ false) → Records v project []
-just-made v project stands journal log names steps places values taken = record {
-  journal = journal;
+pub just-follows : (v : FollowerView) (project : Project) → StandsFor project [] v.controller → v.names ≡ project_names project → v.steps ≡ 0 → v.places ≡ map (λ w. w.place) project.watches → v.values ≡ numbers_at (start project).image v.places → ((grain : ℕ) → is_marked v.controller.parts.image.marks grain ≡ false) → FollowsRun v project []
+just-follows v project stands names steps places values taken = record {
   controller = stands;
-  log = log ∙ keeps_the_first [];
   names = names;
   steps = steps;
   places = places;
   values = values;
   taken = taken;
 }
+
+pub just-records : (v : RecordingView) (project : Project) → FollowsRun (follower_of v) project [] → v.journal.events ≡ [] → v.log ≡ no_lines → Records v project []
+just-records v project f journal log = record { journal = journal; follows = f; log = log ∙ keeps_the_first [] }

@@ -1,6 +1,6 @@
--- A recording that takes one more event.
+-- A follower, or a recording, that takes one more event.
 use Rattle.std.proofs.Common.{◌≡◌, ℕ, ◌+◌, ◌^◌, ◌<◌, ◌≤◌, Bool, true, false, cond, List, [], ◌∷◌, ◌++◌, length, map, drop, get_or, ℤ, pos, Some, slice_get, sym, ap, ◌∙◌, subst, arith, length-append}
-use Rattle.std.specs.Prelude.{if◌then◌else◌}
+use Rattle.std.specs.Prelude.{if◌then◌else◌, Result, Ok, Err, OnOk, OnErr}
 use Rattle.std.specs.List.{AllByRecursion as Each}
 use Rattle.std.proofs.lemmas.List.{length-map, get_or-map}
 use Rattle.std.proofs.lemmas.List.Sums.{sum_by-append, sum_by-cons, count_by-le-length}
@@ -21,18 +21,19 @@ use Rattle.spec_machine.specs.Machine.{step, run}
 use Rattle.spec_machine.specs.Report.{Stamped, is_step, steps_of, stamp, answer_lines, set_lines, event_lines, report_lines}
 use Rattle.spec_reach.proofs.Reached.{run_more}
 use Rattle.spec_reach.proofs.Images.{images_keep_length}
-use Rattle.lgx_watch.specs.Kept.{Kept, kept_of}
-use Rattle.lgx_watch.specs.JournalLines.{lines_of_event}
+use Rattle.lgx_watch.specs.Kept.{Kept, kept_of, with_lines}
 use Rattle.lgx_watch.proofs.EventLines.{one_more_event}
 use Rattle.lgx_watch.proofs.Spanned.{unmarked_watches_stay}
 use Rattle.lgx_core.specs.ControllerView.{ControllerView}
 use Rattle.lgx_core.specs.Represents.{Represents}
 use Rattle.lgx_record.specs.declared.lines.TheConstants.{MAX_EVENT_LINES}
 use Rattle.lgx_record.specs.declared.lines.Stamp.{Stamp}
-use Rattle.lgx_record.specs.RecordingView.{RecordingView}
+use Rattle.lgx_record.specs.FollowerView.{FollowerView}
+use Rattle.lgx_record.specs.RecordingView.{RecordingView, follower_of}
 use Rattle.lgx_record.specs.Faults.{told_faults}
 use Rattle.lgx_record.specs.Changes.{numbers_at, change_lines, AreInside, AreAsCompared}
 use Rattle.lgx_record.specs.EventLines.{with_event_lines}
+use Rattle.lgx_record.specs.FollowsRun.{FollowsRun, IsFollower, TakesEvent, next_lines}
 use Rattle.lgx_record.specs.Records.{Records, IsRecording}
 use Rattle.lgx_record.proofs.FewLines.{new_faults, events_have_few_lines}
 use Rattle.lgx_record.proofs.Logs.{kept_of-more}
@@ -52,9 +53,13 @@ few_lost v i l =
 pub few_events : (v : RecordingView) → IsRecording v → v.controller.spent < MAX_EVENTS → length v.journal.events < MAX_EVENTS
 few_events v i l = let e = ap length i.records.journal in let many = i.records.controller.counted in omega arith
 
+-- what is recorded is followed
+pub is_follower : (v : RecordingView) → IsRecording v → IsFollower (follower_of v)
+is_follower v i = record { project = i.project; events = i.events; follows = i.records.follows }
+
 -- steps are at most the events
-pub few_steps : (v : RecordingView) → IsRecording v → v.steps ≤ v.controller.spent
-few_steps v i = let most = count_by-le-length is_step i.events in let steps = i.records.steps in let many = i.records.controller.counted in omega arith
+pub few_steps : (v : FollowerView) → IsFollower v → v.steps ≤ v.controller.spent
+few_steps v i = let most = count_by-le-length is_step i.events in let steps = i.follows.steps in let many = i.follows.controller.counted in omega arith
 
 -- ---- after the event
 
@@ -73,7 +78,7 @@ module _ (project : Project) (valid : IsValidProject project) where
       }
 
 -- a place of which no byte was written has the number last compared
-pub as_compared : (v : RecordingView) (project : Project) (events : List Event) (now : ImageView) → Records v project events → ChangesOnlyMarked v.controller.parts.image now → AreAsCompared v.places v.values now
+pub as_compared : (v : FollowerView) (project : Project) (events : List Event) (now : ImageView) → FollowsRun v project events → ChangesOnlyMarked v.controller.parts.image now → AreAsCompared v.places v.values now
 as_compared v project events now r changes = record {
   many = ap length r.values ∙ length-map v.places (number (run project events).image);
   same = λ w p got none. (
@@ -88,16 +93,15 @@ as_compared v project events now r changes = record {
 }
 
 -- before the watched places are compared
-pub next_inside : (v : RecordingView) (i : IsRecording v) (e : Event) (c : ControllerView) → Represents c (step (run i.project i.events) e).state → AreInside v.places c.parts.image.bytes
+pub next_inside : (v : FollowerView) (i : IsFollower v) (e : Event) (c : ControllerView) → Represents c (step (run i.project i.events) e).state → AreInside v.places c.parts.image.bytes
 next_inside v i e c r =
-    are_inside i.project i.records.controller.valid v.places (i.events ++ e ∷ []) c i.records.places (subst (λ (y : State). Represents c y) (sym (run_more i.project i.events e)) r)
+    are_inside i.project i.follows.controller.valid v.places (i.events ++ e ∷ []) c i.follows.places (subst (λ (y : State). Represents c y) (sym (run_more i.project i.events e)) r)
 
-pub next_compared : (v : RecordingView) (i : IsRecording v) (now : ImageView) → ChangesOnlyMarked v.controller.parts.image now → AreAsCompared v.places v.values now
-next_compared v i now changes = as_compared v i.project i.events now i.records changes
+pub next_compared : (v : FollowerView) (i : IsFollower v) (now : ImageView) → ChangesOnlyMarked v.controller.parts.image now → AreAsCompared v.places v.values now
+next_compared v i now changes = as_compared v i.project i.events now i.follows changes
 
 -- what was done when an event of state s was taken
-pub record Takes (old new : RecordingView) (s : State) (e : Event) (at : Stamp) : Type 0 where
-  pub journal : new.journal.events ≡ old.journal.events ++ e ∷ []
+pub record Takes (old new : FollowerView) (before after : Kept) (s : State) (e : Event) (at : Stamp) : Type 0 where
   pub represents : Represents new.controller (step s e).state
   pub spent : new.controller.spent ≡ old.controller.spent + 1
   pub names : new.names ≡ old.names
@@ -105,7 +109,7 @@ pub record Takes (old new : RecordingView) (s : State) (e : Event) (at : Stamp) 
   pub steps : new.steps ≡ (if is_step e then old.steps + 1 else old.steps)
   pub tick : at.tick ≡ (step s e).state.tick
   pub step_is : at.step ≡ new.steps
-  pub log : new.log ≡ with_event_lines old.log at (answer_lines (step s e).entry ++ (map FaultLine (told_faults (step s e).state (step s e).entry) ++ change_lines 0 old.values new.values))
+  pub log : after ≡ with_event_lines before at (answer_lines (step s e).entry ++ (map FaultLine (told_faults (step s e).state (step s e).entry) ++ change_lines 0 old.values new.values))
   pub values : new.values ≡ numbers_at (step s e).state.image new.places
   pub taken : (grain : ℕ) → is_marked new.controller.parts.image.marks grain ≡ false
 
@@ -120,8 +124,8 @@ counted events e n is =
     by_test true = omega arith
     by_test false = omega arith
 
-pub records-more : (old new : RecordingView) (project : Project) (events : List Event) (e : Event) (at : Stamp) → Records old project events → Takes old new (run project events) e at → Records new project (events ++ e ∷ [])
-records-more old new project events e at r t =
+pub follows-more : (old new : FollowerView) (start end : Kept) (project : Project) (events : List Event) (e : Event) (at : Stamp) → FollowsRun old project events → Takes old new start end (run project events) e at → TakesEvent new start end project events e
+follows-more old new start end project events e at r t =
     let s = run project events in
     let x = step s e in
     let watched = map (λ (w : Watch). w.place) project.watches in
@@ -141,24 +145,45 @@ records-more old new project events e at r t =
     ∙ ap (λ (cs : List Line). answer ++ (map FaultLine (drop (length s.faults) x.state.faults) ++ cs)) sets in
     let same_step : at.step ≡ (if is_step e then steps_of events + 1 else steps_of events) =
     t.step_is ∙ t.steps ∙ ap (λ n. if is_step e then n + 1 else n) r.steps in
-    let stamped : stamp at.tick at.step lines ≡ lines_of_event project.watches s (steps_of events) e =
+    let stamped : stamp at.tick at.step lines ≡ next_lines project events e =
     ap (λ n. stamp n at.step lines) t.tick ∙ ap (λ n. stamp x.state.tick n lines) same_step ∙ ap (stamp x.state.tick (if is_step e then steps_of events + 1 else steps_of events)) same_lines in
     record {
-      journal = t.journal ∙ ap (λ (es : List Event). es ++ e ∷ []) r.journal;
-      controller = record {
-        valid = r.controller.valid;
-        counted = t.spent ∙ ap (λ n. n + 1) r.controller.counted ∙ sym (length-append events (e ∷ []));
-        represents = subst (λ (y : State). Represents new.controller y) (sym (run_more project events e)) t.represents;
+      follows = record {
+        controller = record {
+          valid = r.controller.valid;
+          counted = t.spent ∙ ap (λ n. n + 1) r.controller.counted ∙ sym (length-append events (e ∷ []));
+          represents = subst (λ (y : State). Represents new.controller y) (sym (run_more project events e)) t.represents;
+        };
+        names = t.names ∙ r.names;
+        steps = steps;
+        places = places;
+        values = t.values ∙ ap (λ (y : State). numbers_at y.image new.places) (sym (run_more project events e));
+        taken = t.taken;
       };
-      log =
-          t.log
-          ∙ ap (λ (k : Kept). with_event_lines k at lines) r.log
-          ∙ kept_of-more (report_lines project events) (stamp at.tick at.step lines)
-          ∙ ap (λ (more : List Stamped). kept_of (report_lines project events ++ more)) stamped
-          ∙ ap kept_of (sym (one_more_event project events e));
-      names = t.names ∙ r.names;
-      steps = steps;
-      places = places;
-      values = t.values ∙ ap (λ (y : State). numbers_at y.image new.places) (sym (run_more project events e));
-      taken = t.taken;
+      lines = t.log ∙ ap (λ (more : List Stamped). with_lines start more) stamped;
     }
+
+-- an event that came to want of memory was none, and nothing changed
+pub still_follower : {A E : Type 0} (result : Result A E) (old new : FollowerView) (before after : Kept) (e : Event) → IsFollower old → ((project : Project) (events : List Event) → FollowsRun old project events → OnOk result (TakesEvent new before after project events e)) → OnErr result (new ≡ old) → IsFollower new
+still_follower (Ok x) old new before after e i takes unchanged = record {
+  project = i.project;
+  events = i.events ++ e ∷ [];
+  follows = (takes i.project i.events i.follows).follows;
+}
+still_follower (Err x) old new before after e i takes unchanged = subst IsFollower (sym unchanged) i
+
+pub followed_if : {A E : Type 0} (result : Result A E) (new : FollowerView) (before after : Kept) (project : Project) (events : List Event) (e : Event) → OnOk result (TakesEvent new before after project events e) → OnOk result (FollowsRun new project (events ++ e ∷ []))
+followed_if (Ok x) new before after project events e takes = takes.follows
+followed_if (Err x) new before after project events e takes = tt
+
+-- a recording whose follower took the event, and whose journal has it
+pub records-more : (old new : RecordingView) (project : Project) (events : List Event) (e : Event) → Records old project events → TakesEvent (follower_of new) old.log new.log project events e → new.journal.events ≡ old.journal.events ++ e ∷ [] → Records new project (events ++ e ∷ [])
+records-more old new project events e r t journal = record {
+  journal = journal ∙ ap (λ (es : List Event). es ++ e ∷ []) r.journal;
+  follows = t.follows;
+  log =
+      t.lines
+      ∙ ap (λ (k : Kept). with_lines k (next_lines project events e)) r.log
+      ∙ kept_of-more (report_lines project events) (next_lines project events e)
+      ∙ ap kept_of (sym (one_more_event project events e));
+}

@@ -6,6 +6,7 @@ use Rattle.lgx_journal.specs.Journals.{JournalView}
 use Rattle.lgx_watch.specs.Kept.{Kept}
 use Rattle.lgx_core.specs.ControllerView.{ControllerView}
 use Rattle.lgx_record.specs.declared.parts.Parts.{Parts}
+use Rattle.lgx_record.specs.FollowerView.{FollowerView}
 
 -- Its controller, the journal of what the controller did, the log of the report's lines, the names that they are written
 -- with, the number of processor steps, and the watched places with the numbers that they had when they were last compared.
@@ -20,11 +21,21 @@ pub record RecordingView : Type 0 where
 
 abbrev pub view_of : Parts → RecordingView
 view_of r = record {
-  controller = r.controller;
+  controller = r.follower.controller;
   journal = r.journal;
   log = r.log;
+  names = r.follower.names;
+  steps = r.follower.steps;
+  places = r.follower.watches;
+  values = r.follower.values.items;
+}
+
+-- all but its journal and its log
+abbrev pub follower_of : RecordingView → FollowerView
+follower_of r = record {
+  controller = r.controller;
   names = r.names;
   steps = r.steps;
-  places = r.watches;
-  values = r.values.items;
+  places = r.places;
+  values = r.values;
 }

@@ -1,27 +1,18 @@
 -- What it means that a recording records a journal of a project.
-use Rattle.std.specs.Prelude.{◌≡◌, ℕ, false, List, map}
-use Rattle.lgx_image.specs.Grains.{is_marked}
+use Rattle.std.specs.Prelude.{◌≡◌, List}
 use Rattle.spec_machine.specs.declared.event.Event.{Event}
 use Rattle.spec_machine.specs.Project.{Project}
-use Rattle.spec_machine.specs.Machine.{run}
-use Rattle.spec_machine.specs.Report.{report_lines, steps_of}
-use Rattle.spec_text.specs.ReportText.{names_of}
+use Rattle.spec_machine.specs.Report.{report_lines}
 use Rattle.lgx_watch.specs.Kept.{kept_of}
-use Rattle.lgx_core.specs.Represents.{StandsFor}
-use Rattle.lgx_record.specs.RecordingView.{RecordingView}
-use Rattle.lgx_record.specs.Changes.{numbers_at}
+use Rattle.lgx_record.specs.RecordingView.{RecordingView, follower_of}
+use Rattle.lgx_record.specs.FollowsRun.{FollowsRun}
 
--- The events are those of its journal. Its controller stands for their run, and its log keeps the lines of their report. The
--- watched places have been compared with the image that they lead to, and no mark is left.
+-- The events are those of its journal. It follows their run, and its log keeps the lines of their report.
 pub record Records (v : RecordingView) (project : Project) (events : List Event) : Type 0 where
   pub journal : v.journal.events ≡ events
-  pub controller : StandsFor project events v.controller
   pub log : v.log ≡ kept_of (report_lines project events)
-  pub names : v.names ≡ names_of project
-  pub steps : v.steps ≡ steps_of events
-  pub places : v.places ≡ map (λ w. w.place) project.watches
-  pub values : v.values ≡ numbers_at (run project events).image v.places
-  pub taken : (grain : ℕ) → is_marked v.controller.parts.image.marks grain ≡ false
+  pub follows : FollowsRun (follower_of v) project events
+  pub open follows use {controller, names, steps, places, values, taken}
 
 -- it records some journal of some project
 pub record IsRecording (v : RecordingView) : Type 0 where

@@ -1,6 +1,7 @@
 // Laws of the report, over the definitions alone. Each is the contract of a function that does nothing.
 ghost use Rattle.lgx_record.specs.EventLines.{EventsHaveFewLines};
 ghost use Rattle.lgx_record.specs.Faults.{AnswersTellFaults};
+ghost use Rattle.lgx_record.specs.FollowsRun.{KeepsAnEvent};
 
 /// Whatever the event, its answer tells the faults that it recorded.
 pub fn law_of_faults()
@@ -11,4 +12,9 @@ pub fn law_of_faults()
 /// are lost than a log can count.
 pub fn law_of_lines()
     ensures { EventsHaveFewLines }
+{}
+
+/// Whatever the event, an empty log keeps all of its lines.
+pub fn law_of_events()
+    ensures { KeepsAnEvent }
 {}

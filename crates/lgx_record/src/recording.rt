@@ -143,27 +143,27 @@ impl Recording {
     pub fn controller(&self) -> &Controller
         ensures { result.now ≡ self.now.controller }
     {
-        &self.parts.controller
+        &self.parts.follower.controller
     }
 
     /// The names that the report's lines are written with.
     pub fn names(&self) -> &Names
         ensures { result.now ≡ self.now.names }
     {
-        &self.parts.names
+        &self.parts.follower.names
     }
 
     /// The numbers at the watched places, in their order, as they were after the last event.
     pub fn values(&self) -> &[i32]
         ensures { result.now ≡ self.now.values }
     {
-        &self.parts.values
+        &self.parts.follower.values
     }
 
     /// The number of processor steps so far.
     pub fn steps(&self) -> u32
         ensures { result ≡ self.now.steps }
     {
-        self.parts.steps
+        self.parts.follower.steps
     }
 }

@@ -6,8 +6,8 @@ use denote.Struct.Declared.{shape}
 use Rattle.std.specs.declared.sync.ledger.Ledger as Ledger
 use Rattle.std.proofs.sync.ledger.Book.TheSendSync as book
 use Rattle.lgx_shared.specs.declared.input.Input as Input
-use Rattle.lgx_shared.specs.contracts.kept.Named as Named
-use Rattle.lgx_shared.specs.contracts.kept.Named.TheInside as named
+use Rattle.lgx_shared.specs.contracts.named.Named as Named
+use Rattle.lgx_shared.specs.contracts.named.Named.TheInside as named
 use Rattle.lgx_shared.specs.contracts.kept.Fit as Fit
 use Rattle.lgx_shared.specs.contracts.kept.Kept as Kept
 use Rattle.std.proofs.Crossing.{crosses}
@@ -36,7 +36,9 @@ use Rattle.lgx_shared.specs.contracts.recorder.Recorder as Recorder
 use Rattle.lgx_shared.specs.contracts.recorder.Recorder.TheInside as recorder
 use Rattle.lgx_record.specs.contracts.recording.Recording as Recording
 use Rattle.lgx_record.specs.contracts.recording.Recording.TheInside as recording
+use Rattle.lgx_record.specs.contracts.follower_parts.FollowerParts as Followed
 use Rattle.lgx_record.specs.contracts.parts.Parts as Recorded
+use Rattle.lgx_history.proofs.history.History.TheSendSync as history
 use Rattle.lgx_rung.proofs.ins.Ins.TheSendSync as ins
 
 pub fault_send : IsSend Fault.the_row
@@ -142,29 +144,36 @@ controller_fields =
 pub controller_send : IsSend Controller.the_row
 controller_send = view_send _ _ _ _ _ controller_fields
 
--- the parts of a recording
-pub recorded_send : IsSend (Recorded.the_field).row
-recorded_send = struct_send (shape Recorded.the_type) (
-  search (sendable, crosses) depth 200 fits 100000,
+-- the parts of a follower
+pub followed_send : IsSend (Followed.the_field).row
+followed_send = struct_send (shape Followed.the_type) (
+  controller_send,
   (
-    controller_send,
+    search (sendable, crosses) depth 200 fits 100000,
     (
       search (sendable, crosses) depth 200 fits 100000,
       (
         search (sendable, crosses) depth 200 fits 100000,
         (
           search (sendable, crosses) depth 200 fits 100000,
-          (
-            search (sendable, crosses) depth 200 fits 100000,
-            (
-              search (sendable, crosses) depth 200 fits 100000,
-              (
-                search (sendable, crosses) depth 200 fits 100000,
-                tt,
-              ),
-            ),
-          ),
+          tt,
         ),
+      ),
+    ),
+  ),
+)
+
+-- the parts of a recording
+pub recorded_send : IsSend (Recorded.the_field).row
+recorded_send = struct_send (shape Recorded.the_type) (
+  search (sendable, crosses) depth 200 fits 100000,
+  (
+    followed_send,
+    (
+      search (sendable, crosses) depth 200 fits 100000,
+      (
+        search (sendable, crosses) depth 200 fits 100000,
+        tt,
       ),
     ),
   ),
@@ -193,7 +202,10 @@ recorder_fields =
           search (sendable, crosses) depth 200 fits 100000,
           (
             search (sendable, crosses) depth 200 fits 100000,
-            tt,
+            (
+              search (sendable, crosses, history.the_send) depth 60 fits 20000,
+              tt,
+            ),
           ),
         ),
       ),
@@ -224,18 +236,21 @@ module _ (I A S E : RattleType) (i : Input.Ghosts I.Denot) (a : Ledger.Ghosts A.
       (struct_send (shape (Kept.the_type I A S E i a s e)) (
         named_send I i si,
         (
-          book.the_send A a,
+          history.the_send,
           (
-            book.the_send S s,
+            book.the_send A a,
             (
-              book.the_send E e,
+              book.the_send S s,
               (
-                fit_send I i A a si sa,
+                book.the_send E e,
                 (
-                  fit_send I i S s si ss,
+                  fit_send I i A a si sa,
                   (
-                    fit_send I i E e si se,
-                    tt,
+                    fit_send I i S s si ss,
+                    (
+                      fit_send I i E e si se,
+                      tt,
+                    ),
                   ),
                 ),
               ),

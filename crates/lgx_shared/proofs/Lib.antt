@@ -10,4 +10,5 @@ pub mod Finishing
 pub mod Sums
 pub mod Pushes
 pub mod InStep
+pub mod Seeing
 pub mod Crossing

@@ -1,5 +1,5 @@
 -- Recorders that were just made, and one that takes an event as it is given.
-use Rattle.std.proofs.Common.{◌≡◌, ℕ, ◌+◌, ◌<◌, ◌≤◌, false, List, [], ◌++◌, length, replicate, Some, None, refl, sym, ◌∙◌, ap, subst}
+use Rattle.std.proofs.Common.{◌≡◌, ℕ, ◌+◌, ◌<◌, ◌≤◌, false, List, [], ◌++◌, length, replicate, Option, Some, None, refl, sym, ◌∙◌, ap, subst}
 use Rattle.std.specs.Prelude.{sum, IsTrue}
 use Rattle.spec_base.specs.declared.limits.TheConstants.{MAX_EVENTS}
 use Rattle.spec_machine.specs.declared.event.Event.{Event}
@@ -12,6 +12,7 @@ use Rattle.spec_lanes.specs.Served.{IsServed}
 use Rattle.spec_lanes.proofs.Serving.{opening_is_served}
 use Rattle.lgx_record.specs.RecordingView.{RecordingView}
 use Rattle.lgx_record.specs.Records.{Records, IsUnchanged}
+use Rattle.lgx_history.specs.Histories.{HistoryView}
 use Rattle.lgx_shared.specs.RecorderView.{RecorderView, view_of}
 use Rattle.lgx_shared.specs.Follows.{journal_of, IsRecorder, IsNew}
 use Rattle.lgx_shared.proofs.Numbers.{room_at_first, one_more, only_one, below_limit, some_room}
@@ -21,27 +22,18 @@ use Rattle.lgx_shared.proofs.Turns.{recorder_of}
 pub still_records : (old new : RecordingView) (project : Project) (events : List Event) → IsUnchanged old new → Records old project events → Records new project events
 still_records old new project events same r =
     subst (λ (v : RecordingView). Records v project events) (sym same)
-    (record {
-      journal = r.journal;
-      controller = r.controller;
-      log = r.log;
-      names = r.names;
-      steps = r.steps;
-      places = r.places;
-      values = r.values;
-      taken = r.taken;
-    })
+    (record { journal = r.journal; follows = r.follows; log = r.log })
 
 -- without a script it is a recorder whatever it records
-pub of_events : (r : RecordingView) (counts : List ℕ) (project : Project) (events : List Event) → Records r project events → IsRecorder (view_of r None counts false)
+pub of_events : (r : RecordingView) (counts : List ℕ) (project : Project) (events : List Event) → Records r project events → IsRecorder (view_of r None counts false None)
 of_events r counts project events records = record {
   project = project;
   records = subst (λ (es : List Event). Records r project es) (sym records.journal) records;
   follows = tt;
 }
 
-is_new : (project : Project) (script : Script) (r : RecordingView) → IsTrue (is_script script) → Records r project opening → most_events script + 2 ≤ 1 + r.journal.spare → IsNew project script (view_of r (Some script) (replicate (length script.lanes) 0) false)
-is_new project script r proper records room =
+is_new : (project : Project) (script : Script) (r : RecordingView) (history : Option HistoryView) → IsTrue (is_script script) → Records r project opening → most_events script + 2 ≤ 1 + r.journal.spare → IsNew project script (view_of r (Some script) (replicate (length script.lanes) 0) false history)
+is_new project script r history proper records room =
     let journal = records.journal in
     let served = opening_is_served project script records.controller.valid proper in
     record {
@@ -65,13 +57,23 @@ pub just_opened : (project : Project) (first r next : RecordingView) → Records
 just_opened project first r next records same opens = opens project [] (still_records first r project [] same records)
 
 -- after it
-pub just_made : (project : Project) (script : Script) (r : RecordingView) (counts : List ℕ) (room lanes : ℕ) → IsTrue (is_script script) → Records r project opening → room ≤ r.journal.spare + 1 → room ≡ most_events script + 2 → counts ≡ replicate lanes 0 → lanes ≡ length script.lanes → IsNew project script (view_of r (Some script) counts false)
-just_made project script r counts room lanes proper records enough room_is zeros long =
-    subst (λ (ns : List ℕ). IsNew project script (view_of r (Some script) ns false)) (sym (zeros ∙ ap (λ n. replicate {A = ℕ} n 0) long))
-    (is_new project script r proper records (one_more room (most_events script) r.journal.spare enough room_is))
+pub just_made : (project : Project) (script : Script) (r : RecordingView) (counts : List ℕ) (history : Option HistoryView) (room lanes : ℕ) → IsTrue (is_script script) → Records r project opening → room ≤ r.journal.spare + 1 → room ≡ most_events script + 2 → counts ≡ replicate lanes 0 → lanes ≡ length script.lanes → IsNew project script (view_of r (Some script) counts false history)
+just_made project script r counts history room lanes proper records enough room_is zeros long =
+    subst (λ (ns : List ℕ). IsNew project script (view_of r (Some script) ns false history)) (sym (zeros ∙ ap (λ n. replicate {A = ℕ} n 0) long))
+    (is_new project script r history proper records (one_more room (most_events script) r.journal.spare enough room_is))
 
 pub new_is_recorder : (project : Project) (script : Script) (v : RecorderView) → IsNew project script v → IsRecorder v
 new_is_recorder project script v new = recorder_of project script v new.follows
+
+-- it is as new with or without a history
+pub still_new : (project : Project) (script : Script) (v : RecorderView) (history : Option HistoryView) → IsNew project script v → IsNew project script (record v { history = history })
+still_new project script v history new =
+    let f = new.follows in
+    record {
+      follows = record { made = f.made; records = f.records; served = f.served; room = f.room };
+      opened = new.opened;
+      ran = new.ran;
+    }
 
 -- no action of a lane was made, and no processor step
 pub nothing_made : (project : Project) (script : Script) (v : RecorderView) → IsNew project script v → (sum v.counts ≡ 0) × (steps_of (journal_of v) ≡ 0)

@@ -50,7 +50,7 @@ follows_still project script v ran f = record { made = f.made; records = f.recor
 
 module _ (project : Project) (script : Script) (v : RecorderView) (f : Follows project script v) where
   abbrev after : RecordingView → List ℕ → RecorderView
-  after r counts = view_of r v.script counts v.ran
+  after r counts = view_of r v.script counts v.ran v.history
 
   -- these events were recorded, and the journal is served with these counts
   followed : (r : RecordingView) (counts : List ℕ) (events : List Event) → Records r project (journal_of v ++ events) → IsServed project script counts (journal_of v ++ events) → v.recording.journal.spare ≤ r.journal.spare + length events → Follows project script (after r counts)

@@ -52,33 +52,33 @@ module _ (w : RecorderView) (script : Script) (made : w.script ≡ Some script) 
   -- ---- an action
 
   module _ (a : Action) (turn : Turn) (r : RecordingView) (counts : List ℕ) (tells : Tells (Some a)) (m : MatchTurn turn (((p : Project) (es : List Event) → Records w.recording p es → Records r p (es ++ Act lane a ∷ [])) × (counts ≡ with_one_more w.counts lane)) ⊥ ⊥ (IsTrue (is_accept a) × (r ≡ w.recording) × (counts ≡ w.counts))) (spare : w.recording.journal.spare ≤ r.journal.spare + 1) where
-    at_script : (p : Project) (f : Follows p script w) → IsServedTurn p script w f lane turn (view_of r w.script counts w.ran)
+    at_script : (p : Project) (f : Follows p script w) → IsServedTurn p script w f lane turn (view_of r w.script counts w.ran w.history)
     at_script p f = acted p script w f turn lane a r counts (told_due (Some a) tells p f) m spare
 
-    pub act_keeps : IsRecorder w → IsRecorder (view_of r w.script counts w.ran)
+    pub act_keeps : IsRecorder w → IsRecorder (view_of r w.script counts w.ran w.history)
     act_keeps i = let f = its_script w script i made in recorder_of i.project script _ (at_script i.project f).follows
 
-    pub act_follows : (p : Project) (s : Script) → Follows p s w → Follows p s (view_of r w.script counts w.ran)
+    pub act_follows : (p : Project) (s : Script) → Follows p s w → Follows p s (view_of r w.script counts w.ran w.history)
     act_follows p s f =
-        subst (λ (x : Script). Follows p x (view_of r w.script counts w.ran)) (sym (same_script p s script w f made)) (at_script p (for_script p s f)).follows
+        subst (λ (x : Script). Follows p x (view_of r w.script counts w.ran w.history)) (sym (same_script p s script w f made)) (at_script p (for_script p s f)).follows
 
-    pub act_serves : (p : Project) (s : Script) → Follows p s w → Serves p s lane w turn (view_of r w.script counts w.ran)
+    pub act_serves : (p : Project) (s : Script) → Follows p s w → Serves p s lane w turn (view_of r w.script counts w.ran w.history)
     act_serves p s f =
-        subst (λ (x : Script). Serves p x lane w turn (view_of r w.script counts w.ran)) (sym (same_script p s script w f made)) (at_script p (for_script p s f)).serves
+        subst (λ (x : Script). Serves p x lane w turn (view_of r w.script counts w.ran w.history)) (sym (same_script p s script w f made)) (at_script p (for_script p s f)).serves
 
   -- ---- a step, or nothing
 
   module _ (turn : Turn) (r : RecordingView) (tells : Tells None) (m : MatchTurn turn ⊥ ((p : Project) (es : List Event) → Records w.recording p es → (is_spent p script es ≡ false) × Records r p (es ++ paced_step script.pace (w.recording.steps + 1))) (((p : Project) (es : List Event) → Records w.recording p es → is_spent p script es ≡ true) × (r ≡ w.recording)) ⊥) (spare : w.recording.journal.spare ≤ r.journal.spare + length (paced_step script.pace (w.recording.steps + 1))) where
-    help_at : (p : Project) (f : Follows p script w) → IsServedTurn p script w f lane turn (view_of r w.script w.counts w.ran)
+    help_at : (p : Project) (f : Follows p script w) → IsServedTurn p script w f lane turn (view_of r w.script w.counts w.ran w.history)
     help_at p f = helped p script w f turn lane r (told_due None tells p f) m spare
 
-    pub help_keeps : IsRecorder w → IsRecorder (view_of r w.script w.counts w.ran)
+    pub help_keeps : IsRecorder w → IsRecorder (view_of r w.script w.counts w.ran w.history)
     help_keeps i = let f = its_script w script i made in recorder_of i.project script _ (help_at i.project f).follows
 
-    pub help_follows : (p : Project) (s : Script) → Follows p s w → Follows p s (view_of r w.script w.counts w.ran)
+    pub help_follows : (p : Project) (s : Script) → Follows p s w → Follows p s (view_of r w.script w.counts w.ran w.history)
     help_follows p s f =
-        subst (λ (x : Script). Follows p x (view_of r w.script w.counts w.ran)) (sym (same_script p s script w f made)) (help_at p (for_script p s f)).follows
+        subst (λ (x : Script). Follows p x (view_of r w.script w.counts w.ran w.history)) (sym (same_script p s script w f made)) (help_at p (for_script p s f)).follows
 
-    pub help_serves : (p : Project) (s : Script) → Follows p s w → Serves p s lane w turn (view_of r w.script w.counts w.ran)
+    pub help_serves : (p : Project) (s : Script) → Follows p s w → Serves p s lane w turn (view_of r w.script w.counts w.ran w.history)
     help_serves p s f =
-        subst (λ (x : Script). Serves p x lane w turn (view_of r w.script w.counts w.ran)) (sym (same_script p s script w f made)) (help_at p (for_script p s f)).serves
+        subst (λ (x : Script). Serves p x lane w turn (view_of r w.script w.counts w.ran w.history)) (sym (same_script p s script w f made)) (help_at p (for_script p s f)).serves

@@ -3,4 +3,5 @@ pub mod Codes
 pub mod Follows
 pub mod Turns
 pub mod Serves
+pub mod Seen
 pub mod Lanes

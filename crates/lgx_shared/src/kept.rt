@@ -1,65 +1,22 @@
-// What is under the lock: the recorder, and the books of what the passes counted.
-ghost use Rattle.std.specs.Prelude.{◌≡◌, ◌+◌, ◌<◌, ◌^◌, true, length, sum, IfSome, IfNone, IsSome, IsTrue, ◌↔◌};
+// What is under the lock: the recorder with the history of its journal, and the books of what the passes counted.
+ghost use Rattle.std.specs.Prelude.{◌≡◌, ◌+◌, ◌<◌, ◌^◌, true, length, sum, slice_index_or, IfSome, IfNone, IsSome};
 ghost use Rattle.spec_machine.specs.Events.{steps_of};
-ghost use Rattle.spec_lanes.specs.Turns.{IsAcceptAt, is_spent};
+ghost use Rattle.spec_lanes.specs.Turns.{lane_of, IsAcceptAt, is_spent};
+ghost use Rattle.lgx_history.specs.Histories.{history_view};
 ghost use Rattle.lgx_shared.specs.Turns.{MatchTurn};
 ghost use Rattle.lgx_shared.specs.Follows.{journal_of, Follows, IsNew, HasSpent};
 ghost use Rattle.lgx_shared.specs.Serves.{Serves, Adds, IsInStep};
+ghost use Rattle.lgx_shared.specs.Seen.{Tells};
 
+use crate::front::Front;
 use crate::input::Input;
+use crate::named::Named;
 use crate::pass::Pass;
 use crate::recorder::Recorder;
 use crate::turn::Turn;
-use std::marker::{Model, PhantomData};
+use lgx_history::History;
+use std::marker::PhantomData;
 use std::sync::ledger::{Book, Ledger, Share};
-
-/// A recorder that follows the named script on the named project.
-#[derive(Drop)]
-struct Named<I: Input> {
-    recorder: Recorder,
-    input: PhantomData<I>,
-}
-
-impl<I: Input> Model for Named<I> {
-    ghost use Rattle.lgx_shared.specs.contracts.recorder.Recorder as recorder_row;
-    ghost use Rattle.lgx_shared.specs.RecorderView.{RecorderView};
-    ghost use Rattle.lgx_shared.specs.Follows.{Follows};
-
-    ghost Value = { RecorderView };
-
-    ghost coded = { recorder_row.the_row.coded };
-
-    ghost view = { λ n. n.recorder };
-
-    ghost invariant = { λ n. Follows I.project I.script n.recorder };
-}
-
-impl<I: Input> Named<I> {
-    /// A turn of a lane, and what it adds.
-    fn serve(&mut self, lane: u32) -> Turn
-        ensures follows { Follows I.project I.script self.old }
-        ensures turn { Serves I.project I.script lane self.old result self.new }
-        ensures adds { Adds I.project I.script self.old result self.new }
-    {
-        self.recorder.serve(lane)
-    }
-
-    /// Whether the action of a lane at a place of its list is an accept.
-    fn is_accept_at(&self, lane: u32, index: u32) -> bool
-        ensures { IsTrue result ↔ IsAcceptAt I.script lane index }
-    {
-        self.recorder.is_accept_at(lane, index)
-    }
-
-    /// The recorder itself.
-    fn into_recorder(self) -> Recorder
-        ensures is { result ≡ self }
-        ensures follows { Follows I.project I.script result }
-    {
-        let Named { recorder, input: _ } = self;
-        recorder
-    }
-}
 
 /// A ledger that has one part for each lane of the named script, and one for the processor.
 #[derive(Drop)]
@@ -79,17 +36,39 @@ fn fitting<I: Input, L: Ledger>() -> Fit<I, L>
     }
 }
 
+/// A turn of a front's lane, which has made as many actions as the front says. The front sees it.
+fn make<I: Input>(named: &mut Named<I>, history: &mut History, front: &mut Front<I>) -> Turn
+    requires history { history.old ≡ history_view I.history (journal_of named.old) }
+    requires counted { front.old.actions ≡ slice_index_or named.old.counts front.old.lane 0 }
+    ensures history { history.new ≡ history_view I.history (journal_of named.new) }
+    ensures serves { Serves I.project I.script front.old.lane named.old result named.new }
+    ensures adds { Adds I.project I.script named.old result named.new }
+    ensures tells { Tells I.project I.script front.old.lane front.old.events result front.new.events }
+    ensures lane { front.new.lane ≡ front.old.lane }
+    ensures counts { MatchTurn result
+        (front.new.actions ≡ front.old.actions + 1)
+        (front.new.actions ≡ front.old.actions)
+        ((front.new.actions ≡ front.old.actions) × (front.old.actions ≡ length (lane_of I.script front.old.lane)))
+        ((front.new.actions ≡ front.old.actions) × IsAcceptAt I.script front.old.lane front.old.actions) }
+{
+    let turn = named.serve(front.lane());
+    front.see(history, named);
+    turn
+}
+
 /// The recorder, with the totals of the actions that the passes made, of their processor steps and of their ends. Where an end
 /// was counted, the steps are spent.
 #[derive(Drop)]
 pub(crate) struct Kept<I: Input, A: Ledger, S: Ledger, E: Ledger> {
     named: Named<I>,
+    history: History,
     actions: Book<A>,
     steps: Book<S>,
     ends: Book<E>,
     action_parts: Fit<I, A>,
     step_parts: Fit<I, S>,
     end_parts: Fit<I, E>,
+    ghost shown: { history ≡ history_view I.history (journal_of named) },
     ghost acted: { actions.total ≡ sum named.counts },
     ghost stepped: { steps.total ≡ steps_of (journal_of named) },
     ghost spent: { 0 < ends.total → is_spent I.project I.script (journal_of named) ≡ true },
@@ -98,20 +77,20 @@ pub(crate) struct Kept<I: Input, A: Ledger, S: Ledger, E: Ledger> {
 impl<I: Input, A: Ledger, S: Ledger, E: Ledger> Kept<I, A, S, E> {
     /// A recorder that was just made, with books that have counted nothing.
     pub(crate) fn new(
-        recorder: Recorder,
+        named: Named<I>,
+        history: History,
         actions: Book<A>,
         steps: Book<S>,
         ends: Book<E>,
     ) -> Kept<I, A, S, E>
-        requires recorder { IsNew I.project I.script recorder }
+        requires recorder { IsNew I.project I.script named }
+        requires history { history ≡ history_view I.history (journal_of named) }
         requires books { (actions.total ≡ 0) × (steps.total ≡ 0) × (ends.total ≡ 0) }
         requires parts { (A.parts ≡ length I.script.lanes + 1) × (S.parts ≡ length I.script.lanes + 1) × (E.parts ≡ length I.script.lanes + 1) }
     {
         Kept {
-            named: Named {
-                recorder,
-                input: PhantomData,
-            },
+            named,
+            history,
             actions,
             steps,
             ends,
@@ -128,6 +107,7 @@ impl<I: Input, A: Ledger, S: Ledger, E: Ledger> Kept<I, A, S, E> {
         ensures serves { IfSome result (λ turn. Serves I.project I.script pass.old.lane self.old.named turn self.new.named) }
         ensures again { IfNone result ((pass.new ≡ pass.old) × (self.new.named ≡ self.old.named)) }
         ensures sure { IsInStep I.script (journal_of self.old.named) pass.old.lane pass.old.actions → IsSome result }
+        ensures tells { IfSome result (λ turn. Tells I.project I.script pass.old.lane pass.old.front.events turn pass.new.front.events) }
         ensures lane { (pass.new.lane ≡ pass.old.lane) × (pass.new.length ≡ pass.old.length) × (pass.new.least_steps ≡ pass.old.least_steps) }
         ensures counts { IfSome result (λ turn. MatchTurn turn
             ((pass.new.actions ≡ pass.old.actions + 1) × (pass.new.steps ≡ pass.old.steps) × (pass.new.ends ≡ 0) × (pass.new.short ≡ pass.old.short))
@@ -135,7 +115,11 @@ impl<I: Input, A: Ledger, S: Ledger, E: Ledger> Kept<I, A, S, E> {
             ((pass.new.actions ≡ pass.old.actions) × (pass.new.steps ≡ pass.old.steps) × (pass.new.ends ≡ 1) × (pass.new.short ≡ pass.old.short))
             ((pass.new.actions ≡ pass.old.actions) × (pass.new.steps ≡ pass.old.steps) × (pass.new.ends ≡ 0) × (pass.new.short ≡ true) × IsAcceptAt I.script pass.old.lane pass.old.actions)) }
     {
-        let turn = self.named.serve(pass.lane);
+        if self.named.made(pass.lane) != pass.actions {
+            return None;
+        }
+        let Kept { named, history, .. } = self;
+        let turn = make(named, history, &mut pass.front);
         match turn {
             Turn::Did => {
                 self.actions.add(&mut pass.action_share, 1);
@@ -146,18 +130,10 @@ impl<I: Input, A: Ledger, S: Ledger, E: Ledger> Kept<I, A, S, E> {
                 pass.steps += 1;
             }
             Turn::Done => {
-                if pass.actions != pass.length {
-                    return None;
-                }
                 self.ends.add(&mut pass.end_share, 1);
                 pass.ends += 1;
             }
-            Turn::Memory => {
-                if !self.named.is_accept_at(pass.lane, pass.actions) {
-                    return None;
-                }
-                pass.short = true;
-            }
+            Turn::Memory => pass.short = true,
         }
         Some(turn)
     }
@@ -178,6 +154,7 @@ impl<I: Input, A: Ledger, S: Ledger, E: Ledger> Kept<I, A, S, E> {
     {
         let Kept {
             named,
+            history: _,
             actions: mut action_book,
             steps: mut step_book,
             ends: mut end_book,

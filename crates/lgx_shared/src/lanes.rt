@@ -1,5 +1,6 @@
 // A thread for each pass.
 ghost use Rattle.std.specs.Prelude.{◌≡◌, ℕ, ◌+◌, ◌<◌, ◌≤◌, true, false, length, slice_index_or};
+ghost use mathlib.Core.List.{IsPrefix};
 ghost use Rattle.spec_base.specs.declared.limits.TheConstants.{MAX_SCRIPT_STEPS};
 ghost use Rattle.spec_lanes.specs.Turns.{IsAcceptAt};
 ghost use Rattle.lgx_shared.specs.Lanes.{most_turns};
@@ -21,6 +22,7 @@ pub trait Gate {
 }
 
 /// The turns of one lane: to its end, to want of memory, or as many as it may make.
+#[tactic(auto, using(crate::proofs::Seeing::sees_self, crate::proofs::Seeing::sees_on))]
 fn lane_loop<I: Input, A: Ledger, S: Ledger, E: Ledger, G: Gate, R: Wait>(
     rt: &R,
     shared: &Shared<I, A, S, E>,
@@ -29,6 +31,7 @@ fn lane_loop<I: Input, A: Ledger, S: Ledger, E: Ledger, G: Gate, R: Wait>(
 )
     requires fresh { (pass.old.actions ≤ MAX_SCRIPT_STEPS) × (pass.old.steps ≤ MAX_SCRIPT_STEPS) × (pass.old.ends ≡ 0) × (pass.old.short ≡ false) }
     ensures same { (pass.new.lane ≡ pass.old.lane) × (pass.new.length ≡ pass.old.length) × (pass.new.least_steps ≡ pass.old.least_steps) }
+    ensures sees { IsPrefix pass.old.front.events pass.new.front.events }
     ensures counts { (pass.old.actions ≤ pass.new.actions) × (pass.old.steps ≤ pass.new.steps) × (pass.new.ends ≤ 1) }
     ensures ran { pass.new.ends ≡ 0 → pass.new.short ≡ false → pass.new.actions + pass.new.steps ≡ pass.old.actions + pass.old.steps + most_turns pass.old.length pass.old.least_steps }
     ensures few { pass.new.actions + pass.new.steps + pass.new.ends ≤ pass.old.actions + pass.old.steps + most_turns pass.old.length pass.old.least_steps }
@@ -56,6 +59,7 @@ pub fn run_lanes<
     requires { (i : ℕ) (d : _) → i < length passes.old → let p = slice_index_or passes.old i d in (p.actions ≤ MAX_SCRIPT_STEPS) × (p.steps ≤ MAX_SCRIPT_STEPS) × (p.ends ≡ 0) × (p.short ≡ false) }
     ensures len { length passes.new ≡ length passes.old }
     ensures same { (i : ℕ) (d : _) → i < length passes.old → let p = slice_index_or passes.old i d in let q = slice_index_or passes.new i d in (q.lane ≡ p.lane) × (q.length ≡ p.length) × (q.least_steps ≡ p.least_steps) }
+    ensures sees { (i : ℕ) (d : _) → i < length passes.old → IsPrefix (slice_index_or passes.old i d).front.events (slice_index_or passes.new i d).front.events }
     ensures counts { (i : ℕ) (d : _) → i < length passes.old → let p = slice_index_or passes.old i d in let q = slice_index_or passes.new i d in (p.actions ≤ q.actions) × (p.steps ≤ q.steps) × (q.ends ≤ 1) }
     ensures ran { (i : ℕ) (d : _) → i < length passes.old → let p = slice_index_or passes.old i d in let q = slice_index_or passes.new i d in q.ends ≡ 0 → q.short ≡ false → q.actions + q.steps ≡ p.actions + p.steps + most_turns p.length p.least_steps }
     ensures few { (i : ℕ) (d : _) → i < length passes.old → let p = slice_index_or passes.old i d in let q = slice_index_or passes.new i d in q.actions + q.steps + q.ends ≤ p.actions + p.steps + most_turns p.length p.least_steps }

@@ -5,9 +5,11 @@
 //! is partial for the counts of the lanes' actions (`Follows` of specs/Follows.antt).
 #![tactic(auto)]
 
+mod front;
 mod input;
 mod kept;
 mod lanes;
+mod named;
 mod pass;
 mod plan;
 mod recorder;

@@ -4,6 +4,7 @@ ghost use Rattle.spec_base.specs.declared.limits.TheConstants.{MAX_ACTIONS, MAX_
 ghost use Rattle.spec_lanes.specs.Turns.{lane_of};
 ghost use Rattle.lgx_shared.specs.Lanes.{most_turns};
 
+use crate::front::Front;
 use crate::input::Input;
 use spec_base::limits::MAX_IMAGE_BYTES;
 use std::marker::PhantomData;
@@ -28,6 +29,8 @@ pub struct Pass<I: Input, A: Ledger, S: Ledger, E: Ledger> {
     pub ends: u32,
     /// Whether a turn of this pass was answered with want of memory.
     pub(crate) short: bool,
+    /// What it has seen of the journal.
+    pub(crate) front: Front<I>,
     pub(crate) action_share: Share<A>,
     pub(crate) step_share: Share<S>,
     pub(crate) end_share: Share<E>,
@@ -42,6 +45,8 @@ pub struct Pass<I: Input, A: Ledger, S: Ledger, E: Ledger> {
     ghost actions_are: { action_share.amount ≡ actions },
     ghost steps_are: { step_share.amount ≡ steps },
     ghost ends_are: { end_share.amount ≡ ends },
+    ghost sees_lane: { front.lane ≡ lane },
+    ghost sees_actions: { front.actions ≡ actions },
     ghost one_end: { ends ≤ 1 },
     ghost whole: { ends ≡ 1 → actions ≡ length },
 }
@@ -52,6 +57,7 @@ impl<I: Input, A: Ledger, S: Ledger, E: Ledger> Pass<I, A, S, E> {
         lane: u32,
         length: u32,
         least_steps: u32,
+        front: Front<I>,
         action_share: Share<A>,
         step_share: Share<S>,
         end_share: Share<E>,
@@ -60,6 +66,7 @@ impl<I: Input, A: Ledger, S: Ledger, E: Ledger> Pass<I, A, S, E> {
         requires few { length ≤ MAX_ACTIONS }
         requires steps { least_steps ≡ I.script.steps }
         requires few_steps { least_steps ≤ MAX_SCRIPT_STEPS }
+        requires front { (front.lane ≡ lane) × (front.actions ≡ 0) }
         requires parts { (action_share.parts ≡ 1) × (step_share.parts ≡ 1) × (end_share.parts ≡ 1) }
         requires amounts { (action_share.amount ≡ 0) × (step_share.amount ≡ 0) × (end_share.amount ≡ 0) }
         ensures lane { result.lane ≡ lane }
@@ -73,6 +80,7 @@ impl<I: Input, A: Ledger, S: Ledger, E: Ledger> Pass<I, A, S, E> {
             steps: 0,
             ends: 0,
             short: false,
+            front,
             action_share,
             step_share,
             end_share,
@@ -93,6 +101,7 @@ impl<I: Input, A: Ledger, S: Ledger, E: Ledger> Pass<I, A, S, E> {
             steps: _,
             ends: _,
             short: _,
+            front: _,
             action_share,
             step_share,
             end_share,

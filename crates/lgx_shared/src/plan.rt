@@ -1,9 +1,9 @@
 // What a script has for each lane, found by its index.
-ghost use Rattle.std.specs.Prelude.{◌≡◌, ◌+◌, ◌≤◌, ◌<◌, length, sum_by, slice_get, slice_index_or, option_copied, IsTrue, ◌↔◌};
+ghost use Rattle.std.specs.Prelude.{◌≡◌, ◌+◌, ◌≤◌, ◌<◌, length, sum_by, slice_get, slice_index_or, option_copied};
 ghost use Rattle.spec_base.specs.declared.limits.TheConstants.{MAX_ACTIONS, MAX_IMAGE_BYTES, MAX_SCRIPT_STEPS, OWN_LANE};
-ghost use Rattle.spec_lanes.specs.Turns.{lane_of, IsAcceptAt, most_events};
+ghost use Rattle.spec_lanes.specs.Turns.{lane_of, most_events};
 
-use lgx_journal::{Action, Script, Timed};
+use lgx_journal::{Script, Timed};
 use lgx_num::Items;
 use spec_base::limits::MAX_IMAGE_BYTES;
 
@@ -33,16 +33,6 @@ pub(crate) fn action_at(script: &Script, lane: u32, index: u32) -> Option<&Timed
     match script.lanes.as_slice().get(lane as usize) {
         Some(actions) => actions.as_slice().get(index as usize),
         None => None,
-    }
-}
-
-/// Whether the action of a lane at a place of its list is an accept.
-pub(crate) fn is_accept_at(script: &Script, lane: u32, index: u32) -> bool
-    ensures { IsTrue result ↔ IsAcceptAt script.now lane index }
-{
-    match action_at(script, lane, index) {
-        Some(timed) => matches!(timed.action, Action::Accept(_)),
-        None => false,
     }
 }
 

@@ -1,22 +1,24 @@
 // The recorder of a run.
-ghost use Rattle.std.specs.Prelude.{◌≡◌, ◌+◌, ◌≤◌, ◌<◌, List, [], ◌∷◌, ◌++◌, length, true, false, Some, None, IsSome, IfOk, OnOk, OnErr, IsTrue, ◌↔◌};
+ghost use Rattle.std.specs.Prelude.{◌≡◌, ◌+◌, ◌≤◌, ◌<◌, List, [], ◌∷◌, ◌++◌, length, true, false, Some, None, IsSome, IfOk, OnOk, OnErr, slice_index_or};
 ghost use Rattle.spec_base.specs.declared.limits.TheConstants.{MAX_ACTIONS, MAX_EVENTS, MAX_SCRIPT_STEPS, OWN_LANE};
 ghost use Rattle.spec_machine.specs.declared.event.Event.{Event as Events};
 ghost use Rattle.spec_machine.specs.Events.{steps_of};
 ghost use Rattle.spec_machine.specs.Project.{Project};
 ghost use Rattle.spec_text.specs.Scripts.{Script as Scripts};
-ghost use Rattle.spec_lanes.specs.Turns.{lane_of, most_steps, next_of, IsAcceptAt};
+ghost use Rattle.spec_lanes.specs.Turns.{lane_of, most_steps, next_of};
 ghost use Rattle.spec_lanes.specs.Laws.{opening};
 ghost use Rattle.lgx_record.specs.Records.{Records, IsUnchanged};
 ghost use Rattle.lgx_shared.specs.RecorderView.{RecorderView};
 ghost use Rattle.lgx_shared.specs.Follows.{journal_of, Follows, IsRecorder, IsNew, HasSpent, HasCompleted, GoesOn};
+ghost use Rattle.lgx_shared.specs.Seen.{IsUnseen};
 ghost use Rattle.lgx_shared.specs.Serves.{Serves};
 
-use crate::plan::{count_of, is_accept_at, lanes_of, length_of, room_for};
+use crate::plan::{count_of, lanes_of, length_of, room_for};
 use crate::serving::{due_action, help, make_action};
 use crate::turn::Turn;
 use lgx_core::Controller;
 use lgx_edit::Plant;
+use lgx_history::History;
 use lgx_journal::{Action, Event, Journal, Script};
 use lgx_num::Memory;
 use lgx_record::Recording;
@@ -36,10 +38,13 @@ pub struct Recorder {
     counts: Vec<u32>,
     /// Whether turns brought every pass to its end, to want of memory, or to its last turn.
     ran: bool,
+    /// What passes see of its journal, until it is shared.
+    history: Option<History>,
 }
 
 impl Model for Recorder {
-    ghost use Rattle.std.specs.Coded.{codes};
+    ghost use Rattle.std.specs.Coded.{codes, coded_option};
+    ghost use Rattle.lgx_history.specs.contracts.history.History as history_row;
     ghost use Rattle.lgx_record.specs.contracts.recording.Recording as recording_row;
     ghost use Rattle.lgx_shared.specs.Codes.{recorder_code};
     ghost use Rattle.lgx_shared.specs.RecorderView.{RecorderView, view_of};
@@ -47,11 +52,11 @@ impl Model for Recorder {
 
     ghost Value = { RecorderView };
 
-    ghost coded = { recorder_code recording_row.the_row.coded (Prim.hlevel codes) };
+    ghost coded = { recorder_code recording_row.the_row.coded (Prim.hlevel codes) (coded_option history_row.the_row.coded) };
 
-    ghost view = { λ r. view_of r.recording r.script r.counts.items r.ran };
+    ghost view = { λ r. view_of r.recording r.script r.counts.items r.ran r.history };
 
-    ghost invariant = { λ r. IsRecorder (view_of r.recording r.script r.counts.items r.ran) };
+    ghost invariant = { λ r. IsRecorder (view_of r.recording r.script r.counts.items r.ran r.history) };
 }
 
 /// A recording of a project with its `mode run` as the one event, and with the journal's room for so many events.
@@ -70,8 +75,10 @@ impl Recorder {
     /// A recorder for a script, with its `mode run` as the one event. It takes the room for all that turns will add, but for the
     /// texts of accepts.
     pub fn new(alloc: Global, project: Plant, script: Script) -> Result<Recorder, Memory>
-        ensures { IfOk result (λ recorder. IsNew project script recorder) }
+        ensures new { IfOk result (λ recorder. IsNew project script recorder) }
+        ensures history { IfOk result (λ recorder. IsUnseen recorder.history) }
     {
+        let history = History::open(alloc)?;
         let recording = opened(alloc, project, room_for(&script))?;
         let counts = vec![in alloc; 0; lanes_of(&script) as usize]?;
         Ok(Recorder {
@@ -79,6 +86,7 @@ impl Recorder {
             script: Some(script),
             counts,
             ran: false,
+            history: Some(history),
         })
     }
 
@@ -95,6 +103,7 @@ impl Recorder {
             script: None,
             counts: Vec::new(alloc),
             ran: false,
+            history: None,
         })
     }
 
@@ -206,14 +215,19 @@ impl Recorder {
         }
     }
 
-    /// Whether the action of a lane at a place of its list is an accept; false without a script.
-    pub(crate) fn is_accept_at(&self, lane: u32, index: u32) -> bool
-        ensures { (script : Scripts) → self.now.script ≡ Some script → IsTrue result ↔ IsAcceptAt script lane index }
+    /// How many actions of a lane were made; 0 if there is no such lane.
+    pub(crate) fn made(&self, lane: u32) -> u32
+        ensures { result ≡ slice_index_or self.now.counts lane 0 }
     {
-        match &self.script {
-            Some(script) => is_accept_at(script, lane, index),
-            None => false,
-        }
+        count_of(self.counts.as_slice(), lane)
+    }
+
+    /// The history, which is no longer the recorder's then.
+    pub(crate) fn take_history(&mut self) -> Option<History>
+        ensures history { result ≡ self.old.history }
+        ensures rest { self.new ≡ record self.old { history = None } }
+    {
+        self.history.take()
     }
 
     /// Says whether turns brought every pass to its end, to want of memory, or to its last turn.

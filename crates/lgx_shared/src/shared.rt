@@ -1,20 +1,60 @@
 // The recorder under its lock.
-ghost use Rattle.std.specs.Prelude.{◌≡◌, ℕ, ◌+◌, ◌<◌, ◌≤◌, ◌^◌, true, false, length, sum, sum_by, vec_len, slice_index_or, IfOk, IsTrue, ◌↔◌};
+ghost use Rattle.std.specs.Prelude.{◌≡◌, ℕ, ◌+◌, ◌<◌, ◌≤◌, ◌^◌, true, false, length, sum, sum_by, [], Some, vec_len, slice_index_or, IfOk, IsTrue, ◌↔◌};
 ghost use Rattle.spec_machine.specs.Events.{steps_of};
 ghost use Rattle.spec_lanes.specs.Turns.{IsAcceptAt};
+ghost use Rattle.lgx_history.specs.Histories.{history_view};
 ghost use Rattle.lgx_shared.specs.Turns.{MatchTurn};
 ghost use Rattle.lgx_shared.specs.Follows.{journal_of, Follows, IsNew, HasSpent, HasCompleted};
+ghost use Rattle.lgx_shared.specs.Seen.{front_view, HasSeen, Tells};
 ghost use Rattle.lgx_shared.specs.Lanes.{most_turns};
 
+use crate::front::Front;
 use crate::input::Input;
 use crate::kept::Kept;
+use crate::named::{Named, begun};
 use crate::pass::{Pass, all_came, merged};
 use crate::recorder::Recorder;
 use crate::turn::Turn;
+use lgx_history::History;
 use lgx_num::Memory;
 use std::alloc::Global;
-use std::sync::ledger::{Blank, Ledger};
+use std::sync::ledger::{Blank, Ledger, Share};
 use std::sync::{Mutex, Wait};
+
+/// A pass for each lane of the script and, last, one for the processor, from the whole shares of the ledgers.
+fn deal<I: Input, A: Ledger, S: Ledger, E: Ledger>(
+    alloc: Global,
+    named: &Named<I>,
+    history: &mut History,
+    mut actions: Share<A>,
+    mut steps: Share<S>,
+    mut ends: Share<E>,
+) -> Result<Vec<Pass<I, A, S, E>>, Memory>
+    requires none { sum named.now.counts ≡ 0 }
+    requires history { history.old ≡ history_view I.history (journal_of named.now) }
+    requires parts { (actions.parts ≡ length I.script.lanes + 1) × (steps.parts ≡ length I.script.lanes + 1) × (ends.parts ≡ length I.script.lanes + 1) }
+    requires amounts { (actions.amount ≡ 0) × (steps.amount ≡ 0) × (ends.amount ≡ 0) }
+    ensures same { history.new ≡ history.old }
+    ensures len { IfOk result (λ r. vec_len r ≡ length I.script.lanes + 1) }
+    ensures lanes { IfOk result (λ r. (i : ℕ) (d : _) → i < vec_len r → (slice_index_or r.items i d).lane ≡ i) }
+    ensures counts { IfOk result (λ r. (i : ℕ) (d : _) → i < vec_len r → let p = slice_index_or r.items i d in (p.actions ≡ 0) × (p.steps ≡ 0) × (p.ends ≡ 0) × (p.short ≡ false)) }
+{
+    let count = named.lanes() + 1;
+    let mut passes = Vec::new(alloc);
+    for lane in 0..count {
+        let pass = Pass::new(
+            lane,
+            named.length_of(lane),
+            named.least_steps(),
+            Front::new(lane, history, named),
+            actions.split_off(1, 0),
+            steps.split_off(1, 0),
+            ends.split_off(1, 0),
+        );
+        passes.push(pass)?;
+    }
+    Ok(passes)
+}
 
 /// A recorder that threads share under one lock, each by turns of its pass.
 pub struct Shared<I: Input, A: Ledger, S: Ledger, E: Ledger> {
@@ -23,7 +63,7 @@ pub struct Shared<I: Input, A: Ledger, S: Ledger, E: Ledger> {
 
 impl<I: Input, A: Ledger, S: Ledger, E: Ledger> Shared<I, A, S, E> {
     /// The recorder under a lock, with a pass for each lane of its script and, last, one for the processor. The recorder was
-    /// just made; the blanks are those of the ledgers of actions, of processor steps and of ends, with a part for each pass. At
+    /// just made, and has the named history; the blanks are those of the ledgers of actions, of processor steps and of ends, with a part for each pass. At
     /// out of memory the recorder is dropped.
     pub fn share(
         alloc: Global,
@@ -33,6 +73,7 @@ impl<I: Input, A: Ledger, S: Ledger, E: Ledger> Shared<I, A, S, E> {
         ends: Blank,
     ) -> Result<(Shared<I, A, S, E>, Vec<Pass<I, A, S, E>>), Memory>
         requires recorder { IsNew I.project I.script recorder }
+        requires history { recorder.history ≡ Some (history_view I.history []) }
         requires actions { (actions.name ≡ A.name) × (actions.parts ≡ A.parts) × (actions.parts ≡ length I.script.lanes + 1) }
         requires steps { (steps.name ≡ S.name) × (steps.parts ≡ S.parts) × (steps.parts ≡ length I.script.lanes + 1) }
         requires ends { (ends.name ≡ E.name) × (ends.parts ≡ E.parts) × (ends.parts ≡ length I.script.lanes + 1) }
@@ -40,23 +81,19 @@ impl<I: Input, A: Ledger, S: Ledger, E: Ledger> Shared<I, A, S, E> {
         ensures lanes { IfOk result (λ r. (i : ℕ) (d : _) → i < vec_len r.1 → (slice_index_or r.1.items i d).lane ≡ i) }
         ensures counts { IfOk result (λ r. (i : ℕ) (d : _) → i < vec_len r.1 → let p = slice_index_or r.1.items i d in (p.actions ≡ 0) × (p.steps ≡ 0) × (p.ends ≡ 0) × (p.short ≡ false)) }
     {
-        let (action_book, mut action_rest) = actions.open::<A>();
-        let (step_book, mut step_rest) = steps.open::<S>();
-        let (end_book, mut end_rest) = ends.open::<E>();
-        let count = recorder.lanes() + 1;
-        let mut passes = Vec::new(alloc);
-        for lane in 0..count {
-            let pass = Pass::new(
-                lane,
-                recorder.length_of(lane),
-                recorder.least_steps(),
-                action_rest.split_off(1, 0),
-                step_rest.split_off(1, 0),
-                end_rest.split_off(1, 0),
-            );
-            passes.push(pass)?;
-        }
-        let kept = Kept::new(recorder, action_book, step_book, end_book);
+        let (action_book, action_rest) = actions.open::<A>();
+        let (step_book, step_rest) = steps.open::<S>();
+        let (end_book, end_rest) = ends.open::<E>();
+        let (named, mut history) = begun(recorder);
+        let passes = deal(
+            alloc,
+            &named,
+            &mut history,
+            action_rest,
+            step_rest,
+            end_rest,
+        )?;
+        let kept = Kept::new(named, history, action_book, step_book, end_book);
         Ok((
             Shared {
                 kept: Mutex::new(kept),
@@ -68,9 +105,12 @@ impl<I: Input, A: Ledger, S: Ledger, E: Ledger> Shared<I, A, S, E> {
     /// One turn of the pass's lane under the lock: at `Did` the pass's count of actions rises by one, at `Helped` that of its
     /// processor steps, at `Done` that of its ends, and at `Memory`, which comes where its next action is an accept, it is
     /// short. It may wait for the lock, and waits again only if the pass counted another number of actions than stand in the
-    /// journal.
+    /// journal. The pass sees the journal that the turn found, which begins with all that the pass had seen, and what the turn
+    /// appended to it; of its lane this has just the actions that the pass made.
     pub fn turn<R: Wait>(&self, rt: &R, pass: &mut Pass<I, A, S, E>) -> Turn
         requires room { (pass.old.actions + 1 < 2 ^ 32) × (pass.old.steps + 1 < 2 ^ 32) × (pass.old.ends ≡ 0) }
+        ensures tells { Tells I.project I.script pass.old.lane pass.old.front.events result pass.new.front.events }
+        ensures own { HasSeen I.project I.script (front_view pass.new.lane pass.new.actions pass.new.front.events) }
         ensures lane { (pass.new.lane ≡ pass.old.lane) × (pass.new.length ≡ pass.old.length) × (pass.new.least_steps ≡ pass.old.least_steps) }
         ensures counts { MatchTurn result
             ((pass.new.actions ≡ pass.old.actions + 1) × (pass.new.steps ≡ pass.old.steps) × (pass.new.ends ≡ 0) × (pass.new.short ≡ pass.old.short))
@@ -81,6 +121,7 @@ impl<I: Input, A: Ledger, S: Ledger, E: Ledger> Shared<I, A, S, E> {
         for _ in rt.forever() {
             let turn = self.kept.lock(rt).turn(pass);
             if let Some(turn) = turn {
+                pass.front.law_of_fronts();
                 return turn;
             }
         }

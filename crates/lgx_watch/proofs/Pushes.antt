@@ -6,7 +6,7 @@ use Rattle.spec_base.specs.declared.limits.TheConstants.{MAX_REPORT_LINES}
 use Rattle.spec_machine.specs.Report.{Stamped}
 use Rattle.lgx_watch.specs.Kept.{Kept, kept_of, with_line, with_lines, KeepsTheFirst}
 
-same_kept : (a b : List Stamped) (m n : ℕ) → a ≡ b → m ≡ n → (let x : Kept = record { lines = a; lost = m } in x) ≡ record { lines = b; lost = n }
+pub same_kept : (a b : List Stamped) (m n : ℕ) → a ≡ b → m ≡ n → (let x : Kept = record { lines = a; lost = m } in x) ≡ record { lines = b; lost = n }
 same_kept a b m n p q = rw (p, q) refl
 
 -- a line is kept while there is room, and then it is counted

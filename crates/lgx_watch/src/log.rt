@@ -71,6 +71,14 @@ impl Log {
         }
     }
 
+    /// Takes all lines away, and counts none any more. The room stays, so it takes no memory.
+    pub fn clear(&mut self)
+        ensures { self.new ≡ no_lines }
+    {
+        self.lines.clear();
+        self.lost = 0;
+    }
+
     /// The number of lines that are kept.
     pub fn lines(&self) -> u32
         ensures value { result ≡ length self.now.lines }

@@ -55,12 +55,12 @@ fn follow<F: Files, K: Sink, G: Gate + Sync, R: Threads + Wait + Sync>(
 /// Does what the words of the command line say, and answers how the program ends: all that [`crate::logix_plain`] does,
 /// `run P S` and `stations P J C`.
 ///
-/// `run P S` reads and judges the project of the file `P` and then the script of the file `S`. Each lane of the script
+/// `run P S` reads and checks the project of the file `P` and then the script of the file `S`. Each lane of the script
 /// takes its turns on a thread of its own, and one thread more takes turns of no lane; a turn makes its lane's next action
 /// if that is due, and else a processor step. Before each turn the gate is called, without the lock. Then the journal of
-/// the run is written, and its report: each line is one put. Whatever turns the threads take, every action stands in the
-/// journal once, in its lane's order. The call may wait for its threads, for the lock and for the gate; no answer speaks of
-/// a thread that couldn't be started.
+/// the run is written, and its report: each line is one put. However the threads interleave, every action is in the
+/// journal once, in its lane's order. The call may wait for its threads, for the lock and for the gate; no status says that
+/// a thread couldn't be started.
 ///
 /// `stations P J C` replays the journal of the file `J` on the project of the file `P`, while C operator stations on threads of
 /// their own read the watched values, and then writes what each gave first and last. They take no lock, and the gate is called

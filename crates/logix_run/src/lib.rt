@@ -1,5 +1,5 @@
 //! The program `logix`, over any files, any sink and any gate: which words of the command line are which plan, and that each
-//! call follows the plan of its words. What a word does stands in its own crate; what is said of every call, in `lgx_answer`.
+//! call follows the plan of its words. What a command does is in its own crate; what is said of every call, in `lgx_answer`.
 #![tactic(auto)]
 
 mod call;

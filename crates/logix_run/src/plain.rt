@@ -15,7 +15,7 @@ use word_replay::{generate, replay_journal};
 use word_trace::{audit_trace, trace_journal};
 use word_xref::xref_project;
 
-/// The line that tells how to use the program.
+/// The line that says how to use the program.
 pub const USAGE: &[u8] =
     b"usage: logix check P, text P, replay P J, run P S, gen N, migrate P, trace P J, audit P T, xref P, stations P J C, link A B L\n";
 
@@ -68,13 +68,13 @@ pub(crate) fn follow_plain<F: Files, K: Sink>(
 /// Does what the words of the command line say, and answers how the program ends: [`crate::logix`] without the words
 /// `run P S` and `stations P J C`, which it answers with the usage line. It waits for nobody.
 ///
-/// `check P` tells how many there are of each part of the project of the file `P`, `text P` writes the rungs of its routines,
+/// `check P` counts the parts of the project of the file `P`, `text P` writes the rungs of its routines,
 /// `migrate P` writes the file in the newest schema, `replay P J` runs the journal of the file `J` on the project and writes
-/// the report, `gen N` tells how many lines the report has of a project and a journal that the number makes, `trace P J`
+/// the report, `gen N` counts the lines of the report on a project and a journal that the number makes, `trace P J`
 /// writes what is seen of the run of the journal of the file `J`, `audit P T` says whether the trace of the file `T` keeps the
 /// laws of the schedule, `xref P` lists the instructions that may write each tag and those that read it, and `link A B L` runs
 /// the projects of `A` and `B` over the link script of the file `L`. Any other words are answered with the usage line. Each line
-/// is one put; the project is read and judged before the journal is read.
+/// is one put; the project is read and checked before the journal is read.
 ///
 /// At `WriteFault` and `Memory` a first part of the output was put, at `ReadFault` and `TooLong` nothing.
 #[tactic(auto, using(crate::proofs::Laws::answered))]

@@ -1,5 +1,5 @@
 -- The laws of a tick: watchdogs and releases.
-use Rattle.std.proofs.Common.{◌≡◌, ℕ, zero, suc, ◌+◌, ◌-◌, ◌^◌, ◌<◌, Bool, true, false, cond, List, length, Option, Some, None, refl, sym, ◌∙◌, ap, subst, arith}
+use Rattle.std.proofs.Common.{◌≡◌, ℕ, ◌+◌, ◌-◌, ◌<◌, Bool, true, false, List, length, Option, Some, None, refl, sym, ◌∙◌, ap, subst, arith}
 use Rattle.std.specs.Prelude.{not, ◌&&◌, nat_eq, nat_le, is_some, slice_index_or}
 use Rattle.std.proofs.lemmas.Bool.{and_from, eq-eqb, lt-ltb}
 use Rattle.spec_tables.specs.declared.task.TaskDef.{TaskDef}
@@ -36,17 +36,7 @@ use Rattle.spec_duties.proofs.Expired.{IsFirst, first_out, none_out, none_before
 use Rattle.spec_duties.proofs.Masks.{is_allowed, is_new, is_again, walked}
 use Rattle.spec_duties.proofs.Moves.{IsClock, rotate_since}
 use Rattle.spec_duties.proofs.Places.{Stands}
-
--- ---- masks
-
-mask_same : (f g : ℕ → Bool) (n : ℕ) → ((k : ℕ) → k < n → f k ≡ g k) → mask_below f n ≡ mask_below g n
-mask_same f g zero h = refl
-mask_same f g (suc n) h =
-    ap (λ m. m + cond (f n) (2 ^ n) 0) (mask_same f g n (λ k l. h k (omega arith))) ∙ ap (λ b. mask_below g n + cond b (2 ^ n) 0) (h n (omega arith))
-
-mask_none : (f : ℕ → Bool) (n : ℕ) → ((k : ℕ) → f k ≡ false) → mask_below f n ≡ 0
-mask_none f zero h = refl
-mask_none f (suc n) h = ap (λ m. m + cond (f n) (2 ^ n) 0) (mask_none f n h) ∙ (ap (λ b. 0 + cond b (2 ^ n) 0) (h n) ∙ refl)
+use Rattle.spec_duties.proofs.Numbers.{mask_same, mask_none}
 
 -- ---- a rank says nothing of a watchdog or of being up
 

@@ -27,6 +27,7 @@ use Rattle.spec_reach.proofs.EditNames.{accepted_parts, is_accepted, IsChanged, 
 use Rattle.spec_reach.proofs.Reached.{IsReached, reached_start, reached_next, known_at}
 use Rattle.spec_books.proofs.MergedBooks.{books-are-merged}
 use Rattle.spec_duties.specs.CheckedBooks.{BooksAreChecked}
+use Rattle.spec_duties.proofs.TakenOnce.{TakesOnce, accepted_once}
 
 -- one of a list of books is set
 set_at : (G : ℕ → Book → Type 0) (books : List Book) (n : ℕ) (b : Book) → ((k : ℕ) → G k (book_at books k)) → G n b → (k : ℕ) → G k (book_at (slice_set books n b) k)
@@ -66,6 +67,7 @@ module _ (p : Project) where
     merged_names : names_in b.merged ≡ names_at n
     base : Each (IsText n) b.base
     merged_ones : Each (IsText n) b.merged
+    once : TakesOnce b
 
   set_each : (n : ℕ) (rs : List RoutineText) (r : ℕ) (x : RoutineText) → IsText n x → Each (IsText n) rs → Each (IsText n) (slice_set rs r x)
   set_each n [] r x k h = tt
@@ -77,14 +79,15 @@ module _ (p : Project) where
   text_at n (y ∷ ys) zero h l = h.0
   text_at n (y ∷ ys) (suc r) h l = text_at n ys r h.1 (omega arith)
 
-  changes_hold : (n client r : ℕ) (changes : List Change) (source : List Source) (rungs : Rungs) (b : Book) → Holds n b → checked (scope_of p.tags p.names n b) source ≡ Ok rungs → Holds n (with_changes client r changes source rungs b)
-  changes_hold n client r changes source rungs b h k =
+  changes_hold : (n client r : ℕ) (changes : List Change) (source : List Source) (rungs : Rungs) (b : Book) → Holds n b → checked (scope_of p.tags p.names n b) source ≡ Ok rungs → TakesOnce (with_changes client r changes source rungs b) → Holds n (with_changes client r changes source rungs b)
+  changes_hold n client r changes source rungs b h k once =
       let text : RoutineText = record (routine_at b.merged r) { source = source; checked = rungs } in
       record {
         base_names = h.base_names;
         merged_names = map-set_same (λ (x : RoutineText). x.name) b.merged r text no_routine refl ∙ h.merged_names;
         base = h.base;
         merged_ones = set_each n b.merged r text (ap (λ names. checked (scope_by n names) source) (sym h.base_names) ∙ k) h.merged_ones;
+        once = once;
       }
 
   abbrev KeepsHold : (Book → Result Book EditFault) → Type 0
@@ -95,20 +98,20 @@ module _ (p : Project) where
     where
       go : (t : Bool) → test (record b { testing = t }) ≡ Ok c → Holds n c
       go true e = err_not_ok _ c e
-      go false e = subst (Holds n) (ok_inj _ c e) (record { base_names = h.base_names; merged_names = h.merged_names; base = h.base; merged_ones = h.merged_ones })
+      go false e = subst (Holds n) (ok_inj _ c e) (record { base_names = h.base_names; merged_names = h.merged_names; base = h.base; merged_ones = h.merged_ones; once = h.once })
 
   untest_holds : KeepsHold untest
   untest_holds n b c e h = go b.testing e
     where
       go : (t : Bool) → untest (record b { testing = t }) ≡ Ok c → Holds n c
-      go true e = subst (Holds n) (ok_inj _ c e) (record { base_names = h.base_names; merged_names = h.merged_names; base = h.base; merged_ones = h.merged_ones })
+      go true e = subst (Holds n) (ok_inj _ c e) (record { base_names = h.base_names; merged_names = h.merged_names; base = h.base; merged_ones = h.merged_ones; once = h.once })
       go false e = err_not_ok _ c e
 
   assemble_holds : KeepsHold assemble
-  assemble_holds n b c e h = subst (Holds n) (ok_inj _ c e) (record { base_names = h.merged_names; merged_names = h.merged_names; base = h.merged_ones; merged_ones = h.merged_ones })
+  assemble_holds n b c e h = subst (Holds n) (ok_inj _ c e) (record { base_names = h.merged_names; merged_names = h.merged_names; base = h.merged_ones; merged_ones = h.merged_ones; once = λ r i. omega arith })
 
   cancel_holds : KeepsHold cancel
-  cancel_holds n b c e h = subst (Holds n) (ok_inj _ c e) (record { base_names = h.base_names; merged_names = h.base_names; base = h.base; merged_ones = h.base })
+  cancel_holds n b c e h = subst (Holds n) (ok_inj _ c e) (record { base_names = h.base_names; merged_names = h.base_names; base = h.base; merged_ones = h.base; once = λ r i. omega arith })
 
   -- ---- all books
 
@@ -124,7 +127,7 @@ module _ (p : Project) where
       let a = is_accepted p.tags p.names books client c e is in
       let b = book_at books a.number in
       let parts = accepted_parts (scope_of p.tags p.names a.number b) client a.routine c.edits b a.book a.accepted in
-      let holds = changes_hold a.number client a.routine parts.0 (merged (routine_at b.base a.routine).source (changes_in b a.routine ++ parts.0)) parts.1 b (h a.number) parts.3 in
+      let holds = changes_hold a.number client a.routine parts.0 (merged (routine_at b.base a.routine).source (changes_in b a.routine ++ parts.0)) parts.1 b (h a.number) parts.3 (subst TakesOnce (sym parts.2) (accepted_once (scope_of p.tags p.names a.number b) client a.routine c.edits b a.book a.accepted (h a.number).once)) in
       subst (λ (y : Edited). AllHold y.books) a.result (set_at Holds books a.number a.book h (subst (Holds a.number) parts.2 holds))
 
   edit_holds : (books : List Book) (lane : ℕ) (a : Action) (e : Edited) → edit p.tags p.names books lane a ≡ Some (Ok e) → AllHold books → AllHold e.books
@@ -169,7 +172,7 @@ module _ (p : Project) where
   start_holds : IsValidProject p → AllHold (start p).books
   start_holds valid n =
       let texts = texts_at valid n in
-      subst (Holds n) (sym (book_here p.programs n)) (record { base_names = refl; merged_names = refl; base = texts; merged_ones = texts })
+      subst (Holds n) (sym (book_here p.programs n)) (record { base_names = refl; merged_names = refl; base = texts; merged_ones = texts; once = λ r i. omega arith })
 
   -- ---- what is said of a book
 
@@ -190,4 +193,5 @@ module _ (p : Project) where
         merged_ones = λ r k.
             (ap (λ names. checked (scope_by n names) (merged (routine_at b.base r).source (changes_in b r))) h.base_names
             ∙ (ap (λ source. checked (scope_by n (names_at n)) source) (sym (books-are-merged p journal n r)) ∙ text_at n b.merged r h.merged_ones (let m = same_many n b h in omega arith)));
+        taken_once = h.once;
       }

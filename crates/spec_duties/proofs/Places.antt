@@ -51,7 +51,7 @@ mark_start Sync o v h = cps_start true o v h
 mark_start CopyEnd o v h = (v, h, refl)
 mark_start SyncEnd o v h = cps_start false o v h
 
-mark_downs : (m : TraceMark) (c : Counted) → (marked m c).downs ≡ c.downs
+pub mark_downs : (m : TraceMark) (c : Counted) → (marked m c).downs ≡ c.downs
 mark_downs Plain c = refl
 mark_downs Up c = refl
 mark_downs Down c = refl

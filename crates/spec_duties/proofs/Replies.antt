@@ -2,7 +2,7 @@
 use Rattle.std.proofs.Common.{◌≡◌, ℕ, ◌+◌, ◌<◌, ◌≤◌, inl, inr, Bool, true, false, cond, List, [], ◌∷◌, ◌++◌, length, take, Option, Some, None, refl, sym, ◌∙◌, ap, subst, arith}
 use Rattle.std.specs.Prelude.{ℤ, Result, Ok, Err, not, if◌then◌else◌, nat_lt, nat_le, nat_eq, is_none, option_map, unwrap_or, flat_map, slice_set, slice_index_or}
 use Rattle.std.specs.Bool.{beq as agree}
-use Rattle.std.specs.List.{AllByRecursion, position_from}
+use Rattle.std.specs.List.{position_from}
 use Rattle.std.proofs.lemmas.Bool.{ltb-true, lt-ltb, le-ltb, lt-leb, le-leb, ne_eqb, false≢true, cases_lt}
 use Rattle.std.proofs.lemmas.List.Sums.{sum_by_more_le}
 use Rattle.std.proofs.lemmas.List.{get_or_past}
@@ -34,13 +34,13 @@ use Rattle.spec_machine.specs.declared.reply.Reply.{Reply}
 use Rattle.spec_machine.specs.declared.reply.Reply.TheVariants.{Done, Version, Held, Mode, Conn, Force, Edit}
 use Rattle.spec_machine.specs.Edits.{Change, Book, Edited, book_at, routine_at, accept_in, other_owner, is_misplaced, first_again, taken_by, changes_in, changes_of, merged, scope_of, with_changes, instruction_count, none_or, ok_or_cause, has_accepted, test, untest, assemble, cancel}
 use Rattle.spec_machine.specs.Project.{Project, RoutineText}
-use Rattle.spec_machine.specs.State.{State, Plan, start}
+use Rattle.spec_machine.specs.State.{State, Plan}
 use Rattle.spec_machine.specs.Actions.{Acted, held_or, triggers, put_in, take_out, install_on, force_replied, edit_replied, mode_run_from, mode_program_from, clear_from, act}
-use Rattle.spec_machine.specs.Machine.{step}
 use Rattle.spec_schedule.specs.Refusals.{when, first_of, is_mode, owner_cause, text_cause, if_read, merged_causes, first_cause}
-use Rattle.spec_schedule.specs.Stages.{stages_from, is_refusal}
+use Rattle.spec_schedule.specs.Stages.{is_refusal}
 use Rattle.spec_duties.specs.Answers.{refusal_in, IsAnsweredRightly, AnswersAreRight}
-use Rattle.spec_reach.proofs.Reached.{IsReached, reached_start, reached_next, known_at}
+use Rattle.spec_reach.proofs.Reached.{IsReached, known_at}
+use Rattle.spec_duties.proofs.AlongStages.{stage, each_stage}
 
 -- the first cause is what the reply refuses with
 abbrev Rightly : Option Reply → Acted → Type 0
@@ -323,16 +323,12 @@ module _ (s : State) where
 
 -- ---- along a run
 
-stage_rightly : (p : Project) (s : State) (e : Event) → IsReached p s → IsAnsweredRightly (record { before = s; entry = (step s e).entry; after = (step s e).state })
+stage_rightly : (p : Project) (s : State) (e : Event) → IsReached p s → IsAnsweredRightly (stage s e)
 stage_rightly p s events.Cpu h = tt
 stage_rightly p s events.Tick h = tt
 stage_rightly p s (events.Act lane a) h =
     let z = (known_at p s h).sizes in
     act_rightly s (z.words ∙ ap (λ (plan : Plan). words_of plan.conns) (sym z.same_plan)) lane a
 
-along : (p : Project) (s : State) (es : List Event) → IsReached p s → AllByRecursion IsAnsweredRightly (stages_from s es)
-along p s [] h = tt
-along p s (e ∷ es) h = (stage_rightly p s e h, along p (step s e).state es (reached_next p s e h))
-
 pub answers_are_right : (p : Project) → AnswersAreRight p
-answers_are_right p journal = along p (start p) journal (reached_start p)
+answers_are_right p journal = each_stage p IsAnsweredRightly (stage_rightly p) journal

@@ -1,19 +1,20 @@
 -- Traces with the duties that they keep or break: those of a lazy controller, each with one or two events changed.
-use Rattle.std.specs.Prelude.{List, [], ◌∷◌, ◌++◌, Bool, true, false, Some, None}
+use Rattle.std.specs.Prelude.{ℕ, List, [], ◌∷◌, ◌++◌, length, sum_by, Bool, true, false, Some, None}
 use Rattle.std.specs.List.{list_all}
 use Rattle.spec_base.specs.declared.limits.TheConstants.{LEAST_PRIORITY, OWN_LANE}
 use Rattle.spec_tables.specs.declared.task.TaskDef.{TaskDef}
 use Rattle.spec_tables.specs.declared.task.TaskKind.TheVariants.{Continuous, Periodic, Event}
-use Rattle.spec_schedule.specs.declared.trace.TraceMark.TheVariants.{Trigger}
+use Rattle.spec_schedule.specs.declared.trace.TraceMark.TheVariants.{Plain as Unmarked, Trigger}
 use Rattle.spec_schedule.specs.declared.trace.StepFault.TheVariants.{Plain as NoFault, Minor}
 use Rattle.spec_schedule.specs.declared.trace.TraceAnswer.TheVariants.{Done}
 use Rattle.spec_schedule.specs.declared.trace.TraceEvent.{TraceEvent}
 use Rattle.spec_schedule.specs.declared.trace.TraceEvent.TheVariants.{Began, Step, Left, Tick, Act}
 use Rattle.spec_schedule.specs.declared.trace.Table.{Table}
-use Rattle.spec_schedule.specs.declared.trace.Verb.TheVariants.{Run, Program}
+use Rattle.spec_schedule.specs.declared.trace.Verb.TheVariants.{Program}
 use Rattle.spec_schedule.specs.Counting.{counted_events}
 use Rattle.spec_schedule.specs.TraceView.{audit_tasks}
 use Rattle.spec_duties.specs.CountedBack.{each_with_past}
+use Rattle.spec_duties.specs.Scans.{keeps_scans}
 use Rattle.spec_duties.specs.TickReleases.{keeps_releases}
 use Rattle.spec_duties.specs.Triggers.{keeps_triggers}
 use Rattle.spec_duties.specs.Watchdogs.{keeps_watchdogs}
@@ -24,26 +25,38 @@ abbrev pub tasks : List TaskDef
 tasks =
     record { kind = Continuous; priority = LEAST_PRIORITY; watchdog = 5; inhibited = false } ∷ record { kind = Periodic 2; priority = 5; watchdog = 3; inhibited = false } ∷ record { kind = Event; priority = 3; watchdog = 3; inhibited = false } ∷ []
 
-abbrev pub table : Table
-table = record { tasks = audit_tasks tasks ((0 ∷ []) ∷ (1 ∷ []) ∷ (2 ∷ []) ∷ []); programs = 3 }
+abbrev pub schedule : List (List ℕ)
+schedule = (0 ∷ []) ∷ (1 ∷ []) ∷ (2 ∷ []) ∷ []
 
--- whether the law of watchdogs holds of a trace, the law of releases at ticks, and the law of triggers
+abbrev pub table_of : List TaskDef → List (List ℕ) → Table
+table_of tasks schedule = record { tasks = audit_tasks tasks schedule; programs = sum_by length schedule }
+
+abbrev pub table : Table
+table = table_of tasks schedule
+
+-- whether the law of watchdogs holds of a trace, the law of releases at ticks, the law of triggers, and the law of scans
+abbrev pub duties_of : List TaskDef → List (List ℕ) → List TraceEvent → List Bool
+duties_of tasks schedule trace =
+    let xs = counted_events (table_of tasks schedule) trace in
+    each_with_past (keeps_watchdogs tasks) [] xs ∷ each_with_past (keeps_releases tasks) [] xs ∷ list_all (keeps_triggers tasks) xs ∷ each_with_past (keeps_scans schedule) [] xs ∷ []
+
 abbrev pub duties : List TraceEvent → List Bool
-duties trace =
-    let xs = counted_events table trace in
-    each_with_past (keeps_watchdogs tasks) [] xs ∷ each_with_past (keeps_releases tasks) [] xs ∷ list_all (keeps_triggers tasks) xs ∷ []
+duties trace = duties_of tasks schedule trace
 
 abbrev pub all_kept : List Bool
-all_kept = true ∷ true ∷ true ∷ []
+all_kept = true ∷ true ∷ true ∷ true ∷ []
 
 abbrev pub breaks_watchdogs : List Bool
-breaks_watchdogs = false ∷ true ∷ true ∷ []
+breaks_watchdogs = false ∷ true ∷ true ∷ true ∷ []
 
 abbrev pub breaks_releases : List Bool
-breaks_releases = true ∷ false ∷ true ∷ []
+breaks_releases = true ∷ false ∷ true ∷ true ∷ []
 
 abbrev pub breaks_triggers : List Bool
-breaks_triggers = true ∷ true ∷ false ∷ []
+breaks_triggers = true ∷ true ∷ false ∷ true ∷ []
+
+abbrev pub breaks_scans : List Bool
+breaks_scans = true ∷ true ∷ true ∷ false ∷ []
 
 -- ---- releases
 
@@ -112,3 +125,36 @@ second_untold = mode_run 1 ∷ Began 0 0 0 ∷ Step 0 0 (Trigger 2) NoFault ∷ 
 
 abbrev pub first_refused : List TraceEvent
 first_refused = mode_run 1 ∷ Began 0 0 0 ∷ Step 0 0 (Trigger 2) Minor ∷ []
+
+-- ---- scans
+
+-- the continuous task alone, with two programs
+abbrev pub one_task : List TaskDef
+one_task = record { kind = Continuous; priority = LEAST_PRIORITY; watchdog = 500; inhibited = false } ∷ []
+
+abbrev pub two_programs : List TraceEvent → List Bool
+two_programs trace = duties_of one_task ((0 ∷ 1 ∷ []) ∷ []) trace
+
+-- each program in turn, and then the first again
+abbrev pub in_turn : List TraceEvent
+in_turn =
+    mode_run 1 ∷ Began 0 0 0 ∷ Step 0 0 Unmarked NoFault ∷ Left 0 0 false ∷ Left 0 0 true ∷ Began 0 1 0 ∷ Left 0 1 true ∷ Began 0 0 0 ∷ []
+
+-- a scan is begun anew at a change of mode, and left where it stood
+abbrev pub begins_anew : List TraceEvent
+begins_anew = mode_run 1 ∷ Began 0 0 0 ∷ Left 0 0 true ∷ Began 0 1 0 ∷ Act OWN_LANE Program None Done 0 ∷ mode_run 1 ∷ Began 0 0 0 ∷ []
+
+abbrev pub goes_on_after_program : List TraceEvent
+goes_on_after_program = mode_run 1 ∷ Began 0 0 0 ∷ Act OWN_LANE Program None Done 0 ∷ mode_run 1 ∷ Step 0 0 Unmarked NoFault ∷ []
+
+-- it begins and begins, and does nothing
+abbrev pub only_begins : List TraceEvent
+only_begins = mode_run 1 ∷ Began 0 0 0 ∷ Began 0 0 0 ∷ Began 0 0 0 ∷ []
+
+-- the second program is never scanned
+abbrev pub first_only : List TraceEvent
+first_only = mode_run 1 ∷ Began 0 0 0 ∷ Left 0 0 true ∷ Began 0 0 0 ∷ Left 0 0 true ∷ []
+
+-- an instruction of a program that hasn't begun
+abbrev pub steps_at_once : List TraceEvent
+steps_at_once = mode_run 1 ∷ Began 0 0 0 ∷ Left 0 0 true ∷ Step 0 1 Unmarked NoFault ∷ []

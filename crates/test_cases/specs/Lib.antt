@@ -9,6 +9,7 @@ pub mod ParameterCases
 pub mod JournalCases
 pub mod LegalCases
 pub mod DutyCases
+pub mod DutyStages
 pub mod LadderRuns
 pub mod ParameterRuns
 pub mod TimerRuns

@@ -3,6 +3,7 @@
 #![tactic(auto)]
 
 mod duty_cases;
+mod duty_stages;
 mod journal_cases;
 mod law_runs;
 mod legal_cases;
@@ -11,7 +12,10 @@ mod project_cases;
 mod runs;
 mod text_cases;
 
-pub use duty_cases::{duties_are_broken, duties_are_kept};
+pub use duty_cases::{duties_are_broken, duties_are_kept, lazy_traces_are_legal};
+pub use duty_stages::{
+    books_are_broken, duties_of_stages_are_broken, duties_of_stages_are_kept, retaken_rungs,
+};
 pub use journal_cases::{
     journals_are_read, journals_are_refused, journals_are_written, scripts_are_read,
     scripts_are_refused,

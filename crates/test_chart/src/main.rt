@@ -1,26 +1,28 @@
 //! Judges the rows of a table of reports and their pictures on standard input.
 //!
-//! A row is `KIND "REPORT" STATUS TEXT`: how the program ends, and what it writes. `\n` stands for a line feed, in REPORT also
-//! `\t` for a tabulator and `\q` for a quotation mark. Lines that begin with `--` say why a row is so. What differs is printed,
-//! and at the end how many rows there were.
+//! A row is `KIND | REPORT | STATUS / TEXT`: how the program ends, and what it writes. A report, and what is written, may be the
+//! name of a text. What differs is printed, and at the end how many rows there were.
 //!
 //! | kind | the call | TEXT |
 //! |---|---|---|
-//! | `wave`, `tick`, `more` | `logix_wave` with no word, the word `tick`, two words | all that is written |
+//! | `wave`, `tick`, `more-words` | `logix_wave` with no word, the word `tick`, two words | all that is written |
 //! | `changes`, `ticks` | the same with no word, the word `tick` | what stands after the definitions |
 //! | `failing` | the same; the sink fails at its first put, and keeps ten bytes of it | |
-//! | `drawing`, `drawing_more` | `logix_timeline` with no word, two words | all that is written |
-//! | `drawn`, `drawn_tick` | the same with no word, the word `tick` | what stands after the legend |
-//! | `drawing_failing` | the same; the sink fails as above | |
+//! | `drawing`, `drawing-more-words` | `logix_timeline` with no word, two words | all that is written |
+//! | `drawn`, `drawn-tick` | the same with no word, the word `tick` | what stands after the legend |
+//! | `drawing-failing` | the same; the sink fails as above | |
 //! | `long` | `logix_timeline` on a report of so many lines, each a begin of one task | how many strokes there are |
 #![tactic(auto)]
+
+mod long;
 
 use lgx_chart::{Status, wave};
 use lgx_io::{Input, MemSink};
 use lgx_picture::draw_timeline;
+use long::say_strokes;
 use std::alloc::{AllocError, Global};
 use std::io::{self, Cursor};
-use test_rows::judge_rows;
+use test_rows::{Row, Texts, Told, judge_table, push_plain};
 
 /// What stands before the changes of a wave file.
 const DEFINED: &str = "$enddefinitions $end\n";
@@ -29,58 +31,70 @@ const DEFINED: &str = "$enddefinitions $end\n";
 const EXPLAINED: &str = "pointing at it shows all</text>\n";
 
 fn main(rt: HostRuntime) -> io::Result<()> {
-    judge_rows(rt, found)
+    judge_table(&rt, say)
 }
 
-/// What comes out in place of what the row says, if that differs.
-fn found(alloc: Global, row: &str) -> io::Result<Option<String>> {
-    let (kind, row) = row.split_once('"').unwrap_or((row, ""));
-    let (report, wanted) = row.split_once('"').unwrap_or((row, ""));
-    let said = called(alloc, kind.trim(), report)?;
-    let shown = escaped(alloc, said.as_str())?;
-    if shown.as_str() == wanted.trim() {
-        return Ok(None);
+/// Says what comes out of a row.
+fn say(texts: &Texts, row: &Row<'_>, told: &mut Told) {
+    if row.kind == "long" {
+        say_strokes(texts.alloc, row.given, told);
+    } else {
+        say_call(texts, row, told);
     }
-    Ok(Some(shown))
 }
 
-/// The status of a call and what the sink then holds; the whole usage line is shown by its name.
-fn called(alloc: Global, kind: &str, report: &str) -> Result<String, AllocError> {
-    if kind == "long" {
-        return strokes_of(alloc, report);
+/// Says `STATUS / TEXT` of a call.
+fn say_call(texts: &Texts, row: &Row<'_>, told: &mut Told) {
+    let mut report = Vec::new(texts.alloc);
+    let mut words = Vec::new(texts.alloc);
+    let mut puts = Vec::new(texts.alloc);
+    let is_whole = push_report(&mut report, texts, row.given).is_ok()
+        && push_words(texts.alloc, &mut words, row.kind).is_ok()
+        && push_failing(&mut puts, row.kind).is_ok();
+    if !is_whole {
+        told.lack();
     }
-    let mut failing = Vec::new(alloc);
+    let mut sink = MemSink::new(texts.alloc, puts);
+    let status = ended(texts.alloc, row.kind, &words, report, &mut sink);
+    told.number(i64::from(status.number()));
+    say_text(texts, row, sink.held(), told);
+}
+
+/// Adds the bytes of a report.
+fn push_report(report: &mut Vec<u8>, texts: &Texts, given: &str) -> Result<(), AllocError> {
+    match texts.get(given) {
+        Some(text) => report.extend_from_slice(text),
+        None => push_plain(report, given),
+    }
+}
+
+/// Adds the words of a call.
+fn push_words(alloc: Global, words: &mut Vec<String>, kind: &str) -> Result<(), AllocError> {
+    let count = match kind {
+        "tick" | "ticks" | "drawn-tick" => 1,
+        "more-words" | "drawing-more-words" => 2,
+        _ => 0,
+    };
+    for _ in 0..count {
+        words.push(String::new(alloc))?;
+    }
+    for word in words {
+        word.push_str("tick")?;
+    }
+    Ok(())
+}
+
+/// Adds the put that fails, if one does, and how many bytes it keeps.
+fn push_failing(puts: &mut Vec<(u32, u32)>, kind: &str) -> Result<(), AllocError> {
     if kind.ends_with("failing") {
-        failing.push((1, 10))?;
+        puts.push((1, 10))?;
     }
-    let mut sink = MemSink::new(alloc, failing);
-    let words = words_of(alloc, kind)?;
-    let report = plain(alloc, report)?;
-    let status = ended(alloc, kind, &words, report, &mut sink).number();
-    let text = text_after(kind, shown(kind, sink.held()));
-    format!(in alloc; "{status} {text}")
-}
-
-/// A text, or the name of the usage line of the program that a kind names.
-fn shown<'a>(kind: &str, text: &'a [u8]) -> &'a str {
-    if text == usage(kind) {
-        return "USAGE";
-    }
-    std::str::from_utf8(text).unwrap_or("no text")
+    Ok(())
 }
 
 /// Whether a kind names `logix_timeline`.
 fn is_drawing(kind: &str) -> bool {
     kind.starts_with("draw")
-}
-
-/// The usage line of the program that a kind names.
-fn usage(kind: &str) -> &'static [u8] {
-    if is_drawing(kind) {
-        lgx_picture::USAGE
-    } else {
-        lgx_chart::USAGE
-    }
 }
 
 /// How the program ends that a kind names.
@@ -99,95 +113,38 @@ fn ended(
     }
 }
 
+/// Says what was written: the usage line by its name, and the text of the name that is wanted by that.
+fn say_text(texts: &Texts, row: &Row<'_>, held: &[u8], told: &mut Told) {
+    let (_, name) = row.wanted.split_once(" / ").unwrap_or(("", ""));
+    told.word("/");
+    let shown = text_after(row.kind, std::str::from_utf8(held).unwrap_or("no text"));
+    if held == usage(row.kind) {
+        told.word("USAGE");
+    } else if !shown.is_empty() && texts.get(name).unwrap_or(b"") == shown.as_bytes() {
+        told.word(name);
+    } else {
+        told.text(shown.as_bytes());
+    }
+}
+
+/// The usage line of the program that a kind names.
+fn usage(kind: &str) -> &'static [u8] {
+    if is_drawing(kind) {
+        lgx_picture::USAGE
+    } else {
+        lgx_chart::USAGE
+    }
+}
+
 /// What of a text is looked at.
 fn text_after<'a>(kind: &str, text: &'a str) -> &'a str {
-    let cut = match kind {
-        "changes" | "ticks" => text.split_once(DEFINED),
-        "drawn" | "drawn_tick" => text.split_once(EXPLAINED),
-        _ => None,
+    let mark = match kind {
+        "changes" | "ticks" => DEFINED,
+        "drawn" | "drawn-tick" => EXPLAINED,
+        _ => return text,
     };
-    match cut {
+    match text.split_once(mark) {
         Some((_, after)) => after,
         None => text,
     }
-}
-
-/// The words of a call.
-fn words_of(alloc: Global, kind: &str) -> Result<Vec<String>, AllocError> {
-    let count = match kind {
-        "tick" | "ticks" | "drawn_tick" => 1,
-        "more" | "drawing_more" => 2,
-        _ => 0,
-    };
-    let mut words = Vec::new(alloc);
-    for _ in 0..count {
-        words.push(String::from_str(alloc, "tick")?)?;
-    }
-    Ok(words)
-}
-
-/// A report of so many lines, each a begin of one task.
-fn long_report(alloc: Global, lines: u32) -> Result<String, AllocError> {
-    let mut report = String::new(alloc);
-    for line in 0..lines {
-        let step = u64::from(line) + 1;
-        let text = format!(in alloc; "0 {step} begin T P 0\n")?;
-        report.push_str(text.as_str())?;
-    }
-    let end = format!(in alloc; "end 0 {lines} run lost 0\n")?;
-    report.push_str(end.as_str())?;
-    Ok(report)
-}
-
-/// The status of a drawing of so many lines, and its strokes, or all of its text if there are none.
-fn strokes_of(alloc: Global, lines: &str) -> Result<String, AllocError> {
-    let report = long_report(alloc, lines.parse().unwrap_or(0))?.into_bytes();
-    let mut sink = MemSink::new(alloc, Vec::new(alloc));
-    let words = Vec::new(alloc);
-    let status = ended(alloc, "drawing", &words, report, &mut sink).number();
-    let text = std::str::from_utf8(sink.held()).unwrap_or("no text");
-    let strokes = text.split("<g><title>tick").count().saturating_sub(1);
-    if strokes == 0 {
-        return format!(in alloc; "{status} {text}");
-    }
-    format!(in alloc; "{status} {strokes} strokes")
-}
-
-/// A text whose controls and quotation marks are written with a backslash.
-fn plain(alloc: Global, text: &str) -> Result<Vec<u8>, AllocError> {
-    let mut bytes = Vec::new(alloc);
-    let mut escaped = false;
-    for byte in text.as_bytes() {
-        if escaped {
-            bytes.push(control(*byte))?;
-            escaped = false;
-        } else if *byte == b'\\' {
-            escaped = true;
-        } else {
-            bytes.push(*byte)?;
-        }
-    }
-    Ok(bytes)
-}
-
-fn control(letter: u8) -> u8 {
-    match letter {
-        b'n' => b'\n',
-        b't' => b'\t',
-        b'q' => b'"',
-        _ => letter,
-    }
-}
-
-/// A text with `\n` in place of line feeds, without spaces at its end.
-fn escaped(alloc: Global, text: &str) -> Result<String, AllocError> {
-    let mut shown = String::new(alloc);
-    for letter in text.trim_end_matches(' ').chars() {
-        if letter == '\n' {
-            shown.push_str("\\n")?;
-        } else {
-            shown.push(letter)?;
-        }
-    }
-    Ok(shown)
 }

@@ -57,10 +57,7 @@ fn declare_all(table: &mut TagTable) -> Result<(), Trouble>
 fn rungs_of(alloc: Global, text: &str) -> Result<Vec<SourceRung>, Trouble> {
     let mut rungs = Vec::new(alloc);
     for piece in text.split_inclusive(';') {
-        let piece = piece.trim();
-        if let Some(numbers) = piece.strip_prefix('#') {
-            push_many(alloc, &mut rungs, numbers)?;
-        } else if !piece.is_empty() {
+        if !piece.trim().is_empty() {
             rungs.push(rung_of(alloc, piece.as_bytes())?)?;
         }
     }
@@ -72,42 +69,6 @@ fn rung_of(alloc: Global, text: &[u8]) -> Result<SourceRung, Trouble> {
         return Err(Trouble::Form);
     }
     Ok(read_rung(alloc, text)?)
-}
-
-/// The number that a text is.
-pub fn number(text: &str) -> Result<u32, Trouble> {
-    text.trim().parse::<u32>().ok().ok_or(Trouble::Form)
-}
-
-/// Adds the rungs of `RUNGS,COUNT;`.
-fn push_many(alloc: Global, rungs: &mut Vec<SourceRung>, numbers: &str) -> Result<(), Trouble> {
-    let (many, count) = numbers.split_once(',').ok_or(Trouble::Form)?;
-    let many = number(many)?;
-    let count = number(count.trim_end_matches(';'))?;
-    let text = nops(alloc, count)?;
-    push_each(alloc, rungs, many, text.as_slice())
-}
-
-/// The text of a rung of so many `NOP()`.
-fn nops(alloc: Global, count: u32) -> Result<Vec<u8>, Trouble> {
-    let mut text = Vec::new(alloc);
-    for _ in 0..count {
-        text.extend_from_slice(b"NOP()")?;
-    }
-    text.push(b';')?;
-    Ok(text)
-}
-
-fn push_each(
-    alloc: Global,
-    rungs: &mut Vec<SourceRung>,
-    many: u32,
-    text: &[u8],
-) -> Result<(), Trouble> {
-    for _ in 0..many {
-        rungs.push(rung_of(alloc, text)?)?;
-    }
-    Ok(())
 }
 
 fn name_of(text: &str) -> Result<Name, Trouble> {
@@ -223,8 +184,8 @@ fn programs_of(alloc: Global, tags: &TagTable, text: &str) -> Result<Vec<Program
 }
 
 impl Bench {
-    /// The book of programs `NAME ROUTINE & ROUTINE % ..`. A routine is its name and its rungs; the first of a program is its
-    /// main one. `#RUNGS,COUNT;` stands for so many rungs of so many `NOP()` each.
+    /// The book of programs `NAME ROUTINE & ROUTINE % ..`. A routine is its name and its rungs; the first of a
+    /// program is its main one.
     pub fn load(alloc: Global, text: &str) -> Result<Bench, Trouble> {
         let tags = tags(alloc)?;
         let programs = programs_of(alloc, &tags, text)?;
@@ -267,8 +228,8 @@ impl Bench {
         self.book.slot(program, i)
     }
 
-    /// The rungs of a routine of the selected program, or of the held one: `/` before each rung, and then the numbers that
-    /// its instructions name first.
+    /// The rungs of a routine of the selected program, or of the held one: `/` before each rung, and then the numbers
+    /// that its instructions name first.
     pub fn text(
         &self,
         alloc: Global,

@@ -6,15 +6,16 @@ use lgx_journal::{Journal, read_journal};
 use lgx_rung::{CheckFault, TextFault};
 use spec_machine::{Accept, Action, EditFault, Event};
 use std::alloc::Global;
-use test_rows::Told;
+use test_rows::{Told, unescaped};
 
 /// What a command is answered: an accept its number, another command nothing, or why it is refused.
-pub type Answer = Result<Option<u32>, EditFault>;
+type Answer = Result<Option<u32>, EditFault>;
 
-/// `book ? PROGRAMS ? COMMAND / ..`: what the commands answer, one after another. The programs are as [`Bench::load`] has
-/// them, and the edit commands as in a journal. Of program N, 0 if it isn't told, `hold N` holds what is selected and answers
-/// its number, `drop N` drops it, `slots N` answers the number in each slot, `text R N` the rungs of routine R that are
-/// selected, and `held R N` those that are held.
+/// `book | PROGRAMS ? COMMAND / .. | ..`: what the commands answer, one after another; of a command after `!` the
+/// answer isn't said. The programs are as [`Bench::load`] has them, and the edit commands as in a journal. Of program
+/// N, 0 if it isn't told, `hold N` holds what is selected and answers its number, `drop N` drops it, `slots N`
+/// answers the number in each slot, `text R N` the rungs of routine R that are selected, and `held R N` those that
+/// are held.
 pub fn say_book(alloc: Global, said: &mut Told, text: &str) -> Result<(), Trouble> {
     let (programs, commands) = text.split_once('?').ok_or(Trouble::Form)?;
     let mut bench = Bench::load(alloc, programs.trim())?;
@@ -28,9 +29,18 @@ fn say_all(
     commands: &str,
 ) -> Result<(), Trouble> {
     for command in commands.split('/') {
-        say_command(alloc, said, bench, command.trim())?;
+        match command.trim().strip_prefix('!') {
+            Some(command) => obey(alloc, bench, command)?,
+            None => say_command(alloc, said, bench, command.trim())?,
+        }
     }
     Ok(())
+}
+
+/// Obeys a command, and says nothing.
+fn obey(alloc: Global, bench: &mut Bench, command: &str) -> Result<(), Trouble> {
+    let mut unsaid = Told::new(alloc);
+    say_command(alloc, &mut unsaid, bench, command)
 }
 
 /// The number at place `i` of the words, or 0.
@@ -60,7 +70,7 @@ fn say_command(
 }
 
 /// Says the number in each slot of a program.
-pub fn say_slots(said: &mut Told, bench: &Bench, program: u32) {
+fn say_slots(said: &mut Told, bench: &Bench, program: u32) {
     for i in 0..3 {
         said.or_none(bench.slot(program, i));
     }
@@ -85,27 +95,32 @@ fn say_text(
 }
 
 /// Says what an edit command is answered.
-pub fn say_reply(
+fn say_reply(
     alloc: Global,
     said: &mut Told,
     bench: &mut Bench,
     command: &str,
 ) -> Result<(), Trouble> {
-    let answer = reply(alloc, bench, command)?;
+    let journal = journal_of(alloc, command)?;
+    say_reply_to(alloc, said, bench, &journal)
+}
+
+fn say_reply_to(
+    alloc: Global,
+    said: &mut Told,
+    bench: &mut Bench,
+    journal: &Journal,
+) -> Result<(), Trouble> {
+    let answer = reply_to(alloc, bench, journal)?;
     say_answer(said, answer);
     Ok(())
 }
 
-/// What an edit command is answered.
-pub fn reply(alloc: Global, bench: &mut Bench, command: &str) -> Result<Answer, Trouble> {
-    let journal = journal_of(alloc, command)?;
-    reply_to(alloc, bench, &journal)
-}
-
 /// The journal of one command.
 fn journal_of(alloc: Global, command: &str) -> Result<Journal, Trouble> {
-    let text = format!(in alloc; "{command}\nend\n")?;
-    Ok(read_journal(alloc, text.as_bytes())?)
+    let text = format!(in alloc; "{command}\\nend\\n")?;
+    let bytes = unescaped(alloc, text.as_str())?;
+    Ok(read_journal(alloc, &bytes)?)
 }
 
 fn reply_to(alloc: Global, bench: &mut Bench, journal: &Journal) -> Result<Answer, Trouble> {
@@ -144,7 +159,7 @@ fn acted(bench: &mut Bench, client: u32, action: &Action) -> Result<Answer, Trou
 }
 
 /// The answer of a command without a number.
-pub fn done(answer: Result<(), EditFault>) -> Answer {
+fn done(answer: Result<(), EditFault>) -> Answer {
     match answer {
         Ok(()) => Ok(None),
         Err(fault) => Err(fault),

@@ -1,103 +1,54 @@
 // Whether a journal is complete for a script, counted line by line.
-use std::alloc::{AllocError, Global};
+use crate::fields::{cut, number_of, unsigned_of, word_at};
 
 /// The most lanes that a script may have, and the journal's own.
 const LANES: usize = 32;
 
 /// Why a journal isn't complete for a script; none if nothing was found. Not counted are answers, and whether a CPS is open:
 /// after the script's steps or at the end.
-pub fn journal_trouble(
-    alloc: Global,
-    script: &str,
-    journal: &str,
-) -> Result<Option<&'static str>, AllocError> {
-    let (steps, pace) = header_of(script);
-    let lanes = lanes_of(alloc, script)?;
-    let mut count = Count::new(pace);
+pub(crate) fn journal_trouble(script: &str, journal: &str) -> Option<&'static str> {
+    let header = cut(script, "run ").1;
+    let steps = number_of(word_at(header, 0));
+    let mut count = Count::new(number_of(word_at(header, 1)).max(1), script);
     for line in journal.split('\n') {
         if line == "end" {
             break;
         }
-        let trouble = count.take(&lanes, line);
+        let trouble = count.take(line);
         if trouble.is_some() {
-            return Ok(trouble);
+            return trouble;
         }
     }
-    Ok(count.trouble_at_end(&lanes, steps))
-}
-
-/// STEPS and PACE of a script.
-fn header_of(script: &str) -> (u64, u64) {
-    for line in script.split('\n') {
-        if let Some(numbers) = line.strip_prefix("run ") {
-            let (steps, rest) = numbers.split_once(' ').unwrap_or((numbers, ""));
-            let (pace, _lanes) = rest.split_once(' ').unwrap_or((rest, ""));
-            return (number_of(steps), number_of(pace).max(1));
-        }
-    }
-    (0, 1)
-}
-
-fn number_of(digits: &str) -> u64 {
-    digits.parse::<u64>().unwrap_or(0)
-}
-
-/// The lane of a line, and what stands after it.
-fn lane_line(line: &str) -> Option<(usize, &str)> {
-    let (lane, rest) = line.strip_prefix("@")?.split_once(' ')?;
-    let lane = lane.parse::<u32>().ok()? as usize;
-    (lane < LANES).then_some((lane, rest))
-}
-
-/// For each lane its actions, each with its tick.
-fn lanes_of(alloc: Global, script: &str) -> Result<Vec<Vec<(u64, &str)>>, AllocError> {
-    let mut lanes = Vec::new(alloc);
-    for _ in 0..LANES {
-        lanes.push(Vec::new(alloc))?;
-    }
-    push_actions(script, &mut lanes)?;
-    Ok(lanes)
-}
-
-/// Adds the actions of a script to their lanes.
-fn push_actions<'a>(script: &'a str, lanes: &mut [Vec<(u64, &'a str)>]) -> Result<(), AllocError> {
-    for line in script.split('\n') {
-        if let Some((lane, rest)) = lane_line(line) {
-            if let (Some(lane), Some((at, action))) = (lanes.get_mut(lane), rest.split_once(' ')) {
-                lane.push((number_of(at), action))?;
-            }
-        }
-    }
-    Ok(())
+    count.trouble_at_end(steps)
 }
 
 /// What was counted of a journal so far.
 #[derive(Drop)]
-struct Count {
+struct Count<'a> {
     pace: u64,
     lines: u64,
     steps: u64,
     ticks: u64,
     /// Whether a tick is to be the next event.
     is_tick_due: bool,
-    /// How many actions of each lane were made.
-    made: [usize; LANES],
+    /// For each lane the lines of the script after its last action that was made.
+    left: [&'a str; LANES],
 }
 
-impl Count {
-    fn new(pace: u64) -> Count {
+impl<'a> Count<'a> {
+    fn new(pace: u64, script: &'a str) -> Count<'a> {
         Count {
             pace,
             lines: 0,
             steps: 0,
             ticks: 0,
             is_tick_due: false,
-            made: [0; LANES],
+            left: [script; LANES],
         }
     }
 
     /// Counts a line of the journal. Answers what is wrong with it.
-    fn take(&mut self, lanes: &[Vec<(u64, &str)>], line: &str) -> Option<&'static str> {
+    fn take(&mut self, line: &str) -> Option<&'static str> {
         self.lines = self.lines.saturating_add(1);
         if self.lines == 1 {
             return (line != "mode run").then_some("the first line isn't mode run");
@@ -108,10 +59,11 @@ impl Count {
         if self.is_tick_due {
             return Some("a tick is left out");
         }
-        if let Some(steps) = line.strip_prefix("cpu ") {
-            return self.take_steps(number_of(steps));
+        let (word, rest) = cut(line, " ");
+        if word == "cpu" {
+            return self.take_steps(number_of(rest));
         }
-        self.take_action(lanes, line)
+        self.take_action(lane_of(word), rest)
     }
 
     fn take_tick(&mut self) -> Option<&'static str> {
@@ -132,34 +84,59 @@ impl Count {
         None
     }
 
-    fn take_action(&mut self, lanes: &[Vec<(u64, &str)>], line: &str) -> Option<&'static str> {
-        let Some((lane, action)) = lane_line(line) else {
+    fn take_action(&mut self, lane: usize, action: &str) -> Option<&'static str> {
+        let Some(left) = self.left.get_mut(lane) else {
             return Some("a line of no lane");
         };
-        let made = self.made.get_mut(lane)?;
-        let Some(&(at, wanted)) = lanes.get(lane)?.get(*made) else {
-            return Some("an action that the lane hasn't got");
-        };
-        *made = made.saturating_add(1);
-        if action != wanted {
+        let (wanted, rest) = next_action(left, lane);
+        *left = rest;
+        let (at, wanted) = cut(wanted, " ");
+        if wanted != action {
             return Some("an action that isn't the lane's next");
         }
-        (self.ticks < at).then_some("an action before its tick")
+        (self.ticks < number_of(at)).then_some("an action before its tick")
     }
 
     /// What is missing at the journal's end.
-    fn trouble_at_end(&self, lanes: &[Vec<(u64, &str)>], steps: u64) -> Option<&'static str> {
+    fn trouble_at_end(&self, steps: u64) -> Option<&'static str> {
         if self.is_tick_due {
             return Some("the last tick is left out");
         }
         if self.steps < steps {
             return Some("too few steps");
         }
-        for (lane, made) in lanes.iter().zip(&self.made) {
-            if lane.len() != *made {
+        for lane in 0..LANES {
+            if !next_action(self.left[lane], lane).0.is_empty() {
                 return Some("an action is left out");
             }
         }
         None
     }
+}
+
+/// The lane of a word `@N`; past the last one, where the word is no lane.
+fn lane_of(word: &str) -> usize {
+    let (before, lane) = cut(word, "@");
+    if before.is_empty() && !lane.is_empty() {
+        unsigned_of(lane) as usize
+    } else {
+        LANES
+    }
+}
+
+/// The next action of a lane with its tick, and the lines after it; nothing and nothing, if there is none.
+fn next_action(script: &str, lane: usize) -> (&str, &str) {
+    let mut left = script;
+    for _ in 0..script.len() {
+        if left.is_empty() {
+            break;
+        }
+        let (line, rest) = cut(left, "\n");
+        let (word, action) = cut(line, " ");
+        if lane_of(word) == lane {
+            return (action, rest);
+        }
+        left = rest;
+    }
+    ("", "")
 }

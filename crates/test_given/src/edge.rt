@@ -1,170 +1,180 @@
 // Rows of files and sinks alone.
-use crate::answers::{add, add_put, add_read, show};
-use crate::row::Row;
+use crate::case::{Case, File};
+use crate::fields::{cut, unsigned_of};
 use crate::slow::Slow;
-use crate::texts::{Texts, failing_call, failing_puts, failing_reads, unescaped};
 use lgx_io::{
-    Files, Gathered, HostFiles, MemFiles, MemSink, Sink, SureFiles, read_to_end, write_all,
+    FileFault, Files, Gathered, HostFiles, MemFiles, MemSink, Sink, SinkFault, SureFiles,
+    read_to_end, write_all,
 };
-use std::alloc::{AllocError, Global};
+use std::alloc::Global;
 use std::fs;
 use std::io::BufWriter;
 use std::rt::Files as FileAccess;
+use test_rows::{Texts, Told, push_plain};
 
-/// Does what a row of files or sinks alone says, and writes `ANSWER / HELD` as they come out.
-pub fn find_edge<R: FileAccess>(
-    rt: &R,
-    texts: &Texts,
-    kind: &str,
-    row: Row<'_>,
-    found: &mut String,
-) -> Result<(), AllocError> {
-    match kind {
-        "read" => read(texts, row, found),
-        "read-sure" => read_sure(texts, row, found),
-        "read-host" => read_host(rt, texts, row, found),
-        "read-slow" => read_slow(texts, row, found),
-        "put" => put(texts, row, found),
-        "put-slow" => put_slow(texts, row, found),
-        "write-slow" => write_slow(texts, row, found),
-        _ => found.push_str("no such kind"),
+/// Says `ANSWERS / -` of reads of files that fail where the row says.
+pub(crate) fn say_reads(texts: &Texts, given: &str, told: &mut Told) {
+    let mut case = Case::new(texts.alloc);
+    if case.add(texts, given).is_err() {
+        told.lack();
     }
+    let Case {
+        words,
+        files,
+        reads,
+        ..
+    } = case;
+    let mut files = MemFiles::new(texts.alloc, files, reads);
+    say_all_reads(&words, &mut files, told, &mut Vec::new(texts.alloc));
+    say_held(b"", told);
 }
 
-/// Reads of files that fail where the row says.
-fn read(texts: &Texts, row: Row<'_>, found: &mut String) -> Result<(), AllocError> {
-    let reads = failing_reads(texts.alloc, row.failing)?;
-    let mut files = MemFiles::new(texts.alloc, texts.files(row.files)?, reads);
-    read_names(texts.alloc, row.what, &mut files, found)?;
-    show(texts.alloc, b"", found)
-}
-
-/// Reads of files that never fail.
-fn read_sure(texts: &Texts, row: Row<'_>, found: &mut String) -> Result<(), AllocError> {
-    let mut files = SureFiles::new(texts.alloc, texts.files(row.files)?);
-    read_names(texts.alloc, row.what, &mut files, found)?;
-    show(texts.alloc, b"", found)
-}
-
-/// Reads of files of the system, which are written before and removed after.
-fn read_host<R: FileAccess>(
-    rt: &R,
-    texts: &Texts,
-    row: Row<'_>,
-    found: &mut String,
-) -> Result<(), AllocError> {
-    let files = texts.files(row.files)?;
-    let were_written = write_files(rt, &files);
-    let read = read_shown(rt, texts.alloc, row.what, found);
-    if were_written && remove_files(rt, &files) {
-        read
-    } else {
-        add(found, "no files")
+/// Says `ANSWERS / -` of reads of files that never fail.
+pub(crate) fn say_sure_reads(texts: &Texts, given: &str, told: &mut Told) {
+    let mut case = Case::new(texts.alloc);
+    if case.add(texts, given).is_err() {
+        told.lack();
     }
+    let mut files = SureFiles::new(texts.alloc, case.files);
+    say_all_reads(&case.words, &mut files, told, &mut Vec::new(texts.alloc));
+    say_held(b"", told);
 }
 
-/// Reads these names of files of the system, and shows the bytes of all of them.
-fn read_shown<R: FileAccess>(
-    rt: &R,
-    alloc: Global,
-    names: &str,
-    found: &mut String,
-) -> Result<(), AllocError> {
-    let bytes = read_names(alloc, names, &mut HostFiles::new(rt, alloc), found)?;
-    show(alloc, &bytes, found)
+/// Says `ANSWERS / BYTES` of reads of files of the system, which are written before and removed after.
+pub(crate) fn say_host_reads<R: FileAccess>(rt: &R, texts: &Texts, given: &str, told: &mut Told) {
+    let mut case = Case::new(texts.alloc);
+    if case.add(texts, given).is_err() {
+        told.lack();
+    }
+    write_files(rt, &case.files, told);
+    let mut all = Vec::new(texts.alloc);
+    say_all_reads(
+        &case.words,
+        &mut HostFiles::new(rt, texts.alloc),
+        told,
+        &mut all,
+    );
+    say_held(&all, told);
+    remove_files(rt, &case.files, told);
 }
 
-/// Whether all of the files could be written.
-fn write_files<R: FileAccess>(rt: &R, files: &[(String, Vec<u8>)]) -> bool {
+fn write_files<R: FileAccess>(rt: &R, files: &[File], told: &mut Told) {
     for file in files {
         if fs::write(rt, file.0.as_str(), file.1.as_slice()).is_err() {
-            return false;
+            told.word("unwritten");
         }
     }
-    true
 }
 
-/// Whether all of the files could be removed.
-fn remove_files<R: FileAccess>(rt: &R, files: &[(String, Vec<u8>)]) -> bool {
+fn remove_files<R: FileAccess>(rt: &R, files: &[File], told: &mut Told) {
     for file in files {
         if fs::remove_file(rt, file.0.as_str()).is_err() {
-            return false;
+            told.word("unremoved");
         }
     }
-    true
 }
 
-/// Reads these names. Answers the bytes of all of them.
-fn read_names<F: Files>(
-    alloc: Global,
-    names: &str,
-    files: &mut F,
-    found: &mut String,
-) -> Result<Vec<u8>, AllocError> {
-    let mut all = Vec::new(alloc);
-    for name in names.split_whitespace() {
-        let bytes = add_read(alloc, files.read(name), found)?;
-        all.extend_from_slice(&bytes)?;
+/// Says how many bytes each file gives, or its fault, and adds these bytes to all.
+fn say_all_reads<F: Files>(names: &[String], files: &mut F, told: &mut Told, all: &mut Vec<u8>) {
+    for name in names {
+        say_read(&files.read(name.as_str()), told, all);
     }
-    Ok(all)
 }
 
-/// Reads all that a slow reader has.
-fn read_slow(texts: &Texts, row: Row<'_>, found: &mut String) -> Result<(), AllocError> {
-    let bytes = unescaped(texts.alloc, row.what)?;
-    let mut reader = Slow::new(bytes, failing_call(row.failing));
-    let bytes = add_read(texts.alloc, read_to_end(texts.alloc, &mut reader), found)?;
-    show(texts.alloc, &bytes, found)
+fn say_read(read: &Result<Vec<u8>, FileFault>, told: &mut Told, all: &mut Vec<u8>) {
+    match read {
+        Ok(bytes) => {
+            told.count(bytes.len());
+            if all.extend_from_slice(bytes).is_err() {
+                told.lack();
+            }
+        }
+        Err(fault) => told.shown(fault),
+    }
 }
 
-/// Writes all to a slow writer.
-fn write_slow(texts: &Texts, row: Row<'_>, found: &mut String) -> Result<(), AllocError> {
-    let bytes = unescaped(texts.alloc, row.what)?;
-    let mut writer = Slow::new(Vec::new(texts.alloc), failing_call(row.failing));
+/// Says what is held at last.
+fn say_held(held: &[u8], told: &mut Told) {
+    told.word("/");
+    told.text(held);
+}
+
+/// What stands in a row as one text.
+fn plain(alloc: Global, text: &str, told: &mut Told) -> Vec<u8> {
+    let mut bytes = Vec::new(alloc);
+    if push_plain(&mut bytes, text).is_err() {
+        told.lack();
+    }
+    bytes
+}
+
+/// The number of the call of a slow reader or writer that fails; 0 if none does.
+fn failing_call(setting: &str) -> u32 {
+    unsigned_of(cut(setting, "call=").1)
+}
+
+/// Says what a reading of all that a slow reader has gives.
+pub(crate) fn say_slow_read(texts: &Texts, given: &str, told: &mut Told) {
+    let (text, setting) = cut(given, " / ");
+    let mut reader = Slow::new(plain(texts.alloc, text, told), failing_call(setting));
+    let mut all = Vec::new(texts.alloc);
+    say_read(&read_to_end(texts.alloc, &mut reader), told, &mut all);
+    say_held(&all, told);
+}
+
+/// Says what a writing of all to a slow writer does.
+pub(crate) fn say_slow_write(texts: &Texts, given: &str, told: &mut Told) {
+    let (text, setting) = cut(given, " / ");
+    let bytes = plain(texts.alloc, text, told);
+    let mut writer = Slow::new(Vec::new(texts.alloc), failing_call(setting));
     let is_written = write_all(&mut writer, &bytes);
-    add(found, if is_written { "ok" } else { "Failed" })?;
-    show(texts.alloc, writer.bytes(), found)
+    told.word(if is_written { "ok" } else { "Failed" });
+    say_held(writer.bytes(), told);
 }
 
-/// Puts into a sink that fails where the row says.
-fn put(texts: &Texts, row: Row<'_>, found: &mut String) -> Result<(), AllocError> {
-    let mut sink = MemSink::new(texts.alloc, failing_puts(texts.alloc, row.failing)?);
-    put_pieces(texts.alloc, row.what, &mut sink, found)?;
-    show(texts.alloc, sink.held(), found)
-}
-
-/// Puts into a sink that gathers four bytes over a slow writer, and its end.
-fn put_slow(texts: &Texts, row: Row<'_>, found: &mut String) -> Result<(), AllocError> {
-    let mut writer = Slow::new(Vec::new(texts.alloc), failing_call(row.failing));
-    put_gathered(texts.alloc, row.what, &mut writer, found)?;
-    show(texts.alloc, writer.bytes(), found)
-}
-
-/// Puts these pieces into a sink that gathers four bytes, and finishes it.
-fn put_gathered(
-    alloc: Global,
-    pieces: &str,
-    writer: &mut Slow,
-    found: &mut String,
-) -> Result<(), AllocError> {
-    let Ok(gathering) = BufWriter::with_capacity(alloc, 4, writer) else {
-        return add(found, "no memory");
-    };
-    let mut sink = Gathered::over(gathering);
-    put_pieces(alloc, pieces, &mut sink, found)?;
-    add_put(sink.finish(), found)
-}
-
-/// Puts these pieces.
-fn put_pieces<K: Sink>(
-    alloc: Global,
-    pieces: &str,
-    sink: &mut K,
-    found: &mut String,
-) -> Result<(), AllocError> {
-    for piece in pieces.split_whitespace() {
-        let piece = unescaped(alloc, piece)?;
-        add_put(sink.put(&piece), found)?;
+/// Says what puts into a sink do that fails where the row says.
+pub(crate) fn say_puts(texts: &Texts, given: &str, told: &mut Told) {
+    let mut case = Case::new(texts.alloc);
+    if case.add(texts, given).is_err() {
+        told.lack();
     }
-    Ok(())
+    let mut sink = MemSink::new(texts.alloc, case.puts);
+    say_pieces(texts.alloc, &case.words, &mut sink, told);
+    say_held(sink.held(), told);
+}
+
+/// Says what puts into a sink that gathers four bytes over a slow writer do, and then its finishing.
+pub(crate) fn say_slow_puts(texts: &Texts, given: &str, told: &mut Told) {
+    let mut case = Case::new(texts.alloc);
+    if case.add(texts, given).is_err() {
+        told.lack();
+    }
+    let setting = cut(given, " / ").1;
+    let mut writer = Slow::new(Vec::new(texts.alloc), failing_call(setting));
+    say_gathered(texts.alloc, &case.words, &mut writer, told);
+    say_held(writer.bytes(), told);
+}
+
+fn say_gathered(alloc: Global, pieces: &[String], writer: &mut Slow, told: &mut Told) {
+    if let Ok(gathering) = BufWriter::with_capacity(alloc, 4, writer) {
+        let mut sink = Gathered::over(gathering);
+        say_pieces(alloc, pieces, &mut sink, told);
+        say_put(sink.finish(), told);
+    }
+}
+
+/// Says what the put of each piece answers.
+fn say_pieces<K: Sink>(alloc: Global, pieces: &[String], sink: &mut K, told: &mut Told) {
+    for piece in pieces {
+        let piece = plain(alloc, piece.as_str(), told);
+        say_put(sink.put(&piece), told);
+    }
+}
+
+fn say_put(answer: Result<(), SinkFault>, told: &mut Told) {
+    told.word(match answer {
+        Ok(()) => "ok",
+        Err(SinkFault::Failed) => "Failed",
+        Err(SinkFault::Memory) => "Memory",
+    });
 }

@@ -1,27 +1,34 @@
-// What holds lanes.
+// What holds lanes and stations.
+use crate::crossed::Crossed;
 use std::sync::atomic::{AtomicU64, Ordering};
 use std::thread;
 
 /// How often a lane looks whether another has come, at most.
 const TURNS: u32 = 2_000_000;
 
-/// Which lanes are held before an action.
+/// Which lanes are held before an action, or whether a station and the replay are.
 #[derive(Drop)]
 pub enum Hold {
     Nobody,
     Pair(Pair),
     AtRandom(AtRandom),
+    Crossed(Crossed),
 }
 
 impl Hold {
     /// Each of two lanes waits before its second action until the other was asked for its own.
-    pub fn till_both(first: u32, second: u32) -> Hold {
+    pub(crate) fn till_both(first: u32, second: u32) -> Hold {
         Hold::Pair(Pair::new(first, second))
     }
 
     /// Each lane is held for a while that is drawn.
-    pub fn at_random(seed: u64) -> Hold {
+    pub(crate) fn at_random(seed: u64) -> Hold {
         Hold::AtRandom(AtRandom::new(seed))
+    }
+
+    /// A station and the replay wait for each other by turns.
+    pub(crate) fn crossed() -> Hold {
+        Hold::Crossed(Crossed::new())
     }
 
     /// Holds a lane that made so many of its actions.
@@ -30,13 +37,15 @@ impl Hold {
             Hold::Nobody => {}
             Hold::Pair(pair) => pair.before(lane, index),
             Hold::AtRandom(random) => random.before(lane),
+            Hold::Crossed(crossed) => crossed.before(lane, index),
         }
     }
 
-    /// Whether the two lanes of a pair met.
-    pub fn met(&self) -> bool {
+    /// Whether those met who wait for each other.
+    pub(crate) fn met(&self) -> bool {
         match self {
             Hold::Pair(pair) => pair.met(),
+            Hold::Crossed(crossed) => crossed.met(),
             Hold::Nobody | Hold::AtRandom(_) => true,
         }
     }

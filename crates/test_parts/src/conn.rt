@@ -12,8 +12,9 @@ use std::alloc::Global;
 
 /// `conns | CONNECTION, CONNECTION ? CALL; .. | ..`: what the calls answer.
 ///
-/// A connection is `NAME in BYTE WORDS TASK` or the same with `out`. A call is `in NAME WORD`, `out NAME WORD`, `io NAME
-/// WORD` or `words NAME WORD`; a slot is its byte, its number and its task, and `words` answers how many words there are.
+/// A connection is `NAME in BYTE WORDS TASK` or the same with `out`. A call is `in NAME WORD`, `out NAME WORD`, `io
+/// NAME WORD` or `words NAME WORD`; a slot is its byte, its number and its task, and `words` answers how many words
+/// there are.
 pub fn say_conns(alloc: Global, said: &mut Told, defs: &str, calls: &str) -> Result<(), Trouble> {
     let conns = conns_of(alloc, said, defs)?;
     for call in calls.split(';') {

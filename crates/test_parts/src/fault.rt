@@ -1,13 +1,13 @@
 // The log of faults.
+use crate::trouble::Trouble;
 use crate::words::{Told, number_at};
 use lgx_fault::FaultLog;
-use lgx_num::Memory;
 use spec_tables::{Fault, Severity};
 use std::alloc::Global;
 
-/// `log | COUNT ? NUMBER .. | ..`: after so many faults, one a tick from tick 0 on, whether the log is empty, how many
-/// it keeps, and the ticks of those of these numbers.
-pub fn say_log(alloc: Global, said: &mut Told, count: &str, numbers: &str) -> Result<(), Memory> {
+/// `log | COUNT ? NUMBER .. | ..`: after so many faults, one a tick from tick 0 on, whether the log is empty, how
+/// many it keeps, and the ticks of those of these numbers.
+pub fn say_log(alloc: Global, said: &mut Told, count: &str, numbers: &str) -> Result<(), Trouble> {
     let mut log = FaultLog::new(alloc)?;
     for tick in 0..number_at(said, count, 0) {
         log.note(fault_at(tick));

@@ -1,9 +1,9 @@
 // Forces.
 ghost use Rattle.std.specs.Prelude.{◌≡◌, length};
 
+use crate::trouble::Trouble;
 use crate::words::{Told, number_at, value_at, word_at};
 use lgx_force::ForceTable;
-use lgx_num::Memory;
 use spec_tables::ForceFault;
 use std::alloc::Global;
 
@@ -19,7 +19,7 @@ struct Forces {
 ///
 /// `install FIRST LAST MASK VALUE` answers the last fault of the words from the first to the last, `force WORD VALUE`
 /// what becomes of the value of a word.
-pub fn say_forces(alloc: Global, said: &mut Told, words: &str, calls: &str) -> Result<(), Memory> {
+pub fn say_forces(alloc: Global, said: &mut Told, words: &str, calls: &str) -> Result<(), Trouble> {
     let words = number_at(said, words, 0);
     let table = ForceTable::new(alloc, words)?;
     let mut forces = Forces { table, words };

@@ -6,7 +6,7 @@ ghost use Rattle.lgx_num.specs.Paths.{PathInBounds};
 use crate::trouble::Trouble;
 use crate::words::{Told, kind_at, number_at, value_at, word_at};
 use lgx_image::{Arg, GRAIN, Image, grain_of};
-use lgx_num::{Index, Kind, Memory, Operand, Path, Place, Steps};
+use lgx_num::{Index, Kind, Operand, Path, Place, Steps};
 use spec_base::limits::MAX_IMAGE_BYTES;
 use std::alloc::Global;
 
@@ -146,9 +146,9 @@ pub fn say_grains(said: &mut Told, text: &str) {
     }
 }
 
-/// `subscripts | A B C D | ..`: the first bit of element `[A,B,C,D]` of an array of 2 by 3 by 4 by 5 SINTs from byte 16
-/// on, or `none` if one is out of range.
-pub fn say_element(alloc: Global, said: &mut Told, text: &str) -> Result<(), Memory> {
+/// `subscripts | A B C D | ..`: the first bit of element `[A,B,C,D]` of an array of 2 by 3 by 4 by 5 SINTs from byte
+/// 16 on, or `none` if one is out of range.
+pub fn say_element(alloc: Global, said: &mut Told, text: &str) -> Result<(), Trouble> {
     let mut image = Image::new(alloc, 136)?;
     put_subscripts(said, &mut image, text);
     say_place(said, &image);
@@ -201,9 +201,9 @@ fn nested() -> Path
     }
 }
 
-/// `bind | NUMBER VALUE | ..`: a TIMER at byte 16, a number, a DINT at byte 4 that holds the value, and `?`, each with
-/// what it is when it is bound, and then the numbers of the second and of the third.
-pub fn say_bound(alloc: Global, said: &mut Told, text: &str) -> Result<(), Memory> {
+/// `bind | NUMBER VALUE | ..`: a TIMER at byte 16, a number, a DINT at byte 4 that holds the value, and `?`, each
+/// with what it is when it is bound, and then the numbers of the second and of the third.
+pub fn say_bound(alloc: Global, said: &mut Told, text: &str) -> Result<(), Trouble> {
     let mut image = Image::new(alloc, 32)?;
     let place = Place {
         kind: Kind::Dint,

@@ -6,8 +6,10 @@ use lgx_num::Memory;
 use lgx_rung::{Op, SourceRung, TextFault};
 use spec_base::limits::MAX_FILE_BYTES;
 use std::alloc::Global;
+use test_rows::unescaped;
 
-/// `op | LETTERS | ..`: the mnemonic that they are, its family and the kinds of the operands that it always has, or `no`.
+/// `op | LETTERS | ..`: the mnemonic that they are, its family and the kinds of the operands that it always has, or
+/// `no`.
 pub fn say_op(said: &mut Told, text: &str) {
     match Op::read(text.as_bytes()) {
         Some(op) => say_kinds(said, op),
@@ -23,8 +25,8 @@ fn say_kinds(said: &mut Told, op: Op) {
     }
 }
 
-/// `rung | TEXT | ..`: the canonical text of a copy of the rung that the text spells, or the code and the place of its first
-/// fault.
+/// `rung | TEXT | ..`: the canonical text of a copy of the rung that the text spells, or the code and the place of
+/// its first fault.
 ///
 /// In the text, `\s`, `\t`, `\r`, `\n`, `\0` and `\f` are the blank, the tab, CR, LF and the bytes 0 and 255.
 pub fn say_rung(alloc: Global, said: &mut Told, text: &str) -> Result<(), Trouble> {
@@ -53,33 +55,4 @@ fn say_fault(said: &mut Told, fault: TextFault) {
     let TextFault { code, at } = fault;
     said.shown(&code);
     said.number(i64::from(at));
-}
-
-/// The bytes of a text, with what stands for bytes that a row can't hold.
-fn unescaped(alloc: Global, text: &str) -> Result<Vec<u8>, Trouble> {
-    let mut bytes = Vec::new(alloc);
-    let mut escaped = false;
-    for byte in text.as_bytes() {
-        if escaped {
-            bytes.push(escape(*byte)?)?;
-            escaped = false;
-        } else if *byte == b'\\' {
-            escaped = true;
-        } else {
-            bytes.push(*byte)?;
-        }
-    }
-    Ok(bytes)
-}
-
-fn escape(letter: u8) -> Result<u8, Trouble> {
-    match letter {
-        b's' => Ok(b' '),
-        b't' => Ok(b'\t'),
-        b'r' => Ok(b'\r'),
-        b'n' => Ok(b'\n'),
-        b'0' => Ok(0),
-        b'f' => Ok(255),
-        _ => Err(Trouble::Form),
-    }
 }

@@ -1,7 +1,6 @@
 // Why nothing can be said of a row.
 use lgx_num::Memory;
 use std::alloc::{AllocError, AllocFailed};
-use test_bench::Refusal;
 
 /// Why nothing can be said of a row.
 #[derive(Clone, Copy, Debug)]
@@ -27,14 +26,5 @@ impl From<AllocError> for Trouble {
 impl<T: Drop> From<AllocFailed<T>> for Trouble {
     fn from(_: AllocFailed<T>) -> Self {
         Trouble::Memory
-    }
-}
-
-impl From<Refusal> for Trouble {
-    fn from(refusal: Refusal) -> Self {
-        match refusal {
-            Refusal::Memory => Trouble::Memory,
-            _ => Trouble::Form,
-        }
     }
 }

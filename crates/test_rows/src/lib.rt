@@ -1,10 +1,20 @@
-//! The loop of a program that judges rows, and what such a program says of one.
+//! Tables of rows: their one form, the loop over them, the texts that rows name, and what a program says of a row.
+//!
+//! A row is a line `KIND | GIVEN | WANTED`. Empty lines, and lines that begin with `--`, are no rows. Neither are
+//! `text | NAME | CONTENTS`, which names a text for the rows below it until another has the name, and `more | NAME | CONTENTS`,
+//! which adds to the text of that name. In contents `\n` stands for a line feed, `\s` for a blank and `\t` for a tabulator.
 #![tactic(auto)]
 
+mod short;
+mod table;
+mod texts;
 mod told;
 
+pub use short::{expanded, unescaped};
 use std::alloc::Global;
 use std::io;
+pub use table::{Row, judge_table};
+pub use texts::{Texts, push_plain};
 pub use told::Told;
 
 /// Judges each row on standard input: prints what differs, with what was found in its place, and at the end how many rows

@@ -66,6 +66,35 @@ impl Told {
         }
     }
 
+    /// Adds a text as rows have it, `\n` for a line feed; `-` if it is empty.
+    pub fn text(&mut self, bytes: &[u8]) {
+        if bytes.is_empty() {
+            self.word("-");
+        } else if self.add_text(bytes).is_err() {
+            self.is_whole = false;
+        }
+    }
+
+    /// Remembers that something else found no memory.
+    pub fn lack(&mut self) {
+        self.is_whole = false;
+    }
+
+    /// Forgets all words.
+    pub fn clear(&mut self) {
+        self.text.clear();
+        self.is_whole = true;
+    }
+
+    /// Whether the words are what is wanted, and all there. Blanks at the end don't count.
+    pub fn is(&self, wanted: &str) -> bool {
+        self.is_whole && self.text.as_str().trim_end() == wanted
+    }
+
+    pub fn as_str(&self) -> &str {
+        self.text.as_str()
+    }
+
     /// The words, if they aren't what is wanted, or aren't all there.
     pub fn other_than(self, wanted: &str) -> Option<String> {
         let is_wanted = self.is_whole && self.text.as_str() == wanted;
@@ -92,6 +121,17 @@ impl Told {
         self.blank()?;
         for byte in bytes {
             self.text.push(*byte as char)?;
+        }
+        Ok(())
+    }
+
+    fn add_text(&mut self, bytes: &[u8]) -> Result<(), AllocError> {
+        self.blank()?;
+        for byte in bytes {
+            match *byte {
+                b'\n' => self.text.push_str("\\n")?,
+                byte => self.text.push(byte as char)?,
+            }
         }
         Ok(())
     }

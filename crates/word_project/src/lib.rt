@@ -1,4 +1,4 @@
-//! The words `check P`, `text P` and `migrate P`: what is told of one project.
+//! The commands `check P`, `text P` and `migrate P`: what is said of one project.
 #![tactic(auto)]
 
 mod check;

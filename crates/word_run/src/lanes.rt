@@ -1,7 +1,8 @@
 // A script, run by a thread for each lane and one for the processor.
-ghost use Rattle.std.specs.Prelude.{◌≡◌, ◌+◌, length, true, IfOk, IsTrue};
+ghost use Rattle.std.specs.Prelude.{◌≡◌, ◌+◌, [], length, true, Some, IfOk, IsTrue};
 ghost use Rattle.spec_text.specs.Scripts.{is_script};
-ghost use Rattle.lgx_shared.specs.Follows.{Follows, HasCompleted};
+ghost use Rattle.lgx_history.specs.Histories.{history_view};
+ghost use Rattle.lgx_shared.specs.Follows.{Follows, IsNew, HasCompleted};
 
 use lgx_journal::Script;
 use lgx_num::Memory;
@@ -13,8 +14,8 @@ use std::sync::Wait;
 use std::sync::ledger::{Blank, Ledger};
 use std::thread::Threads;
 
-/// A recorder that the lanes of a script ran on a project. What may be left to do is left: a lane that was short of memory, or
-/// made all the turns that it may.
+/// The same recorder, after the lanes of its script ran on its project. What may be left to do is left: a lane that was short of
+/// memory, or made all the turns that it may.
 ///
 /// No type of a pass stands in its signature: so its caller may say what the input and the ledgers name.
 fn run_shared<
@@ -27,6 +28,29 @@ fn run_shared<
 >(
     rt: &R,
     alloc: Global,
+    recorder: Recorder,
+    actions: Blank,
+    steps: Blank,
+    ends: Blank,
+    gate: &G,
+) -> Result<Recorder, Memory>
+    requires recorder { IsNew I.project I.script recorder }
+    requires history { recorder.history ≡ Some (history_view I.history []) }
+    requires actions { (actions.name ≡ A.name) × (actions.parts ≡ A.parts) × (actions.parts ≡ length I.script.lanes + 1) }
+    requires steps { (steps.name ≡ S.name) × (steps.parts ≡ S.parts) × (steps.parts ≡ length I.script.lanes + 1) }
+    requires ends { (ends.name ≡ E.name) × (ends.parts ≡ E.parts) × (ends.parts ≡ length I.script.lanes + 1) }
+    ensures follows { IfOk result (λ recorder. Follows I.project I.script recorder) }
+    ensures ran { IfOk result (λ recorder. recorder.ran ≡ true) }
+{
+    let (shared, mut passes) = Shared::<I, A, S, E>::share(alloc, recorder, actions, steps, ends)?;
+    run_lanes(rt, &shared, passes.as_mut_slice(), gate);
+    Ok(shared.close(passes))
+}
+
+/// A recorder that the lanes of the named script ran on the named project, by ledgers that no type stands for yet.
+fn run_named<J: Input, G: Gate + Sync, R: Threads + Wait + Sync>(
+    rt: &R,
+    alloc: Global,
     project: Project,
     script: Script,
     actions: Blank,
@@ -34,17 +58,15 @@ fn run_shared<
     ends: Blank,
     gate: &G,
 ) -> Result<Recorder, Memory>
-    requires input { (project ≡ I.project) × (script ≡ I.script) }
-    requires actions { (actions.name ≡ A.name) × (actions.parts ≡ A.parts) × (actions.parts ≡ length I.script.lanes + 1) }
-    requires steps { (steps.name ≡ S.name) × (steps.parts ≡ S.parts) × (steps.parts ≡ length I.script.lanes + 1) }
-    requires ends { (ends.name ≡ E.name) × (ends.parts ≡ E.parts) × (ends.parts ≡ length I.script.lanes + 1) }
-    ensures follows { IfOk result (λ recorder. Follows I.project I.script recorder) }
+    requires input { (project ≡ J.project) × (script ≡ J.script) }
+    requires actions { actions.parts ≡ length J.script.lanes + 1 }
+    requires steps { steps.parts ≡ length J.script.lanes + 1 }
+    requires ends { ends.parts ≡ length J.script.lanes + 1 }
+    ensures follows { IfOk result (λ recorder. Follows J.project J.script recorder) }
     ensures ran { IfOk result (λ recorder. recorder.ran ≡ true) }
 {
     let recorder = Recorder::new(alloc, project, script)?;
-    let (shared, mut passes) = Shared::<I, A, S, E>::share(alloc, recorder, actions, steps, ends)?;
-    run_lanes(rt, &shared, passes.as_mut_slice(), gate);
-    Ok(shared.close(passes))
+    run_shared::<Brand, Brand, Brand, Brand, G, R>(rt, alloc, recorder, actions, steps, ends, gate)
 }
 
 /// The recorder of a script's run on a project: every lane's actions were made, and the steps.
@@ -60,7 +82,7 @@ pub(crate) fn run_script<G: Gate + Sync, R: Threads + Wait + Sync>(
     ensures script { IsTrue (is_script script) }
 {
     let parts = script.lanes.len() as u64 + 1;
-    let mut recorder = run_shared::<Brand, Brand, Brand, Brand, G, R>(
+    let mut recorder = run_named::<Brand, G, R>(
         rt,
         alloc,
         project,

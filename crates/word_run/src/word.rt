@@ -75,9 +75,9 @@ fn run_on<F: Files, K: Sink, G: Gate + Sync, R: Threads + Wait + Sync>(
 /// by one put. The script is read only if the project isn't refused.
 ///
 /// Each lane of the script takes its turns on a thread of its own, and one thread more takes turns of no lane; a turn makes its
-/// lane's next action if that is due, and else a processor step. Before each turn the gate is called, without the lock. Whatever
-/// turns the threads take, every action stands in the journal once, in its lane's order. The call may wait for its threads, for the
-/// lock and for the gate; no answer speaks of a thread that couldn't be started.
+/// lane's next action if that is due, and otherwise a processor step. Before each turn the gate is called, without the lock. However
+/// the threads interleave, every action is in the journal once, in its lane's order. The call may wait for its threads, for the
+/// lock and for the gate; no status says that a thread couldn't be started.
 ///
 /// The whole text, read as a journal, is the journal of the run, if that is within a journal's limits of steps, ticks, actions and
 /// bytes of a line: it ends with its line `end`. As a file it must besides have at most 16,777,216 bytes, its report among them.

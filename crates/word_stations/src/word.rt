@@ -77,13 +77,13 @@ fn watch_on<F: Files, K: Sink, G: Gate + Sync, R: Threads + Wait + Sync>(
 }
 
 /// `stations P J C`: replays the journal of one file on the project of another while 1 to 8 stations watch it, and writes the
-/// report and then two lines a station, in their order: what it gave at its first read, and what it gave once it had been told
-/// of all that was published. Each line is one put. The journal is read only if the project isn't refused.
+/// report and then two lines a station, in their order: what it gave at its first read, and what it gave after everything was
+/// published. Each line is one put. The journal is read only if the project isn't refused.
 ///
 /// Each station reads 1,000 times on a thread of its own, beside the replay, which publishes the watched values after each tick,
 /// for at most 4,096 snapshots with the opening one. The gate is called before each of these reads with the station's number
 /// and the read's, both counted from 0, and before each tick is published with the number of stations and that of what is
-/// published. The call may wait for its threads and for the gate; no answer speaks of a thread that couldn't be started.
+/// published. The call may wait for its threads and for the gate; no status says that a thread couldn't be started.
 pub fn stations<F: Files, K: Sink, G: Gate + Sync, R: Threads + Wait + Sync>(
     rt: &R,
     alloc: Global,

@@ -7,7 +7,7 @@ from .words import is_name
 
 LONGEST, MOST_COUNT, MOST_ACTIONS, MOST_EDITS = 65_536, 4_000_000, 100_000, 16
 DIGITS = re.compile(r"[0-9]{1,10}")
-VALUE = re.compile(r"-?[0-9]+")
+VALUE = re.compile(r"-?[0-9]{1,10}")
 BLANKS = " \t\r\n"
 
 

@@ -1,4 +1,5 @@
 use Rattle.std.proofs.Common.{◌≡◌, ◌+◌, ◌≤◌, false}
+use mathlib.Core.List.{IsPrefix}
 use Rattle.lgx_shared.proofs.lanes.lane_loop.Given as goal
 
 abbrev pub invariant-loop-turn : goal.invariant-loop-turn
@@ -6,3 +7,4 @@ invariant-loop-turn g l =
     (l.pass.lane ≡ l.fn.pass.lane) × (l.pass.length ≡ l.fn.pass.length) × (l.pass.least_steps ≡ l.fn.pass.least_steps)
     × (l.fn.pass.actions ≤ l.pass.actions) × (l.fn.pass.steps ≤ l.pass.steps) × (l.pass.ends ≡ 0) × (l.pass.short ≡ false)
     × (l.pass.actions + l.pass.steps ≡ l.fn.pass.actions + l.fn.pass.steps + l._turn)
+    × IsPrefix l.fn.pass.front.events l.pass.front.events

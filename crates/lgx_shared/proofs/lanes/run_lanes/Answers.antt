@@ -1,4 +1,7 @@
 -- What the lanes' threads share may cross threads.
+use Rattle.std.proofs.Common.{rules, subst}
+use Rattle.std.specs.Prelude.{slice_index_or}
+use mathlib.Core.List.{IsPrefix}
 use denote.Param.{param}
 use denote.Param.Send.{IsSend, IsSync, sendable}
 use Rattle.std.proofs.Crossing.{crosses}
@@ -19,3 +22,10 @@ for_each_mut-requires-sync-F g c κs within =
     let gate = c.type_bounds.sync-G in
     let rt = c.type_bounds.sync-R in
     search (sendable, crosses) depth 60 fits 100000
+
+pub returns-clause-sees : goal.returns-clause-sees
+returns-clause-sees g c = λ i d below.
+    let e = (c.for_each_mut.ensures i d below).1 in
+    let sees : IsPrefix e.argument.now.front.events e.after_call.now.front.events = search rules in
+    subst (λ x. IsPrefix x.front.events (slice_index_or c.for_each_mut.new.s i d).front.events) e.argument_is
+    (subst (λ y. IsPrefix e.argument.now.front.events y.front.events) e.left sees)

@@ -1,4 +1,4 @@
-use Rattle.std.proofs.Common.{◌≡◌, true, List, ap, sym, ◌∙◌}
+use Rattle.std.proofs.Common.{List, ap, sym, ◌∙◌}
 use Rattle.lgx_edit.specs.declared.texts.ProgramText.{ProgramText}
 use Rattle.test_edits.specs.Mains.{have_mains}
 use Rattle.test_edits.proofs.AllMains.{all_mains}

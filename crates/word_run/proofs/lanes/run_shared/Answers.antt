@@ -1,19 +1,10 @@
 use Rattle.std.proofs.Common.{◌≡◌, ◌<◌, ℕ, List, ◌++◌, length, take, drop, vec_len, slice_index_or, subst, ◌∙◌, arith}
 use Rattle.std.proofs.Math.Seq.{take-append_seam}
-use Rattle.spec_machine.specs.Project.{Project}
-use Rattle.spec_text.specs.Scripts.{Script}
-use Rattle.lgx_shared.specs.Follows.{IsNew}
 use Rattle.word_run.proofs.lanes.run_shared.Goals as goal
 
 -- what was lent stands where it stood
 whole_again : {A : Type 0} (front rest : List A) (n : ℕ) → length front ≡ n → take n (front ++ rest) ≡ front
 whole_again front rest n is = subst (λ k. take k (front ++ rest) ≡ front) is (take-append_seam front rest)
-
-pub share-requires-clause-recorder : goal.share-requires-clause-recorder
-share-requires-clause-recorder g c =
-    let P : Project → Type 0 = λ p. IsNew p g.I.Input.script c.in_ok-recorder.recorder in
-    let Q : Script → Type 0 = λ s. IsNew c.args.project s c.in_ok-recorder.recorder in
-    subst P c.requires.input.0 (subst Q c.requires.input.1 c.in_ok-recorder.ensures)
 
 pub run_lanes-requires-after_bounds : goal.run_lanes-requires-after_bounds
 run_lanes-requires-after_bounds g c = λ κs bounds i d below.

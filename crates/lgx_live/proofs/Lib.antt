@@ -1,0 +1,6 @@
+pub mod Saying
+pub mod Texts
+pub mod Points
+pub mod Runs
+pub mod Talking
+pub mod Sessions

@@ -1,0 +1,5 @@
+pub mod Session
+pub mod Output
+pub mod Laws
+pub mod Console
+pub mod Talks

@@ -1,0 +1,17 @@
+//! A controller that is talked to: lines of a journal come one by one from a console, and each is answered before the next is asked
+//! for, by the report's lines of its events, or by why it wasn't done.
+//!
+//! There is no journal and no log of the whole: however long a session is, it takes no more memory.
+#![tactic(auto)]
+
+mod console;
+mod follow;
+mod laws;
+mod refusal;
+mod session;
+mod turns;
+
+pub use console::{AskFault, Console};
+pub use follow::Follow;
+pub use laws::law_of_sessions;
+pub use session::talk;

@@ -1,0 +1,11 @@
+//! `logix_live`: a controller that is talked to, line by line.
+#![tactic(auto)]
+
+mod host;
+
+use crate::host::process;
+use std::process::ExitCode;
+
+fn main(rt: HostRuntime) -> ExitCode {
+    ExitCode::from(process(&rt))
+}

@@ -1,0 +1,37 @@
+// Processor steps of a project, by stretches.
+use lgx_core::Controller;
+use lgx_project::read_project;
+use spec_base::limits::MAX_EVENTS;
+use std::alloc::Global;
+use test_rows::{Texts, Told};
+
+/// Says in how many stretches a controller makes so many processor steps, of `STEPS PROJECT`.
+pub(crate) fn say_stretches(texts: &Texts, given: &str, told: &mut Told) {
+    let (steps, name) = given.split_once(' ').unwrap_or((given, ""));
+    let steps = steps.parse::<u32>().unwrap_or(0);
+    told.or_none(stretches_of(texts.alloc, texts.get(name).unwrap_or(b""), steps));
+}
+
+/// How many stretches so many processor steps of a project in Run are; None if it is refused or memory runs out.
+fn stretches_of(alloc: Global, project: &[u8], steps: u32) -> Option<u32> {
+    let project = read_project(alloc, project).ok()?;
+    let mut controller = Controller::new(alloc, project).ok()?;
+    if controller.spent() < MAX_EVENTS {
+        let _ = controller.mode_run();
+    }
+    Some(count_stretches(&mut controller, steps))
+}
+
+/// Makes so many processor steps, as long as the controller can count them; marks are taken before each stretch.
+fn count_stretches(controller: &mut Controller, steps: u32) -> u32 {
+    let mut left = steps;
+    for stretches in 0..steps {
+        controller.clear_marks();
+        let most = left.min(MAX_EVENTS.saturating_sub(controller.spent()));
+        if most == 0 {
+            return stretches;
+        }
+        left = left.saturating_sub(controller.stretch(most).steps);
+    }
+    steps
+}

@@ -1,0 +1,8 @@
+//! The program `logix_live P`: reads the project of the file `P` as `replay` does, and then answers the lines of a journal that come
+//! from a console, one by one.
+#![tactic(auto)]
+
+mod followed;
+mod open;
+
+pub use open::{USAGE, live};

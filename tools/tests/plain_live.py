@@ -1,0 +1,43 @@
+#!/usr/bin/env python3
+"""Answers the lines of a journal one by one, as `logix_live P` does, by the plain interpreter of the hammer."""
+
+import os
+import sys
+
+sys.dont_write_bytecode = True
+sys.path.insert(0, os.path.dirname(os.path.dirname(os.path.realpath(__file__))))
+from hammer_parts.plain.journal import Bad, Reader, lines_of  # noqa: E402
+from hammer_parts.plain.judge import Reporter, run  # noqa: E402
+from hammer_parts.plain.project import Project  # noqa: E402
+
+
+def put(lines):
+    sys.stdout.write("".join(line + "\n" for line in lines))
+    sys.stdout.flush()
+
+
+def answer(reporter, number, line):
+    """The lines that answer this line: those of its events, or its cause."""
+    reader, seen = Reader(), len(reporter.lines)
+    try:
+        reader.take(line)
+    except Bad as bad:
+        return [f"line {bad.code} {number}"]
+    run(reporter, reader.events)
+    return reporter.lines[seen:]
+
+
+def main(path):
+    with open(path, "rb") as file:
+        reporter = Reporter(Project(file.read()))
+    for number, given in enumerate(sys.stdin.buffer, 1):
+        for _, line in lines_of(given)[1]:
+            if line.strip(" ") == "end":
+                put([reporter.end()])
+                return
+            put(answer(reporter, number, line))
+    put([reporter.end()])
+
+
+if __name__ == "__main__":
+    main(sys.argv[1])
