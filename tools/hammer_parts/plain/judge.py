@@ -13,21 +13,38 @@ from .xref import xref
 MOST_LINES = 100_000
 MOST_EVENTS = 20_000
 MOST_SNAPSHOTS = 4_096
+MOST_BYTES = 16_777_216
+
+
+class TooLong(Exception):
+    """A file with too many bytes, which isn't read."""
+
+
+def whole(contents):
+    if len(contents) > MOST_BYTES:
+        raise TooLong
+    return contents
 
 
 def answer(words, contents):
     """The status and the output of the word over these contents of its files; None of a long run."""
-    verb = words[0]
     try:
-        projects = [Project(contents[0])]
+        return answer_of(words[0], contents)
+    except TooLong:
+        return 7, ""
+
+
+def answer_of(verb, contents):
+    try:
+        projects = [Project(whole(contents[0]))]
     except Fault as fault:
         return 2, ("a " if verb == "link" else "") + fault.line() + "\n"
     if verb in OF_PROJECT:
         return 0, OF_PROJECT[verb](projects[0])
     try:
         if verb == "link":
-            projects.append(Project(contents[1]))
-        return OF_MORE[verb](*projects, contents[-1])
+            projects.append(Project(whole(contents[1])))
+        return OF_MORE[verb](*projects, whole(contents[-1]))
     except Fault as fault:
         return 2, f"b {fault.line()}\n"
     except Bad as bad:
