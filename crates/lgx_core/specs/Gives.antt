@@ -22,7 +22,7 @@ pub record StepGives (v : ControllerView) (answer : Moment) (x : Stepped) : Type
 -- after a stretch of processor steps from this state
 pub record StretchGives (v : ControllerView) (x : Stretch) (s : State) : Type 0 where
   pub represents : Represents v (after_steps x.steps s)
-  pub is_stretch : IsStretch x s
+  pub is_stretch : IsStretch v.parts.image.watched x s
 
 -- after a tick
 pub record TickGives (v : ControllerView) (report : TickReport) (x : Ticked) : Type 0 where

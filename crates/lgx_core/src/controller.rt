@@ -43,8 +43,8 @@ impl Controller {
     ghost use Rattle.spec_machine.specs.ProcessorStep.{processor_step};
     ghost use Rattle.spec_machine.specs.Ticks.{tick};
     ghost use Rattle.spec_machine.specs.Actions.{act};
-    ghost use Rattle.lgx_image.specs.Grains.{ChangesOnlyMarked};
-    ghost use Rattle.lgx_steps.specs.Stretches.{is_plain, SomeIsMarked};
+    ghost use Rattle.lgx_image.specs.Grains.{ChangesOnlyMarked, SomeIsHit};
+    ghost use Rattle.lgx_steps.specs.Stretches.{is_plain};
     ghost use Rattle.lgx_core.specs.Represents.{Represents, StandsFor, IsController, GoesOn, GoesOnBy};
     ghost use Rattle.lgx_core.specs.Gives.{StepGives, StretchGives, TickGives, ActionGives};
     ghost use Rattle.lgx_core.specs.Lawful.{IsLawful};
@@ -65,6 +65,7 @@ impl Controller {
     }
 
     /// One processor step.
+    #[inline(always)]
     pub fn cpu(&mut self) -> Moment
         requires room { self.old.spent < MAX_EVENTS }
         ensures step { (s : State) → Represents self.old s → StepGives self.new result (processor_step s) }
@@ -76,10 +77,11 @@ impl Controller {
         self.parts.cpu()
     }
 
-    /// Processor steps, up to one of which more is told than that it was made, or after which a grain of the image is marked; at
-    /// most `most`. It does what so many calls of [`Controller::cpu`] do, and counts each of them.
+    /// Processor steps, up to one of which more is told than that it was made, or after which a watched grain of the image is
+    /// marked; at most `most`. It does what so many calls of [`Controller::cpu`] do, and counts each of them.
     ///
     /// A mark that stood there before ends it too, so marks are to be taken first. While no task is up, all of them are made at once.
+    #[inline(always)]
     pub fn stretch(&mut self, most: u32) -> Stretch
         requires some { 0 < most }
         requires room { self.old.spent + most ≤ MAX_EVENTS }
@@ -87,7 +89,7 @@ impl Controller {
         ensures runs { GoesOnBy self.old self.new result }
         ensures some { 0 < result.steps }
         ensures most { result.steps ≤ most }
-        ensures full { result.steps < most → is_plain result.last ≡ true → SomeIsMarked self.new.parts.image.marks }
+        ensures full { result.steps < most → is_plain result.last ≡ true → SomeIsHit self.new.parts.image }
         ensures spent { self.new.spent ≡ self.old.spent + result.steps }
         ensures only_marked { ChangesOnlyMarked self.old.parts.image self.new.parts.image }
     {
@@ -97,6 +99,7 @@ impl Controller {
     }
 
     /// One tick.
+    #[inline(always)]
     pub fn tick(&mut self) -> TickReport
         requires room { self.old.spent < MAX_EVENTS }
         ensures step { (s : State) → Represents self.old s → TickGives self.new result (tick s) }

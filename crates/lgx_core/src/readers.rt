@@ -1,10 +1,12 @@
 // What a controller tells of its state.
-ghost use Rattle.std.specs.Prelude.{◌≡◌, false, length, replicate};
+ghost use Rattle.std.specs.Prelude.{◌≡◌, ◌/◌, true, false, length, replicate};
+ghost use Rattle.lgx_num.specs.Number.{bytes_in};
 ghost use Rattle.lgx_num.specs.Image.{number, InBounds};
 ghost use Rattle.spec_tables.specs.Tasks.{held};
 ghost use Rattle.spec_machine.specs.State.{State};
 ghost use Rattle.lgx_fault.specs.Kept.{last_faults};
-ghost use Rattle.lgx_image.specs.Grains.{NextMarked};
+ghost use Rattle.lgx_image.specs.Grains.{NextHit, SomeIsHit, NoneIsHit, mark_range};
+ghost use Rattle.lgx_image.specs.Laws.{AllWatched};
 ghost use Rattle.lgx_core.specs.Represents.{Represents};
 
 use crate::controller::Controller;
@@ -14,6 +16,7 @@ use spec_machine::Mode;
 
 impl Controller {
     /// The number at a place, which lies in the image.
+    #[inline(always)]
     pub fn read(&self, place: Place) -> i32
         requires { InBounds place (length self.now.parts.image.bytes) }
         ensures { (s : State) → Represents self.now s → result ≡ number s.image place }
@@ -22,6 +25,7 @@ impl Controller {
     }
 
     /// The present tick.
+    #[inline(always)]
     pub fn now(&self) -> u32
         ensures { (s : State) → Represents self.now s → result ≡ s.tick }
     {
@@ -55,11 +59,32 @@ impl Controller {
         self.spent
     }
 
-    /// The least marked grain of the image that isn't below `from`; None if there is none.
-    pub fn next_marked(&self, from: u32) -> Option<u32>
-        ensures { NextMarked self.now.parts.image.marks from result }
+    /// The grains in which a place of the image lies are watched from now on. It is no event, and what the controller represents
+    /// is as before.
+    pub fn watch(&mut self, place: Place)
+        requires { InBounds place (length self.old.parts.image.bytes) }
+        ensures represents { (s : State) → Represents self.old s → Represents self.new s }
+        ensures spent { self.new.spent ≡ self.old.spent }
+        ensures image { self.new.parts.image ≡ record self.old.parts.image { watched = mark_range self.old.parts.image.watched (place.at / 8) (bytes_in place.kind) } }
+        ensures watched { AllWatched self.new.parts.image.watched place }
     {
-        self.parts.image.next_marked(from)
+        self.parts.image.watch(place);
+    }
+
+    /// Whether a watched grain of the image is marked.
+    #[inline(always)]
+    pub fn is_hit(&self) -> bool
+        ensures some { result ≡ true → SomeIsHit self.now.parts.image }
+        ensures none { result ≡ false → NoneIsHit self.now.parts.image }
+    {
+        self.parts.image.is_hit()
+    }
+
+    /// The least watched grain of the image that is marked and isn't below `from`; None if there is none.
+    pub fn next_hit(&self, from: u32) -> Option<u32>
+        ensures { NextHit self.now.parts.image from result }
+    {
+        self.parts.image.next_hit(from)
     }
 
     /// Takes every mark of the image. It is no event, and what the controller represents is as before.
@@ -67,6 +92,7 @@ impl Controller {
         ensures represents { (s : State) → Represents self.old s → Represents self.new s }
         ensures marks { self.new.parts.image.marks ≡ replicate (length self.old.parts.image.marks) false }
         ensures bytes { self.new.parts.image.bytes ≡ self.old.parts.image.bytes }
+        ensures watched { self.new.parts.image.watched ≡ self.old.parts.image.watched }
         ensures spent { self.new.spent ≡ self.old.spent }
     {
         self.parts.image.clear_marks();

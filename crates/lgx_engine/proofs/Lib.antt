@@ -11,3 +11,5 @@ pub mod Told
 pub mod Stores
 pub mod Calls
 pub mod Handed
+pub mod Advances
+pub mod Shortly

@@ -3,3 +3,4 @@ pub mod Represents
 pub mod Settling
 pub mod Rows
 pub mod Steps
+pub mod Runs

@@ -1,7 +1,8 @@
 //! The engine: one step of a program scan over flat code (1756-PM008, 1756-RM003).
 //!
 //! A step copies an element, leaves a routine or executes an instruction, takes no memory, and touches what it needs. It is
-//! `advance` of `spec_scan`, if code and position represent rungs and a position in them as `IsRunOf` says.
+//! `advance` of `spec_scan`, if code and position represent rungs and a position in them as `IsRunOf` says. [`advance_on`] makes
+//! many of them at once.
 #![tactic(auto)]
 
 mod frame;
@@ -10,9 +11,12 @@ mod handing;
 mod moves;
 mod operand;
 mod row;
+mod run;
 mod scan;
 mod settling;
+mod short;
 
 pub use frame::Position;
+pub use run::{CodeRun, advance_on};
 pub use scan::advance;
 pub use spec_scan::Effect;

@@ -16,7 +16,7 @@ ghost use Rattle.spec_scan.specs.Executable.{IsExecutable, ArgsEndIn};
 ghost use Rattle.spec_scan.specs.Fits.{OperandsFit, ArgFits, ArgsFit};
 ghost use Rattle.lgx_prog.specs.Fixed.{AreFixed};
 ghost use Rattle.lgx_prog.specs.HandsOver.{hands_over};
-ghost use Rattle.lgx_engine.specs.Rows.{row_of, ControlInRows, CanFollow};
+ghost use Rattle.lgx_engine.specs.Rows.{row_of, ControlInRows, CanFollow, stays_in_routine, StaysInRoutine};
 
 use crate::frame::ScanContext;
 use crate::operand::{target, task_of};
@@ -81,6 +81,7 @@ pub(crate) fn run_row(
     requires alone { hands_over prepared.now.op ≡ false }
     ensures row { (frames : List Frame) → row prepared.now.op prepared.now.args on scan.now scan.first frames flags.old image.old.bytes ≡ row_of result flags.new image.new.bytes }
     ensures can_follow { CanFollow result.control (length image.new.bytes) }
+    ensures stays { stays_in_routine (family_of prepared.now.op) ≡ true → StaysInRoutine result.control }
     ensures only_marked { ChangesOnlyMarked image.old image.new }
 {
     if !on && !acts_when_false(prepared.op()) {
@@ -133,6 +134,7 @@ fn work_out(ins: &Ins, input: RowInput, flags: &mut Flags, image: &mut Image) ->
     requires acts { (input.on || acts_when_false ins.now.op) ≡ true }
     ensures row { (frames : List Frame) → row ins.now.op ins.now.args input.on input.scan.now input.scan.first frames flags.old image.old.bytes ≡ row_of result flags.new image.new.bytes }
     ensures can_follow { CanFollow result.control (length image.new.bytes) }
+    ensures stays { stays_in_routine (family_of ins.now.op) ≡ true → StaysInRoutine result.control }
     ensures only_marked { ChangesOnlyMarked image.old image.new }
 {
     match image.bind(ins.args.as_slice()) {
@@ -150,6 +152,18 @@ fn acts_when_false(op: Op) -> bool
         Op::Ton | Op::Rto | Op::Tof | Op::Ctu | Op::Ctd => true,
         Op::Mcr => true,
         _ => false,
+    }
+}
+
+/// Whether an instruction asks for nothing but that its routine goes on, unless it is a fault.
+#[inline(always)]
+pub(crate) fn stays_in_routine(op: Op) -> bool
+    ensures { result ≡ stays_in_routine (family_of op) }
+{
+    match op.family() {
+        Family::Bit | Family::Timer | Family::Counter | Family::Reset => true,
+        Family::Comparison | Family::Arithmetic => true,
+        Family::Copy | Family::ProgramControl => false,
     }
 }
 
@@ -179,6 +193,7 @@ fn execute(
     requires ends { ArgsEndIn (length image.old.bytes) bound.now }
     ensures row { (frames : List Frame) → row ins.now.op ins.now.args input.on input.scan.now input.scan.first frames flags.old image.old.bytes ≡ row_of result flags.new image.new.bytes }
     ensures can_follow { CanFollow result.control (length image.new.bytes) }
+    ensures stays { stays_in_routine (family_of ins.now.op) ≡ true → StaysInRoutine result.control }
     ensures only_marked { ChangesOnlyMarked image.old image.new }
 {
     let op = ins.op;
@@ -210,6 +225,7 @@ fn count_time(op: Op, arg: Arg, on: bool, now: u32, image: &mut Image) -> Contro
     requires lies { byte_of arg + TIMER_BYTES ≤ length image.old.bytes }
     ensures counted { IfSome (timer op (byte_of arg) on now image.old.bytes) (λ after. (result ≡ Control.Nothing) × (image.new.bytes ≡ after)) }
     ensures fault { timer op (byte_of arg) on now image.old.bytes ≡ None → (result ≡ Control.MajorFault bad_timer) × (image.new ≡ image.old) }
+    ensures stays { StaysInRoutine result }
     ensures only_marked { ChangesOnlyMarked image.old image.new }
 {
     match run_timer(op, arg.byte(), on, now, image) {
@@ -241,6 +257,7 @@ fn compute(op: Op, bound: &Bound, flags: &mut Flags, image: &mut Image) -> Contr
     ensures flags { flags.new ≡ (math op bound.now image.old.bytes).flags }
     ensures bytes { image.new.bytes ≡ (math op bound.now image.old.bytes).image }
     ensures can_follow { (len : ℕ) → CanFollow result len }
+    ensures stays { StaysInRoutine result }
     ensures only_marked { ChangesOnlyMarked image.old image.new }
 {
     if run_math(op, bound, flags, image) {

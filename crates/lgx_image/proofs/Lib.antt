@@ -3,6 +3,8 @@ pub mod Words
 pub mod Summaries
 pub mod Pieces
 pub mod Changes
+pub mod Hits
+pub mod Writes
 pub mod Paths
 pub mod Bindings
 pub mod BoundKinds

@@ -1,5 +1,5 @@
 -- Grains and marks.
-use Rattle.std.proofs.Common.{◌≡◌, ℕ, zero, suc, ◌+◌, ◌-◌, ◌/◌, ◌%◌, ◌<◌, ◌≤◌, inl, inr, Bool, true, false, List, length, set, refl, sym, ap, ◌∙◌, arith, length-set, get_or-set_same, get_or-set_other}
+use Rattle.std.proofs.Common.{◌≡◌, ℕ, zero, suc, ◌+◌, ◌/◌, ◌%◌, ◌<◌, ◌≤◌, inl, inr, Bool, true, false, List, length, set, refl, sym, ap, ◌∙◌, arith, length-set, get_or-set_same, get_or-set_other}
 use Rattle.std.proofs.lemmas.Bool.{cases_eq, cases_lt, false≢true}
 use Rattle.std.proofs.lemmas.List.{get_or_past}
 use Rattle.lgx_num.specs.declared.number.Kind.{Kind}
@@ -10,12 +10,6 @@ use Rattle.lgx_image.specs.Grains.{grain_of, grains_in, is_marked, mark_range}
 use Rattle.lgx_image.specs.Laws.{PieceIsMarked, OtherMarksStay, AlignedPlaceInOneGrain}
 
 -- ---- grains
-
--- the grains of so many bytes as a quotient that is rounded up
-pub grains_in-ceil : (n : ℕ) → grains_in n ≡ (n + (GRAIN - 1)) / GRAIN
-unfolding grains_in grain_of
-grains_in-ceil zero = refl
-grains_in-ceil (suc n) = omega arith
 
 -- a byte that is there has a grain that is there
 pub grain_of-below : (byte n : ℕ) → byte < n → grain_of byte < grains_in n

@@ -10,7 +10,7 @@ pub length-piece : (image : List ℕ) (at n : ℕ) → length (piece image at n)
 length-piece image at zero = refl
 length-piece image at (suc n) = ap suc (length-piece image (at + 1) n)
 
-piece-at : (image : List ℕ) (at n i k : ℕ) → i < n → k ≡ at + i → get_or (piece image at n) i 0 ≡ get_or image k 0
+pub piece-at : (image : List ℕ) (at n i k : ℕ) → i < n → k ≡ at + i → get_or (piece image at n) i 0 ≡ get_or image k 0
 piece-at image at zero i k within is = absurd (omega arith)
 piece-at image at (suc n) zero k within is = let e : at ≡ k = omega arith in ap (λ j. get_or image j 0) e
 piece-at image at (suc n) (suc i) k within is = piece-at image (at + 1) n i k (omega arith) (omega arith)

@@ -1,14 +1,13 @@
 -- Marks with a summary of their words.
-use Rattle.std.proofs.Common.{◌≡◌, ◌≢◌, ℕ, ◌+◌, ◌*◌, ◌/◌, ◌%◌, ◌^◌, ◌<◌, ◌≤◌, inl, inr, Bool, true, false, List, length, get_or, set, replicate, eqb, refl, sym, ap, ◌∙◌, arith, Some, None, length-set, get_or-set_same, get_or-set_other}
-use Rattle.std.specs.Int.{w64, bit_at, trailing_zeros}
+use Rattle.std.proofs.Common.{◌≡◌, ◌≢◌, ℕ, ◌+◌, ◌/◌, ◌%◌, ◌<◌, ◌≤◌, inl, inr, Bool, true, false, List, length, get_or, set, replicate, eqb, refl, sym, ap, ◌∙◌, arith, Some, None, length-set, get_or-set_same, get_or-set_other}
+use Rattle.std.specs.Int.{bit_at}
 use Rattle.std.proofs.lemmas.Bool.{cases_eq, cases_lt, false≢true}
-use Rattle.std.proofs.lemmas.Nat.Bits.{bit_at-trailing_zeros}
 use Rattle.std.proofs.lemmas.List.{get_or_past, ext_get_or, get_or-replicate, length-replicate}
 use Rattle.lgx_image.specs.Words.{bit_of_words, IsSummary, NextBit, marks_of}
-use Rattle.lgx_image.proofs.Words.{no_bit, bit_past, later_word_some, length-marks_of, marks_of-at}
+use Rattle.lgx_image.proofs.Words.{no_bit, bit_past, length-marks_of, marks_of-at}
 
 -- no bit is set in words that are 0
-zero_bit : (n g : ℕ) → bit_of_words (replicate n 0) g ≡ false
+pub zero_bit : (n g : ℕ) → bit_of_words (replicate n 0) g ≡ false
 zero_bit n g = no_bit (replicate n 0) g (zeros (g / 64))
   where
     zeros : (i : ℕ) → get_or {A = ℕ} (replicate n 0) i 0 ≡ 0
@@ -42,49 +41,18 @@ summary_with words summary words' summary' grain is set_ others set_' others' = 
 }
 
 -- a bit that isn't known to the summary isn't set
-unknown : (words summary : List ℕ) (g : ℕ) → IsSummary words summary → bit_of_words summary (g / 64) ≡ false → bit_of_words words g ≡ false
+pub unknown : (words summary : List ℕ) (g : ℕ) → IsSummary words summary → bit_of_words summary (g / 64) ≡ false → bit_of_words words g ≡ false
 unknown words summary g is none = by_bit (bit_of_words words g) refl
   where
     by_bit : (b : Bool) → bit_of_words words g ≡ b → bit_of_words words g ≡ false
     by_bit false e = e
     by_bit true e = absurd (false≢true (sym none ∙ is.known g e))
 
--- a word in which a bit is set isn't 0
-pub word_not_zero : (words : List ℕ) (g : ℕ) → bit_of_words words g ≡ true → get_or words (g / 64) 0 ≢ 0
-word_not_zero words g on none = absurd (false≢true (sym (no_bit words g none) ∙ on))
-
 -- a bit that is set is in one of the words
 pub bit_within : (words : List ℕ) (g : ℕ) → bit_of_words words g ≡ true → g / 64 < length words
 bit_within words g on = elim (cases_lt (g / 64) (length words)) [
   | inl within ↦ within
   | inr past ↦ absurd (false≢true (sym (bit_past words g past) ∙ on))
-]
-
--- ---- the next mark
-
--- what is left of from's word has none, and no word from the next one up to this is known to have one
-skipped : (words summary : List ℕ) (from word : ℕ) → IsSummary words summary → ((k : ℕ) → from ≤ k → k < 64 * (from / 64 + 1) → bit_of_words words k ≡ false)
-    → ((k : ℕ) → from / 64 + 1 ≤ k → k < word → bit_of_words summary k ≡ false) → (k : ℕ) → from ≤ k → k < 64 * word → bit_of_words words k ≡ false
-skipped words summary from word is first none k above below = elim (cases_lt k (64 * (from / 64 + 1))) [
-  | inl within ↦ first k above within
-  | inr later ↦ unknown words summary k is (none (k / 64) (omega arith) (omega arith))
-]
-
-pub next_by_summary : (words summary : List ℕ) (from word : ℕ) → IsSummary words summary → get_or words word 0 < 2 ^ 64
-    → ((k : ℕ) → from ≤ k → k < 64 * (from / 64 + 1) → bit_of_words words k ≡ false)
-    → NextBit summary (from / 64 + 1) (Some word) → (trailing_zeros w64 (get_or words word 0) < 64) × NextBit words from (Some (word * 64 + trailing_zeros w64 (get_or words word 0)))
-next_by_summary words summary from word is small first next =
-    let at = is.kept word next.1 in
-    let some : get_or words word 0 ≢ 0 = λ none. word_not_zero words at.0 at.2 (ap (λ k. get_or words k 0) at.1 ∙ none) in
-    let least = bit_at-trailing_zeros w64 (get_or words word 0) (omega (arith, some)) small in
-    let above : from / 64 + 1 ≤ word = next.0 in
-    (least.0, later_word_some words from word (trailing_zeros w64 (get_or words word 0)) (omega arith) (skipped words summary from word is first next.2) least)
-
-pub none_by_summary : (words summary : List ℕ) (from : ℕ) → IsSummary words summary
-    → ((k : ℕ) → from ≤ k → k < 64 * (from / 64 + 1) → bit_of_words words k ≡ false) → NextBit summary (from / 64 + 1) None → NextBit words from None
-none_by_summary words summary from is first none k above = elim (cases_lt k (64 * (from / 64 + 1))) [
-  | inl within ↦ first k above within
-  | inr later ↦ unknown words summary k is (none (k / 64) (omega arith))
 ]
 
 -- ---- clearing
@@ -132,7 +100,3 @@ pub bitless_marks : (words : List ℕ) (grains : ℕ) → ((g : ℕ) → bit_of_
 bitless_marks words grains none =
     ext_get_or false (marks_of words grains) (replicate grains false) (length-marks_of words grains ∙ sym (length-replicate grains false))
     (λ g below. let within : g < grains = omega (arith, length-marks_of words grains) in marks_of-at words grains g within ∙ none g ∙ sym (get_or-replicate grains g false false within))
-
--- no bit is set past the words
-pub past_all : (words : List ℕ) (from : ℕ) → length words ≤ from / 64 → NextBit words from None
-past_all words from past k above = bit_past words k (omega arith)

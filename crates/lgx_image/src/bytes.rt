@@ -1,8 +1,9 @@
 // Numbers in the bytes of an image, and where subscripts lead.
-ghost use Rattle.std.specs.Prelude.{◌≡◌, ◌+◌, ◌*◌, ◌/◌, ◌<◌, ◌≤◌, length};
+ghost use Rattle.std.specs.Prelude.{◌≡◌, ◌≢◌, ◌+◌, ◌*◌, ◌/◌, ◌<◌, ◌≤◌, ◌==◌, true, false, not, length, slice_index, slice_set};
 ghost use Rattle.spec_base.specs.declared.limits.TheConstants.{MAX_IMAGE_BYTES};
 ghost use Rattle.lgx_num.specs.Image.{number, number_of, write, write_of, piece, splice, InBounds, step_by, bit_of};
 ghost use Rattle.lgx_num.specs.Paths.{PathInBounds};
+ghost use Rattle.lgx_num.specs.Number.{bytes_of};
 ghost use Rattle.spec_scan.specs.Arguments.{is_one, bit_number};
 ghost use Rattle.lgx_image.specs.Words.{cut_step};
 
@@ -22,7 +23,19 @@ pub(crate) fn number_at(bytes: &[u8], place: Place) -> i32
     }
 }
 
+/// The DINT that begins at a byte.
+#[inline(always)]
+pub(crate) fn dint_at(bytes: &[u8], byte: u32) -> i32
+    requires { byte + 4 ≤ length bytes.now }
+    ensures number { result ≡ number_of Kind.Dint bytes.now (8 * byte) }
+    ensures bytes { bytes_of result ≡ piece bytes.now (8 * byte / 8) 4 }
+{
+    let at = byte as usize;
+    i32::from_le_bytes([bytes[at], bytes[at + 1], bytes[at + 2], bytes[at + 3]])
+}
+
 /// Whether the bit of this number is 1.
+#[inline(always)]
 pub(crate) fn bit_at(bytes: &[u8], bit: u32) -> bool
     requires { bit / 8 < length bytes.now }
     ensures { result ≡ is_one (number_of Kind.Bool bytes.now bit) }
@@ -30,49 +43,78 @@ pub(crate) fn bit_at(bytes: &[u8], bit: u32) -> bool
     (bytes[(bit / 8) as usize] >> (bit % 8)) & 1 == 1
 }
 
-/// Puts a bit at the place of this number.
-pub(crate) fn write_bit(bytes: &mut [u8], bit: u32, value: bool)
+/// Puts a byte; whether that changed it.
+#[inline(always)]
+fn write_byte(bytes: &mut [u8], at: usize, byte: u8) -> bool
+    requires { at < length bytes.old }
+    ensures after { bytes.new ≡ slice_set bytes.old at byte }
+    ensures differs { result ≡ not (byte == slice_index bytes.old at) }
+{
+    let old = bytes[at];
+    bytes[at] = byte;
+    byte != old
+}
+
+/// Puts a bit at the place of this number; whether that changed a byte.
+#[inline(always)]
+pub(crate) fn write_bit(bytes: &mut [u8], bit: u32, value: bool) -> bool
     requires { bit / 8 < length bytes.old }
     ensures after { bytes.new ≡ write_of Kind.Bool bytes.old bit (bit_number value) }
     ensures len { length bytes.new ≡ length bytes.old }
+    ensures changed { result ≡ true → bytes.new ≢ bytes.old }
+    ensures kept { result ≡ false → bytes.new ≡ bytes.old }
 {
     let at = (bit / 8) as usize;
     let mask = 1u8 << (bit % 8);
-    bytes[at] = if value {
+    let byte = if value {
         bytes[at] | mask
     } else {
         bytes[at] & !mask
     };
+    write_byte(bytes, at, byte)
 }
 
-/// Puts the low bits of a value at a place.
-pub(crate) fn write_at(bytes: &mut [u8], place: Place, value: i32)
+/// Puts a DINT that begins at a byte; whether that changed a byte.
+#[inline(always)]
+pub(crate) fn write_dint(bytes: &mut [u8], byte: u32, value: i32) -> bool
+    requires { byte + 4 ≤ length bytes.old }
+    ensures after { bytes.new ≡ write_of Kind.Dint bytes.old (8 * byte) value }
+    ensures len { length bytes.new ≡ length bytes.old }
+    ensures changed { result ≡ true → bytes.new ≢ bytes.old }
+    ensures kept { result ≡ false → bytes.new ≡ bytes.old }
+{
+    if dint_at(bytes, byte) == value {
+        return false;
+    }
+    let at = byte as usize;
+    let low = bytes_of(value);
+    bytes[at] = low[0];
+    bytes[at + 1] = low[1];
+    bytes[at + 2] = low[2];
+    bytes[at + 3] = low[3];
+    true
+}
+
+/// Puts the low bits of a value at a place; whether that changed a byte.
+#[inline]
+pub(crate) fn write_at(bytes: &mut [u8], place: Place, value: i32) -> bool
     requires { InBounds place (length bytes.old) }
     ensures after { bytes.new ≡ write bytes.old place value }
     ensures len { length bytes.new ≡ length bytes.old }
+    ensures changed { result ≡ true → bytes.new ≢ bytes.old }
+    ensures kept { result ≡ false → bytes.new ≡ bytes.old }
 {
     let at = (place.at / 8) as usize;
     let low = bytes_of(value);
     match place.kind {
-        Kind::Bool => {
-            let mask = 1u8 << (place.at % 8);
-            bytes[at] = if low[0] % 2 == 1 {
-                bytes[at] | mask
-            } else {
-                bytes[at] & !mask
-            };
-        }
-        Kind::Sint => bytes[at] = low[0],
+        Kind::Bool => write_bit(bytes, place.at, low[0] % 2 == 1),
+        Kind::Sint => write_byte(bytes, at, low[0]),
         Kind::Int => {
-            bytes[at] = low[0];
-            bytes[at + 1] = low[1];
+            let first = write_byte(bytes, at, low[0]);
+            let second = write_byte(bytes, at + 1, low[1]);
+            first || second
         }
-        Kind::Dint => {
-            bytes[at] = low[0];
-            bytes[at + 1] = low[1];
-            bytes[at + 2] = low[2];
-            bytes[at + 3] = low[3];
-        }
+        Kind::Dint => write_dint(bytes, place.at / 8, value),
     }
 }
 

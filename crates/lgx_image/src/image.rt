@@ -1,28 +1,31 @@
-// The image: the bytes of all tags, with the marks of what was written.
-ghost use Rattle.std.specs.Prelude.{◌≡◌, ℕ, ◌+◌, ◌/◌, ◌≤◌, length, replicate, false, IfOk, IfSome, option_map};
+// The image: the bytes of all tags, with the marks of what changed.
+ghost use Rattle.std.specs.Prelude.{◌≡◌, ℕ, ◌+◌, ◌*◌, ◌/◌, ◌<◌, ◌≤◌, length, replicate, true, false, IfOk, IfSome, option_map};
 ghost use Rattle.std.specs.List.{All};
 ghost use Rattle.spec_base.specs.declared.limits.TheConstants.{MAX_IMAGE_BYTES, MAX_BOUND_OPERANDS};
-ghost use Rattle.lgx_num.specs.Image.{number, write, piece, splice, InBounds, bit_of};
+ghost use Rattle.lgx_num.specs.Image.{number, number_of, write, write_of, piece, splice, InBounds, bit_of};
 ghost use Rattle.lgx_num.specs.Paths.{OperandInBounds};
 ghost use Rattle.spec_scan.specs.Arguments.{bind, bind_one, value_of, is_one, bit_number};
 ghost use Rattle.spec_scan.specs.Executable.{EndsIn, ArgsEndIn};
 ghost use Rattle.spec_scan.specs.Fits.{OperandsFit, ArgsFit};
 ghost use Rattle.lgx_rung.specs.declared.op.Op.{Op};
 ghost use Rattle.lgx_num.specs.Number.{bytes_in};
-ghost use Rattle.lgx_image.specs.Grains.{grains_in, mark_range, NextMarked, ChangesOnlyMarked};
+ghost use Rattle.lgx_image.specs.Grains.{grains_in, mark_range, MarksWritten, ChangesOnlyMarked, NoneIsHit, SomeIsHit, NextHit};
 ghost use Rattle.lgx_image.specs.Args.{place_at, CellInBounds, OperandsInBounds, ArgInBounds, ArgsInBounds};
+ghost use Rattle.lgx_image.specs.Laws.{AllWatched};
 
-use crate::bytes::{bit_at, copy_piece, first_bit, number_at, write_at, write_bit};
-use crate::grain::{Marks, grains_in};
+use crate::bytes::{
+    bit_at, copy_piece, dint_at, first_bit, number_at, write_at, write_bit, write_dint,
+};
+use crate::grain::Marks;
 use crate::operands::{bind_all, bind_one};
 use lgx_num::{Kind, Memory, Operand, Path, Place, bytes_in};
 use spec_scan::{Arg, Bound};
 use std::alloc::Global;
 use std::marker::Model;
 
-/// The bytes of all tags, and a mark for each grain of them that was written.
+/// The bytes of all tags, a mark for each grain of them in which a byte changed, and the grains that are watched.
 ///
-/// A grain is a run of `GRAIN` bytes, counted from 0; the last may be shorter.
+/// A grain is a run of `GRAIN` bytes, counted from 0; the last may be shorter. A watched grain that is marked is hit.
 #[derive(Drop)]
 pub struct Image {
     bytes: Vec<u8>,
@@ -33,21 +36,22 @@ impl Model for Image {
     ghost use Rattle.std.specs.Prelude.{◌≤◌, length};
     ghost use Rattle.spec_base.specs.declared.limits.TheConstants.{MAX_IMAGE_BYTES};
     ghost use Rattle.lgx_image.specs.Grains.{ImageView, grains_in};
-    ghost use Rattle.lgx_image.specs.Words.{marks_of};
+    ghost use Rattle.lgx_image.specs.Words.{marks_of, NoneFrom};
 
     ghost Value = { ImageView };
 
-    ghost view = { λ i. record { bytes = i.bytes.items; marks = marks_of i.marks (grains_in (length i.bytes.items)) } };
+    ghost view = { λ i. record { bytes = i.bytes.items; marks = marks_of i.marks.marked (grains_in (length i.bytes.items)); watched = marks_of i.marks.watched (grains_in (length i.bytes.items)) } };
 
-    ghost invariant = { λ i. length i.bytes.items ≤ MAX_IMAGE_BYTES };
+    ghost invariant = { λ i. (length i.bytes.items ≤ MAX_IMAGE_BYTES) × NoneFrom i.marks.watched (grains_in (length i.bytes.items)) };
 }
 
 impl Image {
-    /// An image of `len` bytes, all 0, with no mark.
+    /// An image of `len` bytes, all 0, with no mark, of which no grain is watched.
     pub fn new(alloc: Global, len: u32) -> Result<Image, Memory>
         requires { len ≤ MAX_IMAGE_BYTES }
         ensures bytes { IfOk result (λ image. image.bytes ≡ replicate len 0) }
         ensures marks { IfOk result (λ image. image.marks ≡ replicate (grains_in len) false) }
+        ensures watched { IfOk result (λ image. image.watched ≡ replicate (grains_in len) false) }
     {
         Ok(Image {
             bytes: vec![in alloc; 0; len as usize]?,
@@ -65,6 +69,7 @@ impl Image {
     }
 
     /// The number at a place, which lies in the image.
+    #[inline]
     pub fn get(&self, place: Place) -> i32
         requires { InBounds place (length self.now.bytes) }
         ensures { result ≡ number self.now.bytes place }
@@ -72,18 +77,21 @@ impl Image {
         number_at(&self.bytes, place)
     }
 
-    /// Stores the low bits of a value at a place, which lies in the image, and marks the grains of its bytes.
+    /// Stores the low bits of a value at a place, which lies in the image; if that changes a byte, its grains are marked.
+    #[inline]
     pub fn put(&mut self, place: Place, value: i32)
         requires { InBounds place (length self.old.bytes) }
         ensures bytes { self.new.bytes ≡ write self.old.bytes place value }
-        ensures marks { self.new.marks ≡ mark_range self.old.marks (place.at / 8) (bytes_in place.kind) }
+        ensures marks { MarksWritten self.old self.new (place.at / 8) (bytes_in place.kind) }
         ensures only_marked { ChangesOnlyMarked self.old self.new }
     {
-        write_at(&mut self.bytes, place, value);
-        self.marks.mark_range(place.at / 8, bytes_in(place.kind));
+        if write_at(&mut self.bytes, place, value) {
+            self.marks.mark_range(place.at / 8, bytes_in(place.kind));
+        }
     }
 
     /// Whether the bit at a place, which lies in the image, is 1.
+    #[inline(always)]
     pub fn bit(&self, place: Place) -> bool
         requires { InBounds place (length self.now.bytes) }
         ensures { result ≡ is_one (number self.now.bytes place) }
@@ -94,19 +102,61 @@ impl Image {
         }
     }
 
-    /// Puts a bit at a place, which lies in the image, and marks the grains of its bytes.
+    /// Puts a bit at a place, which lies in the image; if that changes a byte, its grains are marked.
+    #[inline]
     pub fn put_bit(&mut self, place: Place, bit: bool)
         requires { InBounds place (length self.old.bytes) }
         ensures bytes { self.new.bytes ≡ write self.old.bytes place (bit_number bit) }
-        ensures marks { self.new.marks ≡ mark_range self.old.marks (place.at / 8) (bytes_in place.kind) }
+        ensures marks { MarksWritten self.old self.new (place.at / 8) (bytes_in place.kind) }
         ensures only_marked { ChangesOnlyMarked self.old self.new }
     {
         match place.kind {
-            Kind::Bool => {
-                write_bit(&mut self.bytes, place.at, bit);
-                self.marks.mark_range(place.at / 8, 1);
-            }
+            Kind::Bool => self.put_bit_at(place.at, bit),
             _ => self.put(place, i32::from(bit)),
+        }
+    }
+
+    /// Whether the bit of this number is 1.
+    #[inline(always)]
+    pub fn bit_at(&self, bit: u32) -> bool
+        requires { bit / 8 < length self.now.bytes }
+        ensures { result ≡ is_one (number_of Kind.Bool self.now.bytes bit) }
+    {
+        bit_at(&self.bytes, bit)
+    }
+
+    /// Puts the bit of this number; if that changes its byte, the grain of it is marked.
+    #[inline(always)]
+    pub fn put_bit_at(&mut self, bit: u32, value: bool)
+        requires { bit / 8 < length self.old.bytes }
+        ensures bytes { self.new.bytes ≡ write_of Kind.Bool self.old.bytes bit (bit_number value) }
+        ensures marks { MarksWritten self.old self.new (bit / 8) 1 }
+        ensures only_marked { ChangesOnlyMarked self.old self.new }
+    {
+        if write_bit(&mut self.bytes, bit, value) {
+            self.marks.mark_range(bit / 8, 1);
+        }
+    }
+
+    /// The DINT that begins at a byte.
+    #[inline(always)]
+    pub fn dint(&self, byte: u32) -> i32
+        requires { byte + 4 ≤ length self.now.bytes }
+        ensures { result ≡ number_of Kind.Dint self.now.bytes (8 * byte) }
+    {
+        dint_at(&self.bytes, byte)
+    }
+
+    /// Stores a DINT that begins at a byte; if that changes a byte, its grains are marked.
+    #[inline(always)]
+    pub fn put_dint(&mut self, byte: u32, value: i32)
+        requires { byte + 4 ≤ length self.old.bytes }
+        ensures bytes { self.new.bytes ≡ write_of Kind.Dint self.old.bytes (8 * byte) value }
+        ensures marks { MarksWritten self.old self.new byte 4 }
+        ensures only_marked { ChangesOnlyMarked self.old self.new }
+    {
+        if write_dint(&mut self.bytes, byte, value) {
+            self.marks.mark_range(byte, 4);
         }
     }
 
@@ -170,22 +220,36 @@ impl Image {
         bind_one(&self.bytes, operand)
     }
 
-    /// The least marked grain that isn't below `from`; None if there is none.
-    pub fn next_marked(&self, from: u32) -> Option<u32>
-        ensures { NextMarked self.now.marks from result }
+    /// The grains in which a place lies are watched from now on.
+    pub fn watch(&mut self, place: Place)
+        requires { InBounds place (length self.old.bytes) }
+        ensures image { self.new ≡ record self.old { watched = mark_range self.old.watched (place.at / 8) (bytes_in place.kind) } }
+        ensures watched { AllWatched self.new.watched place }
     {
-        let grain = self.marks.next(from)?;
-        if grain < grains_in(self.len()) {
-            Some(grain)
-        } else {
-            None
-        }
+        self.marks.watch_range(place.at / 8, bytes_in(place.kind));
+    }
+
+    /// Whether a grain is hit.
+    #[inline(always)]
+    pub fn is_hit(&self) -> bool
+        ensures some { result ≡ true → SomeIsHit self.now }
+        ensures none { result ≡ false → NoneIsHit self.now }
+    {
+        self.marks.is_hit()
+    }
+
+    /// The least grain that is hit and isn't below `from`; None if there is none.
+    pub fn next_hit(&self, from: u32) -> Option<u32>
+        ensures { NextHit self.now from result }
+    {
+        self.marks.next_hit(from)
     }
 
     /// Takes every mark.
     pub fn clear_marks(&mut self)
         ensures bytes { self.new.bytes ≡ self.old.bytes }
         ensures marks { self.new.marks ≡ replicate (length self.old.marks) false }
+        ensures watched { self.new.watched ≡ self.old.watched }
     {
         self.marks.clear();
     }

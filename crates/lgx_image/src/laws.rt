@@ -1,5 +1,5 @@
-// Laws of marks. Each is the contract of a function that does nothing.
-ghost use Rattle.lgx_image.specs.Laws.{NoChangeNeedsMarks, ChangesFollowOneAnother, UnmarkedPlacesStay, PieceIsMarked, OtherMarksStay, AlignedPlaceInOneGrain};
+// Laws of marks and of watched grains. Each is the contract of a function that does nothing.
+ghost use Rattle.lgx_image.specs.Laws.{NoChangeNeedsMarks, ChangesFollowOneAnother, UnmarkedPlacesStay, PieceIsMarked, OtherMarksStay, AlignedPlaceInOneGrain, NoHitKeepsWatched, NoChangeKeepsWatched, TwoChangesKeepWatched, WatchedPlacesStay};
 
 /// What every change keeps is kept by no change, and by one change after another. A place in grains without a mark has the
 /// number that it had before.
@@ -15,4 +15,13 @@ pub fn law_of_marks()
     ensures marked { PieceIsMarked }
     ensures others { OtherMarksStay }
     ensures aligned { AlignedPlaceInOneGrain }
+{}
+
+/// A change after which no watched grain is marked leaves the bytes of all watched grains, and so the numbers of all places
+/// that lie in them.
+pub fn law_of_watched()
+    ensures change { NoHitKeepsWatched }
+    ensures none { NoChangeKeepsWatched }
+    ensures chain { TwoChangesKeepWatched }
+    ensures places { WatchedPlacesStay }
 {}

@@ -1,6 +1,7 @@
-//! The image: one list of bytes under all tags, with marks of what was written.
+//! The image: one list of bytes under all tags, with marks of what changed.
 //!
-//! To contracts an [`Image`] is its bytes, and for each grain of `GRAIN` bytes whether it is marked. What stands at a
+//! To contracts an [`Image`] is its bytes, and for each grain of `GRAIN` bytes whether it is marked and whether it is watched. A
+//! watched grain that is marked is hit: so who watches some places learns at once that one may have changed. What stands at a
 //! place and what a write makes of the bytes are `number` and `write` of `lgx_num`; where operands lie is `bind` of
 //! `spec_scan`. `ChangesOnlyMarked` says what every change of an image keeps.
 #![tactic(auto)]
@@ -13,7 +14,7 @@ mod operands;
 
 pub use grain::{GRAIN, grain_of};
 pub use image::Image;
-pub use laws::{law_of_changes, law_of_marks};
+pub use laws::{law_of_changes, law_of_marks, law_of_watched};
 pub use operands::bind_fixed;
 pub use spec_scan::{Arg, Bound};
 

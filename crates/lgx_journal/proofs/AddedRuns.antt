@@ -1,5 +1,5 @@
 -- A run put after the runs of a journal.
-use Rattle.std.proofs.Common.{◌≡◌, ℕ, zero, suc, ◌+◌, ◌<◌, ◌≤◌, List, [], ◌∷◌, ◌++◌, length, length-append, Bool, true, false, cond, nat_le, nat_eq, replicate, slice_set, slice_index_or, refl, sym, ap, subst, ◌∙◌, add-one, arith, true≢false}
+use Rattle.std.proofs.Common.{◌≡◌, ℕ, zero, suc, ◌+◌, ◌≤◌, List, [], ◌∷◌, ◌++◌, length, length-append, Bool, true, false, cond, nat_le, nat_eq, replicate, refl, sym, ap, subst, ◌∙◌, add-one, arith, true≢false}
 use Rattle.std.proofs.lemmas.Bool.{and_parts, eqb-true}
 use Rattle.std.proofs.lemmas.List.{length-replicate}
 use Rattle.spec_machine.specs.declared.event.Event.{Event}
@@ -87,37 +87,3 @@ pub last_few : (rs : List EventRun) → last_count rs ≤ length (events_of rs)
 last_few [] = omega arith
 last_few (q ∷ []) = omega (arith, length-append (replicate q.count q.event) [], length-replicate q.count q.event)
 last_few (q ∷ p ∷ qs) = omega (arith, last_few (p ∷ qs), length-append (replicate q.count q.event) (events_of (p ∷ qs)))
-
--- ---- the last run
-
--- an element doesn't depend on what stands for a missing one
-pub same_item : (rs : List EventRun) (i : ℕ) (p q : EventRun) → i < length rs → p ≡ slice_index_or rs i p → q ≡ slice_index_or rs i q → p ≡ q
-same_item [] i p q h e f = absurd (omega arith)
-same_item (r ∷ rs) zero p q h e f = e ∙ sym f
-same_item (r ∷ rs) (suc i) p q h e f = same_item rs i p q (omega arith) e f
-
-pub last_count_is : (rs : List EventRun) (i : ℕ) (q : EventRun) → suc i ≡ length rs → q ≡ slice_index_or rs i q → q.count ≡ last_count rs
-last_count_is [] i q h e = absurd (omega arith)
-last_count_is (p ∷ []) zero q h e = ap (λ (r : EventRun). r.count) e
-last_count_is (p ∷ []) (suc i) q h e = absurd (omega arith)
-last_count_is (p ∷ r ∷ rs) zero q h e = absurd (omega arith)
-last_count_is (p ∷ r ∷ rs) (suc i) q h e = last_count_is (r ∷ rs) i q (omega arith) e
-
-pub after_same : (rs : List EventRun) (i : ℕ) (r q : EventRun) → suc i ≡ length rs → q ≡ slice_index_or rs i q → runs_on q.event r.event ≡ true
-    → slice_set rs i (record { event = q.event; count = q.count + r.count }) ≡ after_runs rs r
-after_same [] i r q h e k = absurd (omega arith)
-after_same (p ∷ []) zero r q h e k =
-    let is : runs_on p.event r.event ≡ true = ap (λ (x : EventRun). runs_on x.event r.event) (sym e) ∙ k in
-    rw is (ap (λ (x : EventRun). record { event = x.event; count = x.count + r.count } ∷ []) e)
-after_same (p ∷ []) (suc i) r q h e k = absurd (omega arith)
-after_same (p ∷ t ∷ rs) zero r q h e k = absurd (omega arith)
-after_same (p ∷ t ∷ rs) (suc i) r q h e k = ap (λ (xs : List EventRun). p ∷ xs) (after_same (t ∷ rs) i r q (omega arith) e k)
-
-pub after_other : (rs : List EventRun) (i : ℕ) (r q : EventRun) → suc i ≡ length rs → q ≡ slice_index_or rs i q → runs_on q.event r.event ≡ false → rs ++ r ∷ [] ≡ after_runs rs r
-after_other [] i r q h e k = absurd (omega arith)
-after_other (p ∷ []) zero r q h e k =
-    let is : runs_on p.event r.event ≡ false = ap (λ (x : EventRun). runs_on x.event r.event) (sym e) ∙ k in
-    rw is refl
-after_other (p ∷ []) (suc i) r q h e k = absurd (omega arith)
-after_other (p ∷ t ∷ rs) zero r q h e k = absurd (omega arith)
-after_other (p ∷ t ∷ rs) (suc i) r q h e k = ap (λ (xs : List EventRun). p ∷ xs) (after_other (t ∷ rs) i r q (omega arith) e k)

@@ -7,10 +7,12 @@ pub mod LinesBack
 pub mod Numerals
 pub mod Parts
 pub mod Prefixes
+pub mod PutRuns
 pub mod PushedEdits
 pub mod ReadLanes
 pub mod ReadRuns
 pub mod SafeLines
+pub mod ShortLines
 pub mod Spelled
 pub mod TextsBack
 pub mod Trimmed

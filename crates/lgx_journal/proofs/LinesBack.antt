@@ -129,13 +129,12 @@ read_lane lane a h k =
 
 -- ---- the lines of counts
 
-read_count : (e : Event) (verb : List ℕ) (n : ℕ) → is_word verb ≡ true → n < 2 ^ 32 → counted_run (verb ∷ decimal n ∷ []) ≡ Some (record { event = e; count = n })
-    → is_skipped (verb ++ 32 ∷ decimal n) ≡ false → bytes_eq (verb ++ 32 ∷ decimal n) (codes "end") ≡ false → lane_of (verb ++ 32 ∷ decimal n) ≡ None
-    → IsReadLine (spaced (verb ∷ decimal n ∷ [])) (record { event = e; count = n })
-read_count e verb n v h run skipped more lane =
-    let line = verb ++ 32 ∷ decimal n in
-    let small : n < 2 ^ 64 = omega arith in
-    let is : words line ≡ verb ∷ decimal n ∷ [] = words_spaced (verb ∷ decimal n ∷ []) (and_from _ _ v (and_from _ _ (decimal_word n small) refl)) in
+pub read_count : (e : Event) (verb digits : List ℕ) (n : ℕ) → is_word verb ≡ true → is_word digits ≡ true → counted_run (verb ∷ digits ∷ []) ≡ Some (record { event = e; count = n })
+    → is_skipped (verb ++ 32 ∷ digits) ≡ false → bytes_eq (verb ++ 32 ∷ digits) (codes "end") ≡ false → lane_of (verb ++ 32 ∷ digits) ≡ None
+    → IsReadLine (spaced (verb ∷ digits ∷ [])) (record { event = e; count = n })
+read_count e verb digits n v d run skipped more lane =
+    let line = verb ++ 32 ∷ digits in
+    let is : words line ≡ verb ∷ digits ∷ [] = words_spaced (verb ∷ digits ∷ []) (and_from _ _ v (and_from _ _ d refl)) in
     record {
       run = ap (λ ws. option_or (counted_run ws) (option_or (lane_run line (lane_of line)) (action_run OWN_LANE (action_of line)))) is
           ∙ ap (λ o. option_or o (option_or (lane_run line (lane_of line)) (action_run OWN_LANE (action_of line)))) run;
@@ -151,13 +150,16 @@ by_lane lane a true e h k =
     subst (λ (l : ℕ). IsReadLine (spaced (lane_words l ++ action_words a)) (record { event = Act l a; count = 1 })) (sym (eqb-true lane OWN_LANE e)) (read_own a k)
 by_lane lane a false e h k = rw e (read_lane lane a (grind (arith, nat_tests)) k)
 
+number_word : (n : ℕ) → n < 2 ^ 32 → is_word (decimal n) ≡ true
+number_word n h = decimal_word n (omega arith)
+
 by_event : (e : Event) (n : ℕ) → is_written (record { event = e; count = n }) ≡ true → IsReadLine (spaced (event_words e n)) (record { event = e; count = n })
 by_event Cpu n h =
     let small = ltb-true n (2 ^ 32) (and_parts (is_u32 n) (nat_le 1 n && true) h).0 in
-    read_count Cpu (codes "cpu") n refl small (run_steps (codes "cpu") (decimal n) refl ∙ ap (times Cpu) (unsigned_back n small)) refl refl refl
+    read_count Cpu (codes "cpu") (decimal n) n refl (number_word n small) (run_steps (codes "cpu") (decimal n) refl ∙ ap (times Cpu) (unsigned_back n small)) refl refl refl
 by_event Tick n h =
     let small = ltb-true n (2 ^ 32) (and_parts (is_u32 n) (nat_le 1 n && true) h).0 in
-    read_count Tick (codes "tick") n refl small (run_ticks (codes "tick") (decimal n) refl ∙ ap (times Tick) (unsigned_back n small)) refl refl refl
+    read_count Tick (codes "tick") (decimal n) n refl (number_word n small) (run_ticks (codes "tick") (decimal n) refl ∙ ap (times Tick) (unsigned_back n small)) refl refl refl
 by_event (Act lane a) n h =
     let r : EventRun = record { event = Act lane a; count = n } in
     let two = and_parts (is_kept_run r) (is_placed r) h in

@@ -46,7 +46,7 @@ unsigned_back n h =
     ap (λ b. cond b (Some (value_of (decimal n))) None) both ∙ ap Some value
 
 -- a byte that is no digit stands in no number
-foreign_digit : (m : ℕ) → is_ascii_digit m ≡ false → (ds : List ℕ) → all_ascii_digits ds ≡ true → has_byte m ds ≡ false
+pub foreign_digit : (m : ℕ) → is_ascii_digit m ≡ false → (ds : List ℕ) → all_ascii_digits ds ≡ true → has_byte m ds ≡ false
 foreign_digit m h [] k = refl
 foreign_digit m h (c ∷ cs) k =
     let two = and_parts (is_ascii_digit c) (all_ascii_digits cs) k in
@@ -61,7 +61,7 @@ foreign_digit m h (c ∷ cs) k =
 pub clean_decimal : (m n : ℕ) → is_ascii_digit m ≡ false → n < 2 ^ 64 → has_byte m (decimal n) ≡ false
 clean_decimal m n h k = foreign_digit m h (decimal n) (all_digits n k)
 
-some_text : (ds : List ℕ) → 0 < length ds → not (is_empty ds) ≡ true
+pub some_text : (ds : List ℕ) → 0 < length ds → not (is_empty ds) ≡ true
 some_text [] h = absurd (omega arith)
 some_text (c ∷ cs) h = refl
 

@@ -44,7 +44,7 @@ back_none p xs c ys h k =
     ∙ ap (prefix_len p) (append_assoc (reverse ys) (c ∷ []) (reverse xs))
     ∙ front_none p (reverse ys) c (reverse xs) h k
 
-none_back : (m : ℕ) (text : List ℕ) → has_byte m text ≡ false → suffix_len (λ c. nat_eq c m) text ≡ 0
+pub none_back : (m : ℕ) (text : List ℕ) → has_byte m text ≡ false → suffix_len (λ c. nat_eq c m) text ≡ 0
 none_back m [] h = refl
 none_back m (c ∷ cs) h = let two = or_parts (nat_eq c m) (has_byte m cs) h in back_none (λ c. nat_eq c m) [] c cs two.0 (none_back m cs two.1)
 

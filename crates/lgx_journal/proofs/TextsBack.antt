@@ -1,5 +1,5 @@
 -- The text of runs has one reading, and within the limits it is read back.
-use Rattle.std.proofs.Common.{◌≡◌, ℕ, ◌+◌, ◌≤◌, List, [], ◌∷◌, ◌++◌, map, Bool, true, false, cond, ◌&&◌, ◌||◌, not, Result, Ok, Err, Option, Some, None, count_by, nat_lt, nat_le, nat_eq, codes, refl, sym, ap, subst, ◌∙◌, append_assoc, arith, true≢false}
+use Rattle.std.proofs.Common.{◌≡◌, ℕ, ◌+◌, ◌<◌, ◌≤◌, List, [], ◌∷◌, ◌++◌, map, Bool, true, false, cond, ◌&&◌, ◌||◌, not, Result, Ok, Err, Option, Some, None, count_by, nat_lt, nat_le, nat_eq, codes, refl, sym, ap, subst, ◌∙◌, append_assoc, arith, true≢false}
 use Rattle.std.specs.List.{list_all}
 use Rattle.std.proofs.lemmas.Bool.{and_from, and_parts, le-leb, lt-ltb, leb-true}
 use Rattle.spec_base.specs.declared.limits.TheConstants.{MAX_JOURNAL_STEPS, MAX_ACTIONS}
@@ -18,7 +18,7 @@ use Rattle.spec_text.proofs.WithinLimits.{counted, of_steps, of_ticks, of_action
 use Rattle.lgx_journal.specs.Journals.{is_run}
 use Rattle.lgx_journal.specs.Written.{is_kept_run, has_lane, is_placed, is_written, AreWritten, runs_text, IsReadable}
 use Rattle.lgx_journal.proofs.LineSplits.{lines_split, no_return}
-use Rattle.lgx_journal.proofs.LinesBack.{line_back}
+use Rattle.lgx_journal.proofs.LinesBack.{IsReadLine, line_back}
 use Rattle.lgx_journal.proofs.SafeLines.{safe_line}
 use Rattle.lgx_journal.proofs.Spelled.{piece_before}
 
@@ -144,16 +144,18 @@ checked t a o b = do
   _ ← unless (nat_lt 0 run.count && is_allowed (with_run t run)) J4
   Ok run
 
-line_fits : (t : Tally) (r : EventRun) → is_written r ≡ true → is_line (run_line r) ≡ true → is_allowed (with_run t r) ≡ true → read_line t (run_line r) ≡ Ok r
-line_fits t r h k allowed =
-    let line = run_line r in
-    let back = line_back r h in
-    let run = (and_parts (has_lane r.event) (is_run r) (and_parts (is_kept_run r) (is_placed r) h).1).1 in
-    let some : nat_lt 0 r.count ≡ true = lt-ltb 0 r.count (omega (arith, leb-true 1 r.count (and_parts (nat_le 1 r.count) (not (is_action r.event) || nat_eq r.count 1) run).0)) in
+pub line_says : (t : Tally) (line : List ℕ) (r : EventRun) → IsReadLine line r → is_line line ≡ true → 0 < r.count → is_allowed (with_run t r) ≡ true → read_line t line ≡ Ok r
+line_says t line r back k some allowed =
     ap (λ a. checked t a (run_of line) (is_lane (lane_of line))) k
     ∙ ap (λ o. checked t true o (is_lane (lane_of line))) back.run
     ∙ ap (λ b. checked t true (Some r) b) back.lane
-    ∙ ap (λ b. unless b J4 >>= (λ v. Ok r)) (and_from _ _ some allowed)
+    ∙ ap (λ b. unless b J4 >>= (λ v. Ok r)) (and_from _ _ (lt-ltb 0 r.count some) allowed)
+
+line_fits : (t : Tally) (r : EventRun) → is_written r ≡ true → is_line (run_line r) ≡ true → is_allowed (with_run t r) ≡ true → read_line t (run_line r) ≡ Ok r
+line_fits t r h k allowed =
+    let run = (and_parts (has_lane r.event) (is_run r) (and_parts (is_kept_run r) (is_placed r) h).1).1 in
+    let some : 0 < r.count = omega (arith, leb-true 1 r.count (and_parts (nat_le 1 r.count) (not (is_action r.event) || nat_eq r.count 1) run).0) in
+    line_says t (run_line r) r (line_back r h) k some allowed
 
 abbrev on_read : ℕ → Tally → List (List ℕ) → Result EventRun JournalCode → Result (List EventRun) JournalFault
 on_read n t ls x = elim x [ Err code ↦ refused n code | Ok r ↦ before_rest r (runs_from (n + 1) (with_run t r) ls) ]

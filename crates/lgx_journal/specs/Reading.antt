@@ -10,7 +10,8 @@ use Rattle.spec_base.specs.declared.limits.TheConstants.{MAX_ACTIONS}
 use Rattle.spec_text.specs.declared.script.JournalCode.TheVariants.{J2, J3, J4, J5}
 use Rattle.spec_text.specs.Scripts.{Script, actions_in, last_tick}
 use Rattle.spec_text.specs.ScriptText.{LaneAction, last_at, lanes_from}
-use Rattle.spec_text.specs.JournalText.{Tally, events_of, refused}
+use Rattle.spec_text.specs.TextLines.{lines}
+use Rattle.spec_text.specs.JournalText.{Tally, events_of, refused, runs_from}
 use Rattle.lgx_journal.specs.declared.error.JournalError.{JournalError}
 use Rattle.lgx_journal.specs.declared.error.JournalError.TheVariants as whole
 use Rattle.lgx_journal.specs.declared.error.LineError.{LineError}
@@ -48,6 +49,10 @@ tally_events t = t.steps + t.ticks + t.actions
 abbrev pub after_events : List Event → Result (List EventRun) JournalFault → Result (List Event) JournalFault
 after_events es (Err fault) = Err fault
 after_events es (Ok runs) = Ok (es ++ events_of runs)
+
+-- what is read of a text, whose first line has this number, after these events with their tally
+abbrev pub read_after : List Event → ℕ → Tally → List ℕ → Result (List Event) JournalFault
+read_after es n t text = after_events es (runs_from n t (lines text))
 
 -- the first cause for which an action may not stand last in its lane
 abbrev pub lane_fault : Script → ℕ → ℕ → Option JournalCode

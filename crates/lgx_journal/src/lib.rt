@@ -2,12 +2,14 @@
 #![tactic(auto)]
 
 mod actions;
+mod counts;
 mod edits;
 mod error;
 mod journal;
 mod laws;
 mod lines;
 mod read;
+mod runs;
 mod script;
 mod words;
 mod write;
@@ -17,6 +19,7 @@ pub use journal::Journal;
 pub use laws::lines_have_one_reading;
 pub use lines::{is_last, is_skipped, next_line};
 pub use read::{JournalReader, read_journal};
+pub use runs::RunView;
 pub use script::read_script;
 pub use spec_machine::{Accept, Action, EditFault, Event, Mode, ModeFault, Reply, RungEdit, Text};
 pub use spec_tables::{ConnFault, ForceFault};

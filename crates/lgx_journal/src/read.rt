@@ -1,5 +1,5 @@
 // Reads a journal.
-ghost use Rattle.std.specs.Prelude.{◌≡◌, ℕ, ◌+◌, ◌≤◌, ◌∷◌, [], false, nat_le, Ok, Err, IfOk, OnOk, IfErr, OnErr, IfSome, IsTrue};
+ghost use Rattle.std.specs.Prelude.{◌≡◌, ℕ, ◌+◌, ◌≤◌, ◌∷◌, [], false, length, nat_le, Ok, Err, IfOk, OnOk, IfErr, OnErr, IfSome, IsTrue};
 ghost use Rattle.spec_base.specs.declared.limits.TheConstants.{OWN_LANE};
 ghost use Rattle.spec_text.specs.TextLines.{words};
 ghost use Rattle.spec_text.specs.ActionText.{action_of};
@@ -7,9 +7,12 @@ ghost use Rattle.spec_text.specs.JournalText.{counted_run, action_run, lane_run,
 ghost use Rattle.lgx_journal.specs.Journals.{is_run};
 ghost use Rattle.spec_base.specs.Pieces.{has_byte};
 ghost use Rattle.lgx_journal.specs.Lines.{is_plain};
-ghost use Rattle.lgx_journal.specs.Reading.{IfLine, IfCode, is_single};
+ghost use Rattle.lgx_journal.specs.Counts.{counted_event};
+ghost use Rattle.lgx_journal.specs.Reading.{IfLine, IfCode, is_single, tally_events, read_after};
+ghost use Rattle.lgx_journal.specs.Written.{event_run};
 
 use crate::actions::action_of;
+use crate::counts::{Counted, short_line};
 use crate::error::{JournalError, LineError, at_line};
 use crate::journal::Journal;
 use crate::lines::{is_last, is_skipped, lane_of, next_line};
@@ -43,6 +46,7 @@ impl Model for JournalReader {
 }
 
 /// Adds to a total, unless it would pass the most that it may be.
+#[inline(always)]
 fn add_within(total: &mut u32, more: u32, most: u32) -> bool
     requires { total.old ≤ most }
     ensures within { result ≡ nat_le (total.old + more) most }
@@ -65,6 +69,19 @@ impl JournalReader {
             steps: 0,
             ticks: 0,
             actions: 0,
+        }
+    }
+
+    /// Counts so many steps or ticks, unless a limit would be passed.
+    #[inline(always)]
+    fn take_count(&mut self, counted: Counted, count: u32) -> bool
+        ensures allowed { result ≡ is_allowed (with_run self.old (event_run (counted_event counted) count)) }
+        ensures counted { IsTrue result → self.new ≡ with_run self.old (event_run (counted_event counted) count) }
+        ensures same { result ≡ false → self.new ≡ self.old }
+    {
+        match counted {
+            Counted::Steps => add_within(&mut self.steps, count, MAX_JOURNAL_STEPS),
+            Counted::Ticks => add_within(&mut self.ticks, count, MAX_JOURNAL_STEPS),
         }
     }
 
@@ -205,6 +222,34 @@ impl JournalReader {
     }
 }
 
+/// Puts the lines with which a text begins into a journal, as long as each is a short line of steps or of ticks, no limit is
+/// passed and the journal has room. Answers how many lines they are, and the text after them.
+fn read_counts<'a>(
+    journal: &mut Journal,
+    tally: &mut JournalReader,
+    text: &'a [u8],
+) -> (u64, &'a [u8])
+    requires { length journal.old.events ≡ tally_events tally.old }
+    ensures same { (n : ℕ) → read_after journal.new.events (n + result.0) tally.new result.1.now ≡ read_after journal.old.events n tally.old text.now }
+    ensures size { length journal.new.events ≡ tally_events tally.new }
+    ensures number { result.0 + length result.1.now ≤ length text.now }
+{
+    let mut number = 0u64;
+    let mut rest = text;
+    'counts: while journal.has_room() {
+        let Some((counted, count, after)) = short_line(rest) else {
+            return (number, rest);
+        };
+        if !tally.take_count(counted, count) {
+            return (number, rest);
+        }
+        journal.add_counted(counted, count);
+        number += 1;
+        rest = after;
+    }
+    (number, rest)
+}
+
 /// Puts the events of a text into a journal without one, or tells its first line with a cause and the line's first cause.
 fn read_lines(alloc: Global, journal: &mut Journal, bytes: &[u8]) -> Result<(), JournalError>
     requires { journal.old.events ≡ [] }
@@ -214,7 +259,16 @@ fn read_lines(alloc: Global, journal: &mut Journal, bytes: &[u8]) -> Result<(), 
     let mut tally = JournalReader::new();
     let mut number = 0u64;
     let mut rest = bytes;
-    while let Some((line, after)) = next_line(rest) {
+    'lines: loop {
+        journal.reserve(1)?;
+        let (counts, others) = read_counts(journal, &mut tally, rest);
+        number += counts;
+        let Some((line, after)) = next_line(others) else {
+            return Err(JournalError::Line(JournalFault {
+                code: JournalCode::J1,
+                line: number + 1,
+            }));
+        };
         number += 1;
         rest = after;
         if is_skipped(line) {
@@ -229,10 +283,6 @@ fn read_lines(alloc: Global, journal: &mut Journal, bytes: &[u8]) -> Result<(), 
             Err(error) => return Err(at_line(error, number)),
         }
     }
-    Err(JournalError::Line(JournalFault {
-        code: JournalCode::J1,
-        line: number + 1,
-    }))
 }
 
 /// The journal that a text is, or its first line with a cause and the line's first cause.

@@ -8,9 +8,12 @@ ghost use Rattle.spec_text.specs.ActionText.{text_word, edit_words, edits_text, 
 ghost use Rattle.spec_text.specs.JournalText.{lane_words, event_words, joined, text, journal_of};
 ghost use Rattle.spec_machine.specs.EditText.{is_edit_text};
 ghost use Rattle.spec_machine.specs.declared.event.Action.TheVariants.{Accept as Accepts};
+ghost use Rattle.lgx_journal.specs.Runs.{seen_run};
 ghost use Rattle.lgx_journal.specs.Written.{event_run, is_kept_edit, is_kept_action, is_kept_run, is_placed, AreWritten, HasLanes, HasOneReading, IsLineOfOne, IsReadable};
 
 use crate::journal::Journal;
+use crate::runs::RunView;
+use itoa::Buffer;
 use lgx_num::{Memory, Name};
 use spec_base::limits::OWN_LANE;
 use spec_machine::{Accept, Action, Event, RungEdit, Text};
@@ -238,13 +241,29 @@ fn push_lane_action(
     push_action(text, alloc, action)
 }
 
-/// A count of processor steps, or of ticks.
-fn push_count(text: &mut Vec<u8>, alloc: Global, verb: &[u8], count: u32) -> Result<(), Memory>
+/// A count of processor steps, or of ticks. Its digits are made without memory of their own.
+fn push_count(text: &mut Vec<u8>, verb: &[u8], count: u32) -> Result<(), Memory>
     ensures { OnOk result (text.new.items ≡ text.old.items ++ spaced (verb.now ∷ decimal count ∷ [])) }
 {
+    let mut digits = Buffer::new();
     text.extend_from_slice(verb)?;
     text.push(b' ')?;
-    push_number(text, alloc, count)
+    text.extend_from_slice(digits.format(count).as_bytes())?;
+    Ok(())
+}
+
+/// Adds the line of a run, with its line feed.
+fn push_run(text: &mut Vec<u8>, alloc: Global, run: RunView<'_>) -> Result<(), Memory>
+    ensures text { OnOk result (text.new.items ≡ text.old.items ++ line_of (event_words (seen_run run.entry).event (seen_run run.entry).count)) }
+    ensures kept { OnOk result (IsTrue (is_kept_run (seen_run run.entry))) }
+{
+    match run {
+        RunView::Cpu(count) => push_count(text, b"cpu", count)?,
+        RunView::Tick(count) => push_count(text, b"tick", count)?,
+        RunView::Act(lane, action) => push_lane_action(text, alloc, lane, action)?,
+    }
+    text.push(b'\n')?;
+    Ok(())
 }
 
 /// Adds the line of an event that stands there so often, with its line feed: see [`write_event`].
@@ -258,12 +277,10 @@ pub fn push_event(
     ensures kept { OnOk result (IsTrue (is_kept_run (event_run event.now count))) }
 {
     match event {
-        Event::Cpu => push_count(text, alloc, b"cpu", count)?,
-        Event::Tick => push_count(text, alloc, b"tick", count)?,
-        Event::Act(lane, action) => push_lane_action(text, alloc, *lane, action)?,
+        Event::Cpu => push_run(text, alloc, RunView::Cpu(count)),
+        Event::Tick => push_run(text, alloc, RunView::Tick(count)),
+        Event::Act(lane, action) => push_run(text, alloc, RunView::Act(*lane, action)),
     }
-    text.push(b'\n')?;
-    Ok(())
 }
 
 /// The line of an event that stands there so often, with its line feed. An action's line has no count, and lane 31 isn't
@@ -287,8 +304,8 @@ pub fn write_journal(alloc: Global, journal: &Journal) -> Result<Vec<u8>, Memory
     ensures read_back { IfOk result (λ t. IsReadable journal.now.events → journal_of t.items ≡ Ok journal.now.events) }
 {
     let mut text = Vec::new(alloc);
-    for run in journal.as_slice() {
-        push_event(&mut text, alloc, &run.event, run.count)?;
+    for i in 0..journal.runs() {
+        push_run(&mut text, alloc, journal.run_at(i))?;
     }
     text.extend_from_slice(b"end\n")?;
     Ok(text)

@@ -5,6 +5,7 @@ ghost use Rattle.lgx_rung.specs.OperandTable.{family_of};
 ghost use Rattle.spec_scan.specs.Comparisons.{compare, holds, is_within, is_equal_under};
 ghost use Rattle.lgx_image.specs.Args.{ArgsInBounds};
 
+use crate::operand::number;
 use lgx_image::Image;
 use lgx_rung::Op;
 use spec_scan::Bound;
@@ -18,13 +19,14 @@ pub fn compare(op: Op, args: &Bound, image: &Image) -> bool
     requires lie { ArgsInBounds args.now (length image.now.bytes) }
     ensures { result ≡ compare op args.now image.now.bytes }
 {
-    let a = image.value(args.at(0));
-    let b = image.value(args.at(1));
-    let c = image.value(args.at(2));
+    let a = number(args.at(0), image);
+    let b = number(args.at(1), image);
+    let c = number(args.at(2), image);
     holds(op, a, b, c)
 }
 
-/// Whether a comparison holds of its values.
+/// Whether a comparison holds of the values of its operands, in order; where there are two, the third is any number.
+#[inline(always)]
 fn holds(op: Op, a: i32, b: i32, c: i32) -> bool
     requires { family_of op ≡ Comparison }
     ensures { result ≡ holds op a b c }
@@ -43,6 +45,7 @@ fn holds(op: Op, a: i32, b: i32, c: i32) -> bool
 }
 
 /// LIM: from the low limit to the high one. With the low limit above the high one all but what is strictly between them.
+#[inline(always)]
 fn is_within(low: i32, test: i32, high: i32) -> bool
     ensures { result ≡ is_within low test high }
 {
@@ -54,6 +57,7 @@ fn is_within(low: i32, test: i32, high: i32) -> bool
 }
 
 /// MEQ: equal in the bits in which the mask has a 1.
+#[inline(always)]
 fn is_equal_under(source: i32, mask: i32, other: i32) -> bool
     ensures { result ≡ is_equal_under source mask other }
 {

@@ -8,6 +8,7 @@
 mod comparison;
 mod laws;
 mod math;
+mod operand;
 mod results;
 
 pub use comparison::compare;

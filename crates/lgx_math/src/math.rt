@@ -1,17 +1,20 @@
 // Arithmetic, moves and operations bit by bit.
 ghost use Rattle.std.specs.Prelude.{◌≡◌, ℕ, length, pos, int_lt};
 ghost use Rattle.lgx_num.specs.Image.{InBounds};
+ghost use Rattle.lgx_num.specs.Number.{store_low};
 ghost use Rattle.lgx_rung.specs.declared.operands.Family.TheVariants.{Arithmetic};
 ghost use Rattle.lgx_rung.specs.OperandTable.{family_of};
 ghost use Rattle.spec_scan.specs.Arguments.{arg, place_of};
-ghost use Rattle.spec_scan.specs.Arithmetic.{math, dest, is_zero};
+ghost use Rattle.spec_scan.specs.Arithmetic.{math, dest, is_zero, overflows};
 ghost use Rattle.spec_scan.specs.Fits.{ArgsFit};
 ghost use Rattle.lgx_image.specs.Args.{ArgsInBounds};
 ghost use Rattle.lgx_image.specs.Grains.{ChangesOnlyMarked};
+ghost use Rattle.lgx_math.specs.Steps.{step_of, stored};
 
+use crate::operand::number;
 use crate::results::{overflows, result_of};
 use lgx_image::Image;
-use lgx_num::{Flags, Place, store_low};
+use lgx_num::{Flags, Kind, Place, store_low};
 use lgx_rung::Op;
 use spec_scan::Bound;
 
@@ -29,25 +32,9 @@ pub fn run_math(op: Op, args: &Bound, flags: &mut Flags, image: &mut Image) -> b
     ensures only_marked { ChangesOnlyMarked image.old image.new }
 {
     let place = destination(op, args);
-    let a = image.value(args.at(0));
-    let b = image.value(args.at(1));
-    let exact = result_of(op, a, b, image.get(place));
-    let stored = store_low(place.kind, exact);
-    let overflow = overflows(op, place.kind, b, exact);
-    *flags = flags_of(overflow, stored);
-    image.put(place, stored);
-    overflow
-}
-
-/// The flags after a number was stored.
-fn flags_of(overflow: bool, stored: i32) -> Flags
-    ensures { result ≡ record { v = overflow; z = is_zero stored; n = int_lt stored (pos 0) } }
-{
-    Flags {
-        v: overflow,
-        z: stored == 0,
-        n: stored < 0,
-    }
+    let a = number(args.at(0), image);
+    let b = number(args.at(1), image);
+    store_result(op, a, b, place, flags, image)
 }
 
 /// The place of the last operand, to which the result goes.
@@ -59,4 +46,102 @@ fn destination(op: Op, args: &Bound) -> Place
 {
     let last = op.fixed_kinds().len() - 1;
     args.at(last).place()
+}
+
+/// Stores the low bits of an instruction's result at a place, and sets the task's flags: as [`run_math`], of the numbers of the
+/// first and second operand (any number for one that the instruction doesn't have) and of the destination's place.
+#[inline(always)]
+fn store_result(op: Op, a: i32, b: i32, place: Place, flags: &mut Flags, image: &mut Image) -> bool
+    requires family { family_of op ≡ Arithmetic }
+    requires lies { InBounds place (length image.old.bytes) }
+    ensures due { result ≡ (step_of op a b place image.old.bytes).flags.v }
+    ensures flags { flags.new ≡ (step_of op a b place image.old.bytes).flags }
+    ensures bytes { image.new.bytes ≡ (step_of op a b place image.old.bytes).image }
+    ensures only_marked { ChangesOnlyMarked image.old image.new }
+{
+    let exact = result_of(op, a, b, place, image);
+    store(op, b, exact, place, flags, image)
+}
+
+/// Stores the exact result of an instruction, which has this second source, at a place.
+#[inline(always)]
+fn store(op: Op, b: i32, exact: i64, place: Place, flags: &mut Flags, image: &mut Image) -> bool
+    requires { InBounds place (length image.old.bytes) }
+    ensures due { result ≡ (stored (overflows op place.kind b exact) exact place image.old.bytes).flags.v }
+    ensures flags { flags.new ≡ (stored (overflows op place.kind b exact) exact place image.old.bytes).flags }
+    ensures bytes { image.new.bytes ≡ (stored (overflows op place.kind b exact) exact place image.old.bytes).image }
+    ensures only_marked { ChangesOnlyMarked image.old image.new }
+{
+    match place.kind {
+        Kind::Dint => {
+            let overflow = overflows(op, Kind::Dint, b, exact);
+            store_dint(overflow, exact, place, flags, image)
+        }
+        kind => {
+            let overflow = overflows(op, kind, b, exact);
+            store_narrow(overflow, exact, place, flags, image)
+        }
+    }
+}
+
+/// Stores the low 32 bits of a result at the place of a DINT; whether it overflowed.
+#[inline(always)]
+fn store_dint(
+    overflow: bool,
+    exact: i64,
+    place: Place,
+    flags: &mut Flags,
+    image: &mut Image,
+) -> bool
+    requires kind { place.kind ≡ Kind.Dint }
+    requires lies { InBounds place (length image.old.bytes) }
+    ensures due { result ≡ overflow }
+    ensures flags { flags.new ≡ (stored overflow exact place image.old.bytes).flags }
+    ensures bytes { image.new.bytes ≡ (stored overflow exact place image.old.bytes).image }
+    ensures only_marked { ChangesOnlyMarked image.old image.new }
+{
+    let low = low_dint(exact);
+    *flags = flags_of(overflow, low);
+    image.put_dint(place.at / 8, low);
+    overflow
+}
+
+/// The number that the low 32 bits of a result are.
+#[inline(always)]
+fn low_dint(exact: i64) -> i32
+    ensures { result ≡ store_low Kind.Dint exact }
+{
+    store_low(Kind::Dint, exact)
+}
+
+/// Stores the low bits of a result at a place of any kind; whether it overflowed.
+fn store_narrow(
+    overflow: bool,
+    exact: i64,
+    place: Place,
+    flags: &mut Flags,
+    image: &mut Image,
+) -> bool
+    requires { InBounds place (length image.old.bytes) }
+    ensures due { result ≡ overflow }
+    ensures flags { flags.new ≡ (stored overflow exact place image.old.bytes).flags }
+    ensures bytes { image.new.bytes ≡ (stored overflow exact place image.old.bytes).image }
+    ensures only_marked { ChangesOnlyMarked image.old image.new }
+{
+    let low = store_low(place.kind, exact);
+    *flags = flags_of(overflow, low);
+    image.put(place, low);
+    overflow
+}
+
+/// The flags after a number was stored.
+#[inline(always)]
+fn flags_of(overflow: bool, stored: i32) -> Flags
+    ensures { result ≡ record { v = overflow; z = is_zero stored; n = int_lt stored (pos 0) } }
+{
+    Flags {
+        v: overflow,
+        z: stored == 0,
+        n: stored < 0,
+    }
 }

@@ -1,4 +1,6 @@
 pub mod Runs
 pub mod Fits
+pub mod ByteTable
+pub mod OpsRead
 pub mod Answers
 pub mod Writing

@@ -1,5 +1,5 @@
 -- The rung that is read token by token, in the words of neutral text.
-use Rattle.std.specs.Prelude.{ℕ, List, [], ◌∷◌}
+use Rattle.std.specs.Prelude.{◌≡◌, ◌<◌, ℕ, List, [], ◌∷◌, length}
 use Rattle.lgx_rung.specs.declared.op.Op.{Op}
 use Rattle.lgx_neutral.specs.declared.reader.Place.{Place}
 use Rattle.lgx_neutral.specs.declared.reader.Place.TheVariants.{Element, Named, First, After, Next, End}
@@ -17,13 +17,19 @@ abbrev pub next : Op → List (List ℕ) → text.Place
 next op [] = text.First op
 next op (first ∷ others) = text.Next op first others
 
-abbrev pub reading_at : Place → List text.Fork → Source → text.Reader
-reading_at Element forks leg = text.At text.Element forks leg
-reading_at (Named op) forks leg = text.At (text.Named op) forks leg
-reading_at (First op) forks leg = text.At (text.First op) forks leg
-reading_at (After call) forks leg = text.At (after call.op call.texts) forks leg
-reading_at (Next call) forks leg = text.At (next call.op call.texts) forks leg
-reading_at End forks leg = text.Done leg
+abbrev pub reading_at : Place → List (List ℕ) → List text.Fork → Source → text.Reader
+reading_at Element texts forks leg = text.At text.Element forks leg
+reading_at (Named op) texts forks leg = text.At (text.Named op) forks leg
+reading_at (First op) texts forks leg = text.At (text.First op) forks leg
+reading_at (After op) texts forks leg = text.At (after op texts) forks leg
+reading_at (Next op) texts forks leg = text.At (next op texts) forks leg
+reading_at End texts forks leg = text.Done leg
 
 abbrev pub reading : Reader → text.Reader
-reading r = reading_at r.place r.forks r.leg
+reading r = reading_at r.place r.texts r.forks r.leg
+
+-- operands are held from the first on until their instruction is closed
+abbrev pub IsHeld : Place → List (List ℕ) → Type 0
+IsHeld (After op) texts = 0 < length texts
+IsHeld (Next op) texts = 0 < length texts
+IsHeld _ texts = texts ≡ []

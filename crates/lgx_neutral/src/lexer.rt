@@ -5,6 +5,7 @@ ghost use Rattle.spec_base.specs.declared.limits.TheConstants.{MAX_FILE_BYTES};
 ghost use Rattle.lgx_rung.specs.Tokens.{is_blank, in_run as is_in_run, tokens_from, tokens, run_token, mark, inside_after};
 
 use crate::bytes::{in_run, is_blank};
+use crate::mnemonic::read_op;
 use lgx_rung::Op;
 
 /// A token of neutral text.
@@ -57,6 +58,7 @@ impl<'a> Lexer<'a> {
     }
 
     /// The next token, or none if only blanks are left.
+    #[inline(always)]
     pub(crate) fn next(&mut self) -> Option<Placed<'a>>
         ensures tokens { MatchOption result (left self.old ≡ []) (λ t. left self.old ≡ placed t ∷ left self.new) }
         ensures operand { IfSome result (λ t. IsFitToken t.token) }
@@ -84,6 +86,7 @@ impl<'a> Lexer<'a> {
 }
 
 /// The first place, from this one on, at which no blank stands.
+#[inline(always)]
 fn after_blanks(text: &[u8], from: usize) -> usize
     requires { from ≤ length text.now }
     ensures ahead { from ≤ result }
@@ -99,6 +102,7 @@ fn after_blanks(text: &[u8], from: usize) -> usize
 }
 
 /// The first place, from this one on, at which the run ends.
+#[inline(always)]
 fn after_run(text: &[u8], inside: bool, from: usize) -> usize
     requires { from ≤ length text.now }
     ensures ahead { from ≤ result }
@@ -118,6 +122,7 @@ impl<'a> Token<'a> {
     ghost use Rattle.lgx_neutral.specs.Lexing.{token_of, IsFitToken};
 
     /// The token of a run.
+    #[inline(always)]
     fn of_run(inside: bool, run: &'a [u8]) -> Self
         requires some { 0 < length run.now }
         requires run { IsTrue (list_all (is_in_run inside) run.now) }
@@ -127,13 +132,14 @@ impl<'a> Token<'a> {
         if inside {
             return Token::Operand(run);
         }
-        match Op::read(run) {
+        match read_op(run) {
             Some(op) => Token::Mnemonic(op),
             None => Token::Letters,
         }
     }
 
     /// The token of a byte that stands in no run.
+    #[inline(always)]
     fn of_byte(byte: u8) -> Self
         ensures { token_of result ≡ mark byte }
     {
@@ -149,6 +155,7 @@ impl<'a> Token<'a> {
     }
 
     /// Whether what follows it is inside parentheses.
+    #[inline(always)]
     fn inside_after(self, inside: bool) -> bool
         ensures { result ≡ inside_after inside (token_of self.entry) }
     {

@@ -9,6 +9,7 @@ mod bytes;
 mod fault;
 mod forks;
 mod lexer;
+mod mnemonic;
 mod read;
 mod reader;
 mod write;

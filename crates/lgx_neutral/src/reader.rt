@@ -1,5 +1,5 @@
 // A rung that is read token by token.
-ghost use Rattle.std.specs.Prelude.{◌≡◌, ◌<◌, ◌≤◌, ◌+◌, [], length};
+ghost use Rattle.std.specs.Prelude.{◌≡◌, ◌<◌, ◌≤◌, ◌+◌, [], length, OnOk};
 ghost use Rattle.lgx_rung.specs.Tokens as text;
 
 use crate::fault::Refusal;
@@ -9,16 +9,8 @@ use lgx_rung::{Op, OpenFork, SourceRung, TextCode, TextFault, Texts};
 use std::alloc::Global;
 use std::mem;
 
-/// An instruction of which at least one operand is read.
-#[derive(Drop)]
-pub(crate) struct Call {
-    op: Op,
-    texts: Texts,
-    ghost some: { 0 < length texts },
-}
-
 /// What may stand next.
-#[derive(Drop)]
+#[derive(Clone, Copy)]
 pub(crate) enum Place {
     /// An element, or the end of the leg or of the rung.
     Element,
@@ -27,17 +19,19 @@ pub(crate) enum Place {
     /// The first operand, or the closing parenthesis.
     First(Op),
     /// A comma or the closing parenthesis, after operands.
-    After(Call),
+    After(Op),
     /// The operand after a comma.
-    Next(Call),
+    Next(Op),
     /// Nothing: the semicolon is read.
     End,
 }
 
-/// The rung as far as it is read: what may stand next, the open forks, and the leg.
+/// The rung as far as it is read: what may stand next, the operands of the instruction that isn't closed yet, the open
+/// forks, and the leg.
 #[derive(Drop)]
 pub(crate) struct Reader {
     place: Place,
+    texts: Texts,
     forks: Forks,
     leg: SourceRung,
 }
@@ -48,41 +42,49 @@ impl Reader {
     ghost use Rattle.lgx_rung.proofs.Reading.{IsFit, AreFit};
     ghost use Rattle.lgx_neutral.specs.Lexing.{token_of, IsFitToken};
     ghost use Rattle.lgx_neutral.specs.Taking.{Takes};
-    ghost use Rattle.lgx_neutral.specs.Reading.{reading, after, next};
+    ghost use Rattle.lgx_neutral.specs.Reading.{reading, after, next, IsHeld};
 
     /// Nothing is read.
     pub(crate) fn new(alloc: Global) -> Self
-        ensures { reading result ≡ text.At text.Element [] end }
+        ensures reads { reading result ≡ text.At text.Element [] end }
+        ensures held { IsHeld result.place result.texts }
     {
         Reader {
             place: Place::Element,
+            texts: Texts::new(alloc),
             forks: Forks::new(alloc),
             leg: SourceRung::new(alloc),
         }
     }
 
     /// Takes the next token.
+    #[inline(always)]
     pub(crate) fn take(&mut self, alloc: Global, token: Token) -> Result<(), Refusal>
         requires fit { IsFit (reading self.old) }
+        requires held { IsHeld self.old.place self.old.texts }
         requires operand { IsFitToken token }
-        ensures { Takes (text.read_token (reading self.old) (token_of token.entry)) (reading self.new) result }
+        ensures takes { Takes (text.read_token (reading self.old) (token_of token.entry)) (reading self.new) result }
+        ensures held { OnOk result (IsHeld self.new.place self.new.texts) }
     {
-        match mem::replace(&mut self.place, Place::Element) {
+        match self.place {
             Place::Element => self.take_element(alloc, token),
             Place::Named(op) => self.take_open(op, token),
             Place::First(op) => self.take_first(alloc, op, token),
-            Place::After(call) => self.take_after(call, token),
-            Place::Next(call) => self.take_next(alloc, call, token),
+            Place::After(op) => self.take_after(alloc, op, token),
+            Place::Next(op) => self.take_next(alloc, op, token),
             Place::End => Err(Refusal::Text(TextCode::T1)),
         }
     }
 
     /// A token in an element's place.
+    #[inline(always)]
     fn take_element(&mut self, alloc: Global, token: Token) -> Result<(), Refusal>
         requires place { self.old.place ≡ Place.Element }
+        requires none { self.old.texts ≡ [] }
         requires fit { length self.old.forks + depth self.old.leg ≤ MAX_FORKS }
         requires forks_fit { AreFit self.old.forks }
-        ensures { Takes (text.read_element (token_of token.entry) self.old.forks self.old.leg) (reading self.new) result }
+        ensures takes { Takes (text.read_element (token_of token.entry) self.old.forks self.old.leg) (reading self.new) result }
+        ensures held { OnOk result (IsHeld self.new.place self.new.texts) }
     {
         match token {
             Token::Mnemonic(op) => {
@@ -101,7 +103,9 @@ impl Reader {
     /// A bracket that opens a fork after the leg's elements.
     fn open_fork(&mut self, alloc: Global) -> Result<(), Refusal>
         requires { self.old.place ≡ Place.Element }
-        ensures { Takes (text.read_element text.OpenFork self.old.forks self.old.leg) (reading self.new) result }
+        ensures takes { Takes (text.read_element text.OpenFork self.old.forks self.old.leg) (reading self.new) result }
+        ensures place { self.new.place ≡ Place.Element }
+        ensures texts { self.new.texts ≡ self.old.texts }
     {
         if !self.forks.has_room() {
             return Err(Refusal::Text(TextCode::T5));
@@ -114,7 +118,9 @@ impl Reader {
     /// A comma after a leg of the innermost fork.
     fn next_leg(&mut self, alloc: Global) -> Result<(), Refusal>
         requires { self.old.place ≡ Place.Element }
-        ensures { Takes (text.next_leg self.old.forks self.old.leg) (reading self.new) result }
+        ensures takes { Takes (text.next_leg self.old.forks self.old.leg) (reading self.new) result }
+        ensures place { self.new.place ≡ Place.Element }
+        ensures texts { self.new.texts ≡ self.old.texts }
     {
         let Some(mut fork) = self.forks.pop() else {
             return Err(Refusal::Text(TextCode::T1));
@@ -129,7 +135,9 @@ impl Reader {
         requires place { self.old.place ≡ Place.Element }
         requires fit { length self.old.forks + depth self.old.leg ≤ MAX_FORKS }
         requires forks_fit { AreFit self.old.forks }
-        ensures { Takes (text.close_fork self.old.forks self.old.leg) (reading self.new) result }
+        ensures takes { Takes (text.close_fork self.old.forks self.old.leg) (reading self.new) result }
+        ensures place { self.new.place ≡ Place.Element }
+        ensures texts { self.new.texts ≡ self.old.texts }
     {
         let Some(fork) = self.forks.pop() else {
             return Err(Refusal::Text(TextCode::T1));
@@ -141,7 +149,9 @@ impl Reader {
 
     /// The semicolon.
     fn end_rung(&mut self) -> Result<(), Refusal>
-        ensures { Takes (text.end_rung self.old.forks self.old.leg) (reading self.new) result }
+        ensures takes { Takes (text.end_rung self.old.forks self.old.leg) (reading self.new) result }
+        ensures place { OnOk result (self.new.place ≡ Place.End) }
+        ensures texts { self.new.texts ≡ self.old.texts }
     {
         if !self.forks.is_empty() {
             return Err(Refusal::Text(TextCode::T1));
@@ -151,8 +161,11 @@ impl Reader {
     }
 
     /// The parenthesis after a mnemonic.
+    #[inline(always)]
     fn take_open(&mut self, op: Op, token: Token) -> Result<(), Refusal>
-        ensures { Takes (text.read_at (text.Named op) (token_of token.entry) self.old.forks self.old.leg) (reading self.new) result }
+        requires none { self.old.texts ≡ [] }
+        ensures takes { Takes (text.read_at (text.Named op) (token_of token.entry) self.old.forks self.old.leg) (reading self.new) result }
+        ensures held { OnOk result (IsHeld self.new.place self.new.texts) }
     {
         match token {
             Token::OpenParen => {
@@ -164,20 +177,22 @@ impl Reader {
     }
 
     /// The first operand, or the end of an instruction without operands.
+    #[inline(always)]
     fn take_first(&mut self, alloc: Global, op: Op, token: Token) -> Result<(), Refusal>
-        requires place { self.old.place ≡ Place.Element }
+        requires none { self.old.texts ≡ [] }
         requires operand { IsFitToken token }
-        ensures { Takes (text.read_at (text.First op) (token_of token.entry) self.old.forks self.old.leg) (reading self.new) result }
+        ensures takes { Takes (text.read_at (text.First op) (token_of token.entry) self.old.forks self.old.leg) (reading self.new) result }
+        ensures held { OnOk result (IsHeld self.new.place self.new.texts) }
     {
-        let mut texts = Texts::new(alloc);
         match token {
             Token::Operand(operand) => {
-                texts.push(alloc, operand)?;
-                self.place = Place::After(Call { op, texts });
+                self.texts.push(alloc, operand)?;
+                self.place = Place::After(op);
                 Ok(())
             }
             Token::CloseParen => {
-                self.leg.push(op, texts)?;
+                self.leg.push(op, Texts::new(alloc))?;
+                self.place = Place::Element;
                 Ok(())
             }
             _ => Err(Refusal::Text(TextCode::T1)),
@@ -185,18 +200,21 @@ impl Reader {
     }
 
     /// A comma, or the end of the instruction.
-    fn take_after(&mut self, call: Call, token: Token) -> Result<(), Refusal>
-        requires { self.old.place ≡ Place.Element }
-        ensures { Takes (text.read_at (after call.op call.texts) (token_of token.entry) self.old.forks self.old.leg) (reading self.new) result }
+    #[inline(always)]
+    fn take_after(&mut self, alloc: Global, op: Op, token: Token) -> Result<(), Refusal>
+        requires some { 0 < length self.old.texts }
+        ensures takes { Takes (text.read_at (after op self.old.texts) (token_of token.entry) self.old.forks self.old.leg) (reading self.new) result }
+        ensures held { OnOk result (IsHeld self.new.place self.new.texts) }
     {
         match token {
             Token::Comma => {
-                self.place = Place::Next(call);
+                self.place = Place::Next(op);
                 Ok(())
             }
             Token::CloseParen => {
-                let Call { op, texts } = call;
+                let texts = mem::replace(&mut self.texts, Texts::new(alloc));
                 self.leg.push(op, texts)?;
+                self.place = Place::Element;
                 Ok(())
             }
             _ => Err(Refusal::Text(TextCode::T1)),
@@ -204,16 +222,18 @@ impl Reader {
     }
 
     /// The operand after a comma.
-    fn take_next(&mut self, alloc: Global, call: Call, token: Token) -> Result<(), Refusal>
-        requires { IsFitToken token }
-        ensures { Takes (text.read_at (next call.op call.texts) (token_of token.entry) self.old.forks self.old.leg) (reading self.new) result }
+    #[inline(always)]
+    fn take_next(&mut self, alloc: Global, op: Op, token: Token) -> Result<(), Refusal>
+        requires some { 0 < length self.old.texts }
+        requires operand { IsFitToken token }
+        ensures takes { Takes (text.read_at (next op self.old.texts) (token_of token.entry) self.old.forks self.old.leg) (reading self.new) result }
+        ensures held { OnOk result (IsHeld self.new.place self.new.texts) }
     {
         let Token::Operand(operand) = token else {
             return Err(Refusal::Text(TextCode::T1));
         };
-        let Call { op, mut texts } = call;
-        texts.push(alloc, operand)?;
-        self.place = Place::After(Call { op, texts });
+        self.texts.push(alloc, operand)?;
+        self.place = Place::After(op);
         Ok(())
     }
 
@@ -221,7 +241,12 @@ impl Reader {
     pub(crate) fn finish(self, len: u32) -> Result<SourceRung, TextFault>
         ensures { result ≡ text.read_end len (reading self) }
     {
-        let Reader { place, forks, leg } = self;
+        let Reader {
+            place,
+            forks,
+            leg,
+            ..
+        } = self;
         let code = match place {
             Place::End => return Ok(leg),
             Place::Element if forks.is_empty() => TextCode::T4,

@@ -7,3 +7,4 @@ pub mod Depth
 pub mod FlatProgram
 pub mod Executes
 pub mod Search
+pub mod Short

@@ -11,6 +11,7 @@ mod prepared;
 mod program;
 mod reach;
 mod rung;
+mod short;
 
 pub use code::{Code, FlatRoutine};
 pub use emit::flatten;
@@ -18,3 +19,4 @@ pub use lgx_rung::Ins;
 pub use prepared::Prepared;
 pub use program::FlatProgram;
 pub use rung::{Legs, Node, Rung, Rungs};
+pub use short::Does;

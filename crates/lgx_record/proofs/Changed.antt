@@ -1,5 +1,5 @@
 -- The lines of watched places that changed, one place after another.
-use Rattle.std.proofs.Common.{◌≡◌, ℕ, zero, suc, ◌+◌, ◌-◌, ◌*◌, ◌/◌, ◌<◌, ◌≤◌, inl, inr, Bool, true, false, cond, List, [], ◌∷◌, ◌++◌, length, map, take, get_or, set, ◌≢◌, ℤ, pos, Option, Some, None, is_some, refl, sym, ap, ◌∙◌, subst, arith, append_assoc, add-zero, add-one, length-append}
+use Rattle.std.proofs.Common.{slice_get, ◌≡◌, ℕ, zero, suc, ◌+◌, ◌-◌, ◌*◌, ◌/◌, ◌<◌, ◌≤◌, inl, inr, Bool, true, false, cond, List, [], ◌∷◌, ◌++◌, length, map, take, get_or, set, ◌≢◌, ℤ, pos, Option, Some, None, is_some, refl, sym, ap, ◌∙◌, subst, arith, append_assoc, add-zero, add-one, length-append}
 use Rattle.std.proofs.lemmas.Bool.{cases_lt, false≢true}
 use Rattle.std.proofs.lemmas.Bool.Decides.{Decides-int_eq}
 use Rattle.std.proofs.lemmas.List.{append-nil, map-append, take_more, take_all, ext_get_or, get_or-map, length-map, get_or-set_same, get_or-set_other}
@@ -11,10 +11,10 @@ use Rattle.lgx_num.specs.Image.{number, bits_of, IsByteAligned, InBounds}
 use Rattle.lgx_num.specs.declared.number.Kind.{Kind}
 use Rattle.lgx_num.specs.declared.number.Kind.TheVariants.{Bool as KBool, Sint, Int, Dint}
 use Rattle.lgx_num.specs.declared.place.Place.{Place}
-use Rattle.lgx_image.specs.Grains.{ImageView, NextMarked, is_marked}
+use Rattle.lgx_image.specs.Grains.{ImageView, NoneIsHit, is_marked}
 use Rattle.lgx_image.proofs.Marks.{grain_of-is}
 use Rattle.lgx_watch.specs.Kept.{Kept}
-use Rattle.lgx_watch.specs.Watches.{LiesIn, is_member}
+use Rattle.lgx_watch.specs.Watches.{LiesIn, LiesInNoMarked, is_member}
 use Rattle.spec_machine.specs.declared.line.Line.{Line}
 use Rattle.spec_machine.specs.declared.line.Line.TheVariants.{Set}
 use Rattle.spec_machine.specs.Project.{Watch}
@@ -22,7 +22,7 @@ use Rattle.spec_machine.specs.Report.{set_lines}
 use Rattle.lgx_record.specs.declared.lines.Stamp.{Stamp}
 use Rattle.lgx_record.specs.EventLines.{with_event_lines, Compared}
 use Rattle.lgx_record.proofs.Logs.{with_event_lines-append}
-use Rattle.lgx_record.specs.Changes.{numbers_at, change_line, change_lines, AreAsCompared, HasWritten}
+use Rattle.lgx_record.specs.Changes.{numbers_at, change_line, change_lines, AreWatched, AreAsCompared, HasWritten}
 
 -- ---- numbers
 
@@ -178,14 +178,15 @@ not_written places values image set compared written w below none = elim (slice_
   | inr (past, e) ↦ absurd (omega arith)
 ]
 
--- no grain is marked, so no place has changed
-pub none-marked : (marks : List Bool) (o : Option ℕ) → NextMarked marks 0 o → is_some o ≡ false → (grain : ℕ) → is_marked marks grain ≡ false
-none-marked marks None none is grain = none grain (omega arith)
-none-marked marks (Some next) some is grain = cc
+-- no watched grain is marked, so no watched place lies in a marked one
+pub lies-in-no-marked : (places : List Place) (image : ImageView) → AreWatched places image.watched → NoneIsHit image → (w : ℕ) (p : Place) → slice_get places w ≡ Some p → LiesInNoMarked image.marks p
+lies-in-no-marked places image watched none w p got grain marked (byte, above, below, is) =
+    false≢true (sym (none grain (ap (is_marked image.watched) (sym is) ∙ watched w p got byte above below)) ∙ marked)
 
-pub not_written-anywhere : (places : List Place) (values : List ℤ) (image : ImageView) → AreAsCompared places values image → ((grain : ℕ) → is_marked image.marks grain ≡ false) → (w : ℕ) → w < length places → get_or values w (pos 0) ≡ get_or (numbers_at image.bytes places) w (pos 0)
-not_written-anywhere places values image compared none w below = elim (slice_get_cases places w).1 [
-  | inl (p, l, got, is) ↦ compared.same w p got (λ grain marked lies. false≢true (sym (none grain) ∙ marked)) ∙ sym (get_or-map (number image.bytes) places w p (pos 0) below ∙ ap (number image.bytes) is)
+-- so no place has changed
+pub not_written-anywhere : (places : List Place) (values : List ℤ) (image : ImageView) → AreAsCompared places values image → AreWatched places image.watched → NoneIsHit image → (w : ℕ) → w < length places → get_or values w (pos 0) ≡ get_or (numbers_at image.bytes places) w (pos 0)
+not_written-anywhere places values image compared watched none w below = elim (slice_get_cases places w).1 [
+  | inl (p, l, got, is) ↦ compared.same w p got (lies-in-no-marked places image watched none w p got) ∙ sym (get_or-map (number image.bytes) places w p (pos 0) below ∙ ap (number image.bytes) is)
   | inr (past, e) ↦ absurd (omega arith)
 ]
 

@@ -128,7 +128,7 @@ module _ (p : Project) (valid : IsValidProject p) where
       few_lines p.watches (run p before) n e few_watches (subst (λ (x : State). length x.table.defs ≤ MAX_TASKS) (run_more p before e) (few_defs (before ++ e ∷ [])))
 
   -- the events of a journal after those that are done
-  few_from : (before : List Event) (n : ℕ) (after : List Event) → length (lines_from p.watches (run p before) n after) ≤ MAX_EVENT_LINES * length after
+  pub few_from : (before : List Event) (n : ℕ) (after : List Event) → length (lines_from p.watches (run p before) n after) ≤ MAX_EVENT_LINES * length after
   few_from before n [] = omega arith
   few_from before n (e ∷ es) =
       let s = run p before in

@@ -4,6 +4,9 @@ pub mod Logs
 pub mod Overlaps
 pub mod Changed
 pub mod Written
+pub mod Watching
 pub mod Taking
 pub mod Events
 pub mod Making
+pub mod StepLines
+pub mod Stretched

@@ -1,5 +1,7 @@
 -- Lines put into a log part by part are all of them.
-use Rattle.std.proofs.Common.{◌≡◌, List, [], ◌∷◌, ◌++◌, refl, sym, ap, ◌∙◌}
+use Rattle.std.proofs.Common.{◌≡◌, ◌+◌, ◌≤◌, Bool, true, false, cond, List, [], ◌∷◌, ◌++◌, length, refl, sym, ap, ◌∙◌, arith}
+use Rattle.std.specs.Prelude.{nat_lt}
+use Rattle.spec_base.specs.declared.limits.TheConstants.{MAX_REPORT_LINES}
 use Rattle.std.proofs.lemmas.List.{map-append}
 use Rattle.spec_machine.specs.declared.line.Line.{Line}
 use Rattle.spec_machine.specs.Report.{Stamped, stamp}
@@ -21,6 +23,18 @@ with_event_lines-append log at xs ys =
 pub kept_of-more : (all more : List Stamped) → with_lines (kept_of all) more ≡ kept_of (all ++ more)
 kept_of-more all more =
     ap (λ (log : Kept). with_lines log more) (sym (keeps_the_first all)) ∙ sym (with_lines-append no_lines all more) ∙ keeps_the_first (all ++ more)
+
+-- a line is lost at most
+one-lost : (b : Bool) (log : Kept) (line : Stamped) → (cond b (record { lines = log.lines ++ line ∷ []; lost = log.lost }) (let full : Kept = record { lines = log.lines; lost = log.lost + 1 } in full)).lost ≤ log.lost + 1
+one-lost true log line = omega arith
+one-lost false log line = omega arith
+
+pub few-more-lost : (log : Kept) (xs : List Stamped) → (with_lines log xs).lost ≤ log.lost + length xs
+few-more-lost log [] = omega arith
+few-more-lost log (x ∷ xs) =
+    let one : (with_line log x).lost ≤ log.lost + 1 = one-lost (nat_lt (length log.lines) MAX_REPORT_LINES) log x in
+    let rest = few-more-lost (with_line log x) xs in
+    omega arith
 
 -- three parts, one after another
 pub three-parts : (start first second third : Kept) (at : Stamp) (xs ys zs : List Line) → first ≡ with_event_lines start at xs → second ≡ with_event_lines first at ys → third ≡ with_event_lines second at zs → third ≡ with_event_lines start at (xs ++ (ys ++ zs))

@@ -1,7 +1,7 @@
 -- A follower, or a recording, that was just made.
 use Rattle.std.proofs.Common.{◌≡◌, ℕ, zero, suc, false, List, [], map, replicate, refl, sym, ap, ◌∙◌}
 use Rattle.std.proofs.lemmas.Simd.{map-map}
-use Rattle.lgx_image.specs.Grains.{is_marked}
+use Rattle.lgx_image.specs.Grains.{NoneIsHit, is_marked}
 use Rattle.spec_machine.specs.Project.{Project, ProgramText as MachineProgram, Watch as MachineWatch}
 use Rattle.spec_machine.specs.declared.event.Event.{Event}
 use Rattle.spec_machine.specs.State.{State, start}
@@ -16,7 +16,7 @@ use Rattle.lgx_core.specs.ControllerView.{ControllerView}
 use Rattle.lgx_core.specs.Represents.{Represents, StandsFor}
 use Rattle.lgx_record.specs.FollowerView.{FollowerView}
 use Rattle.lgx_record.specs.RecordingView.{RecordingView, follower_of}
-use Rattle.lgx_record.specs.Changes.{numbers_at}
+use Rattle.lgx_record.specs.Changes.{numbers_at, AreWatched}
 use Rattle.lgx_record.specs.FollowsRun.{FollowsRun}
 use Rattle.lgx_record.specs.Records.{Records}
 
@@ -55,14 +55,15 @@ still-stands project events old new h represents spent = record {
 }
 
 -- without an event
-pub just-follows : (v : FollowerView) (project : Project) → StandsFor project [] v.controller → v.names ≡ project_names project → v.steps ≡ 0 → v.places ≡ map (λ w. w.place) project.watches → v.values ≡ numbers_at (start project).image v.places → ((grain : ℕ) → is_marked v.controller.parts.image.marks grain ≡ false) → FollowsRun v project []
-just-follows v project stands names steps places values taken = record {
+pub just-follows : (v : FollowerView) (project : Project) → StandsFor project [] v.controller → v.names ≡ project_names project → v.steps ≡ 0 → v.places ≡ map (λ w. w.place) project.watches → v.values ≡ numbers_at (start project).image v.places → AreWatched v.places v.controller.parts.image.watched → NoneIsHit v.controller.parts.image → FollowsRun v project []
+just-follows v project stands names steps places values watched none = record {
   controller = stands;
   names = names;
   steps = steps;
   places = places;
   values = values;
-  taken = taken;
+  watched = watched;
+  none_hit = none;
 }
 
 pub just-records : (v : RecordingView) (project : Project) → FollowsRun (follower_of v) project [] → v.journal.events ≡ [] → v.log ≡ no_lines → Records v project []

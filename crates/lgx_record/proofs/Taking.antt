@@ -1,5 +1,5 @@
 -- A follower, or a recording, that takes one more event.
-use Rattle.std.proofs.Common.{◌≡◌, ℕ, ◌+◌, ◌^◌, ◌<◌, ◌≤◌, Bool, true, false, cond, List, [], ◌∷◌, ◌++◌, length, map, drop, get_or, ℤ, pos, Some, slice_get, sym, ap, ◌∙◌, subst, arith, length-append}
+use Rattle.std.proofs.Common.{◌≡◌, ℕ, ◌+◌, ◌*◌, ◌^◌, ◌<◌, ◌≤◌, Bool, true, false, cond, List, [], ◌∷◌, ◌++◌, length, map, drop, get_or, ℤ, pos, Some, slice_get, sym, ap, ◌∙◌, subst, arith, length-append}
 use Rattle.std.specs.Prelude.{if◌then◌else◌, Result, Ok, Err, OnOk, OnErr}
 use Rattle.std.specs.List.{AllByRecursion as Each}
 use Rattle.std.proofs.lemmas.List.{length-map, get_or-map}
@@ -9,7 +9,7 @@ use Rattle.spec_base.specs.declared.limits.TheConstants.{MAX_EVENTS}
 use Rattle.spec_base.proofs.Lists.{each_get}
 use Rattle.lgx_num.specs.declared.place.Place.{Place}
 use Rattle.lgx_num.specs.Image.{number, InBounds}
-use Rattle.lgx_image.specs.Grains.{ImageView, ChangesOnlyMarked, is_marked}
+use Rattle.lgx_image.specs.Grains.{ImageView, ChangesOnlyMarked, NoneIsHit}
 use Rattle.spec_tables.specs.declared.fault.Fault.{Fault}
 use Rattle.spec_machine.specs.declared.line.Line.{Line}
 use Rattle.spec_machine.specs.declared.line.Line.TheVariants.{Fault as FaultLine}
@@ -21,6 +21,7 @@ use Rattle.spec_machine.specs.Machine.{step, run}
 use Rattle.spec_machine.specs.Report.{Stamped, is_step, steps_of, stamp, answer_lines, set_lines, event_lines, report_lines}
 use Rattle.spec_reach.proofs.Reached.{run_more}
 use Rattle.spec_reach.proofs.Images.{images_keep_length}
+use Rattle.spec_text.specs.ReportText.{names_of}
 use Rattle.lgx_watch.specs.Kept.{Kept, kept_of, with_lines}
 use Rattle.lgx_watch.proofs.EventLines.{one_more_event}
 use Rattle.lgx_watch.proofs.Spanned.{unmarked_watches_stay}
@@ -31,7 +32,7 @@ use Rattle.lgx_record.specs.declared.lines.Stamp.{Stamp}
 use Rattle.lgx_record.specs.FollowerView.{FollowerView}
 use Rattle.lgx_record.specs.RecordingView.{RecordingView, follower_of}
 use Rattle.lgx_record.specs.Faults.{told_faults}
-use Rattle.lgx_record.specs.Changes.{numbers_at, change_lines, AreInside, AreAsCompared}
+use Rattle.lgx_record.specs.Changes.{numbers_at, change_lines, AreInside, AreWatched, AreAsCompared}
 use Rattle.lgx_record.specs.EventLines.{with_event_lines}
 use Rattle.lgx_record.specs.FollowsRun.{FollowsRun, IsFollower, TakesEvent, next_lines}
 use Rattle.lgx_record.specs.Records.{Records, IsRecording}
@@ -48,6 +49,18 @@ few_lost v i l =
     let lost = ap (λ (k : Kept). k.lost) i.records.log in
     let many = i.records.controller.counted in
     omega arith
+
+-- the same for so many steps
+pub few_lost_by : (v : RecordingView) (n : ℕ) → IsRecording v → v.controller.spent + n ≤ MAX_EVENTS → v.log.lost + MAX_EVENT_LINES * n < 2 ^ 63
+few_lost_by v n i l =
+    let few = events_have_few_lines i.project i.events i.records.controller.valid in
+    let lost = ap (λ (k : Kept). k.lost) i.records.log in
+    let many = i.records.controller.counted in
+    omega arith
+
+-- the journal has room for so many
+pub few_events_by : (v : RecordingView) (n : ℕ) → IsRecording v → v.controller.spent + n ≤ MAX_EVENTS → length v.journal.events + n ≤ MAX_EVENTS
+few_events_by v n i l = let e = ap length i.records.journal in let many = i.records.controller.counted in omega arith
 
 -- the journal has room for its number of events
 pub few_events : (v : RecordingView) → IsRecording v → v.controller.spent < MAX_EVENTS → length v.journal.events < MAX_EVENTS
@@ -100,6 +113,31 @@ next_inside v i e c r =
 pub next_compared : (v : FollowerView) (i : IsFollower v) (now : ImageView) → ChangesOnlyMarked v.controller.parts.image now → AreAsCompared v.places v.values now
 next_compared v i now changes = as_compared v i.project i.events now i.follows changes
 
+-- What is known of a follower after these events, but for what its controller represents.
+pub record HasTaken (v : FollowerView) (project : Project) (events : List Event) : Type 0 where
+  pub valid : IsValidProject project
+  pub counted : v.controller.spent ≡ length events
+  pub names : v.names ≡ names_of project
+  pub steps : v.steps ≡ steps_of events
+  pub places : v.places ≡ map (λ w. w.place) project.watches
+  pub values : v.values ≡ numbers_at (run project events).image v.places
+  pub watched : AreWatched v.places v.controller.parts.image.watched
+
+pub has-taken : (v : FollowerView) (project : Project) (events : List Event) → FollowsRun v project events → HasTaken v project events
+has-taken v project events r = record {
+  valid = r.controller.valid;
+  counted = r.controller.counted;
+  names = r.names;
+  steps = r.steps;
+  places = r.places;
+  values = r.values;
+  watched = r.watched;
+}
+
+-- the watched places are watched still
+pub next_watched : (v : FollowerView) (i : IsFollower v) (now : ImageView) → ChangesOnlyMarked v.controller.parts.image now → AreWatched v.places now.watched
+next_watched v i now changes = subst (AreWatched v.places) (sym changes.same_watched) i.follows.watched
+
 -- what was done when an event of state s was taken
 pub record Takes (old new : FollowerView) (before after : Kept) (s : State) (e : Event) (at : Stamp) : Type 0 where
   pub represents : Represents new.controller (step s e).state
@@ -111,7 +149,8 @@ pub record Takes (old new : FollowerView) (before after : Kept) (s : State) (e :
   pub step_is : at.step ≡ new.steps
   pub log : after ≡ with_event_lines before at (answer_lines (step s e).entry ++ (map FaultLine (told_faults (step s e).state (step s e).entry) ++ change_lines 0 old.values new.values))
   pub values : new.values ≡ numbers_at (step s e).state.image new.places
-  pub taken : (grain : ℕ) → is_marked new.controller.parts.image.marks grain ≡ false
+  pub watched : new.controller.parts.image.watched ≡ old.controller.parts.image.watched
+  pub none_hit : NoneIsHit new.controller.parts.image
 
 -- one more event is counted
 pub counted : (events : List Event) (e : Event) (n : ℕ) → n ≡ steps_of events → (if is_step e then n + 1 else n) ≡ steps_of (events ++ e ∷ [])
@@ -124,7 +163,7 @@ counted events e n is =
     by_test true = omega arith
     by_test false = omega arith
 
-pub follows-more : (old new : FollowerView) (start end : Kept) (project : Project) (events : List Event) (e : Event) (at : Stamp) → FollowsRun old project events → Takes old new start end (run project events) e at → TakesEvent new start end project events e
+pub follows-more : (old new : FollowerView) (start end : Kept) (project : Project) (events : List Event) (e : Event) (at : Stamp) → HasTaken old project events → Takes old new start end (run project events) e at → TakesEvent new start end project events e
 follows-more old new start end project events e at r t =
     let s = run project events in
     let x = step s e in
@@ -150,15 +189,16 @@ follows-more old new start end project events e at r t =
     record {
       follows = record {
         controller = record {
-          valid = r.controller.valid;
-          counted = t.spent ∙ ap (λ n. n + 1) r.controller.counted ∙ sym (length-append events (e ∷ []));
+          valid = r.valid;
+          counted = t.spent ∙ ap (λ n. n + 1) r.counted ∙ sym (length-append events (e ∷ []));
           represents = subst (λ (y : State). Represents new.controller y) (sym (run_more project events e)) t.represents;
         };
         names = t.names ∙ r.names;
         steps = steps;
         places = places;
         values = t.values ∙ ap (λ (y : State). numbers_at y.image new.places) (sym (run_more project events e));
-        taken = t.taken;
+        watched = subst (λ (ps : List Place). AreWatched ps new.controller.parts.image.watched) (sym t.places) (subst (AreWatched old.places) (sym t.watched) r.watched);
+        none_hit = t.none_hit;
       };
       lines = t.log ∙ ap (λ (more : List Stamped). with_lines start more) stamped;
     }

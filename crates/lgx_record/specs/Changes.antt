@@ -5,6 +5,7 @@ use Rattle.lgx_num.specs.Number.{int_eq}
 use Rattle.lgx_num.specs.Image.{number, InBounds}
 use Rattle.lgx_num.specs.declared.place.Place.{Place}
 use Rattle.lgx_image.specs.Grains.{ImageView}
+use Rattle.lgx_image.specs.Laws.{AllWatched}
 use Rattle.lgx_watch.specs.Watches.{LiesInNoMarked, is_member}
 use Rattle.spec_machine.specs.declared.line.Line.{Line}
 use Rattle.spec_machine.specs.declared.line.Line.TheVariants.{Set}
@@ -29,6 +30,10 @@ change_lines n (v ∷ vs) (u ∷ us) = change_line n v u ++ change_lines (n + 1)
 pub record AreInside (places : List Place) (image : List ℕ) : Type 0 where
   pub small : length image ≤ MAX_IMAGE_BYTES
   pub inside : (w : ℕ) (p : Place) → slice_get places w ≡ Some p → InBounds p (length image)
+
+-- every grain that holds a byte of one of these places is watched
+abbrev pub AreWatched : List Place → List Bool → Type 0
+AreWatched places watched = (w : ℕ) (p : Place) → slice_get places w ≡ Some p → AllWatched watched p
 
 -- one that lies in no marked grain has the number that it had when it was last compared
 pub record AreAsCompared (places : List Place) (values : List ℤ) (image : ImageView) : Type 0 where

@@ -12,7 +12,7 @@ pub record Records (v : RecordingView) (project : Project) (events : List Event)
   pub journal : v.journal.events ≡ events
   pub log : v.log ≡ kept_of (report_lines project events)
   pub follows : FollowsRun (follower_of v) project events
-  pub open follows use {controller, names, steps, places, values, taken}
+  pub open follows use {controller, names, steps, places, values, watched, none_hit}
 
 -- it records some journal of some project
 pub record IsRecording (v : RecordingView) : Type 0 where

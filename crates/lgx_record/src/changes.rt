@@ -1,10 +1,10 @@
 // The watched places that changed by an event.
-ghost use Rattle.std.specs.Prelude.{◌≡◌, ℕ, ◌+◌, ◌≤◌, ◌<◌, ◌^◌, false, length, IfOk};
+ghost use Rattle.std.specs.Prelude.{◌≡◌, ◌+◌, ◌≤◌, ◌<◌, ◌^◌, length, IfOk};
 ghost use Rattle.spec_machine.specs.State.{State};
-ghost use Rattle.lgx_image.specs.Grains.{is_marked};
+ghost use Rattle.lgx_image.specs.Grains.{NoneIsHit};
 ghost use Rattle.lgx_watch.specs.declared.bits.TheConstants.{MAX_WATCHES};
 ghost use Rattle.lgx_core.specs.Represents.{Represents};
-ghost use Rattle.lgx_record.specs.Changes.{numbers_at, change_line, AreInside, AreAsCompared, HasWritten};
+ghost use Rattle.lgx_record.specs.Changes.{numbers_at, change_line, AreInside, AreWatched, AreAsCompared, HasWritten};
 ghost use Rattle.lgx_record.specs.EventLines.{with_event_lines, Compared};
 
 use crate::lines::{Stamp, log_line};
@@ -30,7 +30,8 @@ pub(crate) fn numbers_at(
 }
 
 /// Puts a line into the log for each watched place whose number has changed since it was last compared, in watch order, and
-/// takes the marks. Only places that have a byte in a marked grain are looked at.
+/// takes the marks if a watched grain is hit. Only places that have a byte in such a grain are looked at.
+#[inline]
 pub(crate) fn log_changes(
     log: &mut Log,
     values: &mut [i32],
@@ -39,14 +40,16 @@ pub(crate) fn log_changes(
     watches: &WatchIndex,
 )
     requires inside { AreInside watches.now controller.old.parts.image.bytes }
+    requires are_watched { AreWatched watches.now controller.old.parts.image.watched }
     requires compared { AreAsCompared watches.now values.old controller.old.parts.image }
     requires room { log.old.lost + MAX_WATCHES < 2 ^ 63 }
     ensures compared { (s : State) → Represents controller.old s → Compared log.old log.new at values.old values.new (numbers_at s.image watches.now) }
     ensures represents { (s : State) → Represents controller.old s → Represents controller.new s }
     ensures spent { controller.new.spent ≡ controller.old.spent }
-    ensures taken { (grain : ℕ) → is_marked controller.new.parts.image.marks grain ≡ false }
+    ensures none_hit { NoneIsHit controller.new.parts.image }
+    ensures watched { controller.new.parts.image.watched ≡ controller.old.parts.image.watched }
 {
-    if controller.next_marked(0).is_none() {
+    if !controller.is_hit() {
         return;
     }
     let written = written_watches(controller, watches);
@@ -56,12 +59,13 @@ pub(crate) fn log_changes(
 
 /// The watched places that have a byte in a marked grain.
 fn written_watches(controller: &Controller, watches: &WatchIndex) -> WatchSet
-    requires { AreInside watches.now controller.now.parts.image.bytes }
+    requires inside { AreInside watches.now controller.now.parts.image.bytes }
+    requires are_watched { AreWatched watches.now controller.now.parts.image.watched }
     ensures { HasWritten watches.now controller.now.parts.image.marks result }
 {
     let mut written = WatchSet::new();
     let mut from = 0;
-    while let Some(grain) = controller.next_marked(from) {
+    while let Some(grain) = controller.next_hit(from) {
         written.join(&watches.of(grain));
         let Some(next) = grain.checked_add(1) else {
             return written;
@@ -112,5 +116,18 @@ fn compare(log: &mut Log, value: &mut i32, at: Stamp, watch: u32, number: i32)
                 value: number,
             },
         );
+    }
+}
+
+/// Watches the grains of places, which lie in the image. What the controller represents is as before.
+pub(crate) fn watch_all(controller: &mut Controller, places: &[Place])
+    requires { AreInside places.now controller.old.parts.image.bytes }
+    ensures represents { (s : State) → Represents controller.old s → Represents controller.new s }
+    ensures spent { controller.new.spent ≡ controller.old.spent }
+    ensures bytes { controller.new.parts.image.bytes ≡ controller.old.parts.image.bytes }
+    ensures watched { AreWatched places.now controller.new.parts.image.watched }
+{
+    for place in places {
+        controller.watch(*place);
     }
 }

@@ -1,5 +1,5 @@
 // The parts of a follower, and what each event does to them.
-ghost use Rattle.std.specs.Prelude.{◌≡◌, ℕ, ◌+◌, ◌<◌, ◌^◌, false, [], ◌∷◌, List, map, IfOk, OnOk, OnErr, IsTrue};
+ghost use Rattle.std.specs.Prelude.{◌≡◌, ◌+◌, ◌*◌, ◌≤◌, ◌<◌, ◌^◌, [], ◌∷◌, List, map, IfOk, OnOk, OnErr, IsTrue};
 ghost use Rattle.spec_base.specs.declared.limits.TheConstants.{MAX_EVENTS};
 ghost use Rattle.spec_machine.specs.declared.event.Event.{Event as Events};
 ghost use Rattle.spec_machine.specs.declared.event.Event.TheVariants.{Cpu, Tick, Act};
@@ -7,16 +7,16 @@ ghost use Rattle.spec_machine.specs.Events.{is_accept};
 ghost use Rattle.spec_machine.specs.Project.{Project};
 ghost use Rattle.spec_machine.specs.State.{State};
 ghost use Rattle.spec_text.specs.ReportText.{names_of};
-ghost use Rattle.lgx_image.specs.Grains.{is_marked};
+ghost use Rattle.lgx_image.specs.Grains.{NoneIsHit};
 ghost use Rattle.lgx_watch.specs.declared.bits.TheConstants.{MAX_WATCHES};
 ghost use Rattle.lgx_core.specs.Represents.{Represents, StandsFor};
 ghost use Rattle.lgx_record.specs.declared.lines.TheConstants.{MAX_EVENT_LINES};
-ghost use Rattle.lgx_record.specs.Changes.{numbers_at, AreInside, AreAsCompared};
+ghost use Rattle.lgx_record.specs.Changes.{numbers_at, AreInside, AreWatched, AreAsCompared};
 ghost use Rattle.lgx_record.specs.EventLines.{Compared};
 ghost use Rattle.lgx_record.specs.FollowerView.{view_of};
-ghost use Rattle.lgx_record.specs.FollowsRun.{FollowsRun, IsFollower, TakesEvent};
+ghost use Rattle.lgx_record.specs.FollowsRun.{FollowsRun, IsFollower, TakesEvent, TakesSteps};
 
-use crate::changes::{log_changes, numbers_at};
+use crate::changes::{log_changes, numbers_at, watch_all};
 use crate::lines::{Stamp, log_begin, log_fault, log_line, log_tick_faults};
 use crate::names::names_and_watches;
 use lgx_core::Controller;
@@ -57,6 +57,7 @@ impl FollowerParts {
         requires { AreInside watches controller.parts.image.bytes }
         ensures { (project : Project) → StandsFor project [] controller → names ≡ names_of project → watches ≡ map (λ w. w.place) project.watches → IfOk result (λ parts. FollowsRun (view_of parts) project []) }
     {
+        watch_all(&mut controller, watches.places());
         controller.clear_marks();
         let values = numbers_at(alloc, &controller, watches.places())?;
         Ok(FollowerParts {
@@ -69,6 +70,7 @@ impl FollowerParts {
     }
 
     /// One processor step. It takes no memory.
+    #[inline]
     pub(crate) fn step(&mut self, log: &mut Log)
         requires follower { IsFollower (view_of self.old) }
         requires room { self.old.controller.spent < MAX_EVENTS }
@@ -76,15 +78,46 @@ impl FollowerParts {
         ensures takes { (project : Project) (events : List Events) → FollowsRun (view_of self.old) project events → TakesEvent (view_of self.new) log.old log.new project events Cpu }
         ensures spent { self.new.controller.spent ≡ self.old.controller.spent + 1 }
     {
-        self.steps += 1;
-        let moment = self.controller.cpu();
+        self.stretch(1, log);
+    }
+
+    /// So many processor steps. It takes no memory.
+    pub(crate) fn steps(&mut self, count: u32, log: &mut Log)
+        requires follower { IsFollower (view_of self.old) }
+        requires room { self.old.controller.spent + count ≤ MAX_EVENTS }
+        requires lost { log.old.lost + MAX_EVENT_LINES * count < 2 ^ 63 }
+        ensures takes { (project : Project) (events : List Events) → FollowsRun (view_of self.old) project events → TakesSteps (view_of self.new) log.old log.new project events count }
+        ensures spent { self.new.controller.spent ≡ self.old.controller.spent + count }
+    {
+        let mut left = count;
+        while left > 0 {
+            left -= self.stretch(left, log);
+        }
+    }
+
+    /// Processor steps, up to one of which the report may have lines; at least one, and at most `most`. It takes no memory.
+    #[inline(always)]
+    fn stretch(&mut self, most: u32, log: &mut Log) -> u32
+        requires follower { IsFollower (view_of self.old) }
+        requires some { 0 < most }
+        requires room { self.old.controller.spent + most ≤ MAX_EVENTS }
+        requires lost { log.old.lost + MAX_EVENT_LINES < 2 ^ 63 }
+        ensures takes { (project : Project) (events : List Events) → FollowsRun (view_of self.old) project events → TakesSteps (view_of self.new) log.old log.new project events result }
+        ensures some { 0 < result }
+        ensures most { result ≤ most }
+        ensures spent { self.new.controller.spent ≡ self.old.controller.spent + result }
+    {
+        let made = self.controller.stretch(most);
+        self.steps += made.steps;
         let at = self.stamp();
-        log_begin(log, at, moment.what);
-        log_fault(log, at, moment.fault);
+        log_begin(log, at, made.last.what);
+        log_fault(log, at, made.last.fault);
         self.log_changes(log, at);
+        made.steps
     }
 
     /// One tick. It takes no memory.
+    #[inline]
     pub(crate) fn tick(&mut self, log: &mut Log)
         requires follower { IsFollower (view_of self.old) }
         requires room { self.old.controller.spent < MAX_EVENTS }
@@ -125,6 +158,7 @@ impl FollowerParts {
     }
 
     /// The tick and the number of processor steps, as they are now.
+    #[inline(always)]
     fn stamp(&self) -> Stamp
         ensures step { result.step ≡ self.now.steps }
         ensures tick { (s : State) → Represents self.now.controller s → result.tick ≡ s.tick }
@@ -135,15 +169,18 @@ impl FollowerParts {
         }
     }
 
-    /// Puts the lines of the watched places that changed into the log, and takes the marks.
+    /// Puts the lines of the watched places that changed into the log, and takes the marks if a watched grain is hit.
+    #[inline(always)]
     fn log_changes(&mut self, log: &mut Log, at: Stamp)
         requires inside { AreInside self.old.watches self.old.controller.parts.image.bytes }
+        requires are_watched { AreWatched self.old.watches self.old.controller.parts.image.watched }
         requires compared { AreAsCompared self.old.watches self.old.values.items self.old.controller.parts.image }
         requires room { log.old.lost + MAX_WATCHES < 2 ^ 63 }
         ensures compared { (s : State) → Represents self.old.controller s → Compared log.old log.new at self.old.values.items self.new.values.items (numbers_at s.image self.old.watches) }
         ensures represents { (s : State) → Represents self.old.controller s → Represents self.new.controller s }
         ensures spent { self.new.controller.spent ≡ self.old.controller.spent }
-        ensures taken { (grain : ℕ) → is_marked self.new.controller.parts.image.marks grain ≡ false }
+        ensures none_hit { NoneIsHit self.new.controller.parts.image }
+        ensures watched { self.new.controller.parts.image.watched ≡ self.old.controller.parts.image.watched }
         ensures names { self.new.names ≡ self.old.names }
         ensures steps { self.new.steps ≡ self.old.steps }
         ensures watches { self.new.watches ≡ self.old.watches }

@@ -34,6 +34,7 @@ pub(crate) fn log_line(log: &mut Log, at: Stamp, line: Line)
 }
 
 /// Puts the line of a processor step that began a scan into the log.
+#[inline(always)]
 pub(crate) fn log_begin(log: &mut Log, at: Stamp, what: What)
     requires room { log.old.lost + 1 < 2 ^ 63 }
     ensures log { log.new ≡ with_event_lines log.old at (begin_lines what) }
@@ -58,6 +59,7 @@ pub(crate) fn log_begin(log: &mut Log, at: Stamp, what: What)
 }
 
 /// Puts the line of a fault into the log, if there is one.
+#[inline(always)]
 pub(crate) fn log_fault(log: &mut Log, at: Stamp, fault: Option<Fault>)
     requires room { log.old.lost + 1 < 2 ^ 63 }
     ensures log { log.new ≡ with_event_lines log.old at (map FaultLine (faults_in fault)) }
@@ -70,6 +72,7 @@ pub(crate) fn log_fault(log: &mut Log, at: Stamp, fault: Option<Fault>)
 
 /// Puts the lines of the faults that a tick recorded into the log: that of a watchdog, and those of overlaps in the order of
 /// tasks.
+#[inline(always)]
 pub(crate) fn log_tick_faults(log: &mut Log, at: Stamp, report: TickReport)
     requires room { log.old.lost + MAX_TASKS + 1 < 2 ^ 63 }
     ensures log { (s : State) → s.tick ≡ at.tick → length s.table.defs ≤ MAX_TASKS → report.overlapped < 2 ^ length s.table.defs → log.new ≡ with_event_lines log.old at (map FaultLine (report_faults s report)) }
@@ -80,6 +83,7 @@ pub(crate) fn log_tick_faults(log: &mut Log, at: Stamp, report: TickReport)
 }
 
 /// Puts the line of a watchdog that ran out into the log, if one did.
+#[inline(always)]
 fn log_watchdog(log: &mut Log, at: Stamp, watchdog: Option<u32>)
     requires room { log.old.lost + 1 < 2 ^ 63 }
     ensures log { (s : State) → s.tick ≡ at.tick → log.new ≡ with_event_lines log.old at (map FaultLine (watchdog_fault s watchdog)) }

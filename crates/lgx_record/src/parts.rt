@@ -1,5 +1,5 @@
 // The parts of a recording, and what each event does to them.
-ghost use Rattle.std.specs.Prelude.{◌≡◌, ◌+◌, ◌≤◌, ◌<◌, [], ◌∷◌, ◌++◌, List, IfOk, OnOk, OnErr, IsTrue};
+ghost use Rattle.std.specs.Prelude.{◌≡◌, ◌+◌, ◌≤◌, ◌<◌, [], ◌∷◌, ◌++◌, List, replicate, IfOk, OnOk, OnErr, IsTrue};
 ghost use Rattle.spec_base.specs.declared.limits.TheConstants.{MAX_EVENTS};
 ghost use Rattle.spec_machine.specs.declared.event.Event.{Event as Events};
 ghost use Rattle.spec_machine.specs.declared.event.Event.TheVariants.{Cpu, Tick, Act};
@@ -42,6 +42,7 @@ impl Parts {
     }
 
     /// One processor step. It takes no memory.
+    #[inline]
     pub(crate) fn step(&mut self)
         requires recording { IsRecording (view_of self.old) }
         requires room { self.old.follower.controller.spent < MAX_EVENTS }
@@ -49,11 +50,26 @@ impl Parts {
         ensures records { (project : Project) (events : List Events) → Records (view_of self.old) project events → Records (view_of self.new) project (events ++ Cpu ∷ []) }
         ensures spare { self.old.journal.spare ≤ self.new.journal.spare + 1 }
     {
-        self.journal.add(Event::Cpu);
+        self.journal.add_steps(1);
         self.follower.step(&mut self.log);
     }
 
+    /// So many processor steps, of which the journal has room for the run. It takes no memory.
+    #[inline]
+    pub(crate) fn steps(&mut self, count: u32)
+        requires recording { IsRecording (view_of self.old) }
+        requires some { 0 < count }
+        requires room { self.old.follower.controller.spent + count ≤ MAX_EVENTS }
+        requires spare { 0 < self.old.journal.spare }
+        ensures records { (project : Project) (events : List Events) → Records (view_of self.old) project events → Records (view_of self.new) project (events ++ replicate count Cpu) }
+        ensures spare { self.old.journal.spare ≤ self.new.journal.spare + 1 }
+    {
+        self.journal.add_steps(count);
+        self.follower.steps(count, &mut self.log);
+    }
+
     /// One tick. It takes no memory.
+    #[inline]
     pub(crate) fn tick(&mut self)
         requires recording { IsRecording (view_of self.old) }
         requires room { self.old.follower.controller.spent < MAX_EVENTS }

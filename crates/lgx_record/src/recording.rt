@@ -34,7 +34,7 @@ impl Model for Recording {
 }
 
 impl Recording {
-    ghost use Rattle.std.specs.Prelude.{◌≡◌, ◌+◌, ◌≤◌, ◌<◌, List, [], ◌∷◌, ◌++◌, IfOk, OnOk, OnErr, IsTrue};
+    ghost use Rattle.std.specs.Prelude.{◌≡◌, ◌+◌, ◌≤◌, ◌<◌, List, [], ◌∷◌, ◌++◌, replicate, IfOk, OnOk, OnErr, IsTrue};
     ghost use Rattle.spec_base.specs.declared.limits.TheConstants.{MAX_EVENTS};
     ghost use Rattle.spec_machine.specs.declared.event.Event.{Event as Events};
     ghost use Rattle.spec_machine.specs.declared.event.Event.TheVariants.{Cpu, Tick, Act};
@@ -81,6 +81,22 @@ impl Recording {
         }
     }
 
+    /// Takes so many more processor steps. Whatever their number, the journal wants room for one run, which is taken before
+    /// anything changes; out of memory comes if there is none.
+    pub fn apply_steps(&mut self, count: u32) -> Result<(), Memory>
+        requires { self.old.controller.spent + count ≤ MAX_EVENTS }
+        ensures records { (project : Project) (events : List Events) → Records self.old project events → OnOk result (Records self.new project (events ++ replicate count Cpu)) }
+        ensures unchanged { OnErr result (IsUnchanged self.old self.new) }
+        ensures room { OnErr result (self.old.journal.spare ≤ self.new.journal.spare) }
+    {
+        if count == 0 {
+            return Ok(());
+        }
+        self.parts.journal.reserve(1)?;
+        self.parts.steps(count);
+        Ok(())
+    }
+
     /// Takes the journal's room for so many more runs of events. Nothing else changes; at out of memory some of the room may
     /// have been taken.
     pub fn reserve(&mut self, runs: u32) -> Result<(), Memory>
@@ -93,6 +109,7 @@ impl Recording {
     }
 
     /// One processor step, for which the journal has room. It takes no memory.
+    #[inline]
     pub fn step(&mut self)
         requires room { self.old.controller.spent < MAX_EVENTS }
         requires spare { 0 < self.old.journal.spare }
@@ -104,6 +121,7 @@ impl Recording {
     }
 
     /// One tick, for which the journal has room. It takes no memory.
+    #[inline]
     pub fn tick(&mut self)
         requires room { self.old.controller.spent < MAX_EVENTS }
         requires spare { 0 < self.old.journal.spare }

@@ -1,4 +1,5 @@
 pub mod Queues
+pub mod ReadyBits
 pub mod Chosen
 pub mod Steps
 pub mod Sound
@@ -6,3 +7,5 @@ pub mod Tables
 pub mod Calls
 pub mod Made
 pub mod InLine
+pub mod Again
+pub mod QuietTicks

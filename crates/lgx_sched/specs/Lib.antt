@@ -1,2 +1,4 @@
 pub mod TableView
+pub mod ReadyBits
 pub mod Represents
+pub mod QuietTicks

@@ -1,9 +1,9 @@
 -- What the table of tasks keeps. It has no ranks: the order of each queue tells them.
-use Rattle.std.specs.Prelude.{ℕ, ◌-◌, Bool, false, ◌||◌, nat_lt, nat_le, nat_eq, List, [], ◌∷◌, ◌++◌, length, map, drop, replicate, slice_get, Option, Some, None, is_some, slice_set, slice_index_or, if◌then◌else◌}
+use Rattle.std.specs.Prelude.{ℕ, ◌-◌, Bool, false, not, ◌&&◌, ◌||◌, nat_lt, nat_le, nat_eq, List, [], ◌∷◌, ◌++◌, length, map, drop, replicate, slice_get, Option, Some, None, is_some, is_none, slice_set, slice_index_or, if◌then◌else◌}
 use Rattle.spec_tables.specs.declared.task.TaskDef.{TaskDef}
 use Rattle.spec_tables.specs.declared.task.Release.{Release}
 use Rattle.spec_tables.specs.declared.task.Release.TheVariants.{Released, Overlap, Inhibited}
-use Rattle.spec_tables.specs.Tasks.{no_task, or_else}
+use Rattle.spec_tables.specs.Tasks.{no_task, or_else, is_continuous}
 use Rattle.lgx_sched.specs.declared.table.ActiveTask.{ActiveTask}
 
 -- The tasks in project order; for each whether it is up, with its start, open regions and CPS; for each priority, from 1
@@ -69,6 +69,15 @@ next_task v = or_else v.open_task (front_of v.queues)
 abbrev pub ready_at : TableView → ℕ → ℕ → Option ℕ
 ready_at v p i = if nat_eq p 0 then None else slice_get (queue_at v (p - 1)) i
 
+-- the queue of this task's priority has one task
+abbrev pub is_alone : TableView → ℕ → Bool
+is_alone v t = nat_eq (length (queue_at v (place_of v t))) 1
+
+-- The task is the continuous one, alone in its queue, with nothing open. If it is to run now, then after its last program it
+-- is to run again.
+abbrev pub runs_again : TableView → ℕ → Bool
+runs_again v t = is_continuous (def_of v t).kind && (not (def_of v t).inhibited && (is_none v.open_task && is_alone v t))
+
 -- ---- what the steps leave
 
 abbrev pub pushed : List (List ℕ) → ℕ → ℕ → List (List ℕ)
@@ -101,6 +110,10 @@ task_if_open t u = if has_open (Some u) then Some t else None
 -- the task that is to run has other regions, or another CPS
 abbrev pub with_active : ℕ → ActiveTask → TableView → TableView
 with_active t u v = record v { ups = slice_set v.ups t (Some u); open_task = task_if_open t u }
+
+-- the task that is to run starts once more, where it stands in its queue
+abbrev pub restarted : ℕ → ℕ → TableView → TableView
+restarted t now v = record v { ups = slice_set v.ups t (Some (record { start = now; region_count = 0; cps_open = false })) }
 
 abbrev pub all_down : TableView → TableView
 all_down v = record v { ups = replicate (length v.ups) None; queues = map (λ q. []) v.queues; open_task = None }

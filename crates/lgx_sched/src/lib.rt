@@ -1,7 +1,10 @@
 //! The table of tasks: which are up, which one is chosen, and how they come up, take turns and go down (1756-PM005).
 #![tactic(auto)]
 
+mod expiry;
 mod queue;
+mod quiet;
+mod releases;
 mod table;
 
 pub use spec_tables::{Release, TaskDef, TaskKind};

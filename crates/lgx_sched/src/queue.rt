@@ -1,7 +1,9 @@
 // The tasks that are up, a queue for each priority.
-ghost use Rattle.std.specs.Prelude.{◌≡◌, ◌<◌, List, [], ◌∷◌, ◌++◌, drop, length, map, replicate, IfOk, slice_get, slice_set, slice_index_or};
+ghost use Rattle.std.specs.Prelude.{◌≡◌, ◌≢◌, ◌<◌, ℕ, List, [], ◌∷◌, ◌++◌, drop, length, map, nat_eq, replicate, IfOk, slice_get, slice_set, slice_index_or};
+ghost use Rattle.std.specs.Int.{bit_at};
 ghost use Rattle.spec_base.specs.declared.limits.TheConstants.{MAX_TASKS, LEAST_PRIORITY};
 ghost use Rattle.lgx_sched.specs.TableView.{front_of, pushed, popped};
+ghost use Rattle.lgx_sched.specs.ReadyBits.{FirstBit};
 
 use arrayvec::ArrayVec;
 use spec_base::limits::{LEAST_PRIORITY, MAX_TASKS};
@@ -39,6 +41,20 @@ impl Queue {
         self.tasks.as_slice().get(i).copied()
     }
 
+    /// Whether it has no task.
+    fn is_empty(&self) -> bool
+        ensures { result ≡ nat_eq (length self.now) 0 }
+    {
+        self.tasks.is_empty()
+    }
+
+    /// Whether it has one task.
+    fn is_single(&self) -> bool
+        ensures { result ≡ nat_eq (length self.now) 1 }
+    {
+        self.tasks.len() == 1
+    }
+
     /// Puts a task last.
     fn push(&mut self, t: u32)
         requires { length self.old < MAX_TASKS }
@@ -66,14 +82,19 @@ impl Queue {
 #[derive(Drop)]
 pub struct Queues {
     queues: Vec<Queue>,
+    /// A bit for each queue: whether it has a task.
+    ready: u32,
 }
 
 impl Model for Queues {
     ghost use Rattle.std.specs.Prelude.{ℕ, List};
+    ghost use Rattle.lgx_sched.specs.ReadyBits.{AreReady};
 
     ghost Value = { List (List ℕ) };
 
     ghost view = { λ q. q.queues.items };
+
+    ghost invariant = { λ q. AreReady q.queues.items q.ready };
 }
 
 impl Queues {
@@ -85,14 +106,18 @@ impl Queues {
         for _place in 0..LEAST_PRIORITY {
             queues.push(Queue::new())?;
         }
-        Ok(Queues { queues })
+        Ok(Queues { queues, ready: 0 })
     }
 
     /// The front of the first queue that has a task.
+    #[inline]
     pub fn front(&self) -> Option<u32>
         ensures { result ≡ front_of self.now }
     {
-        front(&self.queues)
+        match first_bit(self.ready) {
+            Some(place) => self.queues[place].get(0),
+            None => None,
+        }
     }
 
     /// Task number `i` of the queue at `place`.
@@ -107,11 +132,21 @@ impl Queues {
         }
     }
 
+    /// Whether the queue at `place` has one task.
+    pub fn is_single(&self, place: usize) -> bool
+        requires within { place < length self.now }
+        ensures { result ≡ nat_eq (length (slice_index_or self.now place [])) 1 }
+    {
+        let queue = &self.queues[place];
+        queue.is_single()
+    }
+
     /// Takes out all tasks.
     pub fn clear(&mut self)
         ensures { self.new ≡ map (λ q. []) self.old }
     {
         empty(&mut self.queues);
+        self.ready = 0;
     }
 
     /// Puts a task last in the queue at `place`.
@@ -122,6 +157,7 @@ impl Queues {
     {
         let queue = &mut self.queues[place];
         queue.push(t);
+        self.ready = with_bit(self.ready, place);
     }
 
     /// Takes out the first task of the queue at `place`, if there is one.
@@ -131,19 +167,42 @@ impl Queues {
     {
         let queue = &mut self.queues[place];
         queue.pop_first();
+        if queue.is_empty() {
+            self.ready = without_bit(self.ready, place);
+        }
     }
 }
 
-/// The front of the first queue that has a task.
-fn front(queues: &[Queue]) -> Option<u32>
-    ensures { result ≡ front_of queues.now }
+/// The least bit of a word that is 1.
+#[inline(always)]
+fn first_bit(word: u32) -> Option<usize>
+    ensures { FirstBit word result }
 {
-    for queue in queues {
-        if let Some(t) = queue.get(0) {
-            return Some(t);
-        }
+    if word == 0 {
+        None
+    } else {
+        Some(word.trailing_zeros() as usize)
     }
-    None
+}
+
+/// The word with this bit set.
+#[inline(always)]
+fn with_bit(word: u32, bit: usize) -> u32
+    requires { bit < 32 }
+    ensures set { bit_at result bit ≡ 1 }
+    ensures others { (other : ℕ) → other ≢ bit → bit_at result other ≡ bit_at word other }
+{
+    word | 1 << bit
+}
+
+/// The word without this bit.
+#[inline(always)]
+fn without_bit(word: u32, bit: usize) -> u32
+    requires { bit < 32 }
+    ensures cleared { bit_at result bit ≡ 0 }
+    ensures others { (other : ℕ) → other ≢ bit → bit_at result other ≡ bit_at word other }
+{
+    word & !(1 << bit)
 }
 
 /// Empties each queue.

@@ -1,12 +1,16 @@
 // The table of tasks.
-ghost use Rattle.std.specs.Prelude.{◌≡◌, ℕ, ◌+◌, ◌-◌, ◌<◌, ◌≤◌, ◌^◌, Bool, List, [], ◌∷◌, length, drop, map, Option, Some, None, IfOk, IfSome, IsNone, slice_set, slice_get, slice_index_or};
-ghost use Rattle.std.specs.List.{All, position_from, zip};
+ghost use Rattle.std.specs.Prelude.{◌≡◌, ℕ, ◌+◌, ◌-◌, ◌<◌, ◌≤◌, ◌^◌, Bool, true, List, [], ◌∷◌, length, drop, map, Option, Some, None, IfOk, IfSome, IsNone, slice_set, slice_get, slice_index_or};
+ghost use Rattle.std.specs.List.{All, position_from};
 ghost use Rattle.spec_base.specs.declared.limits.TheConstants.{MAX_TASKS, LEAST_PRIORITY};
 ghost use Rattle.spec_tables.specs.Tasks.{Table, no_task, chosen, release_answer, release, if_released, released_at_run, start, stop, finish, rotate, is_continuous, expired, due, region_up, region_down, region_clear, set_copy, held};
-ghost use Rattle.lgx_sched.specs.TableView.{TableView, up_of, def_of, queue_at, place_of, next_task, answer_of, ready_at, front_of, pushed, popped, enqueued, enqueued_if, dequeued, rotated, with_active, all_down, task_if_open, region_count_of, has_cps, has_run_out};
+ghost use Rattle.lgx_sched.specs.TableView.{TableView, up_of, def_of, queue_at, place_of, next_task, answer_of, ready_at, front_of, pushed, popped, enqueued, enqueued_if, dequeued, rotated, with_active, restarted, all_down, task_if_open, region_count_of, has_cps, is_alone, runs_again};
+ghost use Rattle.lgx_sched.specs.QuietTicks.{IsQuiet, IsQuietAt, keeps_turn};
 ghost use Rattle.lgx_sched.specs.Represents.{Represents, IsInLine, AtMostUp, IsTable, HasPeriod, none_up};
 
+use crate::expiry::first_expired;
 use crate::queue::Queues;
+use crate::quiet::{Quiet, all_idle_until, kept_until};
+use crate::releases::{answer_of, continuous_task, if_released, is_continuous};
 use lgx_num::{Items, Memory};
 use spec_tables::{Release, TaskDef, TaskKind};
 use std::alloc::Global;
@@ -29,6 +33,8 @@ pub struct TaskTable {
     queues: Queues,
     open_task: Option<u32>,
     run_since: u32,
+    /// Ticks that are known to find nothing to do.
+    quiet: Quiet,
 }
 
 impl Model for TaskTable {
@@ -36,11 +42,11 @@ impl Model for TaskTable {
 
     ghost Value = { TableView };
 
-    ghost use Rattle.lgx_sched.specs.Represents.{IsTable};
+    ghost use Rattle.lgx_sched.specs.QuietTicks.{IsQuietTable};
 
     ghost view = { λ t. record { defs = t.defs; ups = t.ups.items; queues = t.queues; open_task = t.open_task; run_since = t.run_since } };
 
-    ghost invariant = { λ t. IsTable (record { defs = t.defs; ups = t.ups.items; queues = t.queues; open_task = t.open_task; run_since = t.run_since }) };
+    ghost invariant = { λ t. IsQuietTable (record { defs = t.defs; ups = t.ups.items; queues = t.queues; open_task = t.open_task; run_since = t.run_since }) t.quiet.after t.quiet.until };
 }
 
 impl TaskTable {
@@ -61,12 +67,14 @@ impl TaskTable {
             queues,
             open_task: None,
             run_since: 0,
+            quiet: Quiet { after: 0, until: 0 },
         })
     }
 
     /// The task that is to run: the one that has something open, else the first of the first queue that has one.
     ///
     /// It is None exactly if no task is up.
+    #[inline]
     pub fn chosen(&self) -> Option<u32>
         ensures front { result ≡ next_task self.now }
         ensures known { IfSome result (λ t. t < length self.now.defs) }
@@ -115,7 +123,9 @@ impl TaskTable {
     {
         if self.open_task.is_none() {
             if let Some(t) = self.queues.front() {
-                self.put_last(t);
+                if !self.is_alone(t) {
+                    self.put_last(t);
+                }
             }
         }
     }
@@ -130,6 +140,35 @@ impl TaskTable {
         if is_continuous(self.kind(t)) {
             self.release(t, now);
         }
+    }
+
+    /// Whether task `t` is the continuous one, alone in its queue, with nothing open: then after its last program it runs again
+    /// as the chosen task, if it is the chosen one now.
+    pub fn runs_again(&self, t: u32) -> bool
+        requires task { t < length self.now.defs }
+        ensures value { result ≡ runs_again self.now t }
+        ensures table { IsTable self.now }
+    {
+        let def = self.def(t);
+        is_continuous(def.kind) && !def.inhibited && self.open_task.is_none() && self.is_alone(t)
+    }
+
+    /// `finish` of the chosen task `t` of which `runs_again` holds. It starts at `now`, and all else stays.
+    pub fn finish_again(&mut self, t: u32, now: u32)
+        requires chosen { next_task self.old ≡ Some t }
+        requires again { runs_again self.old t ≡ true }
+        ensures exact { self.new ≡ restarted t now self.old }
+        ensures represents { (s : Table) → Represents self.old s → Represents self.new (finish t now s) }
+        ensures chosen { (s : Table) → Represents self.old s → chosen (finish t now s) ≡ Some t }
+    {
+        self.change(
+            t,
+            ActiveTask {
+                start: now,
+                region_count: 0,
+                cps_open: false,
+            },
+        );
     }
 
     /// The change to Run at the tick `now`: every task goes down, and the continuous one is released.
@@ -178,6 +217,22 @@ impl TaskTable {
         ensures represents { (s : Table) → Represents self.now s → result ≡ expired now s }
     {
         first_expired(now, self.defs.as_slice(), &self.ups)
+    }
+
+    /// Whether the tick `now` is known to find nothing to do. If it isn't, the tick may still find nothing.
+    #[inline(always)]
+    pub fn is_quiet(&self, now: u32) -> bool
+        ensures { (s : Table) → Represents self.now s → result ≡ true → IsQuietAt now self.now s }
+    {
+        self.quiet.contains(now)
+    }
+
+    /// Finds out which ticks after `now` have nothing to do, so that `is_quiet` knows them until the table changes.
+    pub fn settle(&mut self, now: u32)
+        ensures { self.new ≡ self.old }
+    {
+        let until = self.quiet_until(now);
+        self.quiet = Quiet { after: now, until };
     }
 
     /// The number of tasks.
@@ -290,6 +345,36 @@ impl TaskTable {
         self.defs.as_slice()[t as usize]
     }
 
+    /// Whether a task's queue has one task.
+    fn is_alone(&self, t: u32) -> bool
+        requires task { t < length self.now.defs }
+        ensures value { result ≡ is_alone self.now t }
+        ensures table { IsTable self.now }
+    {
+        self.queues.is_single(place(self.defs.as_slice(), t))
+    }
+
+    /// Whether no turn is passed on at a tick.
+    fn keeps_turn(&self) -> bool
+        ensures { result ≡ keeps_turn self.now }
+    {
+        match self.queues.front() {
+            Some(t) => self.is_alone(t),
+            None => true,
+        }
+    }
+
+    /// Until when ticks after `now` find nothing to do.
+    fn quiet_until(&self, now: u32) -> u32
+        ensures { IsQuiet self.now now result }
+    {
+        if self.keeps_turn() {
+            all_idle_until(now, self.run_since, self.defs.as_slice(), &self.ups)
+        } else {
+            0
+        }
+    }
+
     /// What a release of a task is answered.
     fn answer(&self, t: u32) -> Release
         requires task { t < length self.now.defs }
@@ -312,6 +397,7 @@ impl TaskTable {
             cps_open: false,
         });
         self.queues.push_last(place, t);
+        self.quiet.until = 0;
     }
 
     /// The front goes to the end of its queue.
@@ -323,6 +409,7 @@ impl TaskTable {
         let place = place(self.defs.as_slice(), t);
         self.queues.pop_first(place);
         self.queues.push_last(place, t);
+        self.quiet.until = 0;
     }
 
     /// Every task goes down.
@@ -334,6 +421,7 @@ impl TaskTable {
         self.queues.clear();
         self.open_task = None;
         self.run_since = run_since;
+        self.quiet.until = 0;
     }
 
     /// What is kept of the task that is to run.
@@ -351,8 +439,11 @@ impl TaskTable {
     /// The task that is to run has other regions, or another CPS.
     fn change(&mut self, t: u32, up: ActiveTask)
         requires chosen { next_task self.old ≡ Some t }
-        ensures { self.new ≡ with_active t up self.old }
+        ensures exact { self.new ≡ with_active t up self.old }
+        ensures table { IsTable self.old }
     {
+        let until = kept_until(self.quiet.until, self.ups[t as usize], up);
+        self.quiet.until = until;
         self.ups[t as usize] = Some(up);
         let open_task = task_if_open(t, up);
         self.open_task = open_task;
@@ -368,39 +459,7 @@ impl TaskTable {
         self.ups[t as usize] = None;
         self.queues.pop_first(place);
         self.open_task = None;
-    }
-}
-
-/// Whether it is the kind of the continuous task.
-fn is_continuous(kind: TaskKind) -> bool
-    ensures { result ≡ is_continuous kind }
-{
-    match kind {
-        TaskKind::Continuous => true,
-        TaskKind::Periodic(_) | TaskKind::Event => false,
-    }
-}
-
-/// What a release of a task is answered.
-fn answer_of(def: TaskDef, up: Option<ActiveTask>) -> Release
-    ensures { result ≡ answer_of def up }
-{
-    if def.inhibited {
-        Release::Inhibited
-    } else if up.is_some() {
-        Release::Overlap
-    } else {
-        Release::Released
-    }
-}
-
-/// The task, if its release is answered so that it is up.
-fn if_released(answer: Release, t: u32) -> Option<u32>
-    ensures { result ≡ if_released answer t }
-{
-    match answer {
-        Release::Released => Some(t),
-        Release::Overlap | Release::Inhibited => None,
+        self.quiet.until = 0;
     }
 }
 
@@ -411,20 +470,6 @@ fn place(defs: &[TaskDef], t: u32) -> usize
     ensures { result ≡ (slice_index_or defs.now t no_task).priority - 1 }
 {
     defs[t as usize].priority as usize - 1
-}
-
-/// The first continuous task.
-fn continuous_task(defs: &[TaskDef]) -> Option<u32>
-    requires { length defs.now ≤ MAX_TASKS }
-    ensures known { IfSome result (λ t. t < length defs.now) }
-    ensures value { result ≡ position_from (λ d. is_continuous d.kind) 0 defs.now }
-{
-    for (t, def) in defs.iter().enumerate() {
-        if is_continuous(def.kind) {
-            return Some(t as u32);
-        }
-    }
-    None
 }
 
 /// The task, if it has something open.
@@ -446,29 +491,4 @@ fn has_cps(up: Option<ActiveTask>) -> bool
         Some(up) => up.cps_open,
         None => false,
     }
-}
-
-/// Whether the task has been up for the ticks of its watchdog.
-fn has_run_out(now: u32, def: TaskDef, up: Option<ActiveTask>) -> bool
-    ensures { result ≡ has_run_out now def up }
-{
-    match up {
-        Some(up) => now.saturating_sub(up.start) >= def.watchdog,
-        None => false,
-    }
-}
-
-/// The first task that has been up for the ticks of its watchdog.
-fn first_expired(now: u32, defs: &[TaskDef], ups: &[Option<ActiveTask>]) -> Option<u32>
-    requires few { length defs.now ≤ MAX_TASKS }
-    requires as_many { length ups.now ≡ length defs.now }
-    ensures known { IfSome result (λ t. t < length defs.now) }
-    ensures value { result ≡ position_from (λ t. has_run_out now t.0 t.1) 0 (zip defs.now ups.now) }
-{
-    for (t, def) in defs.iter().enumerate() {
-        if has_run_out(now, *def, ups[t]) {
-            return Some(t as u32);
-        }
-    }
-    None
 }

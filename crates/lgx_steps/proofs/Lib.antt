@@ -6,10 +6,10 @@ pub mod Reading
 pub mod Leaving
 pub mod ScanSteps
 pub mod Scanned
-pub mod Advances
 pub mod ScanRuns
 pub mod PlainSteps
 pub mod Stretching
+pub mod GoingOn
 pub mod Beginning
 pub mod Releasing
 pub mod AfterEffects

@@ -1,19 +1,23 @@
 -- The steps of a tick.
-use Rattle.std.proofs.Common.{◌≡◌, ℕ, ◌+◌, zero, suc, Bool, true, false, if◌then◌else◌, Option, Some, None, refl, sym, ap, ◌∙◌, subst, arith}
+use Rattle.std.proofs.Common.{◌≡◌, ℕ, ◌+◌, zero, suc, List, [], ◌∷◌, length, Bool, true, false, if◌then◌else◌, Option, Some, None, refl, sym, ap, ◌∙◌, subst, arith}
 use Rattle.std.specs.Prelude.{fold}
 use Rattle.std.specs.List.{range_with_len}
 use Rattle.spec_tables.specs.declared.fault.Severity.TheVariants.{Major}
 use Rattle.spec_tables.specs.declared.task.Release.{Release}
-use Rattle.spec_tables.specs.Tasks.{due, expired}
+use Rattle.spec_tables.specs.Tasks.{Table, due, expired, rotate}
 use Rattle.spec_machine.specs.declared.answer.TickReport.{TickReport}
 use Rattle.spec_machine.specs.declared.reply.Mode.{Mode}
 use Rattle.spec_machine.specs.State.{State}
 use Rattle.spec_machine.specs.Releases.{release_task, task_fault, major_fault}
-use Rattle.spec_machine.specs.Ticks.{Ticked, noted, after_release, release_if_due, release_due, after_watchdogs, in_mode}
+use Rattle.spec_machine.specs.Ticks.{Ticked, quiet, noted, after_release, release_if_due, release_due, after_watchdogs, in_run, in_mode}
+use Rattle.lgx_sched.specs.Represents.{Represents as RepresentsTable}
+use Rattle.lgx_sched.specs.QuietTicks.{IsQuietAt}
 use Rattle.lgx_steps.specs.declared.parts.Released.{Released}
 use Rattle.lgx_steps.specs.PartsView.{PartsView}
 use Rattle.lgx_steps.specs.Represents.{RepresentsState}
 use Rattle.lgx_steps.specs.Gives.{TickGives, ReleaseGives}
+use Rattle.lgx_steps.proofs.Regions.{at_most-rotate}
+use Rattle.lgx_steps.proofs.States.{with-table}
 
 pub fold-more : {B : Type 0} (f : B → ℕ → B) (x : B) (a n : ℕ) → fold f x (range_with_len a (n + 1)) ≡ f (fold f x (range_with_len a n)) (a + n)
 fold-more f x a zero = ap (λ i. f x i) (plus a)
@@ -65,6 +69,23 @@ gives-expired n v s o t now is e now_is r =
 
 pub gives-unexpired : (n : ℕ) (v : PartsView) (s : State) (o : Option ℕ) (r : TickReport) → o ≡ None → o ≡ expired s.tick s.table → TickGives n v r (release_due s) → TickGives n v r (after_watchdogs s (expired s.tick s.table))
 gives-unexpired n v s o r is e g = subst (λ (x : Option ℕ). TickGives n v r (after_watchdogs s x)) (sym is ∙ e) g
+
+-- ---- ticks that find nothing
+
+-- if none of them is due, none is released
+none-due : (x : Ticked) → ((t : ℕ) → due t x.state.tick x.state.table ≡ false) → (ts : List ℕ) → fold release_if_due x ts ≡ x
+none-due x not_due [] = refl
+none-due x not_due (t ∷ ts) = ap (λ (y : Ticked). fold release_if_due y ts) (ap (λ (b : Bool). if b then after_release t x.report (release_task t x.state) else x) (not_due t)) ∙ none-due x not_due ts
+
+pub gives-quiet : (n : ℕ) (v : PartsView) (s : State) (now : ℕ) (r : TickReport) → RepresentsState n v s → now ≡ s.tick → ((T : Table) → RepresentsTable v.table T → IsQuietAt now v.table T) → r ≡ quiet → TickGives n v r (in_run s)
+gives-quiet n v s now r h e quiet_at is =
+    let T : Table = rotate s.table in
+    let s' : State = record s { table = T } in
+    let table : RepresentsTable v.table T = (quiet_at s.table h.table).rotate in
+    let q : IsQuietAt s.tick v.table T = subst (λ i. IsQuietAt i v.table T) e (quiet_at T table) in
+    let nothing : release_due s' ≡ record { state = s'; report = quiet } = none-due (record { state = s'; report = quiet }) q.due (range_with_len 0 (length T.defs)) in
+    gives-unexpired n v s' None r refl (sym q.expired)
+    (subst (λ (y : Ticked). TickGives n v r y) (sym nothing) (record { report_is = is; represents = with-table n v s h v.table T table refl (at_most-rotate n s.table h.sane.regions) }))
 
 -- ---- the mode
 

@@ -14,12 +14,11 @@ mod fresh;
 mod modes;
 mod parts;
 mod release;
-mod scanning;
 mod scans;
 mod step;
 mod stretch;
 mod tick;
 mod words;
 
-pub use parts::{Done, Parts, Progress, Released, Scan};
+pub use parts::{Parts, Progress, Released, Scan};
 pub use stretch::Stretch;

@@ -1,7 +1,7 @@
 // The parts of a controller.
 use lgx_conn::Conns;
 use lgx_edit::EditBook;
-use lgx_engine::{Effect, Position};
+use lgx_engine::Position;
 use lgx_fault::FaultLog;
 use lgx_force::ForceTable;
 use lgx_image::Image;
@@ -50,13 +50,6 @@ pub struct Parts {
     pub book: EditBook,
     pub forces: ForceTable,
     pub faults: FaultLog,
-}
-
-/// What a step of a scan did, and of which program.
-#[derive(Clone, Copy)]
-pub struct Done {
-    pub program: u32,
-    pub effect: Effect,
 }
 
 /// What a release was answered, and the fault of an overlap.

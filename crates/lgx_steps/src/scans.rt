@@ -2,14 +2,33 @@
 ghost use Rattle.std.specs.Prelude.{◌≡◌, ℕ, ◌<◌, List, length, map, Some, None, slice_set};
 ghost use Rattle.spec_machine.specs.State.{State, progress_of, dropped};
 ghost use Rattle.spec_machine.specs.ProcessorStep.{scan_ended};
+ghost use Rattle.spec_tables.specs.Tasks.{Table, finish};
 ghost use Rattle.lgx_sched.specs.TableView.{next_task};
+ghost use Rattle.lgx_sched.specs.Represents.{Represents as RepresentsTable};
 ghost use Rattle.lgx_steps.specs.Plans.{list_at};
 ghost use Rattle.lgx_steps.specs.Represents.{Represents, IsLive};
 
 use crate::parts::Parts;
+use lgx_sched::TaskTable;
+
+/// Takes down the chosen task after its last program. The continuous task runs again at once, and mostly where it stands.
+#[inline(always)]
+fn finish(table: &mut TaskTable, t: u32, now: u32)
+    requires chosen { next_task table.old ≡ Some t }
+    requires known { t < length table.old.defs }
+    ensures represents { (s : Table) → RepresentsTable table.old s → RepresentsTable table.new (finish t now s) }
+    ensures defs { table.new.defs ≡ table.old.defs }
+{
+    if table.runs_again(t) {
+        table.finish_again(t, now);
+    } else {
+        table.finish(t, now);
+    }
+}
 
 impl Parts {
     /// A task has no scan from now on, and so many of its programs ended. What its scan held is held no more.
+    #[inline(always)]
     pub(crate) fn leave_scan(&mut self, t: u32, ended: usize)
         requires live { IsLive self.old }
         requires known { t < length self.old.progress.items }
@@ -44,6 +63,7 @@ impl Parts {
     }
 
     /// A program scan of the chosen task has ended.
+    #[inline]
     pub(crate) fn end_scan(&mut self, t: u32)
         requires live { IsLive self.old }
         requires chosen { next_task self.old.table ≡ Some t }
@@ -58,7 +78,7 @@ impl Parts {
             self.table.region_clear(t);
         } else {
             self.leave_scan(t, 0);
-            self.table.finish(t, self.tick);
+            finish(&mut self.table, t, self.tick);
         }
     }
 }

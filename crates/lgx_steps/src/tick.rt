@@ -12,6 +12,7 @@ use spec_machine::{Mode, TickReport};
 use spec_tables::{Fault, Severity};
 
 /// A report of nothing.
+#[inline(always)]
 fn quiet() -> TickReport
     ensures { result ≡ record { watchdog = None; released = 0; overlapped = 0 } }
 {
@@ -45,6 +46,7 @@ fn noted(t: u32, report: TickReport, answer: Release) -> TickReport
 
 impl Parts {
     /// One tick.
+    #[inline]
     pub fn tick(&mut self) -> TickReport
         requires { HasRoom self.old }
         ensures gives { (n : ℕ) (s : State) → Represents n self.old s → GivesTick (n + 1) self.new result (tick s) }
@@ -57,8 +59,34 @@ impl Parts {
         }
     }
 
-    /// What a tick does in Run.
+    /// What a tick does in Run. Most find nothing to do, and the table knows of them.
+    #[inline(always)]
     fn in_run(&mut self) -> TickReport
+        requires { IsLive self.old }
+        ensures gives { (n : ℕ) (s : State) → Represents n self.old s → GivesTick n self.new result (in_run s) }
+        ensures image { self.new.image ≡ self.old.image }
+    {
+        if self.table.is_quiet(self.tick) {
+            quiet()
+        } else {
+            self.find_work()
+        }
+    }
+
+    /// A tick in Run that may find something to do. Afterwards the table knows until when ticks find nothing.
+    #[inline(never)]
+    fn find_work(&mut self) -> TickReport
+        requires { IsLive self.old }
+        ensures gives { (n : ℕ) (s : State) → Represents n self.old s → GivesTick n self.new result (in_run s) }
+        ensures image { self.new.image ≡ self.old.image }
+    {
+        let report = self.watch_and_release();
+        self.table.settle(self.tick);
+        report
+    }
+
+    /// Passes the turn on, and then releases each task that is due, unless a watchdog ran out: that is a major fault.
+    fn watch_and_release(&mut self) -> TickReport
         requires { IsLive self.old }
         ensures gives { (n : ℕ) (s : State) → Represents n self.old s → GivesTick n self.new result (in_run s) }
         ensures image { self.new.image ≡ self.old.image }

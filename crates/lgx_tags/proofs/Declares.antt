@@ -1,9 +1,10 @@
 -- What one more entry changes.
-use Rattle.std.specs.Prelude.{◌≡◌, ℕ, ◌+◌, ◌<◌, ◌≤◌, Bool, true, false, nat_le, if◌then◌else◌, List, [], ◌∷◌, ◌++◌, length, position, Some, None, is_some, option_map, refl}
+use Rattle.std.specs.Prelude.{◌≡◌, ℕ, ◌+◌, ◌<◌, ◌≤◌, Bool, true, false, ◌||◌, nat_le, if◌then◌else◌, List, [], ◌∷◌, ◌++◌, length, position, Some, None, is_some, option_map, refl}
 use Rattle.std.specs.List.{AllByRecursion as Each, list_any, filter_map}
 use Rattle.std.proofs.Common.{sym, ap, ◌∙◌, arith, leb-true, length-append}
 use Rattle.std.proofs.lemmas.Iterator.Adapters.{position_from-zero}
 use Rattle.std.proofs.lemmas.List.{map-append, append-nil}
+use Rattle.std.proofs.lemmas.List.Recursion.{or_push}
 use Rattle.std.proofs.lemmas.List.Elements.{filter_map-append}
 use Rattle.spec_language.specs.declared.types.DataType.{DataType}
 use Rattle.spec_language.specs.declared.types.TypeDecl.{TypeDecl}
@@ -17,8 +18,8 @@ use Rattle.spec_language.specs.Resolution.{target_of, aliases}
 use Rattle.spec_language.proofs.FoundBounds.{and_left}
 use Rattle.spec_base.proofs.Lists.{each_append, each_map, any_some}
 use Rattle.lgx_tags.specs.Keys.{key_of}
-use Rattle.lgx_tags.specs.Scopes.{IsScopeOf}
-use Rattle.lgx_tags.specs.Tables.{IsAdmitted, Represents, keys_of}
+use Rattle.lgx_tags.specs.Scopes.{IsScopeOf, is_own}
+use Rattle.lgx_tags.specs.Tables.{IsAdmitted, Represents, keys_of, has_own}
 use Rattle.lgx_tags.specs.declared.key.Key.{Key}
 use Rattle.lgx_tags.proofs.Spans.{padded_size, padded_total, total_append, total_ordered, end_is, ordered}
 use Rattle.lgx_tags.proofs.Lookups.{same_key, key_position}
@@ -98,8 +99,11 @@ key_new s name es p = any_position (same_key (key_of s name)) (keys_of es) ∙ a
 pub keys_insert : (s : Scope) (name : List ℕ) (es : List Entry) (ks : List Key) (k : Key) → ks ≡ keys_of es → k ≡ key_of s name → position (is_named s name) es ≡ None → (if list_any (same_key k) ks then ks else ks ++ k ∷ []) ≡ keys_of es ++ key_of s name ∷ []
 keys_insert s name es ks k p q free = rw (p, q, key_new s name es free) refl
 
-pub kept_more : (d : Declarations) (e : Entry) (ks : List Key) (count count' : ℕ) → Represents d ks count → IsAdmitted d.types d.programs e → count' ≡ bytes (record d { entries = d.entries ++ e ∷ [] }) → count' ≤ MAX_IMAGE_BYTES → length (aliases (record d { entries = d.entries ++ e ∷ [] })) < 4294967296 → Represents (record d { entries = d.entries ++ e ∷ [] }) (keys_of d.entries ++ key_of e.scope e.name ∷ []) count'
-kept_more d e ks count count' k l p r f = record { admitted = each_append (IsAdmitted d.types d.programs) d.entries (e ∷ []) k.admitted (l, tt); keyed = sym (keys_more d.entries e); counted = p; room = r; few = f }
+own_more : (es : List Entry) (e : Entry) → has_own (es ++ e ∷ []) ≡ (has_own es || is_own e.scope)
+own_more es e = or_push has_own (λ (e : Entry). is_own e.scope) refl (λ x xs. refl) es e
+
+pub kept_more : (d : Declarations) (e : Entry) (ks : List Key) (count count' : ℕ) (own own' : Bool) → Represents d ks count own → own' ≡ (own || is_own e.scope) → IsAdmitted d.types d.programs e → count' ≡ bytes (record d { entries = d.entries ++ e ∷ [] }) → count' ≤ MAX_IMAGE_BYTES → length (aliases (record d { entries = d.entries ++ e ∷ [] })) < 4294967296 → Represents (record d { entries = d.entries ++ e ∷ [] }) (keys_of d.entries ++ key_of e.scope e.name ∷ []) count' own'
+kept_more d e ks count count' own own' k o l p r f = record { admitted = each_append (IsAdmitted d.types d.programs) d.entries (e ∷ []) k.admitted (l, tt); keyed = sym (keys_more d.entries e); counted = p; room = r; few = f; owned = o ∙ ap (λ (b : Bool). b || is_own e.scope) k.owned ∙ sym (own_more d.entries e) }
 
 -- an alias takes no bytes
 pub bytes_same : (d : Declarations) (e : Entry) → Each (IsAdmitted d.types d.programs) d.entries → IsScopeOf d.programs e.scope → padded_size d.types e ≡ 0 → bytes d ≡ bytes (record d { entries = d.entries ++ e ∷ [] })

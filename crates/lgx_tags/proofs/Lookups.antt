@@ -1,10 +1,10 @@
 -- A name is found among the keys where it is found among the entries.
-use Rattle.std.specs.Prelude.{◌≡◌, ℕ, ◌+◌, ◌<◌, ◌≤◌, Bool, true, false, cond, ◌&&◌, ◌==◌, nat_eq, List, [], ◌∷◌, ◌++◌, length, map, take, drop, replicate, position, Some, None, refl}
+use Rattle.std.specs.Prelude.{◌≡◌, ℕ, ◌+◌, ◌<◌, ◌≤◌, Bool, true, false, cond, ◌&&◌, ◌==◌, nat_eq, List, [], ◌∷◌, ◌++◌, length, map, take, drop, replicate, position, Option, Some, None, refl}
 use Rattle.std.specs.Char.{to_ascii_lowercase}
 use Rattle.std.specs.Cmp.Lexicographic.{pointwise}
 use Rattle.std.specs.List.{AllByRecursion as Each, position_from}
 use Rattle.std.proofs.Common.{sym, ap, ◌∙◌, arith, eqb-true, eq-eqb}
-use Rattle.std.proofs.lemmas.Bool.{and_right as false_right}
+use Rattle.std.proofs.lemmas.Bool.{and_right as false_right, or_parts}
 use Rattle.std.proofs.lemmas.Iterator.Adapters.{position_from-zero}
 use Rattle.std.proofs.lemmas.List.{length-map, map-append}
 use Rattle.std.proofs.lemmas.Slice.Eq.{bytes_eq-Decides}
@@ -16,7 +16,10 @@ use Rattle.spec_language.specs.declared.tag.Scope.TheVariants.{Controller, Progr
 use Rattle.spec_language.specs.Declarations.{Entry, same_scope, is_named}
 use Rattle.spec_language.proofs.FoundBounds.{and_left, and_right}
 use Rattle.lgx_tags.specs.Keys.{lowered, key_of}
-use Rattle.lgx_tags.specs.Tables.{IsAdmitted, keys_of}
+use Rattle.std.specs.Option.{option_or}
+use Rattle.lgx_tags.specs.Chains.{seen_number}
+use Rattle.lgx_tags.specs.Scopes.{is_own}
+use Rattle.lgx_tags.specs.Tables.{IsAdmitted, keys_of, has_own}
 use Rattle.lgx_tags.specs.declared.key.Key.{Key}
 use Rattle.lgx_tags.specs.contracts.key.KeyPartialEq.TheImpl.{eq-value}
 use Rattle.std.specs.Cmp.Derive.{both_true}
@@ -85,3 +88,20 @@ long_from types programs s name (e ∷ es) i h q = rw (not_named s name e h.0.sh
 
 pub long_nowhere : (types : List TypeDecl) (programs : ℕ) (s : Scope) (name : List ℕ) (es : List Entry) → Each (IsAdmitted types programs) es → MAX_TAG_NAME_BYTES < length name → position (is_named s name) es ≡ None
 long_nowhere types programs s name es h q = position_from-zero (is_named s name) es ∙ long_from types programs s name es 0 h q
+
+-- ---- programs without entries of their own
+
+not_own : (p : ℕ) (name : List ℕ) (s : Scope) (b : Bool) → is_own s ≡ false → (same_scope s (Program p) && b) ≡ false
+not_own p name Controller b h = refl
+not_own p name (Program q) b h = absurd (cc h)
+
+none_own_from : (p : ℕ) (name : List ℕ) (es : List Entry) (i : ℕ) → has_own es ≡ false → position_from (is_named (Program p) name) i es ≡ None
+none_own_from p name [] i h = refl
+none_own_from p name (e ∷ es) i h =
+    let parts = or_parts (is_own e.scope) (has_own es) h in
+    rw (not_own p name e.scope (same e.name name) parts.0) (none_own_from p name es (i + 1) parts.1)
+
+-- where no program has an entry of its own, the controller's alone are seen
+pub seen_alone : (s : Scope) (name : List ℕ) (es : List Entry) → has_own es ≡ false → seen_number es s name ≡ position (is_named Controller name) es
+seen_alone Controller name es h = refl
+seen_alone (Program p) name es h = ap (λ (o : Option ℕ). option_or o (position (is_named Controller name) es)) (position_from-zero (is_named (Program p) name) es ∙ none_own_from p name es 0 h)

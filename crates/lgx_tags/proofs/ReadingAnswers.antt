@@ -2,6 +2,10 @@
 use Rattle.std.specs.Prelude.{◌≡◌, ℕ, Bool, true, false, List, [], ◌∷◌, Option, Some, None, Result, Ok, Err, IfOk, if◌then◌else◌, refl}
 use Rattle.std.specs.Option.{is_some}
 use Rattle.std.proofs.Common.{sym, subst, ◌∙◌}
+use Rattle.std.proofs.lemmas.List.{append-nil}
+use Rattle.lgx_num.specs.Name.{is_name}
+use Rattle.spec_language.proofs.FormsRead.{name_some, word_tokens}
+use Rattle.lgx_tags.proofs.TagNames.{named_tag}
 use Rattle.spec_language.specs.declared.types.TypeDecl.{TypeDecl}
 use Rattle.spec_language.specs.declared.tag.TagCode.{TagCode}
 use Rattle.spec_language.specs.declared.tag.TagCode.TheVariants.{G10}
@@ -70,6 +74,19 @@ ended s types named (c ∷ cs) k e = not_on_part s types named c cs k e
 
 pub answered : (a b : Result Found TagCode) (r : Result Found TagError) → a ≡ b → Answers b r → Answers a r
 answered a b r e q = subst (λ (x : Result Found TagCode). Answers x r) (sym e) q
+
+-- ---- a text that is a name alone
+
+name_tokens : (text : List ℕ) → is_name text ≡ true → tokens text ≡ word text ∷ []
+name_tokens text p =
+    let some = name_some text p in
+    subst (λ (t : List ℕ). tokens t ≡ word text ∷ []) (append-nil text) (word_tokens text [] some.0 some.1 tt)
+
+in_name : (s : Subscripts) (types : List TypeDecl) (named : List ℕ → Result Found TagCode) (text : List ℕ) → is_name text ≡ true → in_form s types named text ≡ named text
+in_name s types named text p = rw (name_tokens text p, named_tag text p) refl
+
+pub name_answered : (s : Subscripts) (types : List TypeDecl) (named : List ℕ → Result Found TagCode) (text : List ℕ) (r : Result Found TagError) → is_name text ≡ true → Answers (named text) r → Answers (in_form s types named text) r
+name_answered s types named text r p q = answered (in_form s types named text) (named text) r (in_name s types named text p) q
 
 -- ---- what is answered lies in the image
 

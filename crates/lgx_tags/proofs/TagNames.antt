@@ -1,9 +1,13 @@
 -- The parts of tag names.
-use Rattle.std.proofs.Common.{◌≡◌, ℕ, zero, suc, ◌-◌, ◌<◌, List, [], ◌∷◌, length, Bool, true, false, refl, arith}
-use Rattle.std.specs.Prelude.{◌&&◌, nat_le}
+use Rattle.std.proofs.Common.{◌≡◌, ℕ, zero, suc, ◌-◌, ◌<◌, ◌≤◌, List, [], ◌∷◌, length, Bool, true, false, refl, arith, subst, ◌∙◌, eqb-true, leb-true, le-leb}
+use Rattle.std.specs.Cmp.Derive.{both_true}
+use Rattle.std.specs.Prelude.{◌&&◌, ◌==◌, nat_le}
 use Rattle.std.specs.List.{list_all}
 use Rattle.std.proofs.lemmas.Bool.Decides.{nat_tests}
-use Rattle.lgx_num.specs.Name.{is_name}
+use Rattle.lgx_num.specs.Name.{is_name, is_name_byte}
+use Rattle.lgx_num.proofs.Names.{name_bytes}
+use Rattle.spec_base.specs.declared.limits.TheConstants.{MAX_NAME_BYTES, MAX_TAG_NAME_BYTES}
+use Rattle.spec_language.proofs.FoundBounds.{and_left, and_right}
 use Rattle.spec_base.specs.Pieces.{pieces}
 use Rattle.spec_base.proofs.Splits.{some_piece}
 use Rattle.spec_language.specs.OperandForm.{is_part, may_lead, is_joined, is_tag_name, are_digits}
@@ -79,3 +83,22 @@ no_digits w p = go (is_tag_name w) refl
     go : (b : Bool) → is_tag_name w ≡ b → is_tag_name w ≡ false
     go false e = e
     go true e = absurd (cc (p, (tag_some w e).2))
+
+-- ---- names
+
+no_colon : (c : ℕ) → is_name_byte c ≡ true → (c == 58) ≡ false
+no_colon c p = go (c == 58) refl
+  where
+    go : (b : Bool) → (c == 58) ≡ b → (c == 58) ≡ false
+    go false e = e
+    go true e = absurd (cc (subst (λ (k : ℕ). is_name_byte k ≡ true) (eqb-true c 58 e) p))
+
+one_part : (w : List ℕ) → list_all is_name_byte w ≡ true → pieces 58 w ≡ w ∷ []
+one_part [] p = refl
+one_part (c ∷ cs) p = rw (no_colon c (and_left (is_name_byte c) _ p), one_part cs (and_right (is_name_byte c) _ p)) refl
+
+-- a name is a tag name: no colon stands in it
+pub named_tag : (w : List ℕ) → is_name w ≡ true → is_tag_name w ≡ true
+named_tag w p =
+    let short : length w ≤ MAX_NAME_BYTES = leb-true (length w) MAX_NAME_BYTES (and_left (nat_le (length w) MAX_NAME_BYTES) _ p) in
+    both_true (le-leb (length w) MAX_TAG_NAME_BYTES (omega arith)) (joined_alone w (pieces 58 w) (one_part w (name_bytes w p)) ∙ p)

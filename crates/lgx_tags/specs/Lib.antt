@@ -1,5 +1,6 @@
 pub mod Meanings
 pub mod Keys
+pub mod KeyHashes
 pub mod Scopes
 pub mod Errors
 pub mod Tables

@@ -1,13 +1,13 @@
 -- A table of tags: what it holds, what is asked of it, and what it answers.
 use Rattle.std.specs.Prelude.{◌^◌, ◌≡◌, ℕ, ◌<◌, ◌≤◌, Bool, List, map, length, ⊤}
-use Rattle.std.specs.List.{AllByRecursion as Each}
+use Rattle.std.specs.List.{AllByRecursion as Each, list_any}
 use Rattle.spec_base.specs.declared.limits.TheConstants.{MAX_IMAGE_BYTES, MAX_TAG_NAME_BYTES}
 use Rattle.spec_language.specs.declared.types.TypeDecl.{TypeDecl}
 use Rattle.spec_language.specs.Declarations.{Meaning, tag, alias, Entry, Declarations, bytes}
 use Rattle.spec_language.specs.Resolution.{aliases}
 use Rattle.lgx_types.specs.Tables.{HasSize}
 use Rattle.lgx_tags.specs.Keys.{key_of}
-use Rattle.lgx_tags.specs.Scopes.{IsScopeOf}
+use Rattle.lgx_tags.specs.Scopes.{IsScopeOf, is_own}
 use Rattle.lgx_tags.specs.declared.key.Key.{Key}
 
 -- the declarations, and whether they are sealed: only then names are resolved
@@ -30,10 +30,16 @@ pub record IsAdmitted (types : List TypeDecl) (programs : ℕ) (e : Entry) : Typ
 abbrev pub keys_of : List Entry → List Key
 keys_of entries = map (λ e. key_of e.scope e.name) entries
 
--- the entries' keys stand beside them, in the same order, and their bytes are counted
-pub record Represents (d : Declarations) (keys : List Key) (count : ℕ) : Type 0 where
+-- a program has an entry of its own
+abbrev pub has_own : List Entry → Bool
+has_own entries = list_any (λ e. is_own e.scope) entries
+
+-- the entries' keys stand beside them, in the same order, their bytes are counted, and it is known whether any is a
+-- program's
+pub record Represents (d : Declarations) (keys : List Key) (count : ℕ) (any_own : Bool) : Type 0 where
   pub admitted : Each (IsAdmitted d.types d.programs) d.entries
   pub keyed : keys ≡ keys_of d.entries
   pub counted : count ≡ bytes d
   pub room : count ≤ MAX_IMAGE_BYTES
   pub few : length (aliases d) < 2 ^ 32
+  pub owned : any_own ≡ has_own d.entries

@@ -1,5 +1,5 @@
 // Tags and aliases in the order in which they are declared.
-ghost use Rattle.std.specs.Prelude.{◌^◌, ◌-◌, ◌≡◌, ℕ, ◌<◌, ◌≤◌, List, [], ◌∷◌, ◌++◌, None, Some, slice_get, length, vec_len, vec_capacity, position, IfOk, IfSome, IfErr, IsNone, OnOk, OnErr};
+ghost use Rattle.std.specs.Prelude.{◌^◌, ◌-◌, ◌≡◌, ℕ, ◌<◌, ◌≤◌, ◌||◌, List, [], ◌∷◌, ◌++◌, None, Some, slice_get, length, vec_len, vec_capacity, position, IfOk, IfSome, IfErr, IsNone, OnOk, OnErr};
 ghost use Rattle.spec_base.specs.Causes.{IsFaultOf};
 ghost use Rattle.spec_base.specs.declared.limits.TheConstants.{MAX_IMAGE_BYTES, MAX_TAG_NAME_BYTES};
 ghost use Rattle.spec_language.specs.declared.tag.Scope.{Scope as In};
@@ -11,7 +11,7 @@ ghost use Rattle.std.specs.Option.{option_or};
 ghost use Rattle.lgx_types.specs.Tables.{HasSize};
 ghost use Rattle.lgx_tags.specs.Chains.{seen_number};
 ghost use Rattle.lgx_tags.specs.Layouts.{placed_tags, IsOfEntries};
-ghost use Rattle.lgx_tags.specs.Scopes.{IsScopeOf};
+ghost use Rattle.lgx_tags.specs.Scopes.{IsScopeOf, is_own};
 ghost use Rattle.lgx_tags.specs.Errors.{fault_of};
 ghost use Rattle.lgx_tags.specs.Keys.{key_of};
 ghost use Rattle.lgx_tags.specs.Tables.{IsAdmitted, keys_of};
@@ -37,6 +37,13 @@ fn is_name_in(scope: Scope, name: &[u8]) -> bool
         Scope::Controller => is_tag_name(name),
         Scope::Program(_) => is_name(name),
     }
+}
+
+/// Whether a program has an entry of its own, with one more entry of this scope.
+fn with_own(any_own: bool, scope: Scope) -> bool
+    ensures { result ≡ (any_own || is_own scope) }
+{
+    any_own || matches!(scope, Scope::Program(_))
 }
 
 /// Adds the key of an entry that is to be pushed, and makes room for it.
@@ -73,6 +80,8 @@ pub(crate) struct Declared {
     keys: IndexSet<Key>,
     entries: Vec<Entry>,
     bytes: u32,
+    /// Whether a program has an entry of its own.
+    any_own: bool,
 }
 
 impl Model for Declared {
@@ -84,7 +93,7 @@ impl Model for Declared {
 
     ghost view = { λ t. record { types = t.types; programs = t.programs; entries = t.entries.items } };
 
-    ghost invariant = { λ t. Represents (record { types = t.types; programs = t.programs; entries = t.entries.items }) t.keys.keys t.bytes };
+    ghost invariant = { λ t. Represents (record { types = t.types; programs = t.programs; entries = t.entries.items }) t.keys.keys t.bytes t.any_own };
 }
 
 impl Declared {
@@ -99,6 +108,7 @@ impl Declared {
             keys: IndexSet::new(alloc),
             entries: Vec::new(alloc),
             bytes: 0,
+            any_own: false,
         }
     }
 
@@ -148,9 +158,11 @@ impl Declared {
         ensures ok { OnOk result (self.new ≡ record self.old { entries = self.old.entries ++ entry ∷ [] }) }
         ensures err { OnErr result (self.new ≡ self.old) }
     {
+        let any_own = with_own(self.any_own, entry.scope());
         add_key(&mut self.keys, &mut self.entries, &entry)?;
         push_within(&mut self.entries, entry);
         self.bytes = count;
+        self.any_own = any_own;
         Ok(())
     }
 
@@ -204,6 +216,9 @@ impl Declared {
         ensures number { result ≡ seen_number self.now.entries scope name.now }
         ensures within { IfSome result (λ i. i < length self.now.entries) }
     {
+        if !self.any_own {
+            return self.index_of(Scope::Controller, name);
+        }
         let own = self.index_of(scope, name);
         match (own, scope) {
             (Some(i), _) => Some(i),

@@ -15,6 +15,7 @@ use crate::error::TagError;
 use crate::form::is_form;
 use crate::part::{OperandPart, first_part, split_word};
 use crate::subscript::{find_dotted, find_indexed, find_numbered};
+use lgx_num::is_name;
 use lgx_types::TypeTable;
 use spec_language::{Found, TagCode};
 use std::alloc::Global;
@@ -165,11 +166,15 @@ impl Reading {
     }
 }
 
-/// What an operand's text names, or the first cause why it names nothing.
-///
-/// G10, that the text is no operand form, comes before all others; these come as they are met from left to right. Memory is
-/// taken for brackets that stand open alone, and nothing recurses on how deep they are.
-pub(crate) fn resolve_text<N: Names>(
+/// What a name alone names.
+fn resolve_name<N: Names>(names: &N, name: &[u8]) -> Result<Found, TagError>
+    ensures { Answers (N.named names.now name.now) result }
+{
+    Ok(names.named(name)?)
+}
+
+/// What a text of any form names, read part by part.
+fn resolve_form<N: Names>(
     alloc: Global,
     text: &[u8],
     subscripts: Subscripts,
@@ -193,4 +198,28 @@ pub(crate) fn resolve_text<N: Names>(
         rest = after;
     }
     reading.end(rest)
+}
+
+/// What an operand's text names, or the first cause why it names nothing.
+///
+/// G10, that the text is no operand form, comes before all others; these come as they are met from left to right. Memory is
+/// taken for brackets that stand open alone, and nothing recurses on how deep they are.
+pub(crate) fn resolve_text<N: Names>(
+    alloc: Global,
+    text: &[u8],
+    subscripts: Subscripts,
+    types: &TypeTable,
+    names: &N,
+) -> Result<Found, TagError>
+    requires sound { SoundTypes types.now }
+    requires lie { NamesInBounds types.now (N.bytes names.now) (N.named names.now) }
+    requires room { N.bytes names.now ≤ MAX_IMAGE_BYTES }
+    ensures answer { Answers (in_form (subscripts_of subscripts) types.now (N.named names.now) text.now) result }
+    ensures lies { IfOk result (λ f. LiesIn types.now (N.bytes names.now) f) }
+    ensures fixed { subscripts ≡ Subscripts.NumbersAlone → IfOk result (λ f. f.steps ≡ []) }
+{
+    if is_name(text) {
+        return resolve_name(names, text);
+    }
+    resolve_form(alloc, text, subscripts, types, names)
 }

@@ -14,10 +14,11 @@ use spec_base::limits::{MAX_NAME_BYTES, MAX_TAG_NAME_BYTES, MAX_TAG_NAME_PARTS};
 const MAX_FURTHER_PARTS: usize = MAX_TAG_NAME_PARTS - 1;
 
 /// Whether a text is a tag name: a name, or 2 to 4 parts joined by colons (profile).
+#[tactic(auto, using(crate::proofs::TagNames::named_tag))]
 pub(crate) fn is_tag_name(text: &[u8]) -> bool
     ensures { result ≡ is_tag_name text.now }
 {
-    text.len() <= MAX_TAG_NAME_BYTES && is_joined(text)
+    is_name(text) || (text.len() <= MAX_TAG_NAME_BYTES && is_joined(text))
 }
 
 /// A tag name but for its length.

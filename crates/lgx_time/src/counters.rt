@@ -14,6 +14,7 @@ use lgx_image::Image;
 use lgx_rung::Op;
 
 /// CTU or CTD on the counter whose first byte is `at`, with the condition before it.
+#[inline]
 pub fn run_counter(op: Op, at: u32, on: bool, image: &mut Image)
     requires family { family_of op ≡ Counter }
     requires lies { at + COUNTER_BYTES ≤ length image.old.bytes }
@@ -28,6 +29,7 @@ pub fn run_counter(op: Op, at: u32, on: bool, image: &mut Image)
 }
 
 /// CTU counts up if its condition became true.
+#[inline]
 fn ctu(at: u32, on: bool, image: &mut Image)
     requires lies { at + COUNTER_BYTES ≤ length image.old.bytes }
     ensures bytes { image.new.bytes ≡ counter Ctu at on image.old.bytes }
@@ -43,6 +45,7 @@ fn ctu(at: u32, on: bool, image: &mut Image)
 }
 
 /// CTD counts down if its condition became true.
+#[inline]
 fn ctd(at: u32, on: bool, image: &mut Image)
     requires lies { at + COUNTER_BYTES ≤ length image.old.bytes }
     ensures bytes { image.new.bytes ≡ counter Ctd at on image.old.bytes }
@@ -58,6 +61,7 @@ fn ctd(at: u32, on: bool, image: &mut Image)
 }
 
 /// One more; after the greatest number comes the least, and the counter has overflowed.
+#[inline(always)]
 fn one_up(at: u32, image: &mut Image)
     requires lies { at + COUNTER_BYTES ≤ length image.old.bytes }
     ensures bytes { image.new.bytes ≡ one_up at image.old.bytes }
@@ -73,6 +77,7 @@ fn one_up(at: u32, image: &mut Image)
 }
 
 /// One less; after the least number comes the greatest, and the counter has underflowed.
+#[inline(always)]
 fn one_down(at: u32, image: &mut Image)
     requires lies { at + COUNTER_BYTES ≤ length image.old.bytes }
     ensures bytes { image.new.bytes ≡ one_down at image.old.bytes }
@@ -88,6 +93,7 @@ fn one_down(at: u32, image: &mut Image)
 }
 
 /// A counter is done exactly if it has come up to its preset.
+#[inline(always)]
 fn update_done(at: u32, image: &mut Image)
     requires lies { at + COUNTER_BYTES ≤ length image.old.bytes }
     ensures bytes { image.new.bytes ≡ with_done at image.old.bytes }

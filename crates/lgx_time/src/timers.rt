@@ -28,6 +28,7 @@ pub struct Negative {
 /// TON, RTO or TOF on the timer whose first byte is `at`, with the condition before it, at the tick `now`.
 ///
 /// TON and RTO count with a true condition; TOF counts with a false one while it is done.
+#[inline]
 pub fn run_timer(op: Op, at: u32, on: bool, now: u32, image: &mut Image) -> Result<(), Negative>
     requires family { family_of op ≡ Timer }
     requires lies { at + TIMER_BYTES ≤ length image.old.bytes }
@@ -57,6 +58,7 @@ pub fn run_timer(op: Op, at: u32, on: bool, now: u32, image: &mut Image) -> Resu
 }
 
 /// TON and RTO with a true condition.
+#[inline]
 fn count_on(at: u32, now: u32, image: &mut Image) -> Result<(), Negative>
     requires lies { at + TIMER_BYTES ≤ length image.old.bytes }
     ensures ok { OnOk result (count_on at now image.old.bytes ≡ Some image.new.bytes) }
@@ -73,6 +75,7 @@ fn count_on(at: u32, now: u32, image: &mut Image) -> Result<(), Negative>
 }
 
 /// TOF with a false condition.
+#[inline]
 fn count_off(at: u32, now: u32, image: &mut Image) -> Result<(), Negative>
     requires lies { at + TIMER_BYTES ≤ length image.old.bytes }
     ensures ok { OnOk result (count_off at now image.old.bytes ≡ Some image.new.bytes) }
@@ -93,6 +96,7 @@ fn count_off(at: u32, now: u32, image: &mut Image) -> Result<(), Negative>
 }
 
 /// TON with a false condition.
+#[inline]
 fn ton_off(at: u32, image: &mut Image)
     requires lies { at + TIMER_BYTES ≤ length image.old.bytes }
     ensures bytes { timer Ton at false 0 image.old.bytes ≡ Some image.new.bytes }
@@ -104,6 +108,7 @@ fn ton_off(at: u32, image: &mut Image)
 }
 
 /// TOF with a true condition.
+#[inline]
 fn tof_on(at: u32, now: u32, image: &mut Image)
     requires lies { at + TIMER_BYTES ≤ length image.old.bytes }
     ensures bytes { timer Tof at true now image.old.bytes ≡ Some image.new.bytes }
@@ -117,6 +122,7 @@ fn tof_on(at: u32, now: u32, image: &mut Image)
 }
 
 /// The timer is neither timing nor enabled.
+#[inline(always)]
 fn stop(at: u32, image: &mut Image)
     requires lies { at + TIMER_BYTES ≤ length image.old.bytes }
     ensures bytes { image.new.bytes ≡ put_status at en_bit false (put_status at tt_bit false image.old.bytes) }
@@ -127,6 +133,7 @@ fn stop(at: u32, image: &mut Image)
 }
 
 /// Refuses a timer whose preset or accumulator is negative.
+#[inline(always)]
 fn check_numbers(at: u32, image: &Image) -> Result<(), Negative>
     requires lies { at + TIMER_BYTES ≤ length image.now.bytes }
     ensures ok { OnOk result (has_negative image.now.bytes at ≡ false) }
@@ -142,6 +149,7 @@ fn check_numbers(at: u32, image: &Image) -> Result<(), Negative>
 }
 
 /// A step of TON and RTO: the first of them enables the timer, each later one adds the ticks unless it is done.
+#[inline(always)]
 fn advance_on(at: u32, now: u32, image: &mut Image)
     requires lies { at + TIMER_BYTES ≤ length image.old.bytes }
     ensures bytes { image.new.bytes ≡ counted_on at now image.old.bytes }
@@ -155,6 +163,7 @@ fn advance_on(at: u32, now: u32, image: &mut Image)
 }
 
 /// A step of TOF: the first of them disables the timer, each later one adds the ticks.
+#[inline(always)]
 fn advance_off(at: u32, now: u32, image: &mut Image)
     requires lies { at + TIMER_BYTES ≤ length image.old.bytes }
     ensures bytes { image.new.bytes ≡ counted_off at now image.old.bytes }
@@ -168,6 +177,7 @@ fn advance_off(at: u32, now: u32, image: &mut Image)
 }
 
 /// Adds the ticks since the last count to the accumulator.
+#[inline(always)]
 fn add_ticks(at: u32, now: u32, image: &mut Image)
     requires lies { at + TIMER_BYTES ≤ length image.old.bytes }
     ensures bytes { image.new.bytes ≡ add_ticks at now image.old.bytes }
@@ -178,6 +188,7 @@ fn add_ticks(at: u32, now: u32, image: &mut Image)
 }
 
 /// An accumulator with the ticks since the last count: none if time ran backwards, and at most its greatest value.
+#[inline(always)]
 fn accumulated(acc: i32, last_tick: i32, now: u32) -> i32
     ensures { result ≡ int_min (pos 2147483647) (acc +ℤ int_max (pos 0) (pos now -ℤ last_tick)) }
 {
@@ -187,6 +198,7 @@ fn accumulated(acc: i32, last_tick: i32, now: u32) -> i32
 }
 
 /// A timer that counts with a true condition is done if it has come up to its preset, and else it is timing.
+#[inline(always)]
 fn update_done_on(at: u32, image: &mut Image)
     requires lies { at + TIMER_BYTES ≤ length image.old.bytes }
     ensures bytes { image.new.bytes ≡ with_done_on at image.old.bytes }
@@ -198,6 +210,7 @@ fn update_done_on(at: u32, image: &mut Image)
 }
 
 /// A timer that counts with a false condition is no longer done if it has come up to its preset, and else it is timing.
+#[inline(always)]
 fn update_done_off(at: u32, image: &mut Image)
     requires lies { at + TIMER_BYTES ≤ length image.old.bytes }
     ensures bytes { image.new.bytes ≡ with_done_off at image.old.bytes }

@@ -5,7 +5,6 @@ ghost use Rattle.spec_scan.specs.StatusWords.{status, put_status, dint, put_dint
 ghost use Rattle.lgx_image.specs.Grains.{ChangesOnlyMarked};
 
 use lgx_image::Image;
-use lgx_num::{Kind, Place};
 
 /// The bit of a timer's status word for enabled.
 pub const EN: u32 = 31;
@@ -40,61 +39,64 @@ const ACC: u32 = 8;
 /// The byte of a timer's tick of the last count.
 const LAST_TICK: u32 = 12;
 
-/// The place of a kind at a bit of a timer or counter, counted from its first one.
-fn place(kind: Kind, at: u32, bit: u32, image: &Image) -> Place
-    requires byte { at < length image.now.bytes }
-    requires bit { bit < 8 * TIMER_BYTES }
-    ensures { result ≡ record { kind = kind; at = 8 * at + bit } }
+/// The number of a bit of a status word, which lies in the image.
+#[inline(always)]
+fn status_bit(at: u32, number: u32, image: &Image) -> u32
+    requires lies { at + 4 ≤ length image.now.bytes }
+    requires number { number < 32 }
+    ensures { result ≡ 8 * at + number }
 {
     // The bytes of an image are few, so the sum fits.
     prove!(at < image.len());
-    Place {
-        kind,
-        at: 8 * at + bit,
-    }
+    8 * at + number
 }
 
 /// A bit of the status word.
+#[inline(always)]
 pub(crate) fn status(at: u32, number: u32, image: &Image) -> bool
     requires lies { at + 4 ≤ length image.now.bytes }
     requires number { number < 32 }
     ensures { result ≡ status image.now.bytes at number }
 {
-    image.bit(place(Kind::Bool, at, number, image))
+    image.bit_at(status_bit(at, number, image))
 }
 
 /// Sets or clears a bit of the status word, by its number from 0 to 31.
+#[inline(always)]
 pub fn put_status(at: u32, number: u32, on: bool, image: &mut Image)
     requires lies { at + 4 ≤ length image.old.bytes }
     requires number { number < 32 }
     ensures bytes { image.new.bytes ≡ put_status at number on image.old.bytes }
     ensures only_marked { ChangesOnlyMarked image.old image.new }
 {
-    let place = place(Kind::Bool, at, number, image);
-    image.put_bit(place, on);
+    image.put_bit_at(status_bit(at, number, image), on);
 }
 
 /// The number that begins so many bytes after the first one.
+#[inline(always)]
 fn number(at: u32, offset: u32, image: &Image) -> i32
     requires lies { at + offset + 4 ≤ length image.now.bytes }
     requires offset { offset < TIMER_BYTES }
     ensures { result ≡ dint image.now.bytes (at + offset) }
 {
-    image.get(place(Kind::Dint, at, 8 * offset, image))
+    prove!(at < image.len());
+    image.dint(at + offset)
 }
 
 /// Stores a number so many bytes after the first one.
+#[inline(always)]
 fn put_number(at: u32, offset: u32, value: i32, image: &mut Image)
     requires lies { at + offset + 4 ≤ length image.old.bytes }
     requires offset { offset < TIMER_BYTES }
     ensures bytes { image.new.bytes ≡ put_dint (at + offset) value image.old.bytes }
     ensures only_marked { ChangesOnlyMarked image.old image.new }
 {
-    let place = place(Kind::Dint, at, 8 * offset, image);
-    image.put(place, value);
+    prove!(at < image.len());
+    image.put_dint(at + offset, value);
 }
 
 /// The preset: at how much the timer or counter is done, a timer in ticks.
+#[inline(always)]
 pub fn preset(at: u32, image: &Image) -> i32
     requires lies { at + COUNTER_BYTES ≤ length image.now.bytes }
     ensures { result ≡ pre image.now.bytes at }
@@ -103,6 +105,7 @@ pub fn preset(at: u32, image: &Image) -> i32
 }
 
 /// The accumulator: how far the timer or counter has come.
+#[inline(always)]
 pub(crate) fn accumulator(at: u32, image: &Image) -> i32
     requires lies { at + COUNTER_BYTES ≤ length image.now.bytes }
     ensures { result ≡ acc image.now.bytes at }
@@ -111,6 +114,7 @@ pub(crate) fn accumulator(at: u32, image: &Image) -> i32
 }
 
 /// Stores the accumulator: how far the timer or counter has come, a timer in ticks.
+#[inline(always)]
 pub fn put_accumulator(at: u32, value: i32, image: &mut Image)
     requires lies { at + COUNTER_BYTES ≤ length image.old.bytes }
     ensures bytes { image.new.bytes ≡ put_acc at value image.old.bytes }
@@ -120,6 +124,7 @@ pub fn put_accumulator(at: u32, value: i32, image: &mut Image)
 }
 
 /// The tick at which a timer last counted, read as a signed number.
+#[inline(always)]
 pub(crate) fn last_tick(at: u32, image: &Image) -> i32
     requires lies { at + TIMER_BYTES ≤ length image.now.bytes }
     ensures { result ≡ last_tick image.now.bytes at }
@@ -128,6 +133,7 @@ pub(crate) fn last_tick(at: u32, image: &Image) -> i32
 }
 
 /// Keeps the tick of a count by its low 32 bits.
+#[inline(always)]
 pub(crate) fn put_last_tick(at: u32, now: u32, image: &mut Image)
     requires lies { at + TIMER_BYTES ≤ length image.old.bytes }
     ensures bytes { image.new.bytes ≡ put_last_tick at now image.old.bytes }
@@ -137,6 +143,7 @@ pub(crate) fn put_last_tick(at: u32, now: u32, image: &mut Image)
 }
 
 /// Whether the accumulator has come up to the preset.
+#[inline(always)]
 pub(crate) fn is_reached(at: u32, image: &Image) -> bool
     requires lies { at + COUNTER_BYTES ≤ length image.now.bytes }
     ensures { result ≡ is_reached image.now.bytes at }
@@ -146,6 +153,7 @@ pub(crate) fn is_reached(at: u32, image: &Image) -> bool
 
 /// RES on a timer or a counter, whose first byte is `at`: with a true condition its accumulator and its whole status word
 /// become 0, and with a false one nothing happens.
+#[inline(always)]
 pub fn reset(timer: bool, at: u32, on: bool, image: &mut Image)
     requires lies { at + (if timer then TIMER_BYTES else COUNTER_BYTES) ≤ length image.old.bytes }
     ensures bytes { image.new.bytes ≡ reset at on image.old.bytes }

@@ -21,7 +21,7 @@ pub number_in : (xs : Slots) (i : ℕ) → number_at (numbers_in xs) i ≡ numbe
 number_in xs i = get_or-map (λ (o : Option Version). number_of o) xs i None
 
 -- a slot in which a version lies has that version's number
-filled_number : (xs : Slots) (i : ℕ) → is_some (in_slot xs i) ≡ true → number_at (numbers_in xs) i ≡ Some (version_at xs i).number
+pub filled_number : (xs : Slots) (i : ℕ) → is_some (in_slot xs i) ≡ true → number_at (numbers_in xs) i ≡ Some (version_at xs i).number
 filled_number xs i filled = number_in xs i ∙ at (in_slot xs i) filled
   where
     at : (o : Option Version) → is_some o ≡ true → number_of o ≡ Some (unwrap_or o no_version).number

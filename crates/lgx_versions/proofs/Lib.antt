@@ -1,3 +1,4 @@
 pub mod Filled
 pub mod Freed
 pub mod Added
+pub mod Held

@@ -1,6 +1,6 @@
 // Programs in slots.
-ghost use Rattle.std.specs.Prelude.{◌≡◌, ◌<◌, Some, None, length, IsSome, slice_index_or};
-ghost use Rattle.lgx_versions.specs.Slots.{version_at, selected_place, is_at, uses, HasFreed};
+ghost use Rattle.std.specs.Prelude.{◌≡◌, ◌≢◌, ◌<◌, ℕ, true, Some, None, length, is_some, IfSome, IsSome, slice_index_or};
+ghost use Rattle.lgx_versions.specs.Slots.{version_at, selected_place, is_at, in_slot, uses, HasFreed};
 
 use lgx_prog::FlatProgram;
 
@@ -85,5 +85,19 @@ pub fn free_unused(slots: &mut [Option<Version>; SLOTS], places: &Places)
         if !places.uses(i) {
             *slot = None;
         }
+    }
+}
+
+/// Frees this slot, if no program lies in it that is to be kept. Only in this one may such a program lie.
+#[inline]
+pub fn free_if_unused(slots: &mut [Option<Version>; SLOTS], places: &Places, slot: Option<usize>)
+    requires within { IfSome slot (λ i. i < length slots.old) }
+    requires others { (i : ℕ) → slot ≢ Some i → is_some (in_slot slots.old i) ≡ true → uses places.now i ≡ true }
+    ensures freed { HasFreed places.now slots.old slots.new }
+    ensures count { length slots.new ≡ length slots.old }
+{
+    match slot {
+        Some(slot) if !places.uses(slot) => slots[slot] = None,
+        _ => {}
     }
 }

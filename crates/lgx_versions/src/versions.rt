@@ -1,5 +1,5 @@
 // The versions of a program.
-use crate::slots::{Places, SLOTS, Version, free_unused, version_at};
+use crate::slots::{Places, SLOTS, Version, free_if_unused, free_unused, version_at};
 use lgx_num::Memory;
 use lgx_prog::FlatProgram;
 use std::marker::Model;
@@ -25,7 +25,7 @@ impl Model for Versions {
 }
 
 impl Versions {
-    ghost use Rattle.std.specs.Prelude.{◌^◌, ◌≡◌, ◌+◌, ◌<◌, ℕ, Some, None, Ok, IsSome, IsNone, IsTrue, IsOkAnd, is_some, option_map, slice_index_or};
+    ghost use Rattle.std.specs.Prelude.{◌^◌, ◌≡◌, ◌+◌, ◌<◌, ℕ, Some, None, Ok, IfSome, IsSome, IsNone, IsTrue, IsOkAnd, is_some, option_map, slice_index_or};
     ghost use Rattle.lgx_versions.specs.Roles.{only_base, selected, add, select, assemble, cancel, hold, drop_hold};
     ghost use Rattle.lgx_versions.specs.View.{AreSlotsOf, NoneMoves};
 
@@ -164,8 +164,9 @@ impl Versions {
         ensures roles { self.new.roles ≡ drop_hold self.old.roles }
         ensures slots { NoneMoves self.old.slots self.new.slots }
     {
+        let held = self.places.held;
         self.places.held = None;
-        free_unused(&mut self.slots, &self.places);
+        free_if_unused(&mut self.slots, &self.places, held);
     }
 
     /// The number of the program in a slot, from 0 to 2; None if the slot is free.

@@ -9,6 +9,7 @@ mod answers;
 mod bits;
 mod codes;
 mod digits;
+mod heads;
 mod laws;
 mod log;
 mod names;

@@ -13,7 +13,8 @@ use std::alloc::Global;
 /// `image | LENGTH ? COMMAND; .. | ..`: what the commands answer in an image of so many bytes.
 ///
 /// `put KIND AT VALUE`, `get KIND AT`, `set AT BIT` and `bit AT` write and read at a bit; `copy FROM TO SIZE` copies
-/// bytes; `next GRAIN` answers the least marked grain from there on, and `clear` takes the marks.
+/// bytes; `watch KIND AT` watches the grains of a place, `hit` answers whether one is hit, `next GRAIN` the least grain
+/// from there on that is, and `clear` takes the marks.
 pub fn say_image(
     alloc: Global,
     said: &mut Told,
@@ -39,6 +40,8 @@ fn run(said: &mut Told, image: &mut Image, command: &str) {
         "bit" => say_bit(said, image, command),
         "copy" => copy(said, image, command),
         "clear" => image.clear_marks(),
+        "watch" => watch(said, image, command),
+        "hit" => said.truth(image.is_hit()),
         "next" => say_next(said, image, command),
         "len" => said.number(i64::from(image.len())),
         _ => said.malformed(),
@@ -47,7 +50,16 @@ fn run(said: &mut Told, image: &mut Image, command: &str) {
 
 fn say_next(said: &mut Told, image: &Image, command: &str) {
     let grain = number_at(said, command, 1);
-    said.or_none(image.next_marked(grain));
+    said.or_none(image.next_hit(grain));
+}
+
+fn watch(said: &mut Told, image: &mut Image, command: &str) {
+    let place = place_of(said, command);
+    if is_in(place, image.len()) {
+        image.watch(place);
+    } else {
+        said.malformed();
+    }
 }
 
 /// The place of the kind and the bit that stand after a command's word.

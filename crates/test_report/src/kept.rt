@@ -29,8 +29,8 @@ fn say_full(log: &mut Log, count: u32, told: &mut Told) {
 pub(crate) fn say_watches(alloc: Global, grains: &str, told: &mut Told) {
     let places = [
         place(Kind::Bool, 0),
-        place(Kind::Dint, 8 * 62),
-        place(Kind::Sint, 8 * 128),
+        place(Kind::Dint, 8 * 14),
+        place(Kind::Sint, 8 * 32),
     ];
     told.word("watches");
     match WatchIndex::new(alloc, &places) {

@@ -9,7 +9,7 @@
 //! - `reply | TICK STEP LANE WORD NUMBERS | LINE`: WORD is `done`, `word`, `version`, `held`, or a code.
 //! - `end | TICK STEP MODE | LINE`.
 //! - `log | COUNT | KEPT kept, LOST lost`: how many of so many lines a log keeps.
-//! - `watches | GRAIN GRAIN .. | WATCHES`: which of three watched places have a byte in one of these grains of 64 bytes: one at bit
+//! - `watches | GRAIN GRAIN .. | WATCHES`: which of three watched places have a byte in one of these grains of 16 bytes: one at bit
 //!   0, one over the first two grains, one at the start of the third.
 //!
 //! What differs is printed, and at the end how many rows there were.

@@ -11,11 +11,14 @@ use lgx_project::Project;
 use lgx_record::Recording;
 use std::alloc::Global;
 
-/// Takes an event so many times.
+/// Takes an event so many times: processor steps all at once, and others one by one.
 fn apply_run(recording: &mut Recording, event: &Event, count: u32) -> Result<(), Memory>
     requires { recording.old.controller.spent + count ≤ MAX_EVENTS }
     ensures { (project : Projects) (events : List Events) → Records recording.old project events → OnOk result (Records recording.new project (events ++ replicate count event.now)) }
 {
+    if let Event::Cpu = event {
+        return recording.apply_steps(count);
+    }
     recording.law_of_recordings();
     for _ in 0..count {
         recording.apply(event)?;

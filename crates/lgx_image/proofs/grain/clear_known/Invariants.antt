@@ -6,4 +6,4 @@ abbrev pub invariant-loop-word : goal.invariant-loop-word
 invariant-loop-word l = Cleared l.initial.words l.words l.from
 
 abbrev pub decreases-loop-word : goal.decreases-loop-word
-decreases-loop-word l = 64 - l.from
+decreases-loop-word l = 256 - l.from

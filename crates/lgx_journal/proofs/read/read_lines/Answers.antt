@@ -1,42 +1,47 @@
-use Rattle.std.proofs.Common.{◌+◌, List, ◌++◌, length, length-append, replicate, ap, sym, ◌∙◌, arith}
-use Rattle.std.proofs.lemmas.List.{length-replicate}
+use Rattle.std.proofs.Common.{◌≡◌, ◌+◌, List, ◌++◌, replicate, ap, sym, ◌∙◌, arith}
 use Rattle.spec_machine.specs.declared.event.Event.{Event}
-use Rattle.spec_text.specs.TextLines.{lines}
-use Rattle.spec_text.specs.JournalText.{Tally, runs_from, with_run}
-use Rattle.lgx_journal.specs.Reading.{after_events, tally_events}
-use Rattle.lgx_journal.proofs.ReadRuns.{allowed_few, line_ends, line_read, line_skipped, run_counted}
+use Rattle.spec_text.specs.JournalText.{journal_of}
+use Rattle.lgx_journal.specs.Reading.{read_after}
+use Rattle.lgx_journal.proofs.ReadRuns.{after_skipped, after_last, after_line, counted_more}
 use Rattle.lgx_journal.proofs.read.read_lines.Goals as goal
 
-pub loop-line-preserved-then-is_skipped : goal.loop-line-preserved-then-is_skipped
-loop-line-preserved-then-is_skipped c = record {
-  same =
-      ap (after_events c.loop-line.journal.events) (sym (line_skipped (c.loop-line.number + 1) c.loop-line.tally c.in-Some.line.now (lines c.in-Some.after.now) (lines c.loop-line.rest.now) c.in-Some.ensures.some (sym c.is_skipped.ensures ∙ c.if-is_skipped.true)))
-      ∙ c.loop-line.invariant.same;
-  size = c.loop-line.invariant.size;
-  few = c.loop-line.invariant.few;
-  number = omega (arith, c.in-Some.ensures.shorter);
-}
+pub lines-preserved-then-is_skipped : goal.lines-preserved-then-is_skipped
+lines-preserved-then-is_skipped c =
+    let n = c.lines.number + 1 + c.read_counts-counts.result.0 in
+    let es = c.read_counts-counts.new.journal.events in
+    let t = c.read_counts-counts.new.tally in
+    let rest = c.read_counts-counts.result.1.now in
+    let before : read_after es n t rest ≡ journal_of c.args.bytes.now =
+    c.read_counts-counts.ensures.same (c.lines.number + 1) ∙ ap (λ (xs : List Event). read_after xs (c.lines.number + 1) c.lines.tally c.lines.rest.now) c.in_ok-reserve.ensures.events ∙ c.lines.invariant.same in
+    record {
+      same = after_skipped es n (c.lines.number + c.read_counts-counts.result.0 + 1 + 1) t c.in-Some.line.now rest c.in-Some.after.now (journal_of c.args.bytes.now) c.in-Some.ensures.some (sym c.is_skipped.ensures ∙ c.if-is_skipped.true) (omega arith) before;
+      size = c.read_counts-counts.ensures.size;
+      number = omega (arith, c.in-Some.ensures.shorter, c.read_counts-counts.ensures.number);
+    }
 
 pub returns-then-is_last-clause-journal : goal.returns-then-is_last-clause-journal
 returns-then-is_last-clause-journal c =
-    sym c.loop-line.invariant.same
-    ∙ line_ends c.loop-line.journal.events (c.loop-line.number + 1) c.loop-line.tally c.in-Some.line.now (lines c.in-Some.after.now) (lines c.loop-line.rest.now) c.in-Some.ensures.some (sym c.is_skipped.ensures ∙ c.if-is_skipped.false) (sym c.is_last.ensures ∙ c.if-is_last.true)
+    let n = c.lines.number + 1 + c.read_counts-counts.result.0 in
+    let es = c.read_counts-counts.new.journal.events in
+    let t = c.read_counts-counts.new.tally in
+    let rest = c.read_counts-counts.result.1.now in
+    let before : read_after es n t rest ≡ journal_of c.args.bytes.now =
+    c.read_counts-counts.ensures.same (c.lines.number + 1) ∙ ap (λ (xs : List Event). read_after xs (c.lines.number + 1) c.lines.tally c.lines.rest.now) c.in_ok-reserve.ensures.events ∙ c.lines.invariant.same in
+    after_last es n t c.in-Some.line.now rest c.in-Some.after.now (journal_of c.args.bytes.now) c.in-Some.ensures.some (sym c.is_skipped.ensures ∙ c.if-is_skipped.false) (sym c.is_last.ensures ∙ c.if-is_last.true) before
 
-pub loop-line-preserved : goal.loop-line-preserved
-loop-line-preserved c =
-    let es = c.loop-line.journal.events in
-    let n = c.loop-line.number + 1 in
-    let t = c.loop-line.tally in
+pub lines-preserved : goal.lines-preserved
+lines-preserved c =
+    let n = c.lines.number + 1 + c.read_counts-counts.result.0 in
+    let es = c.read_counts-counts.new.journal.events in
+    let t = c.read_counts-counts.new.tally in
+    let rest = c.read_counts-counts.result.1.now in
     let run = c.in-Ok.run' in
-    let ls = lines c.in-Some.after.now in
-    let told = line_read es n t c.in-Some.line.now ls (lines c.loop-line.rest.now) run c.in-Some.ensures.some (sym c.is_skipped.ensures ∙ c.if-is_skipped.false) (sym c.is_last.ensures ∙ c.if-is_last.false) c.in-Ok.ensures.run in
-    let added = c.add_run.ensures.events ∙ ap (λ (xs : List Event). xs ++ replicate run.count run.event) c.in_ok-reserve.ensures.events in
+    let before : read_after es n t rest ≡ journal_of c.args.bytes.now =
+    c.read_counts-counts.ensures.same (c.lines.number + 1) ∙ ap (λ (xs : List Event). read_after xs (c.lines.number + 1) c.lines.tally c.lines.rest.now) c.in_ok-reserve.ensures.events ∙ c.lines.invariant.same in
+    let added = c.add_run.ensures.events ∙ ap (λ (xs : List Event). xs ++ replicate run.count run.event) c.in_ok-reserve-2.ensures.events in
     record {
-      same =
-          ap (λ (xs : List Event). after_events xs (runs_from (n + 1) c.read_line.new.self ls)) added
-          ∙ ap (λ (u : Tally). after_events (es ++ replicate run.count run.event) (runs_from (n + 1) u ls)) c.in-Ok.ensures.counted
-          ∙ sym told ∙ c.loop-line.invariant.same;
-      size = ap length added ∙ length-append es (replicate run.count run.event) ∙ omega (arith, length-replicate run.count run.event, run_counted t run, c.loop-line.invariant.size) ∙ sym (ap tally_events c.in-Ok.ensures.counted);
-      few = rw c.in-Ok.ensures.counted (allowed_few (with_run t run) c.in-Ok.ensures.allowed);
-      number = omega (arith, c.in-Some.ensures.shorter);
+      same = after_line es c.add_run.new.self.events n (c.lines.number + c.read_counts-counts.result.0 + 1 + 1) t c.read_line.new.self c.in-Some.line.now rest c.in-Some.after.now run (journal_of c.args.bytes.now) c.in-Some.ensures.some
+          (sym c.is_skipped.ensures ∙ c.if-is_skipped.false) (sym c.is_last.ensures ∙ c.if-is_last.false) c.in-Ok.ensures.run added c.in-Ok.ensures.counted (omega arith) before;
+      size = counted_more t c.read_line.new.self run es c.add_run.new.self.events c.read_counts-counts.ensures.size c.in-Ok.ensures.counted added;
+      number = omega (arith, c.in-Some.ensures.shorter, c.read_counts-counts.ensures.number);
     }

@@ -11,13 +11,14 @@ use Rattle.lgx_neutral.proofs.read.read_rung.Goals as goal
 pub loop-next-preserved : goal.loop-next-preserved
 loop-next-preserved c =
     let len = length c.args.text.now in
-    let said : read_token (reading c.loop-next.reader) (token_of c.in-Some.next.token) ≡ Ok (reading c.take.new.self) = c.in_default-take.ensures in
+    let said : read_token (reading c.loop-next.reader) (token_of c.in-Some.next.token) ≡ Ok (reading c.take.new.self) = c.in_default-take.ensures.takes in
     record {
       reads =
           sym (ap (λ ts. read_tokens len ts (reading c.loop-next.reader)) c.in-Some.ensures.tokens
           ∙ taken len (placed c.in-Some.next) (left c.next.new.self) (reading c.loop-next.reader) (reading c.take.new.self) said)
           ∙ c.loop-next.invariant.reads;
       fit = IfOk-at_ok IsFit said (read_token_fit (reading c.loop-next.reader) (token_of c.in-Some.next.token) c.loop-next.invariant.fit);
+      held = c.in_default-take.ensures.held;
     }
 
 pub returns-in-Err : goal.returns-in-Err
@@ -25,7 +26,7 @@ returns-in-Err c =
     let text = c.args.text.now in
     let answer : Answers (read_rung text) (Err c.at.result) =
     refused (length text) (placed c.in-Some.next) (left c.next.new.self) (left c.loop-next.lexer) (reading c.loop-next.reader) (reading c.take.new.self)
-    (read_rung text) c.in-Err.refusal c.at.result c.in-Some.ensures.tokens c.loop-next.invariant.reads c.in-Err.ensures c.at.ensures in
+    (read_rung text) c.in-Err.refusal c.at.result c.in-Some.ensures.tokens c.loop-next.invariant.reads c.in-Err.ensures.takes c.at.ensures in
     record {
       answer = answer;
       rung = tt;

@@ -1,20 +1,43 @@
-use Rattle.std.proofs.Common.{◌+◌, ◌-◌, arith, inl, inr}
+use Rattle.std.proofs.Common.{◌≡◌, true, ◌+◌, ◌-◌, refl, subst, ◌∙◌, arith, inl, inr}
+use Rattle.lgx_image.specs.Words.{bit_of_words}
 use Rattle.lgx_image.proofs.Marks.{grain_of-is}
-use Rattle.lgx_image.proofs.Words.{marks_of-piece}
+use Rattle.lgx_image.proofs.Words.{marks_of-first}
 use Rattle.lgx_image.proofs.grain.Marks.mark_range.Goals as goal
 
-pub overflow_add-grain-end : goal.overflow_add-grain-end
-overflow_add-grain-end c = omega (arith, grain_of-is (c.args.at + c.args.size - 1), c.grain_of-last.ensures)
+pub mark-requires : goal.mark-requires
+mark-requires c = omega (arith, grain_of-is c.args.at, c.grain_of-first.ensures)
 
-pub set-requires : goal.set-requires
-set-requires c = omega (arith, grain_of-is (c.args.at + c.args.size - 1), c.grain_of-last.ensures)
+pub mark_from-requires : goal.mark_from-requires
+mark_from-requires c =
+    let first = grain_of-is c.args.at in
+    let last = grain_of-is (c.args.at + c.args.size - 1) in
+    record {
+      order = omega (arith, first, last, c.grain_of-first.ensures, c.grain_of-last.ensures, c.if-first-last.true);
+      within = omega (arith, last, c.grain_of-last.ensures);
+    }
 
-pub returns : goal.returns
-returns c = λ grains.
+pub overflow_add-first : goal.overflow_add-first
+overflow_add-first c =
+    let first = grain_of-is c.args.at in
+    let last = grain_of-is (c.args.at + c.args.size - 1) in
+    record { fits = omega (arith, first, last, c.grain_of-first.ensures, c.grain_of-last.ensures, c.if-first-last.true) }
+
+pub returns-then-first-last-clause-marked : goal.returns-then-first-last-clause-marked
+returns-then-first-last-clause-marked c = λ grains.
+    let first = c.grain_of-first.ensures in
     let last = c.grain_of-last.ensures in
-    let first = c.grain_of-grain.ensures in
-    let order = grain_of-is c.args.at in
-    let ends = grain_of-is (c.args.at + c.args.size - 1) in
-    marks_of-piece c.args.self.now c.loop-grain.self c.args.at c.args.size grains (omega arith)
-    (λ g above below. c.loop-grain.invariant.marked g above (omega arith))
-    (λ g apart. c.loop-grain.invariant.others g (elim apart [ inl before ↦ inl before | inr after ↦ inr (omega arith) ]))
+    marks_of-first c.args.self.now.marked c.mark.new.self.marked c.mark_from.new.self.marked c.args.at c.args.size grains (omega arith)
+    (subst (λ g. bit_of_words c.mark.new.self.marked g ≡ true) first c.mark.ensures.set)
+    (λ g other. c.mark.ensures.others g (λ same. other (same ∙ first)))
+    (λ g above below. c.mark_from.ensures.marked g (omega (arith, first)) (omega (arith, last)))
+    (λ g apart. c.mark_from.ensures.others g (elim apart [ inl before ↦ inl (omega (arith, first)) | inr after ↦ inr (omega (arith, last)) ]))
+
+pub returns-else-first-last-clause-marked : goal.returns-else-first-last-clause-marked
+returns-else-first-last-clause-marked c = λ grains.
+    let first = c.grain_of-first.ensures in
+    let last = c.grain_of-last.ensures in
+    marks_of-first c.args.self.now.marked c.mark.new.self.marked c.mark.new.self.marked c.args.at c.args.size grains (omega arith)
+    (subst (λ g. bit_of_words c.mark.new.self.marked g ≡ true) first c.mark.ensures.set)
+    (λ g other. c.mark.ensures.others g (λ same. other (same ∙ first)))
+    (λ g above below. absurd (omega (arith, first, last, c.if-first-last.false)))
+    (λ g apart. refl)

@@ -6,4 +6,4 @@ use Rattle.lgx_image.proofs.image.Image.copy_element.Goals as goal
 
 pub returns-clause-only_marked : goal.returns-clause-only_marked
 returns-clause-only_marked c =
-    copy_changes_only_marked c.args.self.now _ c.args.source c.args.target c.args.size (grains_of_view c.self.inside.bytes.items c.self.inside.marks c.args.self.now c.self.view_is) c.requires.target (grind (arith, common_steps)) (grind (arith, common_steps))
+    copy_changes_only_marked c.args.self.now _ c.args.source c.args.target c.args.size (grains_of_view c.self.inside.bytes.items c.self.inside.marks.marked c.self.inside.marks.watched c.args.self.now c.self.view_is) c.requires.target (grind (arith, common_steps)) (grind (arith, common_steps)) (grind (arith, common_steps))

@@ -6,4 +6,4 @@ use Rattle.lgx_sched.proofs.table.TaskTable.region_down.Goals as goal
 
 pub returns-clause-represents : goal.returns-clause-represents
 returns-clause-represents c = λ s h. represents-region_down c.args.self.now _ s c.args.t _ c.active_task-up.ensures.table h c.requires.chosen c.active_task-up.ensures.up
-    (c.change.ensures ∙ ap (λ n. with_active c.args.t (record { start = c.active_task-up.result.start; region_count = n; cps_open = c.active_task-up.result.cps_open }) c.args.self.now) c.saturating_sub.ensures)
+    (c.change.ensures.exact ∙ ap (λ n. with_active c.args.t (record { start = c.active_task-up.result.start; region_count = n; cps_open = c.active_task-up.result.cps_open }) c.args.self.now) c.saturating_sub.ensures)

@@ -1,15 +1,22 @@
-use Rattle.std.proofs.Common.{◌≡◌, ◌<◌, ◌≤◌, ◌+◌, ℕ, List, length, refl, ap, ◌∙◌, subst, arith}
+use Rattle.std.proofs.Common.{◌≡◌, ◌<◌, ◌≤◌, ◌+◌, ℕ, List, length, refl, sym, ap, ◌∙◌, subst, arith}
 use Rattle.lgx_steps.specs.PartsView.{view_of}
 use Rattle.spec_machine.specs.State.{State, progress_of, programs_of}
 use Rattle.spec_tables.specs.Tasks.{region_clear, finish}
+use Rattle.lgx_sched.specs.TableView.{TableView}
 use Rattle.lgx_sched.specs.Represents.{Represents as RepresentsTable}
 use Rattle.lgx_steps.specs.Represents.{RepresentsState}
 use Rattle.lgx_steps.proofs.Leaving.{left_at}
 use Rattle.lgx_steps.proofs.Regions.{at_most-region, at_most-finish}
-use Rattle.lgx_steps.proofs.Reading.{list-read, ended-read}
+use Rattle.lgx_steps.proofs.Reading.{list-read, ended-read, in-table}
 use Rattle.lgx_steps.proofs.AfterEffects.{ended-more, ended-last}
 use Rattle.lgx_steps.proofs.States.{with-table}
 use Rattle.lgx_steps.proofs.parts.Parts.end_scan.Goals as goal
+
+pub finish-requires-clause-known : goal.finish-requires-clause-known
+finish-requires-clause-known c =
+    let l = c.requires.live in
+    subst (λ (w : TableView). c.args.t < length w.defs) (sym c.leave_scan-else-ended-programs.ensures.table)
+    (in-table l.events (view_of c.args.self.now) l.state l.represents c.args.t c.requires.known)
 
 pub returns-then-ended-programs-clause-represents : goal.returns-then-ended-programs-clause-represents
 returns-then-ended-programs-clause-represents c = λ k s h.
@@ -41,6 +48,6 @@ returns-else-ended-programs-clause-represents c = λ k s h.
     let w = view_of c.leave_scan-else-ended-programs.new.self in
     let h₁ = c.leave_scan-else-ended-programs.ensures.represents k s h in
     let now : c.leave_scan-else-ended-programs.new.self.tick ≡ s.tick = h₁.tick in
-    let r : RepresentsTable c.finish.new.self (finish t s.tick s.table) = subst (λ i. RepresentsTable c.finish.new.self (finish t i s.table)) now (c.finish.ensures.represents s.table h₁.table) in
-    let h₂ = with-table k w s₁ h₁ c.finish.new.self (finish t s.tick s.table) r c.finish.ensures.defs (at_most-finish k s.table t s.tick h.sane.regions) in
+    let r : RepresentsTable c.finish.new.table (finish t s.tick s.table) = subst (λ i. RepresentsTable c.finish.new.table (finish t i s.table)) now (c.finish.ensures.represents s.table h₁.table) in
+    let h₂ = with-table k w s₁ h₁ c.finish.new.table (finish t s.tick s.table) r c.finish.ensures.defs (at_most-finish k s.table t s.tick h.sane.regions) in
     ended-last k _ s t last h₂

@@ -1,4 +1,4 @@
-use Rattle.std.proofs.Common.{arith, ap, sym, ◌∙◌}
+use Rattle.std.proofs.Common.{arith, ap, sym, ◌∙◌, refl}
 use Rattle.lgx_tags.proofs.Spans.{none_laid}
 use Rattle.lgx_tags.specs.Tables.{keys_of}
 use Rattle.lgx_tags.proofs.declared.Declared.new.Goals as goal
@@ -10,4 +10,5 @@ invariant_of-result c = record {
   counted = rw c.new-2.ensures.items (sym (none_laid c.args.types c.args.programs));
   room = omega arith;
   few = rw c.new-2.ensures.items (omega arith);
+  owned = rw c.new-2.ensures.items refl;
 }

@@ -1,0 +1,77 @@
+// Lines of processor steps and of ticks in their short form: the word, a space, one to nine digits and a line feed.
+ghost use Rattle.std.specs.Prelude.{◌≡◌, ◌<◌, ◌++◌, length, codes, IfSome};
+ghost use Rattle.lgx_journal.specs.Counts.{counted_event, IsCount, IsFirstLine};
+ghost use Rattle.lgx_journal.specs.Written.{event_run};
+
+/// What a line counts: processor steps, or ticks.
+#[derive(Clone, Copy)]
+pub(crate) enum Counted {
+    Steps,
+    Ticks,
+}
+
+/// The most digits of a count in its short form.
+const MOST_DIGITS: usize = 9;
+
+/// The count that the digits before the first line feed are, if it isn't 0, and the text after the line feed.
+#[inline(always)]
+fn count_line(text: &[u8]) -> Option<(u32, &[u8])>
+    ensures { IfSome result (λ r. IsCount text.now r.1.now r.0) }
+{
+    let mut count = 0u32;
+    for (i, byte) in text.iter().enumerate() {
+        if *byte == b'\n' {
+            if count == 0 {
+                return None;
+            }
+            let (_, after) = text.split_at(i + 1);
+            return Some((count, after));
+        }
+        if i == MOST_DIGITS {
+            return None;
+        }
+        if !byte.is_ascii_digit() {
+            return None;
+        }
+        count = count * 10 + u32::from(*byte - b'0');
+    }
+    None
+}
+
+/// What stands after `cpu ` where a text begins with it.
+#[inline(always)]
+fn after_cpu(text: &[u8]) -> Option<&[u8]>
+    ensures { IfSome result (λ r. text.now ≡ codes "cpu " ++ r.now) }
+{
+    match text {
+        [b'c', b'p', b'u', b' ', digits @ ..] => Some(digits),
+        _ => None,
+    }
+}
+
+/// What stands after `tick ` where a text begins with it.
+#[inline(always)]
+fn after_tick(text: &[u8]) -> Option<&[u8]>
+    ensures { IfSome result (λ r. text.now ≡ codes "tick " ++ r.now) }
+{
+    match text {
+        [b't', b'i', b'c', b'k', b' ', digits @ ..] => Some(digits),
+        _ => None,
+    }
+}
+
+/// What the first line of a text counts, how many of them, and the text after it, if the line has the short form.
+#[inline(always)]
+pub(crate) fn short_line(text: &[u8]) -> Option<(Counted, u32, &[u8])>
+    ensures first { IfSome result (λ r. IsFirstLine text.now r.2.now (event_run (counted_event r.0) r.1)) }
+    ensures some { IfSome result (λ r. 0 < r.1) }
+    ensures shorter { IfSome result (λ r. length r.2.now < length text.now) }
+{
+    if let Some(digits) = after_cpu(text) {
+        let (count, after) = count_line(digits)?;
+        return Some((Counted::Steps, count, after));
+    }
+    let digits = after_tick(text)?;
+    let (count, after) = count_line(digits)?;
+    Some((Counted::Ticks, count, after))
+}

@@ -1,0 +1,160 @@
+-- The lines of processor steps: those of which nothing is told, and which leave the watched places as they were, have none.
+use Rattle.std.proofs.Common.{◌≡◌, ℕ, zero, suc, ◌+◌, ◌<◌, ◌≤◌, ◌&&◌, Bool, true, false, not, cond, List, [], ◌∷◌, ◌++◌, length, map, drop, replicate, ℤ, Option, Some, None, is_none, refl, sym, ap, ◌∙◌, append_assoc, add-one, add-zero, arith, length-append}
+use Rattle.std.proofs.lemmas.Bool.{and_parts, false≢true}
+use Rattle.std.proofs.lemmas.List.{append-nil, length-replicate, replicate-append-replicate}
+use Rattle.std.proofs.lemmas.List.Sums.{sum_by-cons, sum_by-append}
+use Rattle.lgx_num.specs.declared.place.Place.{Place}
+use Rattle.lgx_num.specs.Image.{number}
+use Rattle.lgx_image.specs.Grains.{SameInWatched}
+use Rattle.lgx_image.proofs.Changes.{watched_places_stay}
+use Rattle.spec_tables.specs.declared.fault.Fault.{Fault}
+use Rattle.spec_machine.specs.declared.answer.What.{What}
+use Rattle.spec_machine.specs.declared.answer.What.TheVariants.{Idle, Began, Ran, Copied, Left}
+use Rattle.spec_machine.specs.declared.answer.Moment.{Moment}
+use Rattle.spec_machine.specs.declared.line.Line.{Line}
+use Rattle.spec_machine.specs.declared.line.Line.TheVariants.{Fault as FaultLine}
+use Rattle.spec_machine.specs.declared.event.Event.{Event}
+use Rattle.spec_machine.specs.declared.event.Event.TheVariants.{Cpu}
+use Rattle.spec_machine.specs.Project.{Project, Watch}
+use Rattle.spec_machine.specs.State.{State, start}
+use Rattle.spec_machine.specs.ProcessorStep.{processor_step}
+use Rattle.spec_machine.specs.Machine.{OfStep, step, run_from, run}
+use Rattle.spec_machine.specs.Report.{Stamped, is_step, steps_of, stamp, begin_lines, set_lines, event_lines, lines_from, report_lines}
+use Rattle.lgx_watch.specs.JournalLines.{lines_of_event}
+use Rattle.lgx_steps.specs.Stretches.{after_steps, moment_after, is_told, is_plain_mark, is_plain}
+use Rattle.lgx_record.specs.Faults.{faults_in}
+use Rattle.lgx_record.specs.Changes.{numbers_at, change_line, change_lines, AreWatched}
+use Rattle.lgx_record.specs.FollowsRun.{step_lines}
+use Rattle.lgx_record.proofs.FewLines.{new_faults}
+use Rattle.lgx_record.proofs.Changed.{set_lines-changes, change_line-same}
+
+-- ---- so many steps more
+
+run_on : (s : State) (xs ys : List Event) → run_from s (xs ++ ys) ≡ run_from (run_from s xs) ys
+run_on s [] ys = refl
+run_on s (x ∷ xs) ys = run_on (step s x).state xs ys
+
+pub run-steps : (project : Project) (events : List Event) (n : ℕ) → run project (events ++ replicate n Cpu) ≡ after_steps n (run project events)
+run-steps project events n = run_on (start project) events (replicate n Cpu)
+
+-- the last of them
+pub last-step : (n : ℕ) (s : State) → after_steps (suc n) s ≡ (processor_step (after_steps n s)).state
+last-step zero s = refl
+last-step (suc n) s = last-step n (processor_step s).state
+
+steps-cons : (e : Event) (es : List Event) → steps_of (e ∷ es) ≡ cond (is_step e) 1 0 + steps_of es
+steps-cons e es = sum_by-cons (λ x. cond (is_step x) 1 0) e es
+
+all-steps : (n : ℕ) → steps_of (replicate n Cpu) ≡ n
+all-steps zero = refl
+all-steps (suc n) = let first = steps-cons Cpu (replicate n Cpu) in let rest = all-steps n in omega arith
+
+pub more-steps : (events : List Event) (n : ℕ) → steps_of (events ++ replicate n Cpu) ≡ steps_of events + n
+more-steps events n = sum_by-append (λ x. cond (is_step x) 1 0) events (replicate n Cpu) ∙ ap (λ k. steps_of events + k) (all-steps n)
+
+pub more-events : (events : List Event) (n : ℕ) → length (events ++ replicate n Cpu) ≡ length events + n
+more-events events n = length-append events (replicate n Cpu) ∙ ap (λ k. length events + k) (length-replicate n Cpu)
+
+pub steps-join : (events : List Event) (n m : ℕ) → (events ++ replicate n Cpu) ++ replicate m Cpu ≡ events ++ replicate (n + m) Cpu
+steps-join events n m = append_assoc events (replicate n Cpu) (replicate m Cpu) ∙ ap (λ (es : List Event). events ++ es) (replicate-append-replicate n m Cpu)
+
+-- ---- their lines
+
+-- an event and then the others are counted as all of them are
+counted : (n : ℕ) (x : Event) (es : List Event) → cond (is_step x) (n + 1) n + steps_of es ≡ n + steps_of (x ∷ es)
+counted n x es = by_test (is_step x) ∙ ap (λ m. n + m) (sym (steps-cons x es))
+  where
+    by_test : (b : Bool) → cond b (n + 1) n + steps_of es ≡ n + (cond b 1 0 + steps_of es)
+    by_test true = omega arith
+    by_test false = omega arith
+
+lines-append : (watches : List Watch) (s : State) (n : ℕ) (xs ys : List Event) → lines_from watches s n (xs ++ ys) ≡ lines_from watches s n xs ++ lines_from watches (run_from s xs) (n + steps_of xs) ys
+lines-append watches s n [] ys = ap (λ m. lines_from watches s m ys) (omega arith)
+lines-append watches s n (x ∷ xs) ys =
+    let after = (step s x).state in
+    let first = lines_of_event watches s n x in
+    let others = lines_from watches after (cond (is_step x) (n + 1) n) xs in
+    ap (λ (rest : List Stamped). first ++ rest) (lines-append watches after (cond (is_step x) (n + 1) n) xs ys)
+    ∙ sym (append_assoc first others _)
+    ∙ ap (λ m. (first ++ others) ++ lines_from watches (run_from after xs) m ys) (counted n x xs)
+
+-- some steps, and then others
+pub lines-join : (project : Project) (events : List Event) (n m : ℕ) → step_lines project events n ++ step_lines project (events ++ replicate n Cpu) m ≡ step_lines project events (n + m)
+lines-join project events n m =
+    let s = run project events in
+    let before = step_lines project events n in
+    ap (λ (t : State). before ++ lines_from project.watches t (steps_of (events ++ replicate n Cpu)) (replicate m Cpu)) (run-steps project events n)
+    ∙ ap (λ i. before ++ lines_from project.watches (after_steps n s) i (replicate m Cpu)) (more-steps events n ∙ ap (λ k. steps_of events + k) (sym (all-steps n)))
+    ∙ sym (lines-append project.watches s (steps_of events) (replicate n Cpu) (replicate m Cpu))
+    ∙ ap (λ (es : List Event). lines_from project.watches s (steps_of events) es) (replicate-append-replicate n m Cpu)
+
+-- the lines of a journal with so many steps more
+pub lines-of-steps : (project : Project) (events : List Event) (n : ℕ) → report_lines project (events ++ replicate n Cpu) ≡ report_lines project events ++ step_lines project events n
+lines-of-steps project events n =
+    lines-append project.watches (start project) 0 events (replicate n Cpu)
+    ∙ ap (λ m. report_lines project events ++ lines_from project.watches (run project events) m (replicate n Cpu)) (omega arith)
+
+-- ---- a step without a line
+
+no-begin : (w : What) → is_told w ≡ false → begin_lines w ≡ []
+no-begin Idle is = refl
+no-begin (Began t n version) is = absurd (false≢true (sym is))
+no-begin (Ran t n) is = refl
+no-begin (Copied t n) is = refl
+no-begin (Left t n ended) is = refl
+
+no-fault : (o : Option Fault) → is_none o ≡ true → faults_in o ≡ []
+no-fault None is = refl
+no-fault (Some f) is = absurd (false≢true is)
+
+not-told : (b : Bool) → not b ≡ true → b ≡ false
+not-told true is = sym is
+not-told false is = refl
+
+pub no-changes : (n : ℕ) (numbers : List ℤ) → change_lines n numbers numbers ≡ []
+no-changes n [] = refl
+no-changes n (v ∷ vs) =
+    ap (λ (first : List Line). first ++ change_lines (n + 1) vs vs) (change_line-same n v v refl) ∙ no-changes (n + 1) vs
+
+pub has-no-line : (watches : List Watch) (s : State) → is_plain (processor_step s).moment ≡ true → numbers_at (processor_step s).state.image (map (λ w. w.place) watches) ≡ numbers_at s.image (map (λ w. w.place) watches) → event_lines watches s (processor_step s).state (OfStep (processor_step s).moment) ≡ []
+has-no-line watches s plain same =
+    let x = processor_step s in
+    let m = x.moment in
+    let places = map (λ (w : Watch). w.place) watches in
+    let sets = set_lines 0 watches s.image x.state.image in
+    let parts = and_parts (not (is_told m.what)) (is_plain_mark m.mark && is_none m.fault) plain in
+    let faults = and_parts (is_plain_mark m.mark) (is_none m.fault) parts.1 in
+    let no_sets : sets ≡ [] =
+    set_lines-changes 0 watches s.image x.state.image
+    ∙ ap (λ (now : List ℤ). change_lines 0 (numbers_at s.image places) now) same
+    ∙ no-changes 0 (numbers_at s.image places) in
+    ap (λ (ls : List Line). ls ++ (map FaultLine (drop (length s.faults) x.state.faults) ++ sets)) (no-begin m.what (not-told (is_told m.what) parts.0))
+    ∙ ap (λ (fs : List Fault). map FaultLine fs ++ sets) (new_faults s Cpu ∙ no-fault m.fault faults.1)
+    ∙ no_sets
+
+have-no-lines : (watches : List Watch) (s : State) (n m : ℕ) → ((k : ℕ) → k < m → event_lines watches (after_steps k s) (processor_step (after_steps k s)).state (OfStep (moment_after k s)) ≡ []) → lines_from watches s n (replicate m Cpu) ≡ []
+have-no-lines watches s n zero none = refl
+have-no-lines watches s n (suc m) none =
+    let after = (processor_step s).state in
+    ap (λ (ls : List Line). stamp after.tick (n + 1) ls ++ lines_from watches after (n + 1) (replicate m Cpu)) (none 0 (omega arith))
+    ∙ have-no-lines watches after (n + 1) m (λ k below. none (suc k) (omega arith))
+
+-- ---- watched places
+
+-- in two images with the same bytes in watched grains
+pub numbers-stay : (watched : List Bool) (old new : List ℕ) (places : List Place) → SameInWatched watched old new → AreWatched places watched → numbers_at new places ≡ numbers_at old places
+numbers-stay watched old new [] same lie = refl
+numbers-stay watched old new (p ∷ ps) same lie =
+    ap (λ v. v ∷ numbers_at new ps) (watched_places_stay watched old new p same (lie 0 p refl))
+    ∙ ap (λ (vs : List ℤ). number old p ∷ vs) (numbers-stay watched old new ps same (λ w. lie (suc w)))
+
+module _ (project : Project) (events : List Event) (places : List Place) (watched : List Bool) (is : places ≡ map (λ w. w.place) project.watches) (lie : AreWatched places watched) where
+  -- plain steps that leave the bytes of watched grains
+  pub plain-steps : (m : ℕ) → (let s = run project events in ((k : ℕ) → k < m → is_plain (moment_after k s) ≡ true) → ((k : ℕ) → k ≤ m → SameInWatched watched s.image (after_steps k s).image) → step_lines project events m ≡ [])
+  plain-steps m plain same =
+      let s = run project events in
+      let numbers : (k : ℕ) → k ≤ m → numbers_at (after_steps k s).image (map (λ w. w.place) project.watches) ≡ numbers_at s.image (map (λ w. w.place) project.watches) =
+      (λ k below. ap (numbers_at (after_steps k s).image) (sym is) ∙ numbers-stay watched s.image (after_steps k s).image places (same k below) lie ∙ ap (numbers_at s.image) is) in
+      have-no-lines project.watches s (steps_of events) m
+      (λ k below. has-no-line project.watches (after_steps k s) (plain k below)
+      (ap (λ (t : State). numbers_at t.image (map (λ w. w.place) project.watches)) (sym (last-step k s)) ∙ numbers (suc k) (omega arith) ∙ sym (numbers k (omega arith))))
