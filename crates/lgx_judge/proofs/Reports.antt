@@ -9,8 +9,8 @@ use Rattle.spec_machine.specs.Machine.{run}
 use Rattle.spec_machine.specs.Report.{Stamped, report_lines, steps_of}
 use Rattle.spec_text.specs.ReportText.{Names, names_of, line_text, report}
 use Rattle.lgx_watch.specs.Kept.{Kept, kept_of}
-use Rattle.lgx_report.specs.declared.ends.End.{End}
-use Rattle.lgx_report.specs.ReportLines.{line_at, end_line, report_from, ended_report, end_of}
+use Rattle.lgx_judge.specs.declared.ends.End.{End}
+use Rattle.lgx_judge.specs.ReportLines.{line_at, end_line, report_from, ended_report, end_of}
 
 -- ---- one line more
 

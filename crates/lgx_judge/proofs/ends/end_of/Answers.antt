@@ -1,7 +1,7 @@
 use Rattle.spec_machine.specs.Machine.{run}
-use Rattle.lgx_report.specs.declared.ends.End.{End}
-use Rattle.lgx_report.proofs.Reports.{end_is}
-use Rattle.lgx_report.proofs.ends.end_of.Goals as goal
+use Rattle.lgx_judge.specs.declared.ends.End.{End}
+use Rattle.lgx_judge.proofs.Reports.{end_is}
+use Rattle.lgx_judge.proofs.ends.end_of.Goals as goal
 
 pub returns : goal.returns
 returns c = λ project events h steps.

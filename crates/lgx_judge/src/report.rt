@@ -1,7 +1,7 @@
 // The lines of a report, by number.
 ghost use Rattle.std.specs.Prelude.{◌≡◌, ◌+◌, ◌<◌, ◌≤◌, [], ◌++◌, length, true, false, OnOk};
 ghost use Rattle.spec_base.specs.declared.limits.TheConstants.{MAX_REPORT_LINES};
-ghost use Rattle.lgx_report.specs.ReportLines.{line_at, end_line, report_from};
+ghost use Rattle.lgx_judge.specs.ReportLines.{line_at, end_line, report_from};
 
 use crate::ends::End;
 use lgx_num::Memory;

@@ -7,7 +7,7 @@ use Rattle.spec_machine.specs.Machine.{run}
 use Rattle.spec_machine.specs.Report.{Stamped, steps_of}
 use Rattle.spec_text.specs.ReportText.{Names, line_text, end_text}
 use Rattle.lgx_watch.specs.Kept.{Kept}
-use Rattle.lgx_report.specs.declared.ends.End.{End}
+use Rattle.lgx_judge.specs.declared.ends.End.{End}
 
 -- what the end line of a journal's report tells
 abbrev pub end_of : Project → List Event → End

@@ -4,7 +4,7 @@ ghost use Rattle.spec_machine.specs.declared.event.Event.{Event};
 ghost use Rattle.spec_machine.specs.Events.{steps_of};
 ghost use Rattle.spec_machine.specs.Project.{Project};
 ghost use Rattle.lgx_core.specs.Represents.{StandsFor};
-ghost use Rattle.lgx_report.specs.ReportLines.{end_of};
+ghost use Rattle.lgx_judge.specs.ReportLines.{end_of};
 
 use lgx_core::Controller;
 use lgx_watch::Mode;
