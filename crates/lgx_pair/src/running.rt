@@ -9,10 +9,10 @@ ghost use Rattle.lgx_pair.specs.Running.{IsLink, IsAnswered, Follows, events_of_
 use crate::events::{take_times, words_in, words_out};
 use crate::lines::{push_answer, push_end, push_lines};
 use lgx_edit::Plant;
+use lgx_judge::end_of;
 use lgx_link::{Consumer, Packet, Producer, Taken, connection_words};
 use lgx_num::{Memory, Name};
 use lgx_record::Recording;
-use lgx_report::end_of;
 use spec_link::{LinkAnswer, LinkScript, LinkStep};
 use std::alloc::Global;
 
