@@ -17,7 +17,6 @@ use spec_link::{LinkAnswer, LinkScript, LinkStep};
 use std::alloc::Global;
 
 /// Two controllers under way, and the packets that were sent between them.
-#[derive(Drop)]
 pub(crate) struct Running {
     pub a: Recording,
     pub b: Recording,
@@ -29,6 +28,21 @@ pub(crate) struct Running {
     pub producer: Producer,
     pub consumer: Consumer,
     pub packets: Vec<Packet>,
+}
+
+impl Drop for Running {
+    fn drop(self) {
+        let Running {
+            a: _,
+            b: _,
+            output: _,
+            words: _,
+            input: _,
+            producer: _,
+            consumer: _,
+            packets: _,
+        } = self;
+    }
 }
 
 impl Running {
