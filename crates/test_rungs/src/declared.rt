@@ -65,7 +65,11 @@ impl Declared {
 
     /// The sealed table, or why it is refused.
     pub fn seal(self) -> Result<Sealed, SealError> {
-        let Declared { mut table, .. } = self;
+        let Declared {
+            mut table,
+            programs: _,
+            count: _,
+        } = self;
         table.seal()?;
         Ok(Sealed { table })
     }
