@@ -17,10 +17,12 @@ def ended(program: str, words: list[str], status: int, first: str, report: Repor
     files = files_of(program, words)
     if status == 0:
         return said_of_report(files, report)
+    head = [f"status {status}: {what(program, words, str(status), files, first)}"]
+    if str(status) not in REFUSED:
+        return head
     kind, rest = parts(first)
     told = place(kind, rest, first, files) if kind else []
-    head = [f"status {status}: {what(program, words, str(status), files, first)}"]
-    return head + (told or [line for code in first.split()[1:] for line in sentences(code)])
+    return head + (told or [line for code in first.split()[1:] if not code.isdigit() for line in sentences(code)])
 
 
 def what(program: str, words: list[str], status: str, files: list[File], first: str) -> str:

@@ -72,7 +72,7 @@ def not_once(refused: Refused) -> Said:
     """P7."""
     name = str(refused.at([*refused.keys, "name"]))
     tasks = [task["name"] for task in refused.at(["tasks"]) for one in task["programs"] if one.lower() == name.lower()]
-    why = f"it is listed {len(tasks)} times, by {listed(tasks)}" if tasks else "no task lists it"
+    why = f"it is listed {len(tasks)} times, by {listed(dict.fromkeys(tasks))}" if tasks else "no task lists it"
     return refused.say(why, [*refused.keys, "name"])
 
 

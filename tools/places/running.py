@@ -7,12 +7,11 @@ import signal
 import subprocess
 import sys
 import threading
+from typing import TYPE_CHECKING
 
-from .ended import ended
-from .files import files_of
-from .report import Report
-from .session import Session
-from .telling import readable
+if TYPE_CHECKING:
+    from .report import Report
+    from .session import Session
 
 CHUNK = 65_536
 MOST_OF_A_LINE = 4_096
@@ -51,7 +50,7 @@ class Passing:
             *whole, self.rest = (self.rest + chunk).split(b"\n")
             for line in whole:
                 self.see_line(line)
-            self.rest = self.rest[: CHUNK * 2]
+            self.rest = self.rest[:CHUNK]
 
     def see_line(self, line: bytes) -> None:
         text = line.decode("utf-8", "replace")
@@ -77,18 +76,18 @@ def feed(process: subprocess.Popen, session: Session) -> None:
             put(to, chunk)
         process.stdin.close()
     except OSError:
-        pass  # it has ended, or its input can't be read: either way there is no more
+        pass  # it has ended and reads no more
 
 
 def run(file: str, words: list[str]) -> int:
     """Runs it and says how it ended; the status."""
     program = os.path.basename(file)
-    report = report_of(program, words)
-    session = session_of(words) if program == "logix_live" and can_be_read(0) else None
-    process = subprocess.Popen([file, *words], stdin=subprocess.PIPE if session else None, stdout=subprocess.PIPE)
+    is_session = program == "logix_live" and can_be_read(0)
+    process = subprocess.Popen([file, *words], stdin=subprocess.PIPE if is_session else None, stdout=subprocess.PIPE)
+    session = session_of(words) if is_session else None
     if session:
         threading.Thread(target=feed, args=(process, session), daemon=True).start()
-    passing = Passing(program, report, session)
+    passing = Passing(program, report_of(program, words), session)
     passing.all(process.stdout.fileno())
     process.stdout.close()
     status = process.wait()
@@ -96,9 +95,37 @@ def run(file: str, words: list[str]) -> int:
         return 128 - status
     if passing.fails and status == 0:
         status = CANT_BE_WRITTEN
-    first = (passing.first or b"").decode("utf-8", "replace")
-    tell(program, ended(program, words, status, first, None if passing.fails else report))
+    if status or passing.report:
+        first = (passing.first or b"").decode("utf-8", "replace")
+        tell_of(program, status, first, None if passing.fails else passing.report, words)
     return status
+
+
+# The modules that know the rules are loaded only when they are needed, and while the program runs.
+
+
+def tell_of(program: str, status: int, first: str, report: Report | None, words: list[str]) -> None:
+    if status or report and (report.refused or report.lost):
+        from .ended import ended
+
+        tell(program, ended(program, words, status, first, report))
+
+
+def report_of(program: str, words: list[str]) -> Report | None:
+    if program != "logix" or not words or words[0] not in REPORTS:
+        return None
+    from .report import Report
+
+    return Report(words[0] == "run")
+
+
+def session_of(words: list[str]) -> Session:
+    from .files import files_of
+    from .session import Session
+    from .telling import readable
+
+    files = files_of("logix_live", words)
+    return Session(readable(files[0].contents()) if len(files) == len(words) == 1 else None, os.isatty(0))
 
 
 def can_be_read(number: int) -> bool:
@@ -109,11 +136,6 @@ def can_be_read(number: int) -> bool:
     return True
 
 
-def session_of(words: list[str]) -> Session:
-    files = files_of("logix_live", words)
-    return Session(readable(files[0].contents()) if len(files) == len(words) == 1 else None, os.isatty(0))
-
-
 def tell_of_output(program: str, status: int, output: str, words: list[str]) -> None:
     """Says how a call ended that wrote this file."""
     report = report_of(program, words)
@@ -122,11 +144,7 @@ def tell_of_output(program: str, status: int, output: str, words: list[str]) -> 
         file.seek(0)
         for line in file if report else ():
             report.take(line.rstrip("\n"))
-    tell(program, ended(program, words, status, first, report))
-
-
-def report_of(program: str, words: list[str]) -> Report | None:
-    return Report(words[0] == "run") if program == "logix" and words and words[0] in REPORTS else None
+    tell_of(program, status, first, report, words)
 
 
 def main(words: list[str]) -> None:

@@ -6,7 +6,7 @@ from collections.abc import Iterator
 
 from hammer_parts.plain.tags import BITS, INTEGERS, MEMBERS, SIZES, Found, up_to
 from hammer_parts.plain.tags import Refused as NoTag
-from hammer_parts.plain.words import is_name, is_tag_name, operand_form
+from hammer_parts.plain.words import FLAGS, is_name, is_tag_name, operand_form
 
 from .refused import Refused
 from .shape import name_fault
@@ -78,9 +78,19 @@ def no_form(text: str) -> str:
     head = text.partition(".")[0].partition("[")[0]
     if any(one in text for one in "+-*/ ") and not text.startswith("Program:"):
         return f"{quoted(text)} is no operand: it may not have blanks or arithmetic"
+    if text in FLAGS:
+        return f"{quoted(text)} is a flag, and no tag"
     if not is_tag_name(bytewise(head), True):
         return f"{quoted(text)} is no operand: {quoted(head)} is no name of a tag"
-    return f"{quoted(text)} is no operand"
+    opened, closed = text.count("["), text.count("]")
+    if opened != closed:
+        return f"{quoted(text)} is no operand: a {'[' if opened < closed else ']'} is missing"
+    return f"{quoted(text)} is no operand: see what stands after {quoted(longest(text))}"
+
+
+def longest(text: str) -> str:
+    """The longest beginning that is an operand form."""
+    return next((text[:end] for end in range(len(text), 0, -1) if operand_form(bytewise(text[:end]))), "")
 
 
 def first_fault(refused: Refused, form: tuple, scope: int | None, fixed: bool) -> str | None:
