@@ -57,8 +57,12 @@ def meant(name: str, names: Iterable[str]) -> str:
     if found:
         return f"; is {' or '.join(found)} meant?"
     if not every:
-        return "; there is none"
+        return "; none is declared"
     return f"; there {'are' if len(every) > 1 else 'is'} {listed(every)}" if len(every) <= FEW else ""
+
+
+def sentence(text: str) -> str:
+    return text if text.endswith("?") else f"{text}."
 
 
 def counted(number: int, what: str) -> str:

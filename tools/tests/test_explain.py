@@ -106,13 +106,13 @@ class Words(Room):
 
     def test_wrong_words(self) -> None:
         self.assertEqual(self.said(1), "a command must follow.")
-        self.assertEqual(self.said(1, "chek", "p"), "there is no command 'chek'; is check meant?.")
+        self.assertEqual(self.said(1, "chek", "p"), "there is no command 'chek'; is check meant?")
         self.assertEqual(self.said(1, "replay", "p"), "the command is 'replay P J': 2 words after it, not 1.")
 
     def test_which_file(self) -> None:
         self.put("line.json", "{}")
         self.put("line.txt", "end\n")
-        self.assertEqual(self.said(4, "check", "lime.json"), "'lime.json', the project, isn't there; is line.json meant?.")
+        self.assertEqual(self.said(4, "check", "lime.json"), "'lime.json', the project, isn't there; is line.json meant?")
         self.assertEqual(self.said(4, "replay", "line.json", ""), "the word for the journal is empty.")
         self.assertEqual(self.said(4, "run", "line.json", "."), "'.', the script, is a folder.")
         self.assertEqual(self.said(4, "check", "nowhere/x.json"), "'nowhere/x.json', the project, isn't there; nor is its folder 'nowhere'.")
