@@ -3,6 +3,9 @@
 # All programs that a user runs.
 programs=(logix logix_live logix_timeline logix_wave)
 
+# What is said where there is nothing to prove and compile with.
+no_kit="the command 'rt' of the Rattle kit, which proves and compiles these sources, is not on the PATH; without it, install a package that tools/package made on a machine that has it (README.md)"
+
 # The crates that these programs stand on, themselves among them, lowest first, a line each.
 crates_of() {
     awk -F: -v programs="$*" '

@@ -6,6 +6,7 @@ The gate runs this after `rt ci`. What isn't on the machine is passed over.
 import glob
 import os
 import pty
+import re
 import shutil
 import subprocess
 import sys
@@ -58,6 +59,9 @@ class Package(unittest.TestCase):
             self.talks_with_the_plant(root)
             self.explains_a_refusal(root)
             self.takes_an_export(root)
+            self.says_who_writes(root)
+            self.helps(root)
+            self.names_its_own_commands(root)
             self.dpkg(root, "--purge", "logix")
             left = [path for path in glob.glob(f"{root}/**", recursive=True) if os.path.isfile(path) and "/var/" not in path]
             self.assertEqual(left, [])
@@ -90,6 +94,7 @@ class Package(unittest.TestCase):
             said = os.read(ours, 4096)
             os.close(ours)
         self.assertEqual((ran.returncode, ran.stdout), (2, b"project P1\n"))
+        self.assertIn(b", line 1, column 1: there is no project", said)
         self.assertIn(b"P1: the text isn't JSON", said)
         ran = subprocess.run([f"{root}/usr/bin/logix_explain", "P1"], capture_output=True, timeout=60, check=False)
         self.assertEqual((ran.returncode, ran.stdout[:4]), (0, b"P1: "))
@@ -98,6 +103,34 @@ class Package(unittest.TestCase):
         words = [f"{root}/usr/bin/logix_from_l5x", f"{root}/usr/share/doc/logix/examples/l5x/line.L5X"]
         ran = subprocess.run(words, capture_output=True, timeout=60, check=False)
         self.assertEqual((ran.returncode, ran.stderr.startswith(b"check: ok tasks")), (0, True), ran.stderr)
+
+    def says_who_writes(self, root):
+        words = [f"{root}/usr/bin/logix_xref", f"{root}/usr/share/doc/logix/examples/blink/project.json", "Lamp"]
+        ran = subprocess.run(words, capture_output=True, timeout=60, check=False)
+        self.assertEqual((ran.returncode, ran.stdout), (0, b"Lamp\n  write Main Go 0 1 OTE  XIC(Button)OTE(Lamp);\n"))
+
+    def helps(self, root):
+        version = re.search(r"_(0\.\d+)_", self.package).group(1)
+        for name in ("logix", "logix_live", "logix_timeline", "logix_wave"):
+            words = [f"{root}/usr/bin/{name}", "--version"]
+            ran = subprocess.run(words, capture_output=True, text=True, timeout=60, check=False)
+            self.assertEqual((ran.returncode, ran.stdout, ran.stderr), (0, f"{name} {version}\n", ""))
+        ran = subprocess.run([f"{root}/usr/bin/logix", "--help"], capture_output=True, text=True, timeout=60, check=False)
+        self.named(root, ran.stdout)
+
+    def names_its_own_commands(self, root):
+        """The pages name commands and files that are there, and none of the repository's."""
+        pages = [f"{root}/usr/share/doc/logix/README.md", *glob.glob(f"{root}/usr/share/doc/logix/examples/**/README.md", recursive=True)]
+        self.assertGreater(len(pages), 15)
+        for page in pages:
+            self.named(root, contents(page).decode())
+
+    def named(self, root, text):
+        self.assertNotRegex(text, r"\./logix|\btools/|(?<![/\w])docs/")
+        for command in re.findall(r"\blogix_(?!VERSION)\w+", text):
+            self.assertTrue(os.path.isfile(f"{root}/usr/bin/{command}"), command)
+        for path in re.findall(r"/usr/share/[\w./-]*\w", text):
+            self.assertTrue(os.path.exists(root + path.partition("/FOLDER")[0]), path)
 
 
 if __name__ == "__main__":

@@ -6,6 +6,9 @@ import glob
 import os
 import re
 import unittest
+from importlib.machinery import SourceFileLoader
+from importlib.util import module_from_spec, spec_from_loader
+from types import ModuleType
 
 TOP = os.path.dirname(os.path.dirname(os.path.dirname(os.path.realpath(__file__))))
 DOCUMENTS = ["README.md", *sorted(os.path.relpath(path, TOP) for path in glob.glob(f"{TOP}/docs/*.md"))]
@@ -18,6 +21,13 @@ def text(name: str) -> str:
 
 def sources(crate: str) -> str:
     return "".join(text(os.path.relpath(path, TOP)) for path in glob.glob(f"{TOP}/crates/{crate}/src/**/*.rt", recursive=True))
+
+
+def imported(tool: str) -> ModuleType:
+    loader = SourceFileLoader(tool, f"{TOP}/tools/{tool}")
+    module = module_from_spec(spec_from_loader(tool, loader))
+    loader.exec_module(module)
+    return module
 
 
 def crates() -> set[str]:
@@ -52,6 +62,21 @@ class Documents(unittest.TestCase):
                 if not re.search(r"NAME|/tests/stored_$|/out/", path):
                     with self.subTest(document=name, path=path):
                         self.assertTrue(os.path.exists(f"{TOP}/{path}"), path)
+
+    def test_the_counts_of_crates_are_those_of_crates_txt(self) -> None:
+        above = imported("above")
+        page = text("docs/CHANGING.md")
+        self.assertEqual(above.written(page, above.above(above.crates())), page)
+
+    def test_the_places_of_an_instruction_are_all_named(self) -> None:
+        """What a search for a neighbour finds in the crates stands in the list, but for worked runs."""
+        listed = re.search(r"^## An instruction$(.*?)^## ", text("docs/CHANGING.md"), re.MULTILINE | re.DOTALL).group(1)
+        for path in glob.glob("*/s*/**/*", root_dir=f"{TOP}/crates", recursive=True) + glob.glob("*/proofs/**/*", root_dir=f"{TOP}/crates", recursive=True):
+            crate, name = path.split("/")[0], os.path.basename(path)
+            if name.endswith((".rt", ".antt")) and crate != "test_cases" and re.search(r"\b(?:Clr|Equ|Mvm)\b", text(f"crates/{path}")):
+                with self.subTest(path=path):
+                    self.assertIn(f"`{crate}`", listed)
+                    self.assertIn(name.removesuffix(".antt"), listed)
 
     def test_the_first_page_is_short(self) -> None:
         self.assertLess(len(text("README.md").splitlines()), 120)
