@@ -42,7 +42,7 @@ class Samples(unittest.TestCase):
     def test_without_leave_out_nothing_is_written(self) -> None:
         ended = call([os.path.join(SAMPLES, "packer.L5X")])
         self.assertEqual((ended.status, ended.project), (1, ""))
-        self.assertEqual(ended.lines[-1], "no project: 29 places can't be taken; --leave-out takes the rest")
+        self.assertEqual(ended.lines[-1], "no project: 15 places can't be taken; --leave-out takes the rest")
 
     def test_rungs_are_as_they_were_exported(self) -> None:
         with open(os.path.join(SAMPLES, "line.L5X"), encoding="utf-8") as file:
