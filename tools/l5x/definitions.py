@@ -30,7 +30,8 @@ class Definitions:
     """Each is judged once, the innermost first; its faults are told if something calls it."""
 
     def __init__(self, export: Export, types: Types, tick_ms: int, findings: Findings, met: set[str]) -> None:
-        self.names = set(export.add_on_of)
+        # By the names as compared, as they are spelled.
+        self.names = {name: add_on.name for name, add_on in export.add_on_of.items()}
         self.found: dict[str, Definition] = {}
         self._types = types
         self._tick_ms = tick_ms
@@ -39,11 +40,11 @@ class Definitions:
         for add_on in export.add_ons:
             if export.add_on_of[key(add_on.name)] is not add_on:
                 export.add_on_of[key(add_on.name)].faults.append("the file defines it twice")
-        calls = {name: _called_in(add_on) & self.names for name, add_on in export.add_on_of.items()}
+        calls = {name: _called_in(add_on) & set(self.names) for name, add_on in export.add_on_of.items()}
         order = list(_inner_first(calls))
         for name in order:
             self._take(name, export.add_on_of[name])
-        for name in self.names.difference(order):
+        for name in set(self.names).difference(order):
             export.add_on_of[name].faults.append("it calls itself, or one that does")
             self._take(name, export.add_on_of[name])
 
@@ -95,7 +96,8 @@ class _Judge:
         logic = [routine for routine in self._add_on.routines if key(routine.name) == _LOGIC]
         if len(logic) != 1 or logic[0].is_encoded or logic[0].kind != "RLL" or not logic[0].has_ladder:
             if self._definition.is_sound:
-                told = f" of the type {shown(logic[0].kind, 30)}" if len(logic) == 1 and logic[0].kind != "RLL" else ""
+                kind = logic[0].kind if len(logic) == 1 else ""
+                told = f" of the type {shown(kind, 30)}" if kind not in ("", "RLL") else ""
                 self._fault(self._where, f"its Logic{told} isn't ladder that the file has")
             return
         if len(logic[0].rungs) > MAX_RUNGS:
@@ -214,7 +216,7 @@ class _Judge:
         inner = self._all.found.get(instruction.op)
         definition = self._definition
         if inner is None or not inner.is_sound:
-            self._fault(place, f"{shown(instruction.op, 40)}: an Add-On Instruction that isn't taken", instruction.op)
+            self._fault(place, f"{shown(self._all.names[instruction.op], 40)}: an Add-On Instruction that isn't taken", instruction.op)
             return
         call = judged(instruction, inner, definition.scope, lambda _: None)
         definition.levels = max(definition.levels, 1 + inner.levels)

@@ -72,7 +72,7 @@ class Expander:
     def _call(self, instruction: Instruction, caller: str) -> str:
         definition = self._definitions.found.get(instruction.op)
         if definition is None:
-            raise CallFault(f"{shown(instruction.op, 40)}: an Add-On Instruction that isn't taken")
+            raise CallFault(f"{shown(self._definitions.names[instruction.op], 40)}: an Add-On Instruction that isn't taken")
         call = judged(instruction, definition, self._scope, self._may_change)
         if len(self.made) + definition.routines > self._room:
             raise CallFault(f"{shown(definition.add_on.name)}: its program would have too many routines with those of the call (P11)")

@@ -59,7 +59,8 @@ class Ladder:
 
     scope: Scope
     values: dict[str, int]
-    add_ons: set[str]
+    # The names of Add-On Instructions as they are spelled, by these as compared.
+    add_ons: dict[str, str]
     expander: Expander
     tick_ms: int
     # Whether only a rung goes that can't be taken.
@@ -195,7 +196,7 @@ class _Routine:
             except CallFault:
                 for call in calls:
                     ladder.findings.named(type_key(call.op))
-                    ladder.findings.unknown.setdefault(call.op, []).append(place)
+                    ladder.findings.unknown.setdefault(ladder.add_ons[call.op], []).append(place)
                 raise
             found = elements(text)
         return text, found
