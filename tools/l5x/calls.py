@@ -119,7 +119,7 @@ class _Judge:
     def _judge_in_out(self, tag: Tag, of: Type, text: str) -> None:
         found = self._named(tag, text)
         longer = found.of.dim is not None and of.dim is not None and found.of.dim > of.dim
-        if key(found.of.base) != key(of.base) or (found.of != of and not longer and found.of.dim != of.dim):
+        if key(found.of.base) != key(of.base) or (found.of.dim != of.dim and not longer):
             raise CallFault(f"parameter {tag.name} is {_told(of)}, and {shown(text)} {_told(found.of)}")
         if longer and key(tag.name) in self._definition.indexed | self._definition.to_end:
             raise CallFault(f"{shown(text)} is longer than {tag.name}, of which not only elements by their numbers are used")

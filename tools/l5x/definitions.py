@@ -38,6 +38,8 @@ class Definitions:
         self._findings = findings
         self._met = met
         for add_on in export.add_ons:
+            if add_on.name.upper() in OPERANDS:
+                add_on.faults.append("an instruction of the table has its name")
             if export.add_on_of[key(add_on.name)] is not add_on:
                 export.add_on_of[key(add_on.name)].faults.append("the file defines it twice")
         calls = {name: _called_in(add_on) & set(self.names) for name, add_on in export.add_on_of.items()}
@@ -196,7 +198,7 @@ class _Judge:
             why = copy_fault(instruction, definition, self._all._types.structures)
             faults += [] if why is None else [why]
             definition.to_end |= passed_ends(instruction, definition, self._all._types.structures)
-        for why in faults:
+        for why in dict.fromkeys(faults):
             self._fault(place, why)
         note = None if faults else layout_note(instruction, definition.scope)
         if note is not None:

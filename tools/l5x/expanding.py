@@ -29,11 +29,9 @@ class Made:
     """A routine that a call is expanded into."""
 
     routine: Routine
-    # The call, as `Valve(V101)`.
-    of: str
+    definition: str
+    instance: str
     rungs: list[tuple[str, list[Element]]]
-    # The names of the routines that it calls.
-    inner: list[str]
 
 
 class Expander:
@@ -77,7 +75,7 @@ class Expander:
         if len(self.made) + definition.routines > self._room:
             raise CallFault(f"{shown(definition.add_on.name)}: its program would have too many routines with those of the call (P11)")
         name = self._name(call, caller)
-        self.made[key(name)] = made = Made(Routine(name, "RLL", has_ladder=True), f"{definition.add_on.name}({call.instance})", [], [])
+        self.made[key(name)] = made = Made(Routine(name, "RLL"), definition.add_on.name, call.instance, [])
         try:
             self._make(call, made)
         except CallFault as fault:
@@ -114,7 +112,6 @@ class Expander:
             self._judge(text, rung, k)
             made.rungs.append((text, rung))
             count += len(instructions(rung))
-        made.inner = [i.texts[0] for _, rung in made.rungs for i in instructions(rung) if i.op == "JSR"]
         if count > MAX_ROUTINE_INSTRUCTIONS:
             raise CallFault(f"its Logic has {count:,} instructions; it may have {MAX_ROUTINE_INSTRUCTIONS:,} (C16)")
 

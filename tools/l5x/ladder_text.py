@@ -22,11 +22,14 @@ def text_of(rung: Rung, add_ons: Collection[str], met: set[str]) -> str:
         raise RungFault("a disabled rung")
     if rung.text is None:
         raise RungFault("it has no text")
-    text, newer = renamed(without_leftovers(rung.text), NEW_NAMES, add_ons)
-    met.update(newer)
+    text = without_leftovers(rung.text)
+    unknown = unknown_instructions(text, add_ons)
+    if unknown:
+        text, newer = renamed(text, NEW_NAMES, add_ons)
+        met.update(newer)
+        unknown = [name for name in unknown if name.upper() not in NEW_NAMES]
     if len(text) > MAX_RUNG_BYTES:
         raise RungFault(f"its text has more than {MAX_RUNG_BYTES:,} bytes (P5)")
-    unknown = unknown_instructions(text, add_ons)
     if unknown:
         raise Unknown(unknown)
     return text
@@ -34,7 +37,7 @@ def text_of(rung: Rung, add_ons: Collection[str], met: set[str]) -> str:
 
 def with_blanks(text: str, add_ons: Collection[str], scope: Scope, values: dict[str, int]) -> tuple[str, list[Element]]:
     """The text with `?` for PRE and ACC where their numbers stand, if the tag has the same; and what it spells."""
-    found = elements(text, add_ons)
+    found, plain = elements(text, add_ons), text
     for instruction in reversed(instructions(found)):
         if instruction.is_call or BLANK not in OPERANDS[instruction.op] or len(instruction.texts) != 3:
             continue
@@ -46,7 +49,7 @@ def with_blanks(text: str, add_ons: Collection[str], scope: Scope, values: dict[
                 raise RungFault(f"{instruction.op}: {member} {number} isn't the value of the tag; `?` is taken")
             at = instruction.places[k]
             text = text[:at] + "?" + text[at + len(instruction.texts[k]) :]
-    return text, elements(text, add_ons)
+    return text, found if text is plain else elements(text, add_ons)
 
 
 def _value_of(tag: str, member: str, scope: Scope, values: dict[str, int]) -> int | None:

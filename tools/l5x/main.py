@@ -11,6 +11,7 @@ import tempfile
 import traceback
 from typing import TextIO
 
+from .edits import edits_told
 from .neutral import neutral_text
 from .profile import MAX_FILE_BYTES, whole
 from .reading import read
@@ -46,6 +47,8 @@ def _words() -> argparse.ArgumentParser:
     words.add_argument("--leave-out", nargs="?", const="routines", choices=("routines", "rungs"), help=told)
     words.add_argument("--watch", metavar="NAME,..", action="append", default=[], help="watched places")
     words.add_argument("--watch-all-bools", action="store_true", help="watch each tag and alias that is a BOOL")
+    told = "tell which edits of this journal are of rungs that calls of Add-On Instructions are expanded into"
+    words.add_argument("--journal", metavar="J", help=told)
     told = "write the rungs as neutral text, with old or new mnemonics, and no project"
     words.add_argument("--text", choices=("old", "new"), help=told)
     words.add_argument("--tick-ms", metavar="N", type=_tick, default=1, help="milliseconds of a tick; 1 if left out")
@@ -77,7 +80,12 @@ def _called(words: list[str], logix: str) -> int:
         return NO_EXPORT
     taken = take(export, options)
     findings = taken.findings
-    for line in findings.notes + findings.faults + taken.summary:
+    try:
+        edits = list(edits_told(given.journal, taken.programs)) if given.journal else []
+    except OSError as fault:
+        _say(sys.stderr, f"from_l5x: {given.journal}: {fault.strerror}")
+        return NO_EXPORT
+    for line in findings.notes + [f"note: {told}" for told in edits] + findings.faults + taken.summary:
         _say(sys.stderr, line)
     if taken.project is None or (findings.faults and not given.leave_out):
         _say(sys.stderr, _refusal(taken))

@@ -14,6 +14,10 @@ _EDIT_MARK = re.compile(r"[A-Za-z]{1,2}:")
 _OUTSIDE = re.compile(r"[ \t\r\n]*([A-Za-z]+|.|\Z)", re.S)
 _INSIDE = re.compile(r"[ \t\r\n]*([A-Za-z0-9:_.#\-?\[\]]+|.|\Z)", re.S)
 _CALL = re.compile(r"[A-Za-z_][A-Za-z0-9_]*[ \t\r\n]*\(")
+# An instruction as Studio writes it, without blanks between its operands.
+_PLAIN = re.compile(r"[ \t\r\n]*([A-Za-z_][A-Za-z0-9_]*)\(((?:[A-Za-z0-9:_.#\-?\[\]]+(?:,[A-Za-z0-9:_.#\-?\[\]]+)*)?)\)")
+# A name before parentheses, another word, or a parenthesis.
+_PIECE = re.compile(rf"{_CALL.pattern}|\w+|[()]")
 
 
 class RungFault(Exception):
@@ -49,23 +53,15 @@ def without_leftovers(text: str) -> str:
 
 def _named(text: str) -> Iterator[re.Match[str]]:
     """The names before parentheses, even if what stands in them is no operand."""
-    depth = at = 0
-    while at < len(text):
-        call = _CALL.match(text, at) if depth == 0 else None
-        if call is not None:
-            yield call
-            at, depth = call.end(), 1
-            continue
-        depth += {"(": 1, ")": -1}.get(text[at], 0)
-        at += 1 if depth else _word_length(text, at)
-
-
-def _word_length(text: str, at: int) -> int:
-    """One byte, or the rest of a word, so that no mnemonic is looked for in the middle of one."""
-    end = at
-    while end < len(text) and (text[end].isalnum() or text[end] == "_"):
-        end += 1
-    return max(1, end - at)
+    depth = 0
+    for found in _PIECE.finditer(text):
+        piece = found[0]
+        if piece[-1] == "(":
+            if depth == 0 and len(piece) > 1:
+                yield found
+            depth += 1
+        elif piece == ")":
+            depth -= 1
 
 
 def _name_of(call: re.Match[str]) -> str:
@@ -79,7 +75,7 @@ def names_called(text: str) -> Iterator[str]:
 def unknown_instructions(text: str, add_ons: Collection[str] = ()) -> list[str]:
     """The mnemonics outside the table that are no Add-On Instructions, each once."""
     names = dict.fromkeys(names_called(text))
-    return [name for name in names if name.upper() not in OPERANDS and key(name) not in add_ons]
+    return [name for name in names if name not in OPERANDS and name.upper() not in OPERANDS and key(name) not in add_ons]
 
 
 def renamed(text: str, names: dict[str, str], add_ons: Collection[str] = ()) -> tuple[str, list[str]]:
@@ -125,6 +121,8 @@ class _Text:
     def rung(self) -> list[Element]:
         forks = 0
         while True:
+            if self._plain():
+                continue
             token, at = self._next(_OUTSIDE)
             if token in ("[", "]", ","):
                 self._found.append(token)
@@ -151,6 +149,24 @@ class _Text:
         if token:
             raise _fault("T1", at, "something follows the ;")
         return self._found
+
+    def _plain(self) -> bool:
+        """Takes an instruction or a call that has the usual form, if one comes next."""
+        found = _PLAIN.match(self._text, self._at)
+        if found is None:
+            return False
+        op, place = found[1].upper(), found.start(2)
+        is_call = bool(self._add_ons) and key(op) in self._add_ons
+        if op not in OPERANDS and not is_call:
+            return False
+        texts, places = found[2].split(",") if found[2] else [], []
+        for text in texts:
+            places.append(place)
+            place += len(text) + 1
+        self._at = found.end()
+        self._found.append(Instruction(key(op) if is_call else op, texts, places, self._leads, found.start(1), self._at, is_call))
+        self._leads = False
+        return True
 
     def _instruction(self, token: str, at: int) -> None:
         op = token.upper()

@@ -37,6 +37,7 @@ class Taken:
     """The project without what can't be taken, if anything is left that runs; and what is said of it."""
 
     project: Project | None
+    programs: list[TakenProgram]
     findings: Findings
     summary: list[str]
 
@@ -79,7 +80,7 @@ class _Taking:
         Settling(self._programs, self._tasks, self._connections, self._tags, options.by_rung, findings).settle()
         self._note_expansions()
         project = self._written(controller) if self._tasks else None
-        return Taken(project, findings, summary(export, considered, self._programs, self._tags, findings))
+        return Taken(project, self._programs, findings, summary(export, considered, self._programs, self._tags, findings))
 
     def _considered(self) -> list[Program]:
         """The programs that are the file's target, or have it inside; without those that are only folders."""
@@ -200,19 +201,22 @@ class _Taking:
         if self._met:
             told = ", ".join(f"{name} as {NEW_NAMES[name]}" for name in NEW_NAMES if name in self._met)
             findings.note(f"the mnemonics of a newer release are taken as what they were: {told}")
-        made = [(p, t) for p in self._programs for t in p.routines if t.made_of is not None]
-        for program, routine in made:
-            caller = next(r for t in program.routines for r in t.rungs if key(routine.routine.name) in r.called())
-            findings.note(f"{caller.place}: {shown(routine.made_of or '')} is made into routine {routine.routine.name}")
-        if made:
+        used: set[str] = set()
+        for program in self._programs:
+            for routine, made in ((t, t.made_of) for t in program.routines if t.made_of is not None):
+                caller = next(rung for t in program.routines for rung in t.rungs if key(routine.routine.name) in rung.called())
+                told = f"{made.definition}({shown(made.instance)})"
+                findings.note(f"{caller.place}: {told} is made into routine {routine.routine.name}")
+                used.add(key(made.definition))
+        if used:
             findings.note("each call of an Add-On Instruction takes the processor steps of its expansion (docs/L5X.md, section 4)")
-            self._note_defaults()
+            self._note_defaults(used)
 
-    def _note_defaults(self) -> None:
+    def _note_defaults(self, used: set[str]) -> None:
         """Whose local tags begin with the definition's values."""
-        for name in self._types.add_ons:
+        for name in sorted(used):
             add_on = self._export.add_on_of[name]
-            if name in self._types.structures and any(key(tag.name) not in add_on.told for tag in add_on.local_tags):
+            if any(key(tag.name) not in add_on.told for tag in add_on.local_tags):
                 why = "the file tells no others in decorated data"
                 self._findings.note(f"local tags of {shown(add_on.name)} begin with the values of its definition: {why}")
 

@@ -42,8 +42,8 @@ class TakenRoutine:
     routine: Routine
     where: str
     rungs: list[TakenRung] = field(default_factory=list)
-    # Of a routine that a call of an Add-On Instruction is expanded into, what the call is.
-    made_of: str | None = None
+    # Of a routine that a call of an Add-On Instruction is expanded into, what it was.
+    made_of: Made | None = None
 
     @property
     def count(self) -> int:
@@ -93,7 +93,7 @@ def take_routines(program: Program, ladder: Ladder) -> list[TakenRoutine]:
 def _of_made(made: Made, program: Program) -> TakenRoutine:
     where = f"program {shown(program.name)} routine {made.routine.name}"
     rungs = [TakenRung(f"{where} rung {k}", text, found) for k, (text, found) in enumerate(made.rungs)]
-    return TakenRoutine(made.routine, where, rungs, made.of)
+    return TakenRoutine(made.routine, where, rungs, made)
 
 
 def _routine_fault(routine: Routine, program: Program, earlier: set[str]) -> str | None:

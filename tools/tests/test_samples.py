@@ -15,6 +15,12 @@ WORDS = {
     "tasks": (["--tick-ms", "10", "--watch-all-bools"], 0),
     "packer": (["--leave-out", "--watch", "Boxes,Weight", "--watch-all-bools"], 0),
     "drives": (["--leave-out"], 1),
+    "works": (["--leave-out", "rungs", "--watch", "ToBoxer.Count,Boxes", "--watch-all-bools"], 0),
+    "tally": (["--watch", "T1.EnableIn,T1.EnableOut,T1.Part,Parts,Run"], 0),
+    "valve": (["--watch", "V101.EnableIn,V101.EnableOut,V101.Cmd,V101_Coil,V101_Cycles,V101_Ready"], 0),
+    "recipe": (["--watch", "Now,Later,T_Sweet.PRE,T_Sweet.DN,T_Sour.DN,Done[0],Done[1],Done[2],Done[3],Steps[1].EnableIn"], 0),
+    "twice": (["--watch", "A1.EnableIn,A1.By,A1.Sum"], 0),
+    "newer": (["--watch", "Level,Copy", "--watch-all-bools"], 0),
 }
 
 
