@@ -2,9 +2,11 @@
 
 import json
 import os
+import re
 import unittest
 
-from l5x_files import SAMPLES, call
+from l5x_files import SAMPLES, TOP, call
+from hammer_parts.plain.judge import answer
 
 # The words of each sample and its status.
 WORDS = {
@@ -40,6 +42,20 @@ class Samples(unittest.TestCase):
                 self.assertEqual(ended.lines, sample(name + ".list.txt").splitlines())
                 self.assertEqual(ended.project, sample(name + ".project.json"))
                 self.assertEqual(ended.status, status)
+
+    def test_the_document_shows_a_sample(self) -> None:
+        with open(os.path.join(TOP, "docs", "L5X.md"), encoding="utf-8") as file:
+            shown = dict(re.findall(r"^```(\w+)\n(.*?)^```$", file.read(), re.M | re.S))
+        self.assertEqual(json.loads(shown["project"]), json.loads(sample("tally.project.json")))
+        self.assertEqual(shown["journal"], sample("tally.journal.txt"))
+        self.assertEqual(shown["report"], sample("tally.report.txt"))
+
+    def test_runs_are_those_of_the_rules(self) -> None:
+        for name in WORDS:
+            if sample(name + ".journal.txt"):
+                with self.subTest(name):
+                    files = [sample(f"{name}.{kind}").encode() for kind in ("project.json", "journal.txt")]
+                    self.assertEqual(answer(["replay"], files), (0, sample(name + ".report.txt")))
 
     def test_all_files_are_samples(self) -> None:
         found = {name.removesuffix(".L5X") for name in os.listdir(SAMPLES) if name.endswith(".L5X")}
