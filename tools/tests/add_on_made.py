@@ -123,7 +123,7 @@ class Maker:
         kinds = {d.name: d.kind for d in declared if d.dim is None}
         for p in definition.wanted():
             if p.usage == "InOut":
-                good = [d.name for d in declared if (d.kind, d.dim) == (p.kind, p.dim) and d.name[0] != "S"]
+                good = [d.name for d in declared if (d.kind, d.dim) == (p.kind, p.dim) and d.name[0] not in "ST"]
                 operands.append(draw.choice(good or [""]))
             elif p.usage == "Input":
                 operands.append(self.input(p, names, kinds))

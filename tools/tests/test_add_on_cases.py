@@ -41,12 +41,15 @@ class Both:
         ended = convert(self.maker.file())
         if ended.status != 0:
             raise AssertionError("\n".join([f"case {seed} isn't taken", *ended.lines]))
+        self.described = json.loads(ended.project)
         self.project = Project(ended.project.encode())
         self.machine = Machine(self.project)
         self.plain = Plain(self.maker.definitions, self.maker.tags, self.maker.routines)
         self.draw = random.Random(seed + 1)
         self.seed = seed
         self.machine.event("act", 31, Action("mode run"))
+        # What was done, as lines of a journal.
+        self.journal = ["mode run"]
         self.places = {}
         for tag, cells in self.plain.tags.items():
             for place, _ in leaves(tag, cells):
@@ -56,17 +59,20 @@ class Both:
         for word in range(2):
             number = self.draw.randrange(1 << 8)
             self.machine.event("act", 0, Action("in", ("Local_1_I",), (word, number)))
+            self.journal.append(f"@0 in Local_1_I {word} {number}")
             self.plain.tags[INPUT][word].value = number
         for _ in range(self.draw.choice((0, 1, 4))):
             self.machine.event("tick")
+            self.journal.append("tick 1")
             self.plain.now += 1
 
     def scan(self) -> None:
-        for _ in range(MOST_STEPS):
+        for steps in range(1, MOST_STEPS + 1):
             said = self.machine.event("cpu")
             if any(fault[0] == "major" for fault in said.faults):
                 raise AssertionError(f"case {self.seed}: {said.faults}")
             if said.left == "ended":
+                self.journal.append(f"cpu {steps}")
                 break
         else:
             raise AssertionError(f"case {self.seed}: the scan doesn't end")
