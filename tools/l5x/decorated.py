@@ -22,7 +22,7 @@ class Decorated:
         self._tag = tag
         self._export = export
         # Structures are looked for in modules' tags alone.
-        self._shapes = None if tag.direction is None else export.shapes
+        self._shapes = export.shapes if tag.is_module else None
         # For each open element its place behind the tag's name, its type, and the structure that it is.
         self._open: list[tuple[str, str, DataType | None]] = [("", tag.type, None)]
 
@@ -30,7 +30,11 @@ class Decorated:
         place, type_name, shape = self._open[-1]
         attributes = element.attrib
         if element.tag in _NAMED:
-            place += "." + attributes.get("Name", "?")
+            name = attributes.get("Name", "?")
+            add_on = self._export.add_on_of.get(key(type_name))
+            if add_on is not None:
+                add_on.told.add(key(name))
+            place += "." + name
         elif element.tag == "Element":
             place += attributes.get("Index", "[?]")
         if element.tag != "Element":

@@ -11,11 +11,12 @@ import tempfile
 import traceback
 from typing import TextIO
 
-from .findings import Findings
+from .edits import edits_told
+from .neutral import neutral_text
 from .profile import MAX_FILE_BYTES, whole
 from .reading import read
 from .source import NoExport
-from .taking import Options, Project, take
+from .taking import Options, Taken, take
 from .writing import text_of
 
 TAKEN, NOT_TAKEN, NO_EXPORT, WRONG_WORDS, NOT_WRITTEN, NO_MEMORY, BROKEN = 0, 1, 2, 3, 5, 6, 70
@@ -42,9 +43,14 @@ def _tick(text: str) -> int:
 def _words() -> argparse.ArgumentParser:
     words = _Words(prog="from_l5x", description="Makes a project for logix of an L5X file; see docs/L5X.md.")
     words.add_argument("file", metavar="FILE.L5X")
-    words.add_argument("--leave-out", action="store_true", help="leave out what can't be taken, and what refers to it")
+    told = "leave out what can't be taken, and what refers to it: whole routines, or rungs alone"
+    words.add_argument("--leave-out", nargs="?", const="routines", choices=("routines", "rungs"), help=told)
     words.add_argument("--watch", metavar="NAME,..", action="append", default=[], help="watched places")
     words.add_argument("--watch-all-bools", action="store_true", help="watch each tag and alias that is a BOOL")
+    told = "tell which edits of this journal are of rungs that calls of Add-On Instructions are expanded into"
+    words.add_argument("--journal", metavar="J", help=told)
+    told = "write the rungs as neutral text, with old or new mnemonics, and no project"
+    words.add_argument("--text", choices=("old", "new"), help=told)
     words.add_argument("--tick-ms", metavar="N", type=_tick, default=1, help="milliseconds of a tick; 1 if left out")
     return words
 
@@ -64,41 +70,60 @@ def main(words: list[str], logix: str = LOGIX) -> int:
 
 
 def _called(words: list[str], logix: str) -> int:
-    given = _words().parse_args(words)
+    given = _words().parse_args(_spelled_out(words))
     watch = [name.strip() for names in given.watch for name in names.split(",") if name.strip()]
-    options = Options(given.tick_ms, watch, given.watch_all_bools)
+    options = Options(given.tick_ms, watch, given.watch_all_bools, given.leave_out == "rungs")
     try:
         export = read(given.file)
     except NoExport as fault:
         _say(sys.stderr, f"from_l5x: {given.file}: {fault}")
         return NO_EXPORT
-    project, findings = take(export, options)
-    for line in findings.notes + findings.faults:
+    taken = take(export, options)
+    findings = taken.findings
+    try:
+        edits = list(edits_told(given.journal, taken.programs)) if given.journal else []
+    except OSError as fault:
+        _say(sys.stderr, f"from_l5x: {given.journal}: {fault.strerror}")
+        return NO_EXPORT
+    for line in findings.notes + [f"note: {told}" for told in edits] + findings.faults + taken.summary:
         _say(sys.stderr, line)
-    if project is None or (findings.faults and not given.leave_out):
-        _say(sys.stderr, _refusal(project, findings))
+    if taken.project is None or (findings.faults and not given.leave_out):
+        _say(sys.stderr, _refusal(taken))
         return NOT_TAKEN
-    return _written(project, findings, logix)
+    if findings.faults:
+        _say(sys.stderr, f"left out: the {_places(taken)} above")
+    if given.text:
+        return _put(neutral_text(taken.project, given.text == "new"))
+    return _written(taken, logix)
 
 
-def _refusal(project: Project | None, findings: Findings) -> str:
-    if project is None:
+def _spelled_out(words: list[str]) -> list[str]:
+    """`--leave-out` with its word, since the file's name may follow it."""
+    spelled: list[str] = []
+    for word in words:
+        if word == "rungs" and spelled[-1:] == ["--leave-out=routines"]:
+            spelled[-1] = "--leave-out=rungs"
+        else:
+            spelled.append("--leave-out=routines" if word == "--leave-out" else word)
+    return spelled
+
+
+def _refusal(taken: Taken) -> str:
+    if taken.project is None:
         return "no project: nothing is left that runs"
-    return f"no project: {_places(findings)} can't be taken; --leave-out takes the rest"
+    return f"no project: {_places(taken)} can't be taken; --leave-out takes the rest"
 
 
-def _places(findings: Findings) -> str:
-    count = len(findings.faults)
+def _places(taken: Taken) -> str:
+    count = len(taken.findings.faults)
     return "1 place" if count == 1 else f"{count:,} places"
 
 
-def _written(project: Project, findings: Findings, logix: str) -> int:
-    text = text_of(project)
+def _written(taken: Taken, logix: str) -> int:
+    text = text_of(taken.project or {})
     if len(text) > MAX_FILE_BYTES:
         _say(sys.stderr, f"no project: it would have more than {MAX_FILE_BYTES:,} bytes")
         return NOT_TAKEN
-    if findings.faults:
-        _say(sys.stderr, f"left out: the {_places(findings)} above")
     verdict = _verdict(text, logix)
     if verdict is None:
         _say(sys.stderr, "check: no proved logix is built here; tools/prove builds it, and ./logix check judges the project")
@@ -107,11 +132,15 @@ def _written(project: Project, findings: Findings, logix: str) -> int:
         if verdict[0] != 0:
             _say(sys.stderr, "no project: logix refuses it, which is a fault of this tool")
             return NOT_TAKEN
+    return _put(text)
+
+
+def _put(text: str) -> int:
     try:
         sys.stdout.write(text)
         sys.stdout.flush()
     except (OSError, AttributeError) as fault:
-        _say(sys.stderr, f"from_l5x: the project can't be written: {getattr(fault, 'strerror', 'no standard output')}")
+        _say(sys.stderr, f"from_l5x: it can't be written: {getattr(fault, 'strerror', 'no standard output')}")
         # What is left in the buffer isn't tried once more at the end.
         sys.stdout = None
         return NOT_WRITTEN

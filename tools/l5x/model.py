@@ -12,6 +12,8 @@ class Member:
     dimensions: str | None = None
     is_hidden: bool = False
     host: str | None = None
+    # Why a project can't have it.
+    fault: str | None = None
 
 
 @dataclass
@@ -19,8 +21,10 @@ class DataType:
     name: str
     members: list[Member] = field(default_factory=list)
     is_string: bool = False
-    # A user's own, and not one that came with a module.
+    # A user's own, and not one that came with a module or an Add-On Instruction.
     is_own: bool = True
+    # The instances of an Add-On Instruction.
+    is_add_on: bool = False
     # Known by the values of a module's tag alone, which don't tell where bits lie.
     is_shape: bool = False
 
@@ -45,9 +49,12 @@ class Tag:
     fault: str | None = None
     has_data: bool = False
     is_decorated: bool = False
-    # Of a module's tag its direction, and its size where the file tells it.
+    # Of a tag with a connection its direction, and of a module's its size where the file tells it.
     direction: str | None = None
+    is_module: bool = False
     size: str | None = None
+    # Of a parameter: whether each call has an argument for it.
+    is_required: bool = False
 
 
 @dataclass
@@ -69,11 +76,25 @@ class Routine:
 
 
 @dataclass
+class AddOn:
+    """The definition of an Add-On Instruction."""
+
+    name: str
+    parameters: list[Tag] = field(default_factory=list)
+    local_tags: list[Tag] = field(default_factory=list)
+    routines: list[Routine] = field(default_factory=list)
+    faults: list[str] = field(default_factory=list)
+    # The members that the values of instances have, as compared.
+    told: set[str] = field(default_factory=set)
+
+
+@dataclass
 class Program:
     name: str
     main: str = ""
     fault_routine: str = ""
     is_target: bool = False
+    is_folder: bool = False
     fault: str | None = None
     tags: list[Tag] = field(default_factory=list)
     routines: list[Routine] = field(default_factory=list)
@@ -99,6 +120,8 @@ class Module:
     parent: str = ""
     address: str = ""
     port: str = ""
+    # What the names of its tags begin with.
+    front: str = ""
     tags: list[Tag] = field(default_factory=list)
     # The name of its configuration tag, which isn't taken.
     configuration: str | None = None
@@ -114,7 +137,11 @@ class Export:
     tags: list[Tag] = field(default_factory=list)
     programs: list[Program] = field(default_factory=list)
     tasks: list[Task] = field(default_factory=list)
-    add_ons: list[str] = field(default_factory=list)
+    add_ons: list[AddOn] = field(default_factory=list)
+    # The first of each name, as compared.
+    add_on_of: dict[str, AddOn] = field(default_factory=dict)
+    # What has no meaning for a run, by its kind and how often it was met.
+    passed: dict[str, int] = field(default_factory=dict)
     # Structures of modules' tags, by their names as compared.
     shapes: dict[str, DataType] = field(default_factory=dict)
     # How many values aren't 0.

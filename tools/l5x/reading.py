@@ -6,12 +6,14 @@ from collections.abc import Callable
 from xml.etree.ElementTree import Element
 
 from .decorated import Decorated
-from .model import DataType, Export, Member, Module, Program, Routine, Rung, Tag, Task
-from .profile import shown
+from .model import AddOn, DataType, Export, Member, Module, Program, Routine, Rung, Tag, Task
+from .profile import key, shown
 from .source import NoExport, events
 
 _TARGETS = ("Controller", "Program", "Routine")
 _NOTHING = ("", "0", None)
+_DIRECTIONS = {"Produced": "out", "Consumed": "in"}
+_EXECUTED = {"ExecutePrescan": "Prescan", "ExecutePostscan": "Postscan", "ExecuteEnableInFalse": "EnableInFalse"}
 _BUSES_BY_NAME = ("ethernet", "controlnet", "devicenet")
 
 
@@ -43,7 +45,10 @@ class _Reader:
         self._tags: list[Tag] | None = None
         self._sizes: dict[str, str | None] = {"in": None, "out": None}
         self._suffixes = {"in": "I", "out": "O"}
+        self._add_on = AddOn("")
         self._program = Program("")
+        # Of the program or the Add-On Instruction that is open.
+        self._routines: list[Routine] = []
         self._routine = Routine("", "")
         self._rung = Rung("")
         self._task = Task("", "")
@@ -66,15 +71,15 @@ class _Reader:
             self._passed -= 1
         elif self._decorated is not None:
             self._decorated.end()
-            if element.tag == "Data":
+            if element.tag in ("Data", "DefaultData"):
                 self._decorated = None
         elif element.tag == "Text" and self._path[-1:] == ["Rung"]:
             self._rung.text = element.text or ""
         elif element.tag == "Module":
             _name_tags(self._module)
-        elif element.tag in ("Tag", "InputTag", "OutputTag"):
+        elif element.tag in ("Tag", "InputTag", "OutputTag", "Parameter", "LocalTag"):
             self._tag = None
-        elif element.tag == "Tags":
+        elif element.tag in ("Tags", "Parameters", "LocalTags"):
             self._tags = None
 
     # ---- the controller
@@ -102,17 +107,42 @@ class _Reader:
         member.host = attributes.get("Target")
         self._type.members.append(member)
 
-    def _add_on(self, attributes: dict[str, str]) -> None:
-        self.export.add_ons.append(attributes.get("Name", ""))
-        self._passed = 1
-
-    def _pass_over(self, attributes: dict[str, str]) -> None:
+    def _note_passed(self, attributes: dict[str, str]) -> None:
+        kind = self._path[-1]
+        self.export.passed[kind] = self.export.passed.get(kind, 0) + 1
         self._passed = 1
 
     def _encoded(self, attributes: dict[str, str]) -> None:
         name, kind = attributes.get("Name", ""), attributes.get("EncodedType", "")
         self.export.encoded.append(f"{shown(kind) or 'part'} {shown(name)}".rstrip())
         self._passed = 1
+
+    # ---- Add-On Instructions
+
+    def _add_on_begun(self, attributes: dict[str, str]) -> None:
+        self._add_on = add_on = AddOn(attributes.get("Name", ""))
+        for name, routine in _EXECUTED.items():
+            if _is(attributes.get(name)):
+                add_on.faults.append(f"its {routine} routine is executed")
+        if attributes.get("Class") == "Safety":
+            add_on.faults.append("a safety instruction")
+        self._routines = add_on.routines
+        self.export.add_ons.append(add_on)
+        self.export.add_on_of.setdefault(key(add_on.name), add_on)
+
+    def _encoded_add_on(self, attributes: dict[str, str]) -> None:
+        self._add_on_begun(attributes)
+        self._encoded_part(attributes)
+
+    def _encoded_part(self, attributes: dict[str, str]) -> None:
+        self._add_on.faults.append("its content is encoded")
+        self._passed = 1
+
+    def _parameters(self, attributes: dict[str, str]) -> None:
+        self._tags = self._add_on.parameters
+
+    def _local_tags(self, attributes: dict[str, str]) -> None:
+        self._tags = self._add_on.local_tags
 
     # ---- modules
 
@@ -142,8 +172,9 @@ class _Reader:
         self._module_tag("out")
 
     def _module_tag(self, direction: str) -> None:
-        self._tag = Tag(self._suffixes[direction], direction=direction, size=self._sizes[direction])
-        self._module.tags.append(self._tag)
+        self._tag = tag = Tag(self._suffixes[direction], direction=direction, size=self._sizes[direction])
+        tag.is_module = True
+        self._module.tags.append(tag)
 
     def _rack(self, attributes: dict[str, str]) -> None:
         self._module.faults.append("a rack-optimized connection, whose words are those of its rack")
@@ -163,7 +194,9 @@ class _Reader:
         tag.dimensions = None if dimensions in _NOTHING else dimensions
         tag.kind = attributes.get("TagType", "Base")
         tag.usage = attributes.get("Usage", "")
-        if tag.kind == "Alias":
+        tag.is_required = _is(attributes.get("Required"))
+        tag.direction = _DIRECTIONS.get(tag.kind)
+        if tag.kind == "Alias" or "AliasFor" in attributes:
             tag.alias_for = attributes.get("AliasFor", "")
         self._tag = tag
         if self._tags is not None:
@@ -184,6 +217,7 @@ class _Reader:
         program.main = attributes.get("MainRoutineName", "")
         program.fault_routine = attributes.get("FaultRoutineName", "")
         program.is_target = attributes.get("Use") == "Target"
+        program.is_folder = _is(attributes.get("UseAsFolder"))
         kind = attributes.get("Type", "Normal")
         if kind != "Normal":
             program.fault = f"a program of the type {shown(kind)}"
@@ -191,12 +225,13 @@ class _Reader:
             program.fault = "a safety program"
         elif _is(attributes.get("Disabled")):
             program.fault = "an inhibited program"
+        self._routines = program.routines
         self.export.programs.append(program)
 
     def _routine_begun(self, attributes: dict[str, str]) -> None:
         self._routine = Routine(attributes.get("Name", ""), attributes.get("Type", ""))
         self._routine.is_target = attributes.get("Use") == "Target"
-        self._program.routines.append(self._routine)
+        self._routines.append(self._routine)
 
     def _ladder(self, attributes: dict[str, str]) -> None:
         self._routine.has_ladder = True
@@ -240,11 +275,11 @@ class _Reader:
 def _name_tags(module: Module) -> None:
     """A module's tags are named by the chassis and the slot, and on a network by the module itself."""
     by_slot = module.address.isdigit() and module.port.lower() not in _BUSES_BY_NAME
-    front = f"{module.parent}:{module.address}" if by_slot else module.name
+    module.front = (f"{module.parent}:{module.address}" if by_slot else module.name) + ":"
     for tag in module.tags:
-        tag.name = f"{front}:{tag.name}"
+        tag.name = module.front + tag.name
     if module.configuration is not None:
-        module.configuration = f"{front}:{module.configuration}"
+        module.configuration = module.front + module.configuration
 
 
 _Start = Callable[[_Reader, dict[str, str]], None]
@@ -254,8 +289,15 @@ _STARTS: dict[tuple[str, str], _Start] = {
     ("RSLogix5000Content", "Controller"): _Reader._controller,
     ("DataTypes", "DataType"): _Reader._data_type,
     ("Members", "Member"): _Reader._member,
-    ("AddOnInstructionDefinitions", "AddOnInstructionDefinition"): _Reader._add_on,
-    ("AddOnInstructionDefinitions", "EncodedData"): _Reader._add_on,
+    ("AddOnInstructionDefinitions", "AddOnInstructionDefinition"): _Reader._add_on_begun,
+    ("AddOnInstructionDefinitions", "EncodedData"): _Reader._encoded_add_on,
+    ("AddOnInstructionDefinition", "EncodedData"): _Reader._encoded_part,
+    ("AddOnInstructionDefinition", "Parameters"): _Reader._parameters,
+    ("AddOnInstructionDefinition", "LocalTags"): _Reader._local_tags,
+    ("Parameters", "Parameter"): _Reader._tag_begun,
+    ("LocalTags", "LocalTag"): _Reader._tag_begun,
+    ("Parameter", "DefaultData"): _Reader._data,
+    ("LocalTag", "DefaultData"): _Reader._data,
     ("Modules", "Module"): _Reader._module_begun,
     ("Ports", "Port"): _Reader._port,
     ("Communications", "ConfigTag"): _Reader._configuration,
@@ -284,5 +326,7 @@ _STARTS: dict[tuple[str, str], _Start] = {
     ("Programs", "EncodedData"): _Reader._encoded,
     ("Controller", "EncodedData"): _Reader._encoded,
     ("DataTypes", "EncodedData"): _Reader._encoded,
-    ("Controller", "Trends"): _Reader._pass_over,
+    ("Trends", "Trend"): _Reader._note_passed,
+    ("AlarmConditions", "AlarmCondition"): _Reader._note_passed,
+    ("AlarmDefinitions", "DatatypeAlarmDefinition"): _Reader._note_passed,
 }

@@ -3,10 +3,10 @@
 from __future__ import annotations
 
 import re
-from collections.abc import Iterator
+from collections.abc import Collection, Iterator
 from dataclasses import dataclass
 
-from .profile import MAX_FORKS, NEW_NAMES, OPERANDS, shown
+from .profile import MAX_FORKS, OPERANDS, key, shown
 
 # What an L5K file writes before a rung: a comment, and that it is a normal one.
 _LEFTOVERS = re.compile(r'[ \t\r\n]*(?:RC:[ \t\r\n]*"(?:[^"$]|\$.)*"[ \t\r\n]*;?[ \t\r\n]*)*(?:N:[ \t\r\n]*)?', re.S)
@@ -14,6 +14,10 @@ _EDIT_MARK = re.compile(r"[A-Za-z]{1,2}:")
 _OUTSIDE = re.compile(r"[ \t\r\n]*([A-Za-z]+|.|\Z)", re.S)
 _INSIDE = re.compile(r"[ \t\r\n]*([A-Za-z0-9:_.#\-?\[\]]+|.|\Z)", re.S)
 _CALL = re.compile(r"[A-Za-z_][A-Za-z0-9_]*[ \t\r\n]*\(")
+# An instruction as Studio writes it, without blanks between its operands.
+_PLAIN = re.compile(r"[ \t\r\n]*([A-Za-z_][A-Za-z0-9_]*)\(((?:[A-Za-z0-9:_.#\-?\[\]]+(?:,[A-Za-z0-9:_.#\-?\[\]]+)*)?)\)")
+# A name before parentheses, another word, or a parenthesis.
+_PIECE = re.compile(rf"{_CALL.pattern}|\w+|[()]")
 
 
 class RungFault(Exception):
@@ -22,12 +26,21 @@ class RungFault(Exception):
 
 @dataclass
 class Instruction:
+    # In upper case; of a call of an Add-On Instruction its name, as compared.
     op: str
     texts: list[str]
     # Where each operand begins in the text.
     places: list[int]
     # Whether it is its rung's first element.
     leads: bool
+    # Where it begins and ends in the text.
+    at: int = 0
+    end: int = 0
+    is_call: bool = False
+
+
+# An instruction, or a branch's `[`, `,` or `]`.
+Element = Instruction | str
 
 
 def without_leftovers(text: str) -> str:
@@ -38,57 +51,84 @@ def without_leftovers(text: str) -> str:
     return rest
 
 
-def unknown_instructions(text: str) -> list[str]:
-    """The mnemonics outside the table, each once, even if what stands in their parentheses is no operand."""
-    found: list[str] = []
-    depth = at = 0
-    while at < len(text):
-        call = _CALL.match(text, at) if depth == 0 else None
-        if call is not None:
-            name = call[0][:-1].rstrip()
-            if name.upper() not in OPERANDS and name not in found:
-                found.append(name)
-            at, depth = call.end(), 1
-            continue
-        depth += {"(": 1, ")": -1}.get(text[at], 0)
-        at += 1 if depth else _word_length(text, at)
-    return found
+def _named(text: str) -> Iterator[re.Match[str]]:
+    """The names before parentheses, even if what stands in them is no operand."""
+    depth = 0
+    for found in _PIECE.finditer(text):
+        piece = found[0]
+        if piece[-1] == "(":
+            if depth == 0 and len(piece) > 1:
+                yield found
+            depth += 1
+        elif piece == ")":
+            depth -= 1
 
 
-def _word_length(text: str, at: int) -> int:
-    """One byte, or the rest of a word, so that no mnemonic is looked for in the middle of one."""
-    end = at
-    while end < len(text) and (text[end].isalnum() or text[end] == "_"):
-        end += 1
-    return max(1, end - at)
+def _name_of(call: re.Match[str]) -> str:
+    return call[0][:-1].rstrip()
 
 
-def unknown_told(name: str, add_ons: set[str]) -> str:
-    if name.lower() in add_ons:
-        return f"{shown(name, 40)} is an Add-On Instruction"
-    if name.upper() in NEW_NAMES:
-        return f"{name} isn't in the table of instructions (it has {NEW_NAMES[name.upper()]})"
+def names_called(text: str) -> Iterator[str]:
+    return map(_name_of, _named(text))
+
+
+def unknown_instructions(text: str, add_ons: Collection[str] = ()) -> list[str]:
+    """The mnemonics outside the table that are no Add-On Instructions, each once."""
+    names = dict.fromkeys(names_called(text))
+    return [name for name in names if name not in OPERANDS and name.upper() not in OPERANDS and key(name) not in add_ons]
+
+
+def renamed(text: str, names: dict[str, str], add_ons: Collection[str] = ()) -> tuple[str, list[str]]:
+    """The text with other mnemonics for some, and those that were found; an Add-On Instruction may have any of these names."""
+    found, parts, at = [], [], 0
+    for call in _named(text):
+        name = _name_of(call)
+        if name.upper() in names and key(name) not in add_ons:
+            found.append(name.upper())
+            parts += [text[at : call.start()], names[name.upper()]]
+            at = call.start() + len(name)
+    return "".join([*parts, text[at:]]), found
+
+
+def unknown_told(name: str) -> str:
     return f"{shown(name, 40)} isn't in the table of instructions"
 
 
-def instructions(text: str) -> list[Instruction]:
-    """The instructions that a rung's text spells, in order; RungFault with the text fault if it spells none."""
-    return _Text(text).rung()
+def elements(text: str, add_ons: Collection[str] = ()) -> list[Element]:
+    """What a rung's text spells, in order; RungFault with the text fault if it spells none."""
+    return _Text(text, add_ons).rung()
+
+
+def instructions(found: list[Element]) -> list[Instruction]:
+    return [element for element in found if isinstance(element, Instruction)]
+
+
+def canonical(found: list[Element]) -> str:
+    """The rung as `logix text` writes it."""
+    parts = (e if isinstance(e, str) else f"{e.op}({','.join(e.texts)})" for e in found)
+    return "".join(parts) + ";"
 
 
 class _Text:
-    def __init__(self, text: str) -> None:
+    def __init__(self, text: str, add_ons: Collection[str]) -> None:
         self._text = text
+        self._add_ons = add_ons
         self._at = 0
-        self._found: list[Instruction] = []
+        self._found: list[Element] = []
         # Whether the next element is the rung's first.
         self._leads = True
 
-    def rung(self) -> list[Instruction]:
+    def rung(self) -> list[Element]:
         forks = 0
         while True:
+            if self._plain():
+                continue
             token, at = self._next(_OUTSIDE)
-            if token == "[":
+            if token in ("[", "]", ","):
+                self._found.append(token)
+            if self._call(at):
+                pass
+            elif token == "[":
                 if forks == MAX_FORKS:
                     raise _fault("T5", at, f"a branch would be the {MAX_FORKS + 1}th open one")
                 forks += 1
@@ -110,18 +150,46 @@ class _Text:
             raise _fault("T1", at, "something follows the ;")
         return self._found
 
+    def _plain(self) -> bool:
+        """Takes an instruction or a call that has the usual form, if one comes next."""
+        found = _PLAIN.match(self._text, self._at)
+        if found is None:
+            return False
+        op, place = found[1].upper(), found.start(2)
+        is_call = bool(self._add_ons) and key(op) in self._add_ons
+        if op not in OPERANDS and not is_call:
+            return False
+        texts, places = found[2].split(",") if found[2] else [], []
+        for text in texts:
+            places.append(place)
+            place += len(text) + 1
+        self._at = found.end()
+        self._found.append(Instruction(key(op) if is_call else op, texts, places, self._leads, found.start(1), self._at, is_call))
+        self._leads = False
+        return True
+
     def _instruction(self, token: str, at: int) -> None:
         op = token.upper()
         if op not in OPERANDS:
             raise _fault("T2", at, f"{shown(token)} isn't in the table of instructions")
-        mark, at = self._next(_OUTSIDE)
+        mark, after = self._next(_OUTSIDE)
         if mark != "(":
-            raise _fault("T1", at, f"no ( follows {op}") if mark else _end(at, True)
-        texts, places = [], []
-        for text, place in self._operands():
-            texts.append(text)
-            places.append(place)
-        self._found.append(Instruction(op, texts, places, self._leads))
+            raise _fault("T1", after, f"no ( follows {op}") if mark else _end(after, True)
+        self._take(op, at, False)
+
+    def _call(self, at: int) -> bool:
+        """Takes a call of an Add-On Instruction, if one begins there."""
+        call = _CALL.match(self._text, at) if self._add_ons else None
+        if call is None or key(_name_of(call)) not in self._add_ons:
+            return False
+        self._at = call.end()
+        self._take(key(_name_of(call)), at, True)
+        return True
+
+    def _take(self, op: str, at: int, is_call: bool) -> None:
+        operands = list(self._operands())
+        texts, places = [text for text, _ in operands], [place for _, place in operands]
+        self._found.append(Instruction(op, texts, places, self._leads, at, self._at, is_call))
         self._leads = False
 
     def _operands(self) -> Iterator[tuple[str, int]]:

@@ -2,7 +2,9 @@
 
 from __future__ import annotations
 
+import contextlib
 import re
+from collections.abc import Callable, Iterator
 from dataclasses import dataclass, field
 
 from .profile import COUNTER_MEMBERS, INTEGER_BITS, MAX_SUBSCRIPTS, TIMER_MEMBERS
@@ -80,10 +82,40 @@ def size_of(of: Type, structures: dict[str, Structure]) -> int:
 def structure_size(members: list[tuple[str, Type]], structures: dict[str, Structure]) -> int:
     at = 0
     for _, of in members:
-        step = 4 if of.dim is not None and of.base == "BOOL" else _ALIGNMENTS.get(of.base, 4)
-        at = rounded(at, step) + size_of(of, structures)
+        at = rounded(at, alignment(of)) + size_of(of, structures)
     return rounded(at, 4)
 
+
+def alignment(of: Type) -> int:
+    return 4 if of.dim is not None and of.base == "BOOL" else _ALIGNMENTS.get(of.base, 4)
+
+
+def bits_of(of: Type, structures: dict[str, Structure], place: str = "", at: int = 0) -> Iterator[tuple[str, int]]:
+    """The BOOLs in a structure, each with the byte that it is the lowest bit of."""
+    structure = structures.get(key(of.base))
+    if structure is None:
+        if of == Type("BOOL"):
+            yield place, at
+        return
+    if of.dim is not None:
+        for k in range(of.dim):
+            yield from bits_of(Type(of.base), structures, f"{place}[{k}]", at + k * structure.size)
+        return
+    for name, inner in structure.members:
+        at = rounded(at, alignment(inner))
+        yield from bits_of(inner, structures, f"{place}.{name}", at)
+        at += size_of(inner, structures)
+
+
+def overlap(one: str, other: str) -> bool:
+    """Whether two places of one tag have something in common, as far as can be told: a variable subscript may be any."""
+    for a, b in zip(_PLACE.findall(one), _PLACE.findall(other)):
+        if a != b and "[]" not in (a, b):
+            return False
+    return True
+
+
+_PLACE = re.compile(r"[.]?[^.\[]+|\[[^\]]*\]")
 
 # ---- operand forms
 
@@ -142,6 +174,18 @@ def _step(here: Form, outer: list[Form], tokens: list[str], at: int, text: str) 
     raise NameFault(f"{shown(text)} is no operand form (C9)")
 
 
+def spelled(of: Form, named: Callable[[str], str] = str) -> str:
+    """The text of a form, with other texts for the names of tags."""
+    marks = {"member": ".{}", "bit": ".{}", "element": "[{}]"}
+    steps = (f"[{spelled(what, named)}]" if kind == "indexed" else marks[kind].format(what) for kind, what in of.steps)
+    return named(of.tag) + "".join(steps)
+
+
+def subscripts(text: str) -> list[str]:
+    """The variable subscripts of an operand."""
+    return [spelled(what) for kind, what in form(text).steps if kind == "indexed"]
+
+
 def _small(digits: str) -> int:
     """The number; one of many digits is out of any range."""
     return int(digits.lstrip("0")[:12] or "0")
@@ -165,13 +209,21 @@ class _Link:
 class Scope:
     """The tags that a program sees, its own before the controller's; or those that the controller sees."""
 
-    def __init__(self, structures: dict[str, Structure], outer: Scope | None = None, front: str = "") -> None:
+    def __init__(
+        self, structures: dict[str, Structure], outer: Scope | None = None, front: str = "", lacks: str = "the file has no tag"
+    ) -> None:
         self._structures = structures
         self._front = front
         self._outer = outer
+        # What is said of a name that isn't there.
+        self._lacks = lacks
+        # What is told of each name that is looked up and isn't taken, if anything is.
+        self.told: Callable[[str], None] | None = None
         self._entries: dict[str, Entry] = {}
         # Tags of the file that aren't taken.
         self.left_out: dict[str, str] = {}
+        # How names begin that aren't taken, each with what the list has lines about.
+        self.left_out_fronts: dict[str, str] = {}
         self._known: dict[str, Found] = {}
         # What aliases stand for, or why for nothing.
         self._aliases: dict[str, Found | str] = {}
@@ -265,9 +317,28 @@ class Scope:
             if entry is not None:
                 return scope, entry
             if key(name) in scope.left_out:
+                if scope.told is not None:
+                    scope.told(scope.tag_key(name))
                 raise NameFault(f"tag {shown(name)} isn't taken (C4)")
+            of = next((of for front, of in scope.left_out_fronts.items() if key(name).startswith(front)), None)
+            if of is not None and scope.told is not None:
+                scope.told(of)
             scope = scope._outer
-        raise NameFault(f"the file has no tag {shown(name)} (C4)")
+        raise NameFault(f"{self._lacks} {shown(name)} (C4)")
+
+    def tag_key(self, name: str) -> str:
+        """What the list has lines about."""
+        return f"tag:{self._front}{key(name)}"
+
+    def key_of_left_out(self, text: str) -> str | None:
+        """The key of the tag that a text names, if it is one that isn't taken."""
+        with contextlib.suppress(NameFault):
+            name, scope = form(text).tag, self
+            while scope is not None and key(name) not in scope._entries:
+                if key(name) in scope.left_out:
+                    return scope.tag_key(name)
+                scope = scope._outer
+        return None
 
     def _stepped(self, here: Found, kind: str, what: object, text: str) -> Found:
         of = here.of

@@ -5,12 +5,16 @@ from __future__ import annotations
 from collections.abc import Callable, Iterator
 from dataclasses import dataclass, field
 
+from .definitions import Definitions
+from .expanding import Expander
 from .findings import Findings
 from .model import Export, Program, Task
-from .profile import MAX_PROGRAMS, MAX_PROJECT_INSTRUCTIONS, MAX_TASKS, MAX_WATCHES
-from .profile import INTEGER_BITS, is_name, key, shown
+from .others import Others
+from .profile import INTEGER_BITS, MAX_PROGRAMS, MAX_ROUTINES, MAX_WATCHES, NEW_NAMES, is_name, key, shown
+from .settling import Settling, TakenProgram
+from .summary import summary
 from .tags import Found, NameFault, Scope, Structure, Type
-from .taking_ladder import Ladder, TakenRoutine, take_routines
+from .taking_ladder import Ladder, take_routines
 from .taking_tags import Connection, Tags
 from .taking_tasks import TakenTask, take_tasks
 from .taking_types import take_types
@@ -24,23 +28,22 @@ class Options:
     tick_ms: int = 1
     watch: list[str] = field(default_factory=list)
     watch_all_bools: bool = False
+    # Whether only a rung goes that can't be taken, and not its routine.
+    by_rung: bool = False
 
 
-@dataclass(eq=False)
-class TakenProgram:
-    program: Program
-    where: str
-    main: str
-    routines: list[TakenRoutine]
+@dataclass
+class Taken:
+    """The project without what can't be taken, if anything is left that runs; and what is said of it."""
 
-    def has(self, routine: str) -> bool:
-        return any(key(t.routine.name) == key(routine) for t in self.routines)
+    project: Project | None
+    programs: list[TakenProgram]
+    findings: Findings
+    summary: list[str]
 
 
-def take(export: Export, options: Options) -> tuple[Project | None, Findings]:
-    """The project without what can't be taken, if anything is left that runs; and the list."""
-    findings = Findings()
-    return _Taking(export, options, findings).project(), findings
+def take(export: Export, options: Options) -> Taken:
+    return _Taking(export, options, Findings()).taken()
 
 
 class _Taking:
@@ -51,31 +54,40 @@ class _Taking:
         self._programs: list[TakenProgram] = []
         self._tasks: list[TakenTask] = []
         self._connections: list[Connection] = []
+        # The mnemonics of newer releases that were met.
+        self._met: set[str] = set()
 
-    def project(self) -> Project | None:
-        export, findings = self._export, self._findings
+    def taken(self) -> Taken:
+        export, findings, options = self._export, self._findings, self._options
         controller = export.controller
         if not is_name(controller):
             findings.fault("controller", f"its name {shown(controller) or '(none)'} is none of the profile (P5)")
             controller = "Controller"
-        for name in export.add_ons:
-            findings.fault(f"Add-On Instruction {shown(name)}", "the profile has none")
         for part in export.encoded:
             findings.fault(part, "its content is encoded")
+        for kind, count in export.passed.items():
+            findings.note(f"passed over: {count:,} of {kind}, which no run needs")
         considered = self._considered()
         self._types = take_types(export, self._tag_types(considered), findings)
-        self._tags = Tags(self._types, findings, self._options.tick_ms)
+        self._definitions = Definitions(export, self._types, options.tick_ms, findings, self._met)
+        self._tags = Tags(self._types, findings, options.tick_ms)
         self._tags.take(export, considered)
-        self._take_programs(considered)
-        self._tasks = take_tasks(self._scheduled(considered), self._options.tick_ms, findings)
+        scheduled = self._scheduled(considered)
+        self._take_programs(considered, Others(considered, scheduled, self._tags))
+        self._tasks = take_tasks(scheduled, options.tick_ms, findings)
         self._connections = self._tags.connections()
         self._tie_triggers()
-        self._settle()
-        return self._written(controller) if self._tasks else None
+        Settling(self._programs, self._tasks, self._connections, self._tags, options.by_rung, findings).settle()
+        self._note_expansions()
+        project = self._written(controller) if self._tasks else None
+        return Taken(project, self._programs, findings, summary(export, considered, self._programs, self._tags, findings))
 
     def _considered(self) -> list[Program]:
-        """The programs that are the file's target, or have it inside."""
+        """The programs that are the file's target, or have it inside; without those that are only folders."""
         programs, target = self._export.programs, self._export.target
+        for folder in (p for p in programs if p.is_folder):
+            self._findings.note(f"passed over: program {shown(folder.name)} is only a folder")
+        programs = [p for p in programs if not p.is_folder]
         if target == "Controller":
             return programs
         if target == "Program":
@@ -93,9 +105,7 @@ class _Taking:
 
     # ---- programs
 
-    def _take_programs(self, considered: list[Program]) -> None:
-        values = self._tags.first_values()
-        add_ons = {key(name) for name in self._export.add_ons}
+    def _take_programs(self, considered: list[Program], others: Others) -> None:
         names: set[str] = set()
         for program in considered:
             where = f"program {shown(program.name)}"
@@ -106,10 +116,17 @@ class _Taking:
                 self._tags.drop_program(program.name)
                 self._programs = [p for p in self._programs if key(p.program.name) != key(program.name)]
                 continue
-            scope = self._tags.programs[key(program.name)]
-            ladder = Ladder(scope, values, add_ons, self._options.tick_ms, self._findings)
-            routines = take_routines(program, ladder)
+            routines = take_routines(program, self._ladder(program, others))
             self._programs.append(TakenProgram(program, where, self._main(program), routines))
+
+    def _ladder(self, program: Program, others: Others) -> Ladder:
+        scope, options = self._tags.programs[key(program.name)], self._options
+        names = {key(routine.name) for routine in program.routines}
+        room = MAX_ROUTINES - len(program.routines)
+        expander = Expander(self._definitions, scope, names, room, options.tick_ms, others.of(program))
+        values = self._tags.first_values()
+        add_ons = self._definitions.names
+        return Ladder(scope, values, add_ons, expander, options.tick_ms, options.by_rung, self._findings, self._met)
 
     def _program_fault(self, program: Program, earlier: set[str]) -> str | None:
         if not is_name(program.name):
@@ -177,84 +194,31 @@ class _Taking:
                 return None
         return f"its trigger {shown(trigger)} is no input of a module"
 
-    # ---- what refers to what isn't taken
+    # ---- notes
 
-    def _settle(self) -> None:
-        while self._refuse_calls() or self._refuse_programs() or self._refuse_tasks() or self._refuse_long():
-            pass
-
-    def _refuse_calls(self) -> bool:
-        events = {key(t.task.name) for t in self._tasks if t.kind == "event"}
-        changed = False
+    def _note_expansions(self) -> None:
+        findings = self._findings
+        if self._met:
+            told = ", ".join(f"{name} as {NEW_NAMES[name]}" for name in NEW_NAMES if name in self._met)
+            findings.note(f"the mnemonics of a newer release are taken as what they were: {told}")
+        used: set[str] = set()
         for program in self._programs:
-            for routine in list(program.routines):
-                calls = [(p, n) for p, n in routine.calls if not program.has(n)]
-                tasks = [(p, n) for p, n in routine.tasks if key(n) not in events]
-                faults = [(p, f"JSR: routine {n} isn't taken (C11)") for p, n in calls]
-                faults += [(p, f"EVENT: {n} is no event task that is taken (C15)") for p, n in tasks]
-                for place, why in faults:
-                    self._findings.fault(place, why)
-                if faults:
-                    program.routines.remove(routine)
-                    changed = True
-        return changed
+            for routine, made in ((t, t.made_of) for t in program.routines if t.made_of is not None):
+                caller = next(rung for t in program.routines for rung in t.rungs if key(routine.routine.name) in rung.called())
+                told = f"{made.definition}({shown(made.instance)})"
+                findings.note(f"{caller.place}: {told} is made into routine {routine.routine.name}")
+                used.add(key(made.definition))
+        if used:
+            findings.note("each call of an Add-On Instruction takes the processor steps of its expansion (docs/L5X.md, section 4)")
+            self._note_defaults(used)
 
-    def _refuse_programs(self) -> bool:
-        changed = False
-        for program in list(self._programs):
-            tasks = [t for t in self._tasks for n in t.programs if key(n) == key(program.program.name)]
-            why = None
-            if not program.main:
-                why = "it has no main routine"
-            elif not program.has(program.main):
-                why = f"its main routine {shown(program.main)} isn't taken"
-            elif not tasks:
-                why = "no task that is taken schedules it (P7)"
-            elif len(tasks) > 1:
-                why = "tasks schedule it twice (P7)"
-            if why is not None:
-                self._drop(program, why)
-                changed = True
-        return changed
-
-    def _drop(self, program: TakenProgram, why: str) -> None:
-        self._findings.fault(program.where, why)
-        self._programs.remove(program)
-        self._tags.drop_program(program.program.name)
-
-    def _refuse_tasks(self) -> bool:
-        names = {key(p.program.name) for p in self._programs}
-        changed = False
-        for task in list(self._tasks):
-            gone = [n for n in task.programs if key(n) not in names]
-            task.programs = [n for n in task.programs if key(n) in names]
-            for name in gone if task.programs else ():
-                self._findings.fault(task.where, f"program {shown(name)} isn't taken")
-            changed |= bool(gone)
-            why = None if task.programs else "no program that is taken is scheduled in it"
-            if why is None and self._tasks.index(task) >= MAX_TASKS:
-                why = f"the project has {MAX_TASKS} tasks without it (P11)"
-            if why is not None:
-                self._drop_task(task, why)
-                changed = True
-        return changed
-
-    def _drop_task(self, task: TakenTask, why: str) -> None:
-        self._findings.fault(task.where, why)
-        self._tasks.remove(task)
-        for connection in self._connections:
-            if connection.trigger is not None and key(connection.trigger) == key(task.task.name):
-                connection.trigger = None
-
-    def _refuse_long(self) -> bool:
-        count = 0
-        for program in self._programs:
-            count += sum(routine.count for routine in program.routines)
-            if count > MAX_PROJECT_INSTRUCTIONS:
-                why = f"the project has over {MAX_PROJECT_INSTRUCTIONS:,} instructions with it (P11)"
-                self._drop(program, why)
-                return True
-        return False
+    def _note_defaults(self, used: set[str]) -> None:
+        """Whose local tags begin with the definition's values."""
+        for name in sorted(used):
+            add_on = self._export.add_on_of[name]
+            if any(key(tag.name) not in add_on.told for tag in add_on.local_tags):
+                why = "the file tells no others in decorated data"
+                self._findings.note(f"local tags of {shown(add_on.name)} begin with the values of its definition: {why}")
 
     # ---- watched places
 
@@ -324,7 +288,7 @@ class _Taking:
 
     def _program_object(self, program: TakenProgram) -> dict[str, object]:
         name = program.program.name
-        routines = [{"name": t.routine.name, "rungs": t.rungs} for t in program.routines]
+        routines = [{"name": t.routine.name, "rungs": [rung.text for rung in t.rungs]} for t in program.routines]
         tags = self._tag_objects(self._tags.programs[key(name)])
         return {"name": name, "main": program.main, **({"tags": tags} if tags else {}), "routines": routines}
 

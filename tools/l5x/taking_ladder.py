@@ -1,42 +1,77 @@
-"""Which routines a project can have: each whole, or not at all."""
+"""Which routines a project can have: each whole, or without the rungs that it can't have."""
 
 from __future__ import annotations
 
+from collections.abc import Iterable
 from dataclasses import dataclass, field
 
+from .calls import CallFault
 from .checking import layout_note, operand_faults, times_named
+from .expanding import Expander, Made
 from .findings import Findings
+from .ladder_text import Unknown, label_faults, text_of, with_blanks
 from .model import Program, Routine, Rung
-from .profile import BLANK, MAX_ROUTINE_INSTRUCTIONS, MAX_ROUTINES, MAX_RUNG_BYTES, MAX_RUNGS, OPERANDS
-from .profile import decimal, is_name, key, shown
-from .rungs import Instruction, RungFault, instructions, unknown_instructions, unknown_told, without_leftovers
-from .tags import NameFault, Scope
+from .profile import MAX_ROUTINE_INSTRUCTIONS, MAX_ROUTINES, MAX_RUNGS, key, shown
+from .profile import is_name
+from .rungs import Element, Instruction, RungFault, elements, instructions, names_called, unknown_told
+from .tags import Scope
+from .taking_types import type_key
+
+EMPTY_RUNG = "NOP();"
+# What other rungs hang on.
+_BINDING = ("MCR", "UID", "UIE", "SBR", "RET", "JMP", "LBL", "TND")
+
+
+@dataclass(eq=False)
+class TakenRung:
+    place: str
+    text: str
+    found: list[Element]
+    is_left_out: bool = False
+
+    @property
+    def instructions(self) -> list[Instruction]:
+        return instructions(self.found)
+
+    def called(self) -> set[str]:
+        return {key(i.texts[0]) for i in self.instructions if i.op == "JSR"}
 
 
 @dataclass(eq=False)
 class TakenRoutine:
     routine: Routine
     where: str
-    rungs: list[str] = field(default_factory=list)
-    count: int = 0
-    # The routines and the event tasks that it names, each with the rung that does.
-    calls: list[tuple[str, str]] = field(default_factory=list)
-    tasks: list[tuple[str, str]] = field(default_factory=list)
+    rungs: list[TakenRung] = field(default_factory=list)
+    # Of a routine that a call of an Add-On Instruction is expanded into, what it was.
+    made_of: Made | None = None
+
+    @property
+    def count(self) -> int:
+        return sum(len(rung.instructions) for rung in self.rungs)
+
+    def called(self) -> set[str]:
+        return {name for rung in self.rungs for name in rung.called()}
 
 
 @dataclass(eq=False)
 class Ladder:
-    """What rungs are judged against."""
+    """What the rungs of a program are judged against."""
 
     scope: Scope
     values: dict[str, int]
-    add_ons: set[str]
+    # The names of Add-On Instructions as they are spelled, by these as compared.
+    add_ons: dict[str, str]
+    expander: Expander
     tick_ms: int
+    # Whether only a rung goes that can't be taken.
+    by_rung: bool
     findings: Findings
+    # The mnemonics of newer releases that were met.
+    met: set[str]
 
 
 def take_routines(program: Program, ladder: Ladder) -> list[TakenRoutine]:
-    """The routines without a fault of their own; whom they call is judged later."""
+    """The routines without a fault of their own, and then those that calls are expanded into; whom they call is judged later."""
     taken: list[TakenRoutine] = []
     names: set[str] = set()
     for routine in program.routines:
@@ -52,7 +87,13 @@ def take_routines(program: Program, ladder: Ladder) -> list[TakenRoutine]:
         found = _Routine(routine, where, ladder).taken()
         if found is not None:
             taken.append(found)
-    return taken
+    return taken + [_of_made(made, program) for made in ladder.expander.made.values()]
+
+
+def _of_made(made: Made, program: Program) -> TakenRoutine:
+    where = f"program {shown(program.name)} routine {made.routine.name}"
+    rungs = [TakenRung(f"{where} rung {k}", text, found) for k, (text, found) in enumerate(made.rungs)]
+    return TakenRoutine(made.routine, where, rungs, made)
 
 
 def _routine_fault(routine: Routine, program: Program, earlier: set[str]) -> str | None:
@@ -73,110 +114,107 @@ def _routine_fault(routine: Routine, program: Program, earlier: set[str]) -> str
     return None
 
 
+def refuse(rung: TakenRung, why: str, findings: Findings) -> None:
+    """Lists the rung, and leaves an empty one in its place."""
+    findings.fault(rung.place, why)
+    _note_bound(rung.place, (i.op for i in rung.instructions), findings)
+    rung.text, rung.found, rung.is_left_out = EMPTY_RUNG, elements(EMPTY_RUNG), True
+
+
+def _note_bound(place: str, names: Iterable[str], findings: Findings) -> None:
+    bound = dict.fromkeys(name.upper() for name in names if name.upper() in _BINDING)
+    if bound:
+        findings.note(f"{place}: {', '.join(bound)} goes with it, on which other rungs hang")
+
+
+def refuse_labels(routine: TakenRoutine, by_rung: bool, findings: Findings) -> bool:
+    """Lists what is wrong with labels; whether something was. Without a rung others may lack a label."""
+    met = False
+    while True:
+        faults = label_faults([rung.instructions for rung in routine.rungs])
+        for number, why in faults:
+            if by_rung:
+                refuse(routine.rungs[number], why, findings)
+            else:
+                findings.fault(routine.rungs[number].place, why)
+        met |= bool(faults)
+        if not (faults and by_rung):
+            return met
+
+
 class _Routine:
     def __init__(self, routine: Routine, where: str, ladder: Ladder) -> None:
         self._ladder = ladder
+        self._findings = ladder.findings
         self._found = TakenRoutine(routine, where)
-        self._parsed: list[tuple[str, list[Instruction]]] = []
         self._is_whole = True
 
     def taken(self) -> TakenRoutine | None:
+        ladder, before = self._ladder, dict(self._ladder.expander.made)
         for rung in self._found.routine.rungs:
-            place = f"{self._found.where} rung {shown(rung.number, 12)}"
-            try:
-                self._read(rung, place)
-            except RungFault as fault:
-                self._fault(place, str(fault))
+            self._take(rung, f"{self._found.where} rung {shown(rung.number, 12)}")
         if self._is_whole:
-            self._judge_labels()
+            self._is_whole = not refuse_labels(self._found, ladder.by_rung, ladder.findings) or ladder.by_rung
+        if self._is_whole:
             self._judge_length()
+        if not self._is_whole:
+            ladder.expander.made = before
         return self._found if self._is_whole else None
 
-    def _fault(self, place: str, why: str) -> None:
-        self._is_whole = False
-        self._ladder.findings.fault(place, why)
-
-    def _read(self, rung: Rung, place: str) -> None:
-        if rung.kind != "N":
-            raise RungFault(f"a rung of the type {shown(rung.kind, 12)}, of an edit that isn't finished")
-        if rung.is_disabled:
-            raise RungFault("a disabled rung")
-        if rung.text is None:
-            raise RungFault("it has no text")
-        text = without_leftovers(rung.text)
-        if len(text) > MAX_RUNG_BYTES:
-            raise RungFault(f"its text has more than {MAX_RUNG_BYTES:,} bytes (P5)")
-        unknown = unknown_instructions(text)
-        for name in unknown:
-            self._fault(place, unknown_told(name, self._ladder.add_ons))
-        if unknown:
-            return
-        found = instructions(text)
-        text = self._with_blanks(text, found)
-        for instruction in found:
-            self._judge(instruction, place)
-        self._found.rungs.append(text)
-        self._parsed.append((place, found))
-
-    def _with_blanks(self, text: str, found: list[Instruction]) -> str:
-        """The text with `?` for PRE and ACC where their numbers stand, if the tag has the same."""
-        for instruction in reversed(found):
-            if BLANK not in OPERANDS[instruction.op] or len(instruction.texts) != 3:
-                continue
-            for k, member in ((2, "ACC"), (1, "PRE")):
-                number = decimal(instruction.texts[k])
-                if number is None:
-                    continue
-                if number != self._value_of(instruction.texts[0], member):
-                    raise RungFault(f"{instruction.op}: {member} {number} isn't the value of the tag; `?` is taken")
-                at = instruction.places[k]
-                text = text[:at] + "?" + text[at + len(instruction.texts[k]) :]
-                instruction.texts[k] = "?"
-        return text
-
-    def _value_of(self, tag: str, member: str) -> int | None:
-        """The first value of a timer's or a counter's PRE or ACC, in milliseconds."""
+    def _take(self, rung: Rung, place: str) -> None:
+        faults: list[str] = []
+        before = dict(self._ladder.expander.made)
         try:
-            found = self._ladder.scope.found(f"{tag}.{member}", fixed=True)
-        except NameFault:
-            return None
-        return self._ladder.values.get(found.place, 0)
-
-    def _judge(self, instruction: Instruction, place: str) -> None:
-        faults = operand_faults(instruction, self._ladder.scope)
+            text, found = self._read(rung, place)
+            faults = self._faults(found, place)
+            if not faults:
+                self._found.rungs.append(TakenRung(place, text, found))
+                return
+        except Unknown as unknown:
+            for name in unknown.args[0]:
+                self._findings.unknown_at(place, name.upper(), unknown_told(name))
+        except (RungFault, CallFault) as fault:
+            faults = [str(fault)]
         for why in faults:
-            self._fault(place, why)
-        note = None if faults else layout_note(instruction, self._ladder.scope)
-        if note is not None:
-            self._ladder.findings.note(f"{place}: {note}")
-        if self._ladder.tick_ms != 1:
-            for text in times_named(instruction, self._ladder.scope):
-                self._fault(place, f"{shown(text)} is in milliseconds, and a tick has {self._ladder.tick_ms}")
-        if instruction.op == "JSR" and instruction.texts:
-            self._found.calls.append((place, instruction.texts[0]))
-        if instruction.op == "EVENT" and instruction.texts:
-            self._found.tasks.append((place, instruction.texts[0]))
+            self._findings.fault(place, why)
+        self._ladder.expander.made = before
+        if self._ladder.by_rung:
+            _note_bound(place, names_called(rung.text or ""), self._findings)
+            self._found.rungs.append(TakenRung(place, EMPTY_RUNG, elements(EMPTY_RUNG), True))
+        else:
+            self._is_whole = False
 
-    def _judge_labels(self) -> None:
-        labels: set[str] = set()
-        for number, (place, found) in enumerate(self._parsed):
-            for instruction in found:
-                if instruction.op == "SBR" and not (number == 0 and instruction.leads):
-                    self._fault(place, "SBR isn't the first element of its routine (C17)")
-                if instruction.op == "LBL":
-                    name = instruction.texts[0]
-                    if not instruction.leads:
-                        self._fault(place, f"LBL {name} isn't the first element of its rung (C14)")
-                    if key(name) in labels:
-                        self._fault(place, f"label {name} stands twice (C13)")
-                    labels.add(key(name))
-        for place, found in self._parsed:
-            for instruction in found:
-                if instruction.op == "JMP" and key(instruction.texts[0]) not in labels:
-                    self._fault(place, f"JMP to {instruction.texts[0]}, and no such label (C12)")
+    def _read(self, rung: Rung, place: str) -> tuple[str, list[Element]]:
+        """The rung as the project has it, with its calls expanded."""
+        ladder = self._ladder
+        text = text_of(rung, ladder.add_ons, ladder.met)
+        text, found = with_blanks(text, ladder.add_ons, ladder.scope, ladder.values)
+        calls = [i for i in instructions(found) if i.is_call]
+        if calls:
+            try:
+                text = ladder.expander.expanded(text, found, self._found.routine.name)
+            except CallFault:
+                for call in calls:
+                    ladder.findings.named(type_key(call.op))
+                    ladder.findings.unknown.setdefault(ladder.add_ons[call.op], []).append(place)
+                raise
+            found = elements(text)
+        return text, found
+
+    def _faults(self, found: list[Element], place: str) -> list[str]:
+        faults: list[str] = []
+        for instruction in instructions(found):
+            faults += (mine := operand_faults(instruction, self._ladder.scope))
+            note = None if mine else layout_note(instruction, self._ladder.scope)
+            if note is not None:
+                self._findings.note(f"{place}: {note}")
+            if self._ladder.tick_ms != 1:
+                for text in times_named(instruction, self._ladder.scope):
+                    faults.append(f"{shown(text)} is in milliseconds, and a tick has {self._ladder.tick_ms}")
+        return faults
 
     def _judge_length(self) -> None:
-        self._found.count = sum(len(found) for _, found in self._parsed)
         if self._found.count > MAX_ROUTINE_INSTRUCTIONS:
             why = f"it has {self._found.count:,} instructions; it may have {MAX_ROUTINE_INSTRUCTIONS:,} (C16)"
-            self._fault(self._found.where, why)
+            self._findings.fault(self._found.where, why)
+            self._is_whole = False

@@ -2,17 +2,21 @@
 
 from __future__ import annotations
 
+import itertools
 import re
 from dataclasses import dataclass
 
+from .add_on_values import default_values
 from .findings import Findings
-from .model import Export, Program, Tag
+from .model import AddOn, Export, Program, Tag
 from .profile import INTEGER_BITS, MAX_CONNECTION_BYTES, MAX_CONNECTIONS, MAX_IMAGE_BYTES, MAX_NAME_BYTES
 from .profile import MAX_TAGS, MAX_VALUES, is_name, is_tag_name, key, shown, whole
-from .tags import Entry, Found, NameFault, Scope, Type, rounded, size_of
-from .taking_types import TypeFault, Types
+from .tags import Entry, Found, NameFault, Scope, Type, bits_of, rounded, size_of
+from .taking_types import TypeFault, Types, type_key
 
-_KINDS = {"Produced": "a produced tag", "Consumed": "a consumed tag"}
+_CONNECTED = {"Produced": "produced", "Consumed": "consumed"}
+# So many BOOLs of a module's tag are told one by one.
+_TOLD_BITS = 64
 
 
 @dataclass(eq=False)
@@ -43,11 +47,15 @@ class Tags:
         self._types = types
         self._findings = findings
         self._tick_ms = tick_ms
+        self._add_ons: dict[str, AddOn] = {}
 
     def take(self, export: Export, programs: list[Program]) -> None:
+        self._add_ons = export.add_on_of
         for module in export.modules:
+            of = f"module:{key(module.name)}"
             for fault in module.faults:
-                self._findings.fault(f"module {shown(module.name)}", fault)
+                self._findings.spare(of, f"module {shown(module.name)}", fault)
+                self.controller.left_out_fronts[key(module.front)] = of
             if module.configuration is not None:
                 self.controller.left_out[key(module.configuration)] = "a configuration tag"
             self._declare(module.tags, self.controller, f"module {shown(module.name)} tag", "")
@@ -59,6 +67,10 @@ class Tags:
             where = f"program {shown(program.name)} tag"
             self._declare(program.tags, scope, where, f"Program:{program.name}.")
         self._settle()
+        for scope in [self.controller, *self.programs.values()]:
+            scope.told = self._findings.named
+        self._note_connected()
+        self._note_bits()
 
     def connections(self) -> list[Connection]:
         """One for each module's tag that is taken, named by it."""
@@ -103,7 +115,7 @@ class Tags:
                     raise TypeFault("its scope has the name twice (G2)")
                 of = self._judged(tag, scope is self.controller)
             except TypeFault as fault:
-                self._findings.fault(place, str(fault))
+                self._findings.spare(scope.tag_key(tag.name), place, str(fault), [type_key(tag.type)])
                 scope.forget(tag.name, str(fault))
                 continue
             scope.declare(Entry(tag.name, of, tag.alias_for or ""))
@@ -117,15 +129,15 @@ class Tags:
         """The type of a tag, or none of an alias; why it can't be taken."""
         if not (is_tag_name(tag.name) if is_controller else is_name(tag.name)):
             raise TypeFault("its name is none of the profile (G1)")
-        if tag.kind in _KINDS:
-            raise TypeFault(_KINDS[tag.kind])
+        if tag.kind in _CONNECTED and not is_controller:
+            raise TypeFault(f"a {_CONNECTED[tag.kind]} tag of a program")
         if tag.usage in ("Input", "Output", "InOut"):
             raise TypeFault(f"a parameter of its program, {tag.usage}")
         if tag.alias_for is not None:
             return None
-        if tag.kind != "Base":
+        if tag.kind != "Base" and tag.kind not in _CONNECTED:
             raise TypeFault(f"a tag of the kind {shown(tag.kind, 30)}")
-        if tag.direction is not None and not tag.type:
+        if tag.is_module and not tag.type:
             return _words(tag.size)
         of = self._types.of(tag.type, tag.dimensions)
         if tag.fault is not None:
@@ -178,7 +190,8 @@ class Tags:
 
     def _refuse(self, refused: list[tuple[TakenTag, str]]) -> None:
         for taken, why in refused:
-            self._findings.fault(taken.where, why)
+            target = taken.scope.key_of_left_out(taken.tag.alias_for) if taken.tag.alias_for else None
+            self._findings.spare(taken.scope.tag_key(taken.tag.name), taken.where, why, [target] if target else [])
             taken.scope.forget(taken.tag.name, why)
         gone = {id(taken) for taken, _ in refused}
         self.taken = [taken for taken in self.taken if id(taken) not in gone]
@@ -190,7 +203,10 @@ class Tags:
     def _values(self, taken: TakenTag) -> list[tuple[str, int]]:
         """The initial values of a tag; NameFault where one has no place."""
         pairs: list[tuple[str, int]] = []
-        for value in taken.tag.values if taken.of is not None else ():
+        if taken.of is None:
+            return pairs
+        defaults = default_values(taken.tag, taken.of, self._add_ons, self._types)
+        for value in [*taken.tag.values, *itertools.islice(defaults, MAX_VALUES + 1)]:
             text = taken.tag.name + value.place
             try:
                 found = taken.scope.place(text)
@@ -211,13 +227,39 @@ class Tags:
         return number // self._tick_ms
 
     def _is_hidden(self, taken: TakenTag, place: str) -> bool:
-        """Whether a value is that of a host of bits, which the structure has no member for."""
-        front, _, name = place.rpartition(".")
-        try:
-            found = taken.scope.found(taken.tag.name + front, fixed=True)
-        except NameFault:
-            return False
-        return key(name) in self._types.hidden.get(key(found.of.base), set())
+        """Whether a value is that of a host of bits, which the structure has no member for, or in a member that isn't taken."""
+        parts = re.split(r"(?=\.)", place)
+        for count in range(1, len(parts)):
+            try:
+                found = taken.scope.place(taken.tag.name + "".join(parts[:count]))
+            except NameFault:
+                return False
+            name = re.split(r"[.\[]", parts[count])[1]
+            if key(name) in self._types.hidden.get(key(found.of.base), set()):
+                return True
+        return False
+
+    # ---- notes
+
+    def _note_connected(self) -> None:
+        for taken in self.taken:
+            if taken.tag.kind in _CONNECTED:
+                way = {"out": "an output", "in": "an input"}[taken.tag.direction or "in"]
+                self._findings.note(f"{taken.where}: a {_CONNECTED[taken.tag.kind]} tag becomes the tag of {way} for `link`")
+
+    def _note_bits(self) -> None:
+        """Where BOOLs lie whose place among a module's words the file doesn't tell."""
+        for taken in self.taken:
+            if taken.of is None or not taken.tag.is_module or key(taken.of.base) not in self._types.shapes:
+                continue
+            told = [
+                f"{place[1:]} {at // 4}.{at % 4 * 8}"
+                for place, at in itertools.islice(bits_of(taken.of, self._types.structures), _TOLD_BITS + 1)
+            ]
+            more = ", .." if len(told) > _TOLD_BITS else ""
+            if told:
+                listed = ", ".join(told[:_TOLD_BITS]) + more
+                self._findings.note(f"{taken.where}: the file tells no words for its BOOLs, so they are ours, as word.bit: {listed}")
 
 
 def _judge_value(text: str, number: int, found: Found) -> None:

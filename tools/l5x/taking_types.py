@@ -7,7 +7,7 @@ from collections.abc import Iterable
 from dataclasses import dataclass, field
 
 from .findings import Findings
-from .model import DataType, Export, Member
+from .model import AddOn, DataType, Export, Member
 from .profile import MAX_ELEMENTS, MAX_MEMBERS, MAX_NAME_BYTES, MAX_STRUCTURE_BYTES, MAX_TYPES
 from .profile import is_name, key, shown, whole
 from .tags import SIZES, Structure, Type, structure_size
@@ -23,7 +23,12 @@ class Types:
 
     structures: dict[str, Structure] = field(default_factory=dict)
     refused: dict[str, str] = field(default_factory=dict)
+    # What the values of each have, and the project's structure hasn't.
     hidden: dict[str, set[str]] = field(default_factory=dict)
+    # Those that are known by a module's values alone.
+    shapes: set[str] = field(default_factory=set)
+    # Those of Add-On Instructions, and why some of their members aren't there.
+    add_ons: dict[str, dict[str, str]] = field(default_factory=dict)
     # In the order of the file.
     order: list[str] = field(default_factory=list)
 
@@ -41,6 +46,21 @@ class Types:
         return [self.structures[name] for name in self.order if name in self.structures]
 
 
+def type_key(name: str) -> str:
+    """What the list has lines about."""
+    return f"type:{key(name)}"
+
+
+def data_type_of(add_on: AddOn) -> DataType:
+    """The structure that instances of an Add-On Instruction are."""
+    data_type = DataType(add_on.name, is_own=False, is_add_on=True)
+    for tag in [*add_on.parameters, *add_on.local_tags]:
+        if tag.usage != "InOut":
+            fault = tag.fault if tag.alias_for is None else "an alias"
+            data_type.members.append(Member(tag.name, tag.type, tag.dimensions, fault=fault))
+    return data_type
+
+
 def _dimension(text: str | None) -> int | None:
     if text is None:
         return None
@@ -55,10 +75,11 @@ def _dimension(text: str | None) -> int | None:
 def take_types(export: Export, tag_types: Iterable[str], findings: Findings) -> Types:
     types = Types()
     declared: dict[str, DataType] = {}
-    for data_type in export.types:
+    for data_type in [*export.types, *map(data_type_of, export.add_on_of.values())]:
         name = key(data_type.name)
         if name in declared or data_type.name.upper() in SIZES:
-            findings.fault(f"type {shown(data_type.name)}", "an earlier or a built-in type has its name (Y6)")
+            why = "an earlier or a built-in type has its name (Y6)"
+            findings.spare(type_key(data_type.name), _where(data_type), why)
         else:
             declared[name] = data_type
     for name, shape in export.shapes.items():
@@ -107,6 +128,10 @@ def _inner_first(declared: dict[str, DataType]) -> list[str]:
     return ready
 
 
+def _where(data_type: DataType) -> str:
+    return f"{'Add-On Instruction' if data_type.is_add_on else 'type'} {shown(data_type.name)}"
+
+
 def _take(data_type: DataType, is_cyclic: bool, types: Types, findings: Findings) -> None:
     name = key(data_type.name)
     try:
@@ -117,8 +142,9 @@ def _take(data_type: DataType, is_cyclic: bool, types: Types, findings: Findings
             raise TypeFault(f"the project has {MAX_TYPES} types without it (P11)")
         types.structures[name] = structure
     except TypeFault as fault:
-        if data_type.is_own:
-            findings.fault(f"type {shown(data_type.name)}", str(fault))
+        if data_type.is_own or data_type.is_add_on:
+            because = [type_key(member.type) for member in data_type.members]
+            findings.spare(type_key(data_type.name), _where(data_type), str(fault), because)
             types.refused[name] = f"its type {shown(data_type.name)} isn't taken"
         else:
             types.refused[name] = f"its type {shown(data_type.name)}: {fault}"
@@ -127,10 +153,14 @@ def _take(data_type: DataType, is_cyclic: bool, types: Types, findings: Findings
 def _structure(data_type: DataType, types: Types) -> Structure:
     if data_type.is_string:
         raise TypeFault("a string type")
-    if data_type.is_own and not is_name(data_type.name):
+    is_named = data_type.is_own or data_type.is_add_on
+    if is_named and not is_name(data_type.name):
         raise TypeFault("its name is none of the profile (P5)")
     hosts = {key(member.name) for member in data_type.members if member.is_hidden}
     types.hidden[key(data_type.name)] = hosts
+    if data_type.is_shape:
+        types.shapes.add(key(data_type.name))
+    left_out = types.add_ons.setdefault(key(data_type.name), {}) if data_type.is_add_on else None
     members: list[tuple[str, Type]] = []
     met: set[str] = set()
     for member in data_type.members:
@@ -141,7 +171,14 @@ def _structure(data_type: DataType, types: Types) -> Structure:
         if key(member.name) in met:
             raise TypeFault(f"member {shown(member.name)} stands twice (Y2)")
         met.add(key(member.name))
-        members.append((member.name, _member_type(member, data_type, hosts, types)))
+        try:
+            members.append((member.name, _member_type(member, data_type, hosts, types)))
+        except TypeFault as fault:
+            if left_out is None:
+                raise
+            # What a call needs of it is judged where it is called.
+            left_out[key(member.name)] = str(fault)
+            hosts.add(key(member.name))
     if not 1 <= len(members) <= MAX_MEMBERS:
         raise TypeFault(f"it has {len(members)} members; it may have 1 to {MAX_MEMBERS} (P11)")
     size = structure_size(members, types.structures)
@@ -152,12 +189,12 @@ def _structure(data_type: DataType, types: Types) -> Structure:
 
 def _member_type(member: Member, data_type: DataType, hosts: set[str], types: Types) -> Type:
     where = f"member {shown(member.name)}"
+    if member.fault is not None:
+        raise TypeFault(f"{where}: {member.fault}")
     if key(member.type) == "bit":
         if member.host is None or key(member.host) not in hosts:
             raise TypeFault(f"{where} is a bit of {shown(member.host or 'nothing')}, which isn't hidden")
         return Type("BOOL")
-    if data_type.is_shape and key(member.type) == "bool" and member.dimensions is None:
-        raise TypeFault(f"{where} is a BOOL whose place among the module's words the file doesn't tell")
     try:
         return types.of(member.type, member.dimensions)
     except TypeFault as fault:
@@ -166,7 +203,7 @@ def _member_type(member: Member, data_type: DataType, hosts: set[str], types: Ty
 
 def _type_name(data_type: DataType, types: Types) -> str:
     """Its own name, or one made of it, since the names of modules' types have colons."""
-    if data_type.is_own:
+    if data_type.is_own or data_type.is_add_on:
         return data_type.name
     plain = re.sub(r"_+", "_", re.sub(r"[^A-Za-z0-9]", "_", data_type.name)).strip("_") or "Type"
     if plain[0].isdigit():

@@ -68,6 +68,9 @@ class Documents(unittest.TestCase):
     def test_the_formats(self):
         self.assertGreaterEqual(self.judge("docs/FORMATS.md"), 14)
 
+    def test_the_expansion(self):
+        self.assertEqual(self.judge("docs/L5X.md"), 1)
+
     def test_the_readme_shows_the_example_that_it_runs(self):
         shown = dict(BLOCK.findall(document("README.md")))
         self.assertEqual(json.loads(shown["project"]), json.loads(document("examples/blink/project.json")))

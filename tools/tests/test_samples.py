@@ -2,9 +2,11 @@
 
 import json
 import os
+import re
 import unittest
 
-from l5x_files import SAMPLES, call
+from l5x_files import SAMPLES, TOP, call
+from hammer_parts.plain.judge import answer
 
 # The words of each sample and its status.
 WORDS = {
@@ -15,6 +17,12 @@ WORDS = {
     "tasks": (["--tick-ms", "10", "--watch-all-bools"], 0),
     "packer": (["--leave-out", "--watch", "Boxes,Weight", "--watch-all-bools"], 0),
     "drives": (["--leave-out"], 1),
+    "works": (["--leave-out", "rungs", "--watch", "ToBoxer.Count,Boxes", "--watch-all-bools"], 0),
+    "tally": (["--watch", "T1.EnableIn,T1.EnableOut,T1.Part,Parts,Run"], 0),
+    "valve": (["--watch", "V101.EnableIn,V101.EnableOut,V101.Cmd,V101_Coil,V101_Cycles,V101_Ready"], 0),
+    "recipe": (["--watch", "Now,Later,T_Sweet.PRE,T_Sweet.DN,T_Sour.DN,Done[0],Done[1],Done[2],Done[3],Steps[1].EnableIn"], 0),
+    "twice": (["--watch", "A1.EnableIn,A1.By,A1.Sum"], 0),
+    "newer": (["--watch", "Level,Copy", "--watch-all-bools"], 0),
 }
 
 
@@ -35,6 +43,20 @@ class Samples(unittest.TestCase):
                 self.assertEqual(ended.project, sample(name + ".project.json"))
                 self.assertEqual(ended.status, status)
 
+    def test_the_document_shows_a_sample(self) -> None:
+        with open(os.path.join(TOP, "docs", "L5X.md"), encoding="utf-8") as file:
+            shown = dict(re.findall(r"^```(\w+)\n(.*?)^```$", file.read(), re.M | re.S))
+        self.assertEqual(json.loads(shown["project"]), json.loads(sample("tally.project.json")))
+        self.assertEqual(shown["journal"], sample("tally.journal.txt"))
+        self.assertEqual(shown["report"], sample("tally.report.txt"))
+
+    def test_runs_are_those_of_the_rules(self) -> None:
+        for name in WORDS:
+            if sample(name + ".journal.txt"):
+                with self.subTest(name):
+                    files = [sample(f"{name}.{kind}").encode() for kind in ("project.json", "journal.txt")]
+                    self.assertEqual(answer(["replay"], files), (0, sample(name + ".report.txt")))
+
     def test_all_files_are_samples(self) -> None:
         found = {name.removesuffix(".L5X") for name in os.listdir(SAMPLES) if name.endswith(".L5X")}
         self.assertEqual(found, set(WORDS))
@@ -42,7 +64,7 @@ class Samples(unittest.TestCase):
     def test_without_leave_out_nothing_is_written(self) -> None:
         ended = call([os.path.join(SAMPLES, "packer.L5X")])
         self.assertEqual((ended.status, ended.project), (1, ""))
-        self.assertEqual(ended.lines[-1], "no project: 29 places can't be taken; --leave-out takes the rest")
+        self.assertEqual(ended.lines[-1], "no project: 15 places can't be taken; --leave-out takes the rest")
 
     def test_rungs_are_as_they_were_exported(self) -> None:
         with open(os.path.join(SAMPLES, "line.L5X"), encoding="utf-8") as file:

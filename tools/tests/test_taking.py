@@ -53,6 +53,13 @@ class Taking(unittest.TestCase):
         for line in lines:
             self.assertIn(line, ended.lines)
 
+    def passed_over(self, text: str, *lines: str) -> None:
+        """Nothing that is taken names what these lines are about, so the rest is."""
+        ended = convert(text)
+        self.assertEqual(ended.status, 0, ended.lines)
+        for line in lines:
+            self.assertIn(f"note: passed over: {line}", ended.lines)
+
     def rung_listed(self, rung: str, why: str, **more: str) -> None:
         self.listed(file(rung, **more), f"program P routine Go rung 0: {why}")
 
@@ -61,7 +68,7 @@ class Taking(unittest.TestCase):
     def test_bits_of_a_hidden_host(self) -> None:
         project = self.taken(file("XIC(a.On)NOP();", tag("a", "B"), bits("B")))
         self.assertEqual(project["types"], [{"name": "B", "members": [{"name": "On", "type": "BOOL"}]}])
-        self.listed(file(types=bits("B", "false")), "type B: member On is a bit of Host, which isn't hidden")
+        self.passed_over(file(types=bits("B", "false")), "type B: member On is a bit of Host, which isn't hidden")
 
     def test_a_value_of_a_hidden_host_is_passed_over(self) -> None:
         data = (
@@ -77,17 +84,19 @@ class Taking(unittest.TestCase):
             file("CLR(a.x.y);", tag("a", "A") + tag("q", "Round"), types),
             "type B: member y: type REAL isn't in the profile",
             "type A: member x: its type B isn't taken",
-            "type Round: it has itself inside, or a type that has (Y3)",
             "tag a: its type A isn't taken",
             "program P routine Go rung 0: CLR: tag a isn't taken (C4)",
+            "note: passed over: type Round: it has itself inside, or a type that has (Y3)",
+            "note: passed over: tag q: its type Round isn't taken",
         )
+        self.passed_over(file("NOP();", tag("a", "A"), types), "type B: member y: type REAL isn't in the profile")
 
     def test_aliases(self) -> None:
         tags = tag("d", "DINT", more='Dimensions="4"') + alias("e", "d[2]") + alias("bit", "E.31") + alias("whole", "d")
         project = self.taken(file("XIC(bit)MOV(whole[1],e);", tags))
         self.assertEqual(project["tags"][2], {"name": "bit", "alias": "E.31"})
         wrong = alias("x", "y") + alias("y", "x") + alias("gone", "nothing.0") + alias("i", "d[k]") + tag("k", "DINT")
-        self.listed(
+        self.passed_over(
             file(tags=tags + wrong + alias("over", "d[4]") + alias("odd", "Program:P.x") + alias("after", "gone")),
             "tag x: the aliases of y never end (G7)",
             "tag gone: the file has no tag nothing (C4)",
@@ -95,17 +104,22 @@ class Taking(unittest.TestCase):
             "tag over: d[4]: a subscript out of range (C6)",
             "tag odd: Program:P.x is no operand form (C9)",
         )
+        chain = tag("r", "REAL") + alias("s", "r") + alias("t", "s")
+        self.listed(
+            file("XIC(t)NOP();", chain),
+            "tag r: type REAL isn't in the profile", "tag s: tag r isn't taken (C4)", "tag t: tag r isn't taken (C4)",
+        )  # fmt: skip
 
     def test_long_chains(self) -> None:
         chain = "".join(alias(f"a{k}", f"a{k + 1}") for k in range(4000))
         self.taken(file("XIC(a0)NOP();", chain + tag("a4000", "BOOL")))
         types = "".join(member_type(f"T{k}", ("x", f"T{k + 1}")) for k in range(4000))
         ended = convert(file(types=types))
-        self.assertEqual((ended.status, len(ended.lines)), (1, 4001))
+        self.assertEqual((ended.status, len(ended.lines)), (0, 4001))
         routines = "".join(routine(f"R{k}", f"JSR(R{k + 1},0);") for k in range(63))
         whole = program("P", routine("Go", "JSR(R0,0);") + routines)
         text = content(f"<Programs>{whole}</Programs><Tasks>{task('T', 'P')}</Tasks>")
-        self.assertEqual(len(convert(text).lines), 64 + 3)
+        self.assertEqual(len(convert(text).lines), 64 + 4)
 
     def test_a_programs_own_tag_hides_the_controllers(self) -> None:
         own = program("Q", routine("Go", "MOV(300,n);"), tag("N", "SINT", value("SINT", "16#ff")))
@@ -131,10 +145,10 @@ class Taking(unittest.TestCase):
         tags = (
             tag("x" * 41, "DINT") + tag("g", "DINT", more='Dimensions="2 2"') + tag("b", "BOOL", more='Dimensions="33"')
             + tag("z", "DINT", more='Dimensions="65537"') + tag("h", "DINT", more=f'Dimensions="{"9" * 5000}"')
-            + tag("v", "SINT", value("SINT", "130")) + '<Tag Name="p" TagType="Produced" DataType="DINT"/>'
+            + tag("v", "SINT", value("SINT", "130"))
             + '<Tag Name="l" TagType="Base" DataType="DINT"><Data Format="L5K">[1]</Data></Tag><Tag/>'
         )  # fmt: skip
-        self.listed(
+        self.passed_over(
             file(tags=tags),
             f"tag {'x' * 41}: its name is none of the profile (G1)",
             "tag g: an array of several dimensions, 2 2",
@@ -142,7 +156,6 @@ class Taking(unittest.TestCase):
             "tag z: an array of 65537 elements; it may have 1 to 65,536",
             "tag h: an array of 9999999999999999999999999999.. elements; it may have 1 to 65,536",
             "tag v: its value 130 is none of a SINT, at v",
-            "tag p: a produced tag",
             "tag l: its values aren't there as decorated data",
             "tag : its name is none of the profile (G1)",
         )
@@ -159,13 +172,13 @@ class Taking(unittest.TestCase):
 
     def test_limits_of_tags(self) -> None:
         many = "".join(tag(f"t{k}", "DINT") for k in range(4097))
-        self.listed(file(tags=many), "tag t4096: its scope has 4,096 tags without it (P11)")
+        self.passed_over(file(tags=many), "tag t4096: its scope has 4,096 tags without it (P11)")
         large = "".join(tag(f"t{k}", "DINT", more='Dimensions="60000"') for k in range(2))
-        self.listed(file(tags=large), "tag t1: all tags have over 262,144 bytes with it (G8)")
+        self.listed(file("CLR(t1[0]);", tags=large), "tag t1: all tags have over 262,144 bytes with it (G8)")
         elements = "".join(f'<Element Index="[{k}]" Value="1"/>' for k in range(10_001))
         array = f'<Array DataType="SINT" Dimensions="10001">{elements}</Array>'
         values = tag("a", "SINT", array, 'Dimensions="10001"')
-        self.listed(file(tags=values), "tag a: there are over 10,000 initial values with its own (P11)")
+        self.passed_over(file(tags=values), "tag a: there are over 10,000 initial values with its own (P11)")
 
     # ---- modules
 
@@ -179,9 +192,14 @@ class Taking(unittest.TestCase):
         self.rung_listed("XIC(Local:3:C.On)NOP();", "XIC: tag Local:3:C isn't taken (C4)", modules=with_input)
         real = INPUT.replace("DINT", "REAL")
         where = "module In tag Local:3:I: its type AB:W:I:0: member Data: type REAL isn't in the profile"
-        self.listed(file(modules=module("In", "3", real)), where)
-        self.listed(file(modules=module("In", "3", "<InputTag/>")),
-                    "module In tag Local:3:I: the file tells neither its structure nor its size")  # fmt: skip
+        self.passed_over(file(modules=module("In", "3", real)), where)
+        self.listed(file("XIC(Local:3:I.Data.0)NOP();", modules=module("In", "3", real)), where)
+        self.passed_over(file(modules=module("In", "3", "<InputTag/>")),
+                         "module In tag Local:3:I: the file tells neither its structure nor its size")  # fmt: skip
+        rack = module("In", "3", "").replace("<Connection >", "<RackConnection>").replace("</Connection>", "</RackConnection>")
+        where = "module In: a rack-optimized connection, whose words are those of its rack"
+        self.passed_over(file(modules=rack), where)
+        self.listed(file("XIC(Local:3:I.0)NOP();", modules=rack), where)
 
     def test_triggers(self) -> None:
         event = '<EventInfo EventTrigger="{0}" EventTag="{1}" EnableTimeout="{2}"/>'
@@ -234,7 +252,7 @@ class Taking(unittest.TestCase):
         ended = convert(file("MOV(t.PRE,n);", tag("t", "TIMER") + tag("n", "DINT")), "--tick-ms", "4")
         self.assertIn("program P routine Go rung 0: t.PRE is in milliseconds, and a tick has 4", ended.lines)
         ended = convert(periodic("20"), "--tick-ms", "20")
-        self.assertIn("tag t: t.PRE is 50 ms, no whole number of ticks of 20 ms", ended.lines)
+        self.assertIn("note: passed over: tag t: t.PRE is 50 ms, no whole number of ticks of 20 ms", ended.lines)
 
     def test_programs_and_tasks_that_are_not_taken(self) -> None:
         programs = program("Idle", routine("Go")) + program("Off", routine("Go"), more='Disabled="true"')
@@ -280,7 +298,6 @@ class Taking(unittest.TestCase):
             "XIC(b)LBL(On);": "LBL On isn't the first element of its rung (C14)",
             "NOP()SBR(n);": "SBR isn't the first element of its routine (C17)",
             "I: NOP();": "it begins with I:, as a rung of an edit that isn't finished",
-            "EQ(n,1)NOP();": "EQ isn't in the table of instructions (it has EQU)",
             "My_AOI1(x)NOP();": "My_AOI1 isn't in the table of instructions",
             "TON(t,7,0);": "TON: PRE 7 isn't the value of the tag; `?` is taken",
             "NOP(); NOP();": "something follows the ; (T1 7)",
@@ -323,7 +340,7 @@ class Taking(unittest.TestCase):
         ended = convert(file(tags=tags), "--watch", "n, n.3", "--watch-all-bools")
         self.assertEqual(json.loads(ended.project)["watch"][:3], ["n", "n.3", "b0"])
         self.assertEqual(len(json.loads(ended.project)["watch"]), 256)
-        self.assertEqual(ended.lines, ["note: of 302 watched places the first 256 are taken"])
+        self.assertEqual(ended.lines[:-1], ["note: of 302 watched places the first 256 are taken"])
         ended = convert(file(tags=tags), "--watch", "m,Program:Q.x")
         self.assertIn("watch m: the file has no tag m (C4)", ended.lines)
         self.assertIn("watch Program:Q.x: program Q isn't taken", ended.lines)
@@ -340,12 +357,12 @@ class Taking(unittest.TestCase):
                     script.write(f'#!/bin/sh\n[ "$1" = check ] && grep -q Go "$2" && echo "{line}" && exit {status}\n')
                 os.chmod(logix, stat.S_IRWXU)
                 ended = convert(file(), logix=logix)
-                self.assertEqual((ended.status, ended.lines[0]), (1 if status else 0, f"check: {line.strip()}"))
+                self.assertEqual((ended.status, ended.lines[1]), (1 if status else 0, f"check: {line.strip()}"))
                 self.assertEqual(ended.project == "", status != 0)
 
     def test_a_list_has_a_line_for_each_place(self) -> None:
         ended = convert(file(tags=tag("a&#10;b&#9;é", "DINT")))
-        self.assertEqual(ended.lines[0], "tag a?b?\\xe9: its name is none of the profile (G1)")
+        self.assertEqual(ended.lines[0], "note: passed over: tag a?b?\\xe9: its name is none of the profile (G1)")
 
 
 if __name__ == "__main__":

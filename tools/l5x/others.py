@@ -1,0 +1,57 @@
+"""Which tags may be changed while a program runs: by programs of other tasks, and by modules."""
+
+from __future__ import annotations
+
+import re
+
+from .calls import MayChange
+from .model import Program, Task
+from .profile import key, shown
+from .tags import Found, NameFault
+from .taking_tags import Tags
+
+_WORD = re.compile(r"[A-Za-z_][A-Za-z0-9_:]*")
+
+
+class Others:
+    """Goes by the names that rungs have: whoever names a tag, or an alias of a part of it, may change it."""
+
+    def __init__(self, programs: list[Program], tasks: list[Task], tags: Tags) -> None:
+        self._programs = programs
+        self._task_of = {key(name): key(task.name) for task in tasks for name in task.programs}
+        self._names: dict[str, set[str]] = {}
+        # The names by which a tag of the controller goes.
+        self._aliases: dict[str, set[str]] = {}
+        self._changing: set[str] = set()
+        for taken in tags.taken:
+            if taken.of is not None:
+                if taken.tag.direction == "in":
+                    self._changing.add(key(taken.tag.name))
+                continue
+            try:
+                found = taken.scope.found(taken.tag.name, fixed=True)
+            except NameFault:
+                continue
+            self._aliases.setdefault(found.tag, set()).add(key(taken.tag.name))
+
+    def of(self, program: Program) -> MayChange:
+        task = self._task_of.get(key(program.name))
+        others = [p for p in self._programs if self._task_of.get(key(p.name)) != task]
+
+        def may_change(found: Found) -> str | None:
+            if found.tag.startswith("program:"):
+                return None
+            if found.tag in self._changing:
+                return f"{shown(found.tag)} comes in from outside"
+            names = {found.tag} | self._aliases.get(found.tag, set())
+            by = next((other for other in others if names & self._named(other)), None)
+            return None if by is None else f"program {shown(by.name)} of another task names {shown(found.tag)}"
+
+        return may_change
+
+    def _named(self, program: Program) -> set[str]:
+        """All words in the rungs of a program."""
+        if key(program.name) not in self._names:
+            texts = (rung.text or "" for routine in program.routines for rung in routine.rungs)
+            self._names[key(program.name)] = {key(word) for text in texts for word in _WORD.findall(text)}
+        return self._names[key(program.name)]
