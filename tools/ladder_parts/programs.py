@@ -6,7 +6,7 @@ from dataclasses import dataclass
 
 TOOLS = os.path.dirname(os.path.dirname(os.path.realpath(__file__)))
 PACKAGED = os.path.join(TOOLS, "..", "..", "..", "libexec", "logix")  # of a package's share/logix/tools
-ASK = '. "$top/tools/programs.sh"; for name in "$@"; do is_proved "$name" && program_file "$name" || echo; done'
+ASK = '. "$top/tools/programs.sh"; is_proved "$1" && program_file "$1"'
 
 
 @dataclass(frozen=True)
@@ -21,9 +21,10 @@ def find(*names):
     """The programs of these names."""
     if os.path.isdir(PACKAGED):
         return [Program((os.path.join(PACKAGED, name),), True) for name in names]
-    top = os.path.dirname(TOOLS)
-    told = subprocess.run(["bash", "-c", ASK, "bash", *names], env={**os.environ, "top": top}, stdout=subprocess.PIPE, check=True).stdout.decode()
-    return [Program((path,), True) if path else Program((f"{TOOLS}/unproved", name), False) for name, path in zip(names, told.split("\n"))]
+    asked = {**os.environ, "top": os.path.dirname(TOOLS)}
+    asking = [subprocess.Popen(["bash", "-c", ASK, "bash", name], env=asked, stdout=subprocess.PIPE) for name in names]
+    paths = [asked.communicate()[0].decode().strip() for asked in asking]  # (the sums of all sources: all at once)
+    return [Program((path,), True) if path else Program((f"{TOOLS}/unproved", name), False) for name, path in zip(names, paths)]
 
 
 class Ended(Exception):

@@ -11,7 +11,7 @@ import re
 from .journal import OPERATOR
 
 LINES_KEPT = 2_000
-LINES_OF_AN_ANSWER = 60
+LINES_OF_AN_ANSWER = 200
 TREND_KEPT = 4_000
 WINDOW = 65_536  # bytes that are gone over at a time, from the end
 FEW = 8  # so few names are looked for one by one
