@@ -130,7 +130,7 @@ class Judge:
             was = holds
             if due and one.test.holds(values):
                 longest, due = max(longest, place.tick - due[0].tick), []
-        if due and self.story.last.tick > due[0].tick + one.time:
+        if due and self.story.last.tick >= due[0].tick + one.time:
             return self.late(one, due[0])
         note = f"{count} time{'' if count == 1 else 's'}, after {longest} ms at most" if count > len(due) else ""
         if due:

@@ -99,12 +99,12 @@ class Reader:
         if ms == 0:
             raise line.wrong("a pace is at least 1 ms", start)
         line.take(",")
-        at, count = line.at, line.count("a number of scans or steps", 1, MOST_STEPS)
-        word = line.word("'scan' or 'steps'").removesuffix("s")
+        place, count = line.at, line.count("a number of scans or steps", 1, MOST_STEPS)
+        at, word = line.at, line.word("'scan' or 'steps'").removesuffix("s")
         if word not in ("scan", "step"):
             raise line.expected("'scan' or 'steps'", at)
         if word == "scan" and count > MOST_SCANS:
-            raise line.wrong(f"at most {MOST_SCANS} scans", at)
+            raise line.wrong(f"at most {MOST_SCANS} scans", place)
         line.end()
         self.scenario.pace = Pace(ms, count, 0) if word == "scan" else Pace(ms, 0, count)
 
