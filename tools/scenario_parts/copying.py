@@ -103,15 +103,15 @@ def make_copy(project: dict, written: list[str], edits: list[tuple[str, str]]) -
 class Copier:
     def __init__(self, project: dict, places: Places, edits: list[tuple[str, str]]) -> None:
         self.project, self.places, self.edits = project, places, edits
-        self.project.setdefault("connections", [])
+        given = self.project.setdefault("connections", [])
+        self.inputs = {places.resolve(one["tag"]).tag for one in given if one["direction"] == "in"}
         self.bools: list[tuple[int | None, int, str]] = []
         self.notes: list[str] = []
 
     def connect(self, text: str, found: Found) -> None:
         """Sees to it that some input has the place's tag."""
-        for one in self.project["connections"]:
-            if self.places.resolve(one["tag"]).tag == found.tag and one["direction"] == "in":
-                return
+        if found.tag in self.inputs:
+            return
         scope, name, start, end = self.places.tags.spans[found.tag]
         declared = self.declared(scope, name)
         if end - start > MOST_BYTES:

@@ -23,7 +23,6 @@ def parser() -> argparse.ArgumentParser:
     made.add_argument("--report", metavar="FILE", help="write the report")
     made.add_argument("--timeline", metavar="FILE.svg", help="write the report as a drawing")
     made.add_argument("--wave", metavar="FILE.vcd", help="write the report as a wave file")
-    made.add_argument("--coverage", metavar="FILE", help="write how often each instruction was executed; FILE.svg: as a drawing")
     made.add_argument("--project", metavar="FILE", help="try another project, and tell what it changes")
     made.add_argument("--junit", metavar="FILE", help="write what came of each requirement as JUnit has it")
     made.add_argument("--list", action="store_true", help="only write one command for each scenario")
@@ -81,7 +80,7 @@ def run(said: argparse.Namespace, programs: Programs) -> int:
     alone = len(said.paths) == 1 and not os.path.isdir(said.paths[0])
     if said.list:
         return suite.listed(said)
-    if not alone or said.project or said.junit or said.coverage:
+    if not alone or said.project or said.junit:
         return suite.run(said, programs)
     progress = Progress()
     try:

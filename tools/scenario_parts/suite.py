@@ -10,7 +10,7 @@ import sys
 import time
 from dataclasses import dataclass, field
 
-from . import answer, coverage, junit, outputs
+from . import answer, junit, outputs
 from .line import Wrong
 from .playing import Played, Stopped, play
 from .programs import TOOLS, Programs
@@ -31,7 +31,6 @@ class Outcome:
     values: dict[str, int] = field(default_factory=dict)
     title: str = ""
     changes: list[str] = field(default_factory=list)
-    counts: coverage.Counts | None = None
 
 
 def found(paths: list[str]) -> list[str]:
@@ -58,7 +57,7 @@ def run(said: argparse.Namespace, programs: Programs) -> int:
     if not paths:
         print(f"scenario: there is no file NAME{ENDING} below {', '.join(said.paths)}", file=sys.stderr)
         return WRONG
-    for name in ("logix_live", "logix", *(("logix_cover",) if said.coverage else ())):
+    for name in ("logix_live", "logix"):
         programs.path(name)
     began = time.monotonic()
     outcomes = []
@@ -72,8 +71,6 @@ def run(said: argparse.Namespace, programs: Programs) -> int:
     programs.sure()
     if said.junit:
         outputs.put(said.junit, junit.text(outcomes))
-    if said.coverage:
-        coverage.write(said.coverage, [one.counts for one in outcomes if one.counts], programs)
     print(summary(outcomes, time.monotonic() - began))
     return max(one.status for one in outcomes)
 
@@ -81,7 +78,7 @@ def run(said: argparse.Namespace, programs: Programs) -> int:
 def played(paths: list[str], said: argparse.Namespace, programs: Programs):
     """The outcomes in order, of as many at a time as there are processors."""
     jobs = min(said.jobs if said.jobs > 0 else os.cpu_count() or 1, len(paths))
-    work = [(path, said.project, said.seconds, said.programs, bool(said.coverage)) for path in paths]
+    work = [(path, said.project, said.seconds, said.programs) for path in paths]
     if jobs == 1:
         yield from map(one, work)
         return
@@ -106,14 +103,11 @@ def summary(outcomes: list[Outcome], seconds: float) -> str:
 
 
 def one(work: tuple) -> Outcome:
-    path, project, seconds, folder, covers = work
+    path, project, seconds, folder = work
     programs = Unchecked(folder)
     began = time.monotonic()
     try:
-        own = play(path, None, programs, seconds)
-        outcome = outcome_of(own)
-        if covers:
-            outcome.counts = coverage.count(own, programs)
+        outcome = outcome_of(play(path, None, programs, seconds))
         if project is not None:
             other = outcome_of(play(path, project, programs, seconds))
             other.changes = changes(outcome, other)
@@ -121,7 +115,7 @@ def one(work: tuple) -> Outcome:
             outcome = other
     except Wrong as wrong:
         outcome = Outcome(path, WRONG, f"WRONG {wrong.told()}", verdicts=[("the scenario", False, [wrong.told()])])
-    except (Stopped, coverage.Uncovered) as stopped:
+    except Stopped as stopped:
         outcome = Outcome(path, stopped.status, f"STOP  {path}: {stopped.why}", verdicts=[("the run", False, [stopped.why])])
     outcome.seconds = time.monotonic() - began
     return outcome

@@ -17,7 +17,7 @@ sys.path.insert(0, TOOLS)
 
 from scenario_parts.main import main  # noqa: E402
 
-PLAIN = {"logix_live": "plain_live.py", "logix": "plain_logix.py", "logix_cover": "plain_cover.py"}
+PLAIN = {"logix_live": "plain_live.py", "logix": "plain_logix.py"}
 BUILT = ("logix_live", "logix", "logix_timeline", "logix_wave")
 
 # One rung in a continuous task: a lamp follows a button of an input word.
@@ -33,7 +33,7 @@ LAMP = {
 }  # fmt: skip
 
 
-def programs(folder: str, built: bool = False) -> str:
+def programs(folder: str, built: bool) -> str:
     """A folder of programs: links to the plain ones, or to those that are built here."""
     os.makedirs(folder, exist_ok=True)
     for name in BUILT if built else PLAIN:
@@ -53,7 +53,7 @@ class Called:
 
 
 class ScenarioTest(unittest.TestCase):
-    built = False
+    built = os.environ.get("TRY_PLAIN") is None
 
     def setUp(self) -> None:
         room = tempfile.TemporaryDirectory()
