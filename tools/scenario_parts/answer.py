@@ -5,6 +5,7 @@ from __future__ import annotations
 import os
 
 from .playing import Played
+from .scenario import OPERATOR
 
 WIDTH = 100
 
@@ -29,11 +30,17 @@ def summary(played: Played) -> str:
     end = " (ended by --seconds)" if played.run.stopped else ""
     if status(played) == 0:
         return f"ok: {count} required, all held{end}"
-    return f"FAIL: {short} fell short, of {count} required{end}"
+    unasked = played.judged.unasked()
+    more = f"; {unasked} refused or faulted, which nothing requires" if unasked else ""
+    return f"FAIL: {short} of {count} fell short{more}{end}"
 
 
 def status(played: Played) -> int:
-    return 1 if played.judged.short() or played.run.stopped else 0
+    return 1 if played.judged.short() or played.judged.unasked() or played.run.stopped else 0
+
+
+def lane_told(lane: int) -> str:
+    return "operator" if lane == OPERATOR else f"engineer {lane}"
 
 
 def tags_told(played: Played) -> list[str]:
@@ -52,7 +59,7 @@ def tags_told(played: Played) -> list[str]:
 
 def refused_told(played: Played) -> list[str]:
     refused = [one for one in played.run.done if one.answer.startswith("refused")]
-    rows = [f"  at {one.time} ms, lane {one.lane}: {one.action}: {one.answer}" for one in refused]
+    rows = [f"  at {one.time} ms, {lane_told(one.lane)}, {one.answer}: {one.action}" for one in refused]
     return ["refused commands", *rows] if rows else ["refused commands: none"]
 
 
@@ -87,4 +94,6 @@ def overlaps_told(played: Played) -> list[str]:
             told.append(f"  {task['name']} is due each {task['period']} ms, and the pace is {played.scenario.pace.ms} ms: a shorter pace has no such overlaps")
         elif scans.overlaps:
             told.append(f"  {task['name']} can't keep the pace: it was released {scans.overlaps} times before its last scan was over")
+        elif not scans.count and task["kind"] != "event" and not task.get("inhibited", False):
+            told.append(f"  {task['name']} came to the end of no scan")
     return told

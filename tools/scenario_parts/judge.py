@@ -31,7 +31,11 @@ class Judged:
     faulted: list[FaultSeen]
 
     def short(self) -> int:
-        return sum(not one.holds for one in self.verdicts) + len(self.refused) + len(self.faulted)
+        """How many requirements fell short."""
+        return sum(not one.holds for one in self.verdicts)
+
+    def unasked(self) -> int:
+        return len(self.refused) + len(self.faulted)
 
 
 class Judge:
@@ -40,11 +44,10 @@ class Judge:
         lines = {command.line.number for command in scenario.commands}
         self.commands = [one for one in done if one.line and one.line.number in lines and one.answer != "held"]
         self.answered: set[int] = set()
-        self.required: set[int] = set()
 
     def judge(self) -> Judged:
         verdicts = [JUDGES[one.when](self, one) for one in self.scenario.requirements]
-        refused = [one for at, one in enumerate(self.commands) if one.answer.startswith("refused") and at not in self.required]
+        refused = [one for at, one in enumerate(self.commands) if one.answer.startswith("refused") and at not in self.answered]
         asks_faults = any(one.when == When.FAULTS for one in self.scenario.requirements)
         majors = [] if asks_faults else [one for one in self.story.faults if one.severity == "major"]
         return Judged(verdicts, refused, majors)
@@ -150,10 +153,8 @@ class Judge:
             if at not in self.answered and (self.time_of(command), command.lane) == (one.time, one.lane):
                 self.answered.add(at)
                 wanted, words = one.answer.split(), command.answer.split()
-                if words[: len(wanted)] == wanted:
-                    self.required.add(at)
-                    return Verdict(one, True)
-                return Verdict(one, False, [f"the answer was {command.answer}"])
+                holds = words[: len(wanted)] == wanted
+                return Verdict(one, holds, [] if holds else [f"the answer was {command.answer}"])
         return Verdict(one, False, ["there is no such command, or fewer than are required"])
 
     def time_of(self, command: Done) -> int:
