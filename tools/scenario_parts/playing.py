@@ -21,7 +21,8 @@ from .reading import read_file
 from .running import Run, Runner
 from .scenario import Scenario, When
 from .session import Ended, Session
-from .story import Story, Tracer, read_reports
+from .story import Story, read_reports
+from .tracing import Trace
 
 LEAST_IDLE, MOST_IDLE = 64, 65_536
 MOST_TRACED = 4_000_000
@@ -164,7 +165,7 @@ class Player:
 
     # ---- the run
 
-    def run(self, copy: str, room: str) -> tuple[Run, Session, list[bytes] | None]:
+    def run(self, copy: str, room: str) -> tuple[Run, Session, Trace | None]:
         """The run, and its trace. Where nothing but steps tells when all scans are over, so many that at last the processor idles."""
         idle = LEAST_IDLE
         while True:
@@ -175,16 +176,16 @@ class Player:
             finally:
                 session.close()
             trace = self.trace(copy, session.journal(), room, runner.events())
-            if runner.begin or self.scenario.pace.steps or run.stopped or idle >= MOST_IDLE or trace is None:
+            if runner.pacer or self.scenario.pace.steps or run.stopped or idle >= MOST_IDLE or trace is None:
                 break
-            if all(trace[events - 1] == b"idle" for events in run.paces):
+            if all(trace.lines[events] == b"idle" for events in run.paces):
                 break
             idle *= 4
         if run.stopped:
             run.notes.append(f"ended at {run.now} ms: the run has taken the seconds that --seconds allows")
         return run, session, trace
 
-    def trace(self, copy: str, journal: bytes, room: str, events: int) -> list[bytes] | None:
+    def trace(self, copy: str, journal: bytes, room: str, events: int) -> Trace | None:
         if events > MOST_TRACED:
             self.notes.append(f"no trace of {events} events: the scans of tasks aren't counted")
             return None
@@ -194,7 +195,7 @@ class Player:
         ran = subprocess.run([self.logix, "trace", copy, path], stdin=subprocess.DEVNULL, stdout=subprocess.PIPE, check=False)
         if ran.returncode:
             raise Ended(ran.returncode, ran.stdout[:200].decode(errors="replace"))
-        return ran.stdout.split(b"\n")[:-2]
+        return Trace(ran.stdout)
 
     def again(self, copy: str, journal: bytes) -> bytes:
         ran = subprocess.run([self.live, copy], input=journal, stdout=subprocess.PIPE, check=False)
@@ -209,12 +210,12 @@ class Player:
 
     # ---- what came of it
 
-    def story(self, reports: list[bytes], watches: list[list[str]], trace: list[bytes] | None) -> Story:
+    def story(self, reports: list[bytes], watches: list[list[str]], trace: Trace | None) -> Story:
         places = self.made.places
         opening = {text.lower(): places.value(places.image, text) for watch in watches for text in watch}
         story = read_reports(reports, opening)
         if trace is not None:
-            Tracer(self.project).put(story, trace)
+            story.add_trace(trace, self.project)
         return story
 
     def describer(self, story: Story, run: Run) -> Callable[[int], str]:
@@ -228,7 +229,7 @@ class Player:
             if one:
                 where = f"line {one.line.number}" if one.line else "the change to Run"
                 return f"{where}: {one.action}" if one.line else where
-            words = story.trace[event - 1].decode().split(" ") if story.trace else [""]
+            words = story.trace.lines[event].decode().split(" ") if story.trace else [""]
             if words[0] == "tick":
                 return "a tick"
             if len(words) > 2:

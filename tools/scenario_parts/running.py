@@ -4,7 +4,6 @@ from __future__ import annotations
 
 import re
 import time
-from collections import deque
 from collections.abc import Callable
 from dataclasses import dataclass, field
 
@@ -14,13 +13,13 @@ from hammer_parts.plain.words import signed
 from .agenda import Item, Set
 from .copying import Copy, Word
 from .line import Line
+from .pacing import Pacer, first_begin
 from .scenario import OPERATOR, Command, Scenario
 from .session import Session
 
 SET = re.compile(rb"^\d+ \d+ set (\S+) (-?\d+)$", re.MULTILINE)
 REPLY = re.compile(rb"^(\d+) (\d+) reply \d+ (.*)$", re.MULTILINE)
 MAJOR = re.compile(rb"^\d+ \d+ fault major ", re.MULTILINE)
-MOST_IN_A_PACE, MOST_AFTER_THAT, SINGLES, LARGEST = 200_000, 1_000, 64, 65_536
 MOST_HELD = 100_000
 AT_ONCE = 400  # so many lines are told before the answers are read, where nothing depends on them
 
@@ -52,11 +51,9 @@ class Runner:
     def __init__(self, scenario: Scenario, copy: Copy, session: Session, idle_steps: int) -> None:
         self.scenario, self.copy, self.session, self.idle_steps = scenario, copy, session, idle_steps
         self.run = Run()
-        self.is_running = self.is_scanning = False
-        self.owed = 0
-        self.lengths: deque[int] = deque(maxlen=8)
-        self.most = MOST_IN_A_PACE
-        self.begin = first_begin(copy.project)
+        self.is_running, self.owed = False, 0
+        pace, begin = scenario.pace, first_begin(copy.project)
+        self.pacer = Pacer(session, pace.ms, pace.scans, begin, self.look) if begin and not pace.steps else None
         self.words: dict[str, Word] = {}
         self.modules: dict[tuple[str, int], int] = {}
         self.before: dict[tuple[str, int], int] = {}
@@ -84,9 +81,12 @@ class Runner:
             while at < len(items) and items[at].at == now:
                 self.do(items[at])
                 at += 1
+            following = items[at].at if at < len(items) else end + 1
             if now % pace == 0:
                 self.keep_pace()
                 run.paces.append(self.events())
+                if self.pacer and self.is_running:
+                    now += pace * self.pacer.ahead((min(following - 1, end) - now) // pace)
             run.now = now
             if now == end:
                 break
@@ -94,10 +94,12 @@ class Runner:
                 run.stopped = True
                 break
             progress(now)
-            following = min(now - now % pace + pace, end, items[at].at if at < len(items) else end)
+            following = min(now - now % pace + pace, end, following)
             self.session.count("tick", following - now)
             now = following
         self.session.end()
+        if self.pacer and self.pacer.given_up:
+            run.notes.append("the scan at {} ms isn't over after {} steps: the ticks go on".format(*self.pacer.given_up))
         return run
 
     def events(self) -> int:
@@ -173,77 +175,33 @@ class Runner:
                 break
             self.session.count("cpu", 1)
             self.owed += 1
-        if action == "mode run" and answer == "ok":
-            self.is_running, self.is_scanning = True, False
-        if action == "mode program" and answer == "ok":
-            self.is_running = False
+        if action in ("mode run", "mode program") and answer == "ok":
+            self.is_running = action == "mode run"
+            if self.pacer:
+                self.pacer.is_scanning = False
         return answer
 
-    def look(self, data: bytes) -> None:
+    def look(self, data: bytes) -> bool:
+        """Takes from the answers what is needed of them; whether the controller is in Run."""
         if MAJOR.search(data):
             self.is_running = False
         if self.followed:
             for found in SET.finditer(data):
                 if found[1] in self.followed:
                     self.values[found[1]] = int(found[2])
+        return self.is_running
 
     # ---- the pace
 
     def keep_pace(self) -> None:
-        pace = self.scenario.pace
-        if pace.steps or not self.begin:
-            steps = pace.steps or self.idle_steps
-            self.session.count("cpu", max(0, steps - self.owed))
-            self.owed = max(0, self.owed - steps)
-            if len(self.session.waiting) > AT_ONCE:
+        """Scans or steps at this time."""
+        if self.pacer:
+            if self.session.waiting:
                 self.look(self.session.ask())
+            self.pacer.keep(self.is_running)
             return
-        if self.session.waiting:
+        steps = self.scenario.pace.steps or self.idle_steps
+        self.session.count("cpu", max(0, steps - self.owed))
+        self.owed = max(0, self.owed - steps)
+        if len(self.session.waiting) > AT_ONCE:
             self.look(self.session.ask())
-        for _ in range(pace.scans):
-            if self.is_running and not self.is_scanning:
-                self.is_scanning = self.to_begin(False)
-            if self.is_running and not self.to_begin(True):
-                return
-
-    def to_begin(self, is_scan: bool) -> bool:
-        """Steps up to the next begin of the continuous task's first program, and no further; whether it came."""
-        session, start, answered = self.session, self.session.steps, len(self.session.answers)
-        count = min(self.lengths) if is_scan and self.lengths else 1
-        tried = 0
-        while True:
-            session.count("cpu", count)
-            data = session.ask()
-            found = self.begin.search(data)
-            if found:
-                steps = int(found[1])
-                if steps < session.steps:
-                    session.back(steps, answered)
-                    data = data[: found.end() + 1]
-                self.look(data)
-                if is_scan:
-                    self.lengths.append(steps - start)
-                return True
-            self.look(data)
-            if not self.is_running:
-                return False
-            tried += 1
-            if session.steps - start >= self.most:
-                self.give_up(session.steps - start)
-                return False
-            count = 1 if tried < SINGLES else min(count * 2, LARGEST, self.most)
-
-    def give_up(self, steps: int) -> None:
-        if self.most == MOST_IN_A_PACE:
-            self.run.notes.append(f"the scan at {self.session.ticks} ms isn't over after {steps} steps: the ticks go on")
-        self.most = MOST_AFTER_THAT
-
-
-def first_begin(project: dict) -> re.Pattern[bytes] | None:
-    """The report's line of a begin of the first program of the continuous task, if there is one that may run."""
-    for task in project["tasks"]:
-        if task["kind"] == "continuous" and not task.get("inhibited", False):
-            names = {program["name"].lower(): program["name"] for program in project["programs"]}
-            program = names[task["programs"][0].lower()]
-            return re.compile(rf"^\d+ (\d+) begin {task['name']} {program} \d+$".encode(), re.MULTILINE)
-    return None

@@ -10,6 +10,7 @@ from __future__ import annotations
 import os
 import subprocess
 import threading
+from dataclasses import dataclass
 
 AT_ONCE = 16_384  # so much goes into an empty pipe without anybody who reads
 MARK = b"?\n"
@@ -21,6 +22,26 @@ class Ended(Exception):
     def __init__(self, status: int, text: str) -> None:
         super().__init__(status, text)
         self.status, self.text = status, text
+
+
+@dataclass(frozen=True)
+class Mark:
+    """A place in what was told: how many entries, the count of the last one, and the steps and ticks up to there."""
+
+    entries: int
+    count: int
+    steps: int
+    ticks: int
+
+    def length_of(self, answers: bytes) -> int:
+        """How many bytes of these answers are of events up to here."""
+        length = 0
+        for line in answers.splitlines(True):
+            tick, step, _ = line.split(b" ", 2)
+            if int(tick) > self.ticks or int(step) > self.steps:
+                break
+            length += len(line)
+        return length
 
 
 class Session:
@@ -106,16 +127,23 @@ class Session:
         lines = [one[0] if len(one) == 1 else f"{one[0]} {one[1]}" for one in self.entries]
         return "".join(line + "\n" for line in lines).encode() + last
 
-    def back(self, steps: int, answered: int) -> None:
-        """Goes back to this number of steps, within the last entry, which is one of steps, and to so many answers before it."""
-        over = self.steps - steps
-        self.entries[-1][1] -= over
-        if not self.entries[-1][1]:
-            self.entries.pop()
-        self.steps = steps
+    def mark(self, steps: int | None = None) -> Mark:
+        """Where it is; or where it was at this number of steps, within the last entry, which is one of steps."""
+        over = 0 if steps is None else self.steps - steps
+        last = self.entries[-1][1] if len(self.entries[-1]) > 1 else 0
+        return Mark(len(self.entries), last - over, self.steps - over, self.ticks)
+
+    def back(self, mark: Mark, answered: int) -> None:
+        """Goes back to a mark, with no action since, and to so many answers before what was told since."""
+        del self.entries[mark.entries :]
+        if len(self.entries[-1]) > 1:
+            self.entries[-1][1] = mark.count
+        self.steps, self.ticks = mark.steps, mark.ticks
         since = b"".join(self.answers[answered:])
         del self.answers[answered:]
-        self.answers.append(b"".join(line for line in since.splitlines(True) if int(line.split(b" ", 2)[1]) <= steps))
+        kept = since[: mark.length_of(since)]
+        if kept:
+            self.answers.append(kept)
         self.close()
         self.start()
         data = self.journal(b"") + MARK

@@ -1,4 +1,4 @@
-"""What happened in a run, event by event: read from its report, and from its trace where there is one.
+"""What happened in a run, event by event, as its report tells it; what its trace adds is in tracing.
 
 Events are numbered from 1. A line of a report is of the event whose number is its tick, its steps and the replies so far.
 """
@@ -9,19 +9,9 @@ import re
 from bisect import bisect_right
 from dataclasses import dataclass, field
 
+from .tracing import Place, Scans, Trace
+
 LINE = re.compile(rb"^(\d+) (\d+) (set|reply|fault) (.*)$", re.MULTILINE)
-
-
-@dataclass(frozen=True)
-class Place:
-    """An event, and the tick and the number of steps after it."""
-
-    event: int
-    tick: int
-    step: int
-
-    def told(self) -> str:
-        return f"{self.tick} ms, step {self.step}"
 
 
 @dataclass(frozen=True)
@@ -46,30 +36,22 @@ class FaultSeen:
 
 
 @dataclass
-class Scans:
-    """The scans of a task that came to their end: how many, and the steps of the task itself in each, least and most."""
-
-    count: int = 0
-    least: int = 0
-    most: int = 0
-    overlaps: int = 0
-
-    def add(self, steps: int) -> None:
-        self.least = min(self.least, steps) if self.count else steps
-        self.most = max(self.most, steps)
-        self.count += 1
-
-
-@dataclass
 class Story:
     opening: dict[str, int]
     moments: list[Moment] = field(default_factory=list)
     faults: list[FaultSeen] = field(default_factory=list)
     last: Place = Place(0, 0, 0)
     mode: str = ""
-    trace: list[bytes] | None = None
+    trace: Trace | None = None
     scans: dict[str, Scans] = field(default_factory=dict)
     ends: dict[str, list[Place]] = field(default_factory=dict)
+
+    def add_trace(self, trace: Trace, project: dict) -> None:
+        self.trace = trace
+        self.scans, self.ends = trace.counted(project)
+        for fault in self.faults:
+            if fault.code == "6/3":
+                self.scans[fault.task].overlaps += 1
 
     def values_at_end(self) -> dict[str, int]:
         return self.values_after(len(self.moments))
@@ -112,74 +94,3 @@ def read_reports(reports: list[bytes], opening: dict[str, int]) -> Story:
             story.last, story.mode = Place(int(words[1]) + int(words[2]) + replies, int(words[1]), int(words[2])), words[3].decode()
     story.moments = [sets[event] for event in sorted(sets)]
     return story
-
-
-class Tracer:
-    """Counts scans along a trace (docs/FORMATS.md, section 8.1)."""
-
-    def __init__(self, project: dict) -> None:
-        self.tasks = [task["name"] for task in project["tasks"]]
-        self.programs = [program["name"] for program in project["programs"]]
-        numbers = {name.lower(): at for at, name in enumerate(self.programs)}
-        self.last = [numbers[task["programs"][-1].lower()] for task in project["tasks"]]
-        self.scans = [Scans() for _ in self.tasks]
-        self.ends: list[list[Place]] = [[] for _ in self.programs]
-        self.steps = [0] * len(self.tasks)
-
-    def count(self, trace: list[bytes]) -> None:
-        known: dict[bytes, tuple] = {}
-        tick = step = 0
-        steps = self.steps
-        for event, line in enumerate(trace, 1):
-            seen = known.get(line)
-            if seen is None:
-                seen = known[line] = self.seen(line)
-            what, task = seen[0], seen[1]
-            if what == "tick":
-                tick += 1
-            elif what == "step":
-                step += 1
-                steps[task] += 1
-            elif what == "idle":
-                step += 1
-            elif what == "ended":
-                step += 1
-                steps[task] += 1
-                self.ended(task, seen[2], Place(event, tick, step))
-            if seen[3]:
-                self.steps = steps = [0] * len(steps)
-            if what == "tick" and seen[2]:
-                self.overlap(seen[2])
-
-    def seen(self, line: bytes) -> tuple:
-        """What a line is, its task, its program (of a tick: the mask of overlaps), and whether all tasks go down."""
-        words = line.decode().split(" ")
-        if words[0] == "tick":
-            return "tick", 0, int(words[2]), words[3] != "-"
-        if words[0] == "act":
-            return "act", 0, 0, words[2] in ("run", "program") and words[4] == "ok"
-        if words[0] == "idle":
-            return "idle", 0, 0, False
-        if words[0] == "left" and words[3] == "ended":
-            return "ended", int(words[1]), int(words[2]), False
-        return "step", int(words[1]), int(words[2]), words[-1] == "major"
-
-    def ended(self, task: int, program: int, place: Place) -> None:
-        self.ends[program].append(place)
-        if program == self.last[task]:
-            self.scans[task].add(self.steps[task])
-            self.steps[task] = 0
-
-    def overlap(self, mask: int) -> None:
-        for task, scans in enumerate(self.scans):
-            scans.overlaps += mask >> task & 1
-
-    def put(self, story: Story, trace: list[bytes]) -> None:
-        """Gives the story what the trace tells."""
-        self.count(trace)
-        story.trace = trace
-        story.scans = dict(zip(self.tasks, self.scans))
-        story.ends = {name.lower(): ends for name, ends in zip(self.programs, self.ends)}
-        for fault in story.faults:
-            if fault.code == "6/3":
-                story.scans[fault.task].overlaps += 1

@@ -63,8 +63,7 @@ def run(said: argparse.Namespace, programs: Programs) -> int:
     outcomes = []
     for outcome in played(paths, said, programs):
         outcomes.append(outcome)
-        if len(paths) > 1 or outcome.status == WRONG or said.project is None:
-            print(outcome.line, flush=True)
+        print(outcome.line, flush=True)
         for change in outcome.changes:
             print(f"      {change}")
         counted(len(outcomes), len(paths), began)

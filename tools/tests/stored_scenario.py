@@ -95,10 +95,6 @@ class Told(ScenarioTest):
     def test_a_scan_that_never_ends(self):
         programs = [{**LAMP["programs"][0], "routines": [{"name": "Go", "rungs": ["LBL(a)JMP(a);"]}]}]
         self.project(programs=programs, tasks=[{**LAMP["tasks"][0], "watchdog": 20}])
-        from scenario_parts import running
-
-        before, running.MOST_IN_A_PACE = running.MOST_IN_A_PACE, 500
-        self.addCleanup(setattr, running, "MOST_IN_A_PACE", before)
         called = self.play("run 50", "require", "faults: major 6/1 Cont")
         self.assertEqual(called.status, 0, called.out)
         self.assertIn("note: the scan at 0 ms isn't over after", called.out)

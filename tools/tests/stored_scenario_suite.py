@@ -127,7 +127,7 @@ class Suites(ScenarioTest):
         lines = called.out.replace(self.room, "").splitlines()
         self.assertEqual(lines[:7], [
             "FAIL  /suite/a.scenario: 2 of 2 fell short: end: Lamp = 1; at 0: Lamp = 0; 3 changed",
-            "      ok -> FAIL  end: Lamp = 1: Lamp 0, since 10 ms, step 11: a step of Main in task Cont",
+            "      ok -> FAIL  end: Lamp = 1: Lamp 0, since 10 ms, step 7: a step of Main in task Cont",
             "      ok -> FAIL  at 0: Lamp = 0: Lamp 1, since 0 ms, step 3: a step of Main in task Cont",
             "      at the end Lamp 1 -> 0",
             "ok    /suite/b/b.scenario: 2 held; 2 changed",

@@ -8,7 +8,8 @@ import unittest
 import scenario_files  # noqa: F401 (finds tools/)
 from scenario_parts.judge import Judge
 from scenario_parts.reading import read
-from scenario_parts.story import Tracer, read_reports
+from scenario_parts.story import read_reports
+from scenario_parts.tracing import Trace
 
 TAGS, PROGRAMS, CASES = ("a", "b", "Program:P.c"), ("P", "Q"), 5_000
 PROJECT = {
@@ -37,7 +38,7 @@ class Made:
             report += [f"{self.tick} {self.step} {line}\n" for line in lines]
             self.history.append((self.tick, dict(self.values), ended))
         self.report = "".join([*report, f"end {self.tick} {self.step} run lost 0\n"]).encode()
-        self.trace = [line.encode() for line in trace]
+        self.trace = "".join(line + "\n" for line in [*trace, "end"]).encode()
 
     def event(self):
         """The program whose scan it ends, the lines of the report but for changes, the line of the trace."""
@@ -55,7 +56,7 @@ class Made:
 
     def story(self):
         story = read_reports([self.report], self.opening)
-        Tracer(PROJECT).put(story, self.trace)
+        story.add_trace(Trace(self.trace), PROJECT)
         return story
 
 
