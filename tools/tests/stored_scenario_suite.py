@@ -10,6 +10,7 @@ import glob
 import io
 import json
 import os
+import re
 import subprocess
 import unittest
 import xml.etree.ElementTree as tree
@@ -161,6 +162,38 @@ class Suites(ScenarioTest):
         called = self.play("at 10: Button = 1 for 20", "run 40", "require", *lines)
         self.assertEqual(called.status, 0, called.out[-2000:])
         self.assertIn("note: 301 tags are watched: the run is told 2 times", called.out)
+
+
+class Documents(ScenarioTest):
+    """The scenarios that the documents show, with their answers."""
+
+    def blocks(self, name: str, kind: str) -> list[str]:
+        with open(f"{TOP}/{name}", encoding="utf-8") as file:
+            return re.findall(rf"^```{kind}\n(.*?)^```$", file.read(), re.MULTILINE | re.DOTALL)
+
+    def answer(self, example: str, scenario: str) -> str:
+        """What is told of the scenario beside an example's project."""
+        with open(f"{TOP}/examples/{example}/project.json", encoding="utf-8") as file:
+            self.put("project.json", file.read())
+        self.put("short.scenario", scenario)
+        here = os.getcwd()
+        self.addCleanup(os.chdir, here)
+        os.chdir(self.room)
+        return self.call("short.scenario").out
+
+    def test_the_page(self):
+        scenario, answer = self.blocks("docs/SCENARIOS.md", "scenario"), self.blocks("docs/SCENARIOS.md", "answer")
+        self.assertEqual((len(scenario), self.answer("conveyor", scenario[0])), (1, answer[0]))
+
+    def test_the_page_is_short(self):
+        with open(f"{TOP}/docs/SCENARIOS.md", encoding="utf-8") as file:
+            self.assertLess(len(file.read().split()), 900)
+
+    def test_the_first_page(self):
+        scenario, answer = self.blocks("README.md", "scenario"), self.blocks("README.md", "answer")
+        with open(f"{TOP}/examples/blink/day.scenario", encoding="utf-8") as file:
+            self.assertEqual([file.read()], scenario)
+        self.assertEqual((scenario[0].count("\n"), answer[0]), (10, "".join(self.answer("blink", scenario[0]).splitlines(True)[2:5])))
 
 
 class Words(unittest.TestCase):
