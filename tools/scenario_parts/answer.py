@@ -91,7 +91,8 @@ def overlaps_told(played: Played) -> list[str]:
     for task in played.project["tasks"]:
         scans = played.story.scans[task["name"]]
         if scans.overlaps and task.get("period", played.scenario.pace.ms) < played.scenario.pace.ms:
-            told.append(f"  {task['name']} is due each {task['period']} ms, and the pace is {played.scenario.pace.ms} ms: a shorter pace has no such overlaps")
+            due, pace = task["period"], played.scenario.pace.ms
+            told.append(f"  {task['name']} is due each {due} ms, and the pace is {pace} ms: a shorter pace has no such overlaps")
         elif scans.overlaps:
             told.append(f"  {task['name']} can't keep the pace: it was released {scans.overlaps} times before its last scan was over")
         elif not scans.count and task["kind"] != "event" and not task.get("inhibited", False):

@@ -76,7 +76,8 @@ def stream_told(name: str, first: list[tuple[int, str]], second: list[tuple[int,
     if [what for _, what in first] == [what for _, what in second]:
         moved = [(a[0], b[0]) for a, b in zip(first, second) if a[0] != b[0]]
         at = next(at for at, (a, b) in enumerate(zip(first, second)) if a[0] != b[0])
-        return [f"{name}: the same, {len(moved)} of {len(first)} at another time; first {first[at][1]} at {moved[0][0]} ms in A, {moved[0][1]} in B"]
+        one = f"first {first[at][1]} at {moved[0][0]} ms in A, {moved[0][1]} in B"
+        return [f"{name}: the same, {len(moved)} of {len(first)} at another time; {one}"]
     return [f"{name}: {two_sides(first, second)}"]
 
 

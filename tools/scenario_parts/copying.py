@@ -87,7 +87,7 @@ ALONE, SHARED = "alone", "shared"
 
 
 def make_copy(project: dict, written: list[str], edits: list[tuple[str, str]]) -> Copy:
-    """The copy of a project whose tags of these texts can be written. `edits`: texts of rungs that will be accepted, with their programs."""
+    """The copy of a project whose tags of these texts can be written. `edits`: programs, and texts of rungs that they will be given."""
     places = Places(project)
     wanted: dict[int, str] = {}
     for text in written:
@@ -190,8 +190,11 @@ class Copier:
     def is_copied(self, tag: int) -> bool:
         """Whether a copy instruction of the project, or of a rung to be accepted, names the tag."""
         rungs = [
-            (at, rung) for at, program in enumerate(self.project["programs"]) for routine in program["routines"] for rung in routine["rungs"]
-        ]  # fmt: skip
+            (at, rung)
+            for at, program in enumerate(self.project["programs"])
+            for routine in program["routines"]
+            for rung in routine["rungs"]
+        ]
         rungs += [(self.places.programs.get(name.lower()), text) for name, text in self.edits]
         for scope, text in rungs:
             for operands in COPIES.findall(text):

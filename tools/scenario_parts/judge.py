@@ -182,9 +182,11 @@ class Judge:
 def matches(seen: FaultSeen) -> Callable[[Fault], bool]:
     def judge(fault: Fault) -> bool:
         return (
-            fault.code == seen.code and fault.severity in (None, seen.severity)
-            and all(name is None or name.lower() == other.lower() for name, other in ((fault.task, seen.task), (fault.program, seen.program)))
-        )  # fmt: skip
+            fault.code == seen.code
+            and fault.severity in (None, seen.severity)
+            and (fault.task or seen.task).lower() == seen.task.lower()
+            and (fault.program or seen.program).lower() == seen.program.lower()
+        )
 
     return judge
 

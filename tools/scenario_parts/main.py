@@ -13,7 +13,7 @@ from .playing import Stopped, play
 from .programs import Missing, Programs
 
 USUAL_SECONDS = 60
-NO_PROGRAM, NO_OUTPUT = 70, 5
+NO_PROGRAM, NO_OUTPUT, INTERRUPTED = 70, 5, 130
 
 
 def parser() -> argparse.ArgumentParser:
@@ -62,6 +62,8 @@ def main(words: list[str]) -> int:
         return status
     except Missing as missing:
         return refuse(str(missing), NO_PROGRAM)
+    except KeyboardInterrupt:
+        return refuse("ended by a key", INTERRUPTED)
     except OSError as fault:
         return refuse(f"{fault.filename or 'standard output'} couldn't be written: {fault.strerror}", NO_OUTPUT)
     finally:

@@ -10,7 +10,7 @@ import re
 from collections import deque
 from collections.abc import Callable
 
-from .session import Mark, Session
+from .session import Session
 
 MOST_IN_A_PACE, MOST_AFTER_THAT, SINGLES, LARGEST = 200_000, 1_000, 64, 65_536
 MOST_PACES, SURE, LONGEST_PATTERN = 512, 3, 16

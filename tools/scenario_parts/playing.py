@@ -11,7 +11,7 @@ import time
 from collections.abc import Callable
 from dataclasses import dataclass, field
 
-from .agenda import Item, Set, agenda
+from .agenda import Set, agenda
 from .copying import MOST_WATCHES, Copy, make_copy
 from .judge import Judge, Judged
 from .line import Wrong
@@ -50,7 +50,11 @@ class Played:
     seconds: float = 0.0
 
 
-def play(path: str, project: str | None, programs: Programs, seconds: float, progress: Callable[[int, int], None] = lambda *_: None) -> Played:
+def no_progress(_now: int, _end: int) -> None:
+    pass
+
+
+def play(path: str, project: str | None, programs: Programs, seconds: float, progress=no_progress) -> Played:
     """Reads, runs and judges a scenario; on another project than its own if one is named."""
     began = time.monotonic()
     scenario = read_file(path)
@@ -95,14 +99,15 @@ class Player:
 
     def load(self) -> dict:
         line = self.scenario.project_line
+        at = line.text.find(" ") + 1
         try:
             with open(self.path, "rb") as file:
                 contents = file.read()
         except OSError as fault:
-            raise Wrong(f"the project {self.path} can't be read: {fault.strerror}", line.text, line.text.find(" ") + 1, line.number) from None
+            raise line.wrong(f"the project {self.path} can't be read: {fault.strerror}", at) from None
         refusal = refusal_of(self.live, self.path)
         if refusal:
-            raise Wrong(f"the project {self.path} is refused: {refusal}", line.text, line.text.find(" ") + 1, line.number)
+            raise line.wrong(f"the project {self.path} is refused: {refusal}", at)
         return json.loads(contents)
 
     def judge_names(self, places: Places) -> None:

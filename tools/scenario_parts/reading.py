@@ -6,11 +6,12 @@ import re
 
 from hammer_parts.plain.journal import Bad, action_of
 
-from .line import COMMENT, LONGEST_TIME, WORD, Line, Wrong
+from .line import LONGEST_TIME, WORD, Line, Wrong
 from .scenario import OPERATOR, Command, Fault, Pace, Requirement, Scenario, Setters, Setting, When
 from .tests import NUMBER, Not, read_name, read_test, whole_test
 
 MOST_BYTES, MOST_STEPS, MOST_SCANS, LAST_LANE = 4_000_000, 1_000_000, 1_000, 30
+LONGEST_ACTION = 65_500  # with its lane it is a line of a journal
 STATEMENTS = "'project', 'pace', 'at', 'every', 'run' or 'require'"
 REQUIREMENTS = "'at', 'always', 'never', 'within', 'end', 'faults' or 'report'"
 ACTIONS = "an action: accept, test, untest, assemble, cancel, in, out, force, mode or clear (docs/FORMATS.md, section 5)"
@@ -56,8 +57,6 @@ class Reader:
     def take(self, text: str, number: int) -> None:
         line = Line(text, number)
         if line.is_at_end():
-            if not self.scenario.title and COMMENT.match(text):
-                self.scenario.title = text.lstrip(" \t#").rstrip()
             return
         found = WORD.match(line.text, line.at)
         word = found[0] if found else ""
@@ -223,6 +222,8 @@ def settings(line: Line) -> tuple[Setting, ...]:
 def action(line: Line) -> str:
     """An action of a journal, in its words."""
     start, text = line.at, line.rest()
+    if len(text.encode()) > LONGEST_ACTION:
+        raise line.wrong(f"an action has at most {LONGEST_ACTION} bytes", start)
     try:
         action_of(text)
     except Bad:

@@ -97,7 +97,6 @@ class Requirement:
 @dataclass
 class Scenario:
     path: str
-    title: str = ""
     project: str = ""
     project_line: Line | None = None
     pace: Pace | None = None

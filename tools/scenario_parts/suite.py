@@ -29,7 +29,6 @@ class Outcome:
     seconds: float = 0.0
     verdicts: list[tuple[str, bool, list[str]]] = field(default_factory=list)
     values: dict[str, int] = field(default_factory=dict)
-    title: str = ""
     changes: list[str] = field(default_factory=list)
 
 
@@ -134,7 +133,9 @@ class Done:
 
 def outcome_of(played: Played) -> Outcome:
     verdicts = [(one.requirement.text, one.holds, one.why) for one in played.judged.verdicts]
-    verdicts += [(f"line {one.line.number}: {one.action}", False, [f"{one.answer}, which nothing requires"]) for one in played.judged.refused]
+    verdicts += [
+        (f"line {one.line.number}: {one.action}", False, [f"{one.answer}, which nothing requires"]) for one in played.judged.refused
+    ]
     verdicts += [(one.told(), False, [f"at {one.place.told()}, which nothing requires"]) for one in played.judged.faulted]
     spelled = {text.lower(): text for text in played.copy["watch"]}
     values = {spelled.get(key, key): value for key, value in played.story.values_at_end().items()}
@@ -146,7 +147,7 @@ def outcome_of(played: Played) -> Outcome:
         line = f"FAIL  {path}: {len(short)} of {len(verdicts)} fell short: {'; '.join(short[:2])}{'; ..' if short[2:] else ''}"
     if played.run.stopped:
         line += f" (ended by --seconds at {played.run.now} ms)"
-    return Outcome(path, status, line, verdicts=verdicts, values=values, title=played.scenario.title)
+    return Outcome(path, status, line, verdicts=verdicts, values=values)
 
 
 def changes(own: Outcome, other: Outcome) -> list[str]:

@@ -1,7 +1,8 @@
 """Scenarios on the built programs: what is told to the controller, and what comes of it.
 
-The gate runs this after `rt ci`. What is wanted follows from the rules: a scan of `XIC(Button)OTE(Lamp);` takes four steps, its begin, two instructions and the end of the
-routine. A pace in scans ends with the begin of the next scan: so the first one takes five steps, and each after it four.
+The gate runs this after `rt ci`. What is wanted follows from the rules: a scan of `XIC(Button)OTE(Lamp);` takes four steps, its begin,
+two instructions and the end of the routine. A pace in scans ends with the begin of the next scan: so the first one takes five steps, and
+each after it four.
 """
 
 from __future__ import annotations
@@ -58,17 +59,18 @@ class Told(ScenarioTest):
         self.assertEqual(self.journal("pace 5 ms, 4 steps", "at 3: Button = 1", "run 5"), wanted)
 
     def test_lanes(self):
-        lines = self.journal(
-            PACE, "at 0 engineer 3: accept Main Go r 0 XIO(Button)OTE(Lamp);", "at 0 engineer 3: test Main", "at 1 operator: mode program", "run 1"
-        )
-        wanted = ["mode run", "@3 accept Main Go r 0 XIO(Button)OTE(Lamp);", "@3 test Main", "cpu 4", "tick 1", "mode program", "cpu 4", "end"]
+        accept = "accept Main Go r 0 XIO(Button)OTE(Lamp);"
+        lines = self.journal(PACE, f"at 0 engineer 3: {accept}", "at 0 engineer 3: test Main", "at 1 operator: mode program", "run 1")
+        wanted = ["mode run", f"@3 {accept}", "@3 test Main", "cpu 4", "tick 1", "mode program", "cpu 4", "end"]
         self.assertEqual(lines, wanted)
 
     def test_a_trigger_gets_the_last_word(self):
-        tags = [{"name": "In", "type": "DINT", "dim": 2}, {"name": "Eye", "alias": "In[0].3"}, {"name": "Lamp", "type": "BOOL"}, {"name": "Button", "type": "BOOL"}]
+        tags = [{"name": "In", "type": "DINT", "dim": 2}, {"name": "Eye", "alias": "In[0].3"}]
+        tags += [{"name": name, "type": "BOOL"} for name in ("Lamp", "Button")]
         programs = [*LAMP["programs"], {"name": "Q", "main": "Go", "routines": [{"name": "Go", "rungs": []}]}]
         tasks = [*LAMP["tasks"], {"name": "E", "kind": "event", "priority": 1, "programs": ["Q"]}]
-        self.project(tags=tags, programs=programs, tasks=tasks, connections=[{"name": "In1", "tag": "In", "direction": "in", "trigger": "E"}])
+        connections = [{"name": "In1", "tag": "In", "direction": "in", "trigger": "E"}]
+        self.project(tags=tags, programs=programs, tasks=tasks, connections=connections)
         self.assertEqual(self.journal(PACE, "at 0: Eye = 1", "run 0"), ["mode run", "in In1 0 8", "in In1 1 0", "cpu 4", "end"])
 
     def test_scans_of_other_lengths(self):
@@ -114,13 +116,17 @@ class Written(ScenarioTest):
     """Tags that are no inputs."""
 
     def test_each_kind_of_tag(self):
-        types = [{"name": "Motor", "members": [{"name": "On", "type": "BOOL"}, {"name": "Rate", "type": "INT"}, {"name": "Log", "type": "SINT", "dim": 4}]}]
-        tags = [*LAMP["tags"], {"name": "M", "type": "Motor"}, {"name": "T", "type": "TIMER"}, {"name": "f", "type": "BOOL", "dim": 32}, {"name": "s", "type": "SINT", "dim": 5}]
+        members = [{"name": "On", "type": "BOOL"}, {"name": "Rate", "type": "INT"}, {"name": "Log", "type": "SINT", "dim": 4}]
+        types = [{"name": "Motor", "members": members}]
+        tags = [*LAMP["tags"], {"name": "M", "type": "Motor"}, {"name": "T", "type": "TIMER"}]
+        tags += [{"name": "f", "type": "BOOL", "dim": 32}, {"name": "s", "type": "SINT", "dim": 5}]
         self.project(types=types, tags=tags, rungs=["MOV(Speed,n)MOV(Own,s[4]);"], watch=["n"])
         called = self.play(
-            "at 10: Speed = -7, Program:Main.Own = -3, M.On = 1, M.Rate = 300, M.Log[1] = 5, M.Log[2] = -6, T.PRE = 90, f[3] = 1, f[4] = 1, s[2] = 4, n.31 = 1",
+            "at 10: Speed = -7, Program:Main.Own = -3, M.On = 1, M.Rate = 300, M.Log[1] = 5, M.Log[2] = -6",
+            "at 10: T.PRE = 90, f[3] = 1, f[4] = 1, s[2] = 4, n.31 = 1",
             "at 20: f[3] = 0, M.On = 0", "run 30", "require",
-            "at 10: n = -7 and s[4] = -3", "end: f[3] = 0 and f[4] = 1 and M.On = 0 and M.Rate = 300", "end: M.Log[1] = 5 and M.Log[2] = -6 and M.Log[0] = 0",
+            "at 10: n = -7 and s[4] = -3", "end: f[3] = 0 and f[4] = 1 and M.On = 0 and M.Rate = 300",
+            "end: M.Log[1] = 5 and M.Log[2] = -6 and M.Log[0] = 0",
             "end: T.PRE = 90 and s[2] = 4 and s[4] = -3", "always: n.31 = 0 or n < 0",
         )  # fmt: skip
         self.assertEqual((called.status, called.err), (0, ""), called.out)
@@ -130,7 +136,8 @@ class Written(ScenarioTest):
     def test_the_rest_of_a_word_is_the_program_s(self):
         """The program counts in one half of the word, and the operator writes the other."""
         self.project(tags=[*LAMP["tags"], {"name": "h", "type": "INT", "dim": 2}], rungs=["ADD(h[0],1,h[0]);"])
-        called = self.play("at 10: h[1] = 5", "at 20: h[1] = 6 for 10", "run 40", "require", "end: h[0] = 5 and h[1] = 5", "at 20: h[1] = 6 and h[0] = 3")
+        done = ("at 10: h[1] = 5", "at 20: h[1] = 6 for 10", "run 40")
+        called = self.play(*done, "require", "end: h[0] = 5 and h[1] = 5", "at 20: h[1] = 6 and h[0] = 3")
         self.assertEqual(called.status, 0, called.out)
 
     def test_nothing_else_changes(self):
@@ -155,8 +162,8 @@ class Written(ScenarioTest):
 
     def test_where_a_copy_would_see_it(self):
         self.project(rungs=["COP(Local:1:I,Speed,1);"])
-        why = "Speed can't be written: Speed is no input, and a word for it would change where the tag ends, which a COP, CPS or FLL that names it sees"
-        self.refused("at 0: Speed = 1", 6, why)
+        why = "Speed can't be written: Speed is no input, and a word for it would change where the tag ends, "
+        self.refused("at 0: Speed = 1", 6, why + "which a COP, CPS or FLL that names it sees")
         self.project(rungs=["COP(Local:1:I,n,1);"])
         self.assertEqual(self.play("at 0: n = 1", "run 10").status, 0)
         called = self.play("at 0: Speed = 1", "at 5 engineer 1: accept Main Go i 1 FLL(0,Speed,1);", "run 10")
@@ -172,7 +179,8 @@ class Written(ScenarioTest):
     def test_pulses_that_overlap(self):
         called = self.play("at 0: Button = 1 for 50", "at 20: Button = 0", "run 100")
         self.assertEqual(called.status, 2)
-        self.assertIn("line 3: Button is set at 20 ms, while the pulse of line 2 lasts, up to 50 ms\n    at 20: Button = 0\n           ^", called.err)
+        why = "line 3: Button is set at 20 ms, while the pulse of line 2 lasts, up to 50 ms"
+        self.assertIn(f"{why}\n    at 20: Button = 0\n           ^", called.err)
 
 
 class Refused(ScenarioTest):
@@ -213,14 +221,6 @@ class Refused(ScenarioTest):
         self.put("a folder/my lamp.json", json.dumps(LAMP))
         self.put("a folder/a day.scenario", "\ufeffproject my lamp.json\r\nat 0: Button = 1\r\nrun 10\r\nrequire\r\nend: Lamp = 1\r\n")
         self.assertEqual(self.call(f"{self.room}/a folder/a day.scenario").status, 0)
-
-    def test_without_a_proved_program(self):
-        from scenario_files import Called
-
-        called = Called([self.scenario("run 5"), "--programs", f"{self.room}/nothing"])
-        self.assertEqual((called.status, called.out), (70, ""))
-        self.assertIn("there is no program logix_live at ", called.err)
-        self.assertIn("run tools/prove", called.err)
 
 
 if __name__ == "__main__":

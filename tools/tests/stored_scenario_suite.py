@@ -33,6 +33,9 @@ class Examples(ScenarioTest):
         told = {os.path.basename(path).split(".")[0] for path in EXAMPLES if "/l5x/" in path}
         self.assertEqual(told, exported - WITHOUT)
 
+    def logix(self, *words: str) -> str:
+        return subprocess.run([f"{self.programs}/logix", *words], stdout=subprocess.PIPE, text=True, check=True).stdout
+
     def test_all_hold(self):
         called = self.call(f"{TOP}/examples")
         self.assertEqual((called.status, called.err), (0, ""), called.out)
@@ -43,10 +46,8 @@ class Examples(ScenarioTest):
             with self.subTest(path):
                 called = self.call(path, "--journal", f"{self.room}/j.txt", "--report", f"{self.room}/r.txt")
                 self.assertEqual(called.status, 0, called.out)
-                ran = subprocess.run(
-                    [f"{self.programs}/logix", "replay", f"{self.room}/j.project.json", f"{self.room}/j.txt"], stdout=subprocess.PIPE, check=True
-                )
-                self.assertEqual(ran.stdout.decode(), self.text("r.txt"))
+                ran = self.logix("replay", f"{self.room}/j.project.json", f"{self.room}/j.txt")
+                self.assertEqual(ran, self.text("r.txt"))
 
     def test_opening_values_are_the_controller_s(self):
         self.put("none.txt", "end\n")
@@ -55,8 +56,8 @@ class Examples(ScenarioTest):
                 project = json.load(file)
             places = Places(project)
             opening = [str(places.value(places.image, text)) for text in project.get("watch", [])]
-            ran = subprocess.run([f"{self.programs}/logix", "stations", path, f"{self.room}/none.txt", "1"], stdout=subprocess.PIPE, text=True, check=True)
-            self.assertEqual(ran.stdout.splitlines()[-1].split()[3:], opening, path)
+            told = self.logix("stations", path, f"{self.room}/none.txt", "1")
+            self.assertEqual(told.splitlines()[-1].split()[3:], opening, path)
 
 
 class Falling(ScenarioTest):
@@ -77,18 +78,21 @@ class Falling(ScenarioTest):
         self.assertIn("$enddefinitions", self.text("w.vcd"))
 
     def test_a_full_disk(self):
-        for word in ("--journal", "--report", "--timeline"):
-            called = self.call(f"{TOP}/examples/first/day.scenario", word, "/dev/full") if word != "--journal" else self.call(f"{TOP}/examples/first/day.scenario", word, f"{self.room}/no/j.txt")
-            self.assertEqual(called.status, 5, word)
+        first = f"{TOP}/examples/first/day.scenario"
+        for words in (("--journal", f"{self.room}/no/j.txt"), ("--report", "/dev/full"), ("--timeline", "/dev/full")):
+            called = self.call(first, *words)
+            self.assertEqual(called.status, 5, words)
             self.assertRegex(called.err, "couldn't be written: (No space left|No such file)")
         with open("/dev/full", "w", encoding="ascii") as full:
-            ran = subprocess.run([f"{TOP}/tools/scenario", f"{TOP}/examples/first/day.scenario", "--programs", self.programs], stdout=full, stderr=subprocess.PIPE, check=False)
+            words = [f"{TOP}/tools/scenario", first, "--programs", self.programs]
+            ran = subprocess.run(words, stdout=full, stderr=subprocess.PIPE, check=False)
         self.assertEqual((ran.returncode, ran.stderr), (5, b"scenario: standard output couldn't be written: No space left on device\n"))
 
 
 class Suites(ScenarioTest):
     def three(self):
-        self.scenario("at 10: Button = 1", "run 20", "require", "end: Lamp = 1", "at 0: Lamp = 0", name="suite/a.scenario", project="../lamp.json")
+        lines = ("at 10: Button = 1", "run 20", "require", "end: Lamp = 1", "at 0: Lamp = 0")
+        self.scenario(*lines, name="suite/a.scenario", project="../lamp.json")
         self.scenario("run 20", "require", "end: Lamp = 1", "end: n <> 1", name="suite/b/b.scenario", project="../../lamp.json")
         self.scenario("rum 20", name="suite/c <d>.scenario", project="../lamp.json")
 
@@ -111,7 +115,10 @@ class Suites(ScenarioTest):
         root = tree.parse(f"{self.room}/junit.xml").getroot()
         self.assertEqual((root.tag, root.get("tests"), root.get("failures")), ("testsuites", "5", "2"))
         found = [
-            (os.path.basename(suite.get("name")), suite.get("tests"), suite.get("failures"), [(case.get("name"), [one.get("message") for one in case]) for case in suite])
+            (
+                *(os.path.basename(suite.get(key)) for key in ("name", "tests", "failures")),
+                [(case.get("name"), [one.get("message") for one in case]) for case in suite],
+            )
             for suite in root
         ]
         self.assertEqual(found[0], ("a.scenario", "2", "0", [("end: Lamp = 1", []), ("at 0: Lamp = 0", [])]))
@@ -144,7 +151,7 @@ class Suites(ScenarioTest):
         self.assertEqual(called.status, 0)
         commands = called.out.splitlines()
         self.assertEqual(len(commands), 3)
-        ran = subprocess.run(["sh", "-c", f"{commands[1]} --programs '{self.programs}'"], stdout=subprocess.PIPE, stderr=subprocess.PIPE, check=False)
+        ran = subprocess.run(["sh", "-c", f"{commands[1]} --programs '{self.programs}'"], capture_output=True, check=False)
         self.assertEqual((ran.returncode, ran.stdout), (2, b""))
         self.assertIn(b"c <d>.scenario, line 2: expected", ran.stderr)
 

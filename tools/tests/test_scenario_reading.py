@@ -100,7 +100,7 @@ class Scenarios(unittest.TestCase):
             "faults: minor 6/2 Fast, 4/20\nat 2 s engineer 3: refused E8 C4 0 0\nreport exactly: r.txt\n",
             "x",
         )
-        self.assertEqual((one.title, one.project, one.pace, one.end), ("the title", "my line.json", Pace(20, 2, 0), 5000))
+        self.assertEqual((one.project, one.pace, one.end), ("my line.json", Pace(20, 2, 0), 5000))
         first, second = one.setters
         self.assertEqual([(each.name.text, each.value, each.lasts) for each in first.settings], [("Stop", 1, None), ("Speed", 15, 1500)])
         self.assertEqual((second.at, second.every, second.last), (1000, 400, 2000))
@@ -157,6 +157,8 @@ class Scenarios(unittest.TestCase):
         for action in ("end", "cpu 5", "tick 1", "tets Main", "accept Main Go x 0 NOP();", "@1 test Main", ""):
             with self.assertRaisesRegex(Wrong, "expected an action: accept, "):
                 read(FRONT + f"at 5 engineer 1: {action}\n", "x")
+        with self.assertRaisesRegex(Wrong, "an action has at most 65500 bytes"):
+            read(FRONT + f"at 5 engineer 1: accept Main Go i 0 {'NOP()' * 14_000};\n", "x")
 
     def test_it_is_told_with_file_line_and_caret(self):
         with self.assertRaises(Wrong) as caught:

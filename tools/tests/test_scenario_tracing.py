@@ -34,7 +34,8 @@ def counted(project: dict, lines: list[str]):
             if int(words[2]) == last[int(words[1])]:
                 scans[int(words[1])].append(steps[int(words[1])])
                 steps[int(words[1])] = 0
-        if words[-1] == "major" or (words[0] == "tick" and words[3] != "-") or (words[0] == "act" and words[2] in ("run", "program") and words[4] == "ok"):
+        changed = words[0] == "act" and words[2] in ("run", "program") and words[4] == "ok"
+        if changed or words[-1] == "major" or (words[0] == "tick" and words[3] != "-"):
             steps = [0] * len(steps)
     return scans, overlaps, ends
 
@@ -66,9 +67,8 @@ class Counted(unittest.TestCase):
                 scans, found = Trace(text.encode()).counted(project)
                 for task, steps, overlapped in zip(project["tasks"], wanted, overlaps):
                     one = scans[task["name"]]
-                    self.assertEqual(
-                        (one.count, one.least, one.most, one.overlaps), (len(steps), min(steps, default=0), max(steps, default=0), overlapped), (path, text)
-                    )
+                    told = (one.count, one.least, one.most, one.overlaps)
+                    self.assertEqual(told, (len(steps), min(steps, default=0), max(steps, default=0), overlapped), (path, text))
                     ends += one.count
                 self.assertEqual({name: [(one.event, one.tick, one.step) for one in each] for name, each in found.items()}, places)
         self.assertGreater(ends, 1_000)
