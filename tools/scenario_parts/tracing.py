@@ -1,22 +1,10 @@
-"""What a trace tells (docs/FORMATS.md, section 8.1): the scans of each task, the ends of each program's scans, what an event was.
-
-Most lines of a trace are steps of the task that stepped before. Another task steps only after a tick, an action, a trigger, a scan's begin
-or end, or where a region or a copy that others wait for opens or ends: between these lines it is enough to count.
-"""
+"""What a trace tells (docs/FORMATS.md, section 8.1): the scans of each task, the ends of each program's scans, what an event was."""
 
 from __future__ import annotations
 
 import functools
-import re
+import itertools
 from dataclasses import dataclass
-
-QUIET = b"tick 0 0 -\n"
-TURN = re.compile(
-    rb"^(?:((?:tick 0 0 -\n)+)|(?:(began|left) (\d+) (\d+) (?:\d+|ended)|(tick) \d+ (\d+) (\S+)|act \d+ (\S+) \S+ (\S+) \d+"
-    rb"|(step) (\d+) \d+ (?:(?:up|down|trigger:\d+|sync|syncend) (?:-|minor)|\S+ (major)))$)",
-    re.MULTILINE,
-)
-STEPPING = re.compile(rb"(?:step|left) (\d+) ")
 
 
 @dataclass(frozen=True)
@@ -58,77 +46,71 @@ class Trace:
     def counted(self, project: dict) -> tuple[dict[str, Scans], dict[str, list[Place]]]:
         """The scans of each task, and the ends of the scans of each program (by its name in small letters)."""
         counter = Counter(project)
-        counter.count(self.data)
-        return counter.scans_by_name(), counter.ends_by_name()
+        known: dict[bytes, Seen] = {}
+        # (most lines are those of the step before)
+        for line, same in itertools.groupby(self.lines[1:]):
+            if line not in known:
+                known[line] = seen_of(line)
+            if known[line].ended is None:
+                counter.add(known[line], len(list(same)))
+            else:
+                for _ in same:
+                    counter.add(known[line], 1)
+        return dict(zip(counter.tasks, counter.scans)), dict(zip(counter.programs, counter.ends))
+
+
+@dataclass(frozen=True)
+class Seen:
+    """What is counted of a line: ticks, processor steps, steps of a task, the end of a program's scan, overlaps as a mask of tasks."""
+
+    ticks: int = 0
+    steps: int = 0
+    task: int | None = None
+    ended: int | None = None
+    overlaps: int = 0
+    # Whether all tasks go down.
+    down: bool = False
+
+
+def seen_of(line: bytes) -> Seen:
+    words = line.decode().split(" ")
+    if words[0] == "tick":
+        return Seen(ticks=1, overlaps=int(words[2]), down=words[3] != "-")
+    if words[0] == "act":
+        return Seen(down=words[2] in ("run", "program") and words[4] == "ok")
+    if words[0] == "idle":
+        return Seen(steps=1)
+    ended = int(words[2]) if words[0] == "left" and words[3] == "ended" else None
+    return Seen(steps=1, task=int(words[1]), ended=ended, down=words[-1] == "major")
 
 
 class Counter:
     def __init__(self, project: dict) -> None:
         self.tasks = [task["name"] for task in project["tasks"]]
         self.programs = [program["name"].lower() for program in project["programs"]]
-        numbers = {name: at for at, name in enumerate(self.programs)}
-        self.last = [numbers[task["programs"][-1].lower()] for task in project["tasks"]]
+        self.last = [self.programs.index(task["programs"][-1].lower()) for task in project["tasks"]]
         self.scans = [Scans() for _ in self.tasks]
         self.ends: list[list[Place]] = [[] for _ in self.programs]
         self.steps = [0] * len(self.tasks)
         self.event = self.tick = self.step = 0
 
-    def scans_by_name(self) -> dict[str, Scans]:
-        return dict(zip(self.tasks, self.scans))
-
-    def ends_by_name(self) -> dict[str, list[Place]]:
-        return dict(zip(self.programs, self.ends))
-
-    def count(self, data: bytes) -> None:
-        end = 0
-        for found in TURN.finditer(data):
-            if found.start() > end:
-                self.go_on(data, end, found.start())
-            quiet, *words = found.groups()
-            if quiet:
-                end = found.end()
-                self.event += len(quiet) // len(QUIET)
-                self.tick += len(quiet) // len(QUIET)
-            else:
-                end = found.end() + 1
-                self.event += 1
-                self.turn(*words)
-
-    def go_on(self, data: bytes, start: int, end: int) -> None:
-        """Steps of one task, or idle ones."""
-        count = data.count(b"\n", start, end)
+    def add(self, seen: Seen, count: int) -> None:
+        """Counts so many events of one kind; of those that end a scan, one."""
         self.event += count
-        self.step += count
-        task = STEPPING.match(data, start)
-        if task:
-            self.steps[int(task[1])] += count
+        self.tick += seen.ticks * count
+        self.step += seen.steps * count
+        if seen.task is not None:
+            self.steps[seen.task] += count
+        if seen.ended is not None:
+            self.end(seen.task, seen.ended)
+        if seen.overlaps:
+            for task, scans in enumerate(self.scans):
+                scans.overlaps += (seen.overlaps >> task & 1) * count
+        if seen.down:
+            self.steps = [0] * len(self.steps)
 
-    def turn(self, scan, task, program, tick, overlapped, watchdog, verb, answer, step, stepping, major) -> None:
-        if tick:
-            self.tick += 1
-            self.overlap(int(overlapped))
-            if watchdog != b"-":
-                self.all_down()
-        elif verb:
-            if verb in (b"run", b"program") and answer == b"ok":
-                self.all_down()
-        else:
-            self.step += 1
-            self.steps[int(task or stepping)] += 1
-            if scan == b"left":
-                self.ended(int(task), int(program))
-            if major:
-                self.all_down()
-
-    def all_down(self) -> None:
-        self.steps = [0] * len(self.steps)
-
-    def ended(self, task: int, program: int) -> None:
+    def end(self, task: int, program: int) -> None:
         self.ends[program].append(Place(self.event, self.tick, self.step))
         if program == self.last[task]:
             self.scans[task].add(self.steps[task])
             self.steps[task] = 0
-
-    def overlap(self, mask: int) -> None:
-        for task in range(mask.bit_length()):
-            self.scans[task].overlaps += mask >> task & 1
