@@ -29,7 +29,7 @@ def summary(played: Played) -> str:
     short, count = played.judged.short(), len(played.judged.verdicts)
     end = " (ended by --seconds)" if played.run.stopped else ""
     if status(played) == 0:
-        return f"ok: {count} required, all held{end}"
+        return f"ok: {count} required, all held" if count else "ok: nothing is required"
     unasked = played.judged.unasked()
     more = f"; {unasked} refused or faulted, which nothing requires" if unasked else ""
     return f"FAIL: {short} of {count} fell short{more}{end}"
@@ -44,11 +44,8 @@ def lane_told(lane: int) -> str:
 
 
 def tags_told(played: Played) -> list[str]:
-    """The values at the end, in columns, spelled as they are watched."""
-    values = played.story.values_at_end()
-    spelled = {text.lower(): text for text in played.copy["watch"]}
-    spelled.update({name.key: spelled.get(name.key, name.text) for name in played.scenario.names()})
-    cells = [f"{spelled.get(key, key)} {value}" for key, value in values.items()]
+    """The values at the end, in columns."""
+    cells = [f"{text} {value}" for text, value in played.values().items()]
     if not cells:
         return ["tags at the end: none is watched or named"]
     width = max(map(len, cells)) + 3

@@ -47,7 +47,13 @@ class Played:
     journal: bytes
     report: bytes
     notes: list[str] = field(default_factory=list)
-    seconds: float = 0.0
+
+    def values(self) -> dict[str, int]:
+        """The values at the end of what the project watches and the scenario names, as they are spelled there."""
+        values, spelled = self.story.values_at_end(), {}
+        for text in (*self.project.get("watch", []), *(name.text for name in self.scenario.names())):
+            spelled.setdefault(text.lower(), text)
+        return {text: values[key] for key, text in spelled.items()}
 
 
 def no_progress(_now: int, _end: int) -> None:
@@ -56,10 +62,10 @@ def no_progress(_now: int, _end: int) -> None:
 
 def play(path: str, project: str | None, programs: Programs, seconds: float, progress=no_progress) -> Played:
     """Reads, runs and judges a scenario; on another project than its own if one is named."""
-    began = time.monotonic()
+    deadline = time.monotonic() + seconds
     scenario = read_file(path)
     try:
-        return Player(scenario, project, programs, began + seconds, progress).play(began)
+        return Player(scenario, project, programs, deadline, progress).play()
     except Wrong as wrong:
         wrong.path = wrong.path or path
         raise
@@ -70,10 +76,11 @@ class Player:
         self.scenario, self.programs, self.deadline = scenario, programs, deadline
         self.progress = lambda now: progress(now, scenario.end)
         self.live, self.logix = programs.path("logix_live"), programs.path("logix")
-        self.path = project if project is not None else os.path.join(os.path.dirname(scenario.path), scenario.project)
+        self.is_other = project is not None
+        self.path = project if self.is_other else os.path.join(os.path.dirname(scenario.path), scenario.project)
         self.notes: list[str] = []
 
-    def play(self, began: float) -> Played:
+    def play(self) -> Played:
         self.project = self.load()
         places = Places(self.project)
         self.judge_names(places)
@@ -93,22 +100,24 @@ class Player:
         judged = judge.judge()
         notes = [*self.made.notes, *self.notes, *run.notes]
         copy = self.made.text(watches[0])
-        return Played(self.scenario, self.project, copy, run, story, judged, journal, reports[0], notes, time.monotonic() - began)
+        return Played(self.scenario, self.project, copy, run, story, judged, journal, reports[0], notes)
 
     # ---- the project
 
     def load(self) -> dict:
-        line = self.scenario.project_line
-        at = line.text.find(" ") + 1
         try:
             with open(self.path, "rb") as file:
                 contents = file.read()
         except OSError as fault:
-            raise line.wrong(f"the project {self.path} can't be read: {fault.strerror}", at) from None
+            raise self.wrong_project(f"the project {self.path} can't be read: {fault.strerror}") from None
         refusal = refusal_of(self.live, self.path)
         if refusal:
-            raise line.wrong(f"the project {self.path} is refused: {refusal}", at)
+            raise self.wrong_project(f"the project {self.path} is refused: {refusal}")
         return json.loads(contents)
+
+    def wrong_project(self, why: str) -> Wrong:
+        line = self.scenario.project_line
+        return Wrong(why) if self.is_other else line.wrong(why, line.text.find(" ") + 1)
 
     def judge_names(self, places: Places) -> None:
         for name in self.scenario.names():

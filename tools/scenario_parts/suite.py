@@ -61,12 +61,13 @@ def run(said: argparse.Namespace, programs: Programs) -> int:
     began = time.monotonic()
     outcomes = []
     for outcome in played(paths, said, programs):
+        # (nothing is told before it is known that the programs are the proved ones)
+        programs.sure()
         outcomes.append(outcome)
         print(outcome.line, flush=True)
         for change in outcome.changes:
             print(f"      {change}")
         counted(len(outcomes), len(paths), began)
-    programs.sure()
     if said.junit:
         outputs.put(said.junit, junit.text(outcomes))
     print(summary(outcomes, time.monotonic() - began))
@@ -137,8 +138,6 @@ def outcome_of(played: Played) -> Outcome:
         (f"line {one.line.number}: {one.action}", False, [f"{one.answer}, which nothing requires"]) for one in played.judged.refused
     ]
     verdicts += [(one.told(), False, [f"at {one.place.told()}, which nothing requires"]) for one in played.judged.faulted]
-    spelled = {text.lower(): text for text in played.copy["watch"]}
-    values = {spelled.get(key, key): value for key, value in played.story.values_at_end().items()}
     status, path = answer.status(played), played.scenario.path
     short = [text for text, holds, _ in verdicts if not holds]
     if status == OK:
@@ -147,7 +146,7 @@ def outcome_of(played: Played) -> Outcome:
         line = f"FAIL  {path}: {len(short)} of {len(verdicts)} fell short: {'; '.join(short[:2])}{'; ..' if short[2:] else ''}"
     if played.run.stopped:
         line += f" (ended by --seconds at {played.run.now} ms)"
-    return Outcome(path, status, line, verdicts=verdicts, values=values)
+    return Outcome(path, status, line, verdicts=verdicts, values=played.values())
 
 
 def changes(own: Outcome, other: Outcome) -> list[str]:
