@@ -9,6 +9,7 @@ sys.path.insert(0, os.path.dirname(os.path.dirname(os.path.realpath(__file__))))
 from hammer_parts.plain.journal import Bad, Reader, lines_of  # noqa: E402
 from hammer_parts.plain.judge import Reporter, run  # noqa: E402
 from hammer_parts.plain.project import Project  # noqa: E402
+from hammer_parts.plain.reader import Fault  # noqa: E402
 
 
 def put(lines):
@@ -29,7 +30,12 @@ def answer(reporter, number, line):
 
 def main(path):
     with open(path, "rb") as file:
-        reporter = Reporter(Project(file.read()))
+        contents = file.read()
+    try:
+        reporter = Reporter(Project(contents))
+    except Fault as fault:
+        put([fault.line()])
+        sys.exit(2)
     for number, given in enumerate(sys.stdin.buffer, 1):
         for _, line in lines_of(given)[1]:
             if line.strip(" ") == "end":

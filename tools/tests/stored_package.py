@@ -62,6 +62,7 @@ class Package(unittest.TestCase):
             self.says_who_writes(root)
             self.helps(root)
             self.names_its_own_commands(root)
+            self.plays_scenarios(root)
             self.dpkg(root, "--purge", "logix")
             left = [path for path in glob.glob(f"{root}/**", recursive=True) if os.path.isfile(path) and "/var/" not in path]
             self.assertEqual(left, [])
@@ -98,6 +99,14 @@ class Package(unittest.TestCase):
         self.assertIn(b"P1: the text isn't JSON", said)
         ran = subprocess.run([f"{root}/usr/bin/logix_explain", "P1"], capture_output=True, timeout=60, check=False)
         self.assertEqual((ran.returncode, ran.stdout[:4]), (0, b"P1: "))
+
+    def plays_scenarios(self, root):
+        ran = subprocess.run([f"{root}/usr/bin/logix_scenario", f"{root}/usr/share/doc/logix/examples"], capture_output=True, text=True, timeout=60, check=False)
+        self.assertEqual((ran.returncode, ran.stderr), (0, ""), ran.stdout)
+        self.assertRegex(ran.stdout, r"(\d+) scenarios: \1 ok, 0 FAIL")
+        report = f"{root}/usr/share/doc/logix/examples/conveyor/report.txt"
+        ran = subprocess.run([f"{root}/usr/bin/logix_compare", report, report], capture_output=True, timeout=60, check=False)
+        self.assertEqual((ran.returncode, ran.stdout, ran.stderr), (0, b"", b""))
 
     def takes_an_export(self, root):
         words = [f"{root}/usr/bin/logix_from_l5x", f"{root}/usr/share/doc/logix/examples/l5x/line.L5X"]

@@ -1,0 +1,93 @@
+"""Scenarios for tests: a folder with a project and a scenario, played on the plain interpreter or on the built programs."""
+
+from __future__ import annotations
+
+import io
+import json
+import os
+import sys
+import tempfile
+import unittest
+from contextlib import redirect_stderr, redirect_stdout
+
+TESTS = os.path.dirname(os.path.realpath(__file__))
+TOOLS = os.path.dirname(TESTS)
+TOP = os.path.dirname(TOOLS)
+sys.path.insert(0, TOOLS)
+
+from scenario_parts.main import main  # noqa: E402
+
+PLAIN = {"logix_live": "plain_live.py", "logix": "plain_logix.py"}
+BUILT = ("logix_live", "logix", "logix_timeline", "logix_wave")
+
+# One rung in a continuous task: a lamp follows a button of an input word.
+LAMP = {
+    "schema": 2, "controller": "Lamp",
+    "tags": [
+        {"name": "Local:1:I", "type": "DINT"}, {"name": "Button", "alias": "Local:1:I.0"}, {"name": "Other", "alias": "Local:1:I.5"},
+        {"name": "Lamp", "type": "BOOL"}, {"name": "Speed", "type": "INT"}, {"name": "n", "type": "DINT"},
+    ],
+    "programs": [
+        {"name": "Main", "main": "Go", "tags": [{"name": "Own", "type": "SINT"}],
+         "routines": [{"name": "Go", "rungs": ["XIC(Button)OTE(Lamp);"]}]},
+    ],
+    "tasks": [{"name": "Cont", "kind": "continuous", "programs": ["Main"]}],
+    "connections": [{"name": "In1", "tag": "Local:1:I", "direction": "in"}],
+}  # fmt: skip
+
+
+def programs(folder: str, built: bool) -> str:
+    """A folder of programs: links to the plain ones, or to those that are built here."""
+    os.makedirs(folder, exist_ok=True)
+    for name in BUILT if built else PLAIN:
+        target = f"{TOP}/crates/{name}/out/{name}" if built else f"{TESTS}/{PLAIN[name]}"
+        os.symlink(target, f"{folder}/{name}")
+    return folder
+
+
+class Called:
+    """What a call of tools/scenario writes, and its status."""
+
+    def __init__(self, words: list[str]) -> None:
+        out, err = io.StringIO(), io.StringIO()
+        with redirect_stdout(out), redirect_stderr(err):
+            self.status = main(words)
+        self.out, self.err = out.getvalue(), err.getvalue()
+
+
+class ScenarioTest(unittest.TestCase):
+    built = True
+
+    def setUp(self) -> None:
+        room = tempfile.TemporaryDirectory()
+        self.addCleanup(room.cleanup)
+        self.room = room.name
+        self.programs = programs(f"{self.room}/programs", self.built)
+        self.put("lamp.json", json.dumps(LAMP))
+
+    def put(self, name: str, text: str) -> str:
+        os.makedirs(os.path.dirname(f"{self.room}/{name}"), exist_ok=True)
+        with open(f"{self.room}/{name}", "w", encoding="utf-8", newline="") as file:
+            file.write(text)
+        return f"{self.room}/{name}"
+
+    def project(self, **more) -> str:
+        """The lamp's project with other fields; its first rung is `rung` if that is given."""
+        made = json.loads(json.dumps(LAMP))
+        rungs = more.pop("rungs", None)
+        if rungs is not None:
+            made["programs"][0]["routines"][0]["rungs"] = rungs
+        return self.put("lamp.json", json.dumps({**made, **more}))
+
+    def text(self, name: str) -> str:
+        with open(f"{self.room}/{name}", encoding="utf-8") as file:
+            return file.read()
+
+    def scenario(self, *lines: str, name: str = "day.scenario", project: str = "lamp.json") -> str:
+        return self.put(name, "\n".join([f"project {project}", *lines, ""]))
+
+    def call(self, *words: str) -> Called:
+        return Called([*words, "--programs", self.programs])
+
+    def play(self, *lines: str) -> Called:
+        return self.call(self.scenario(*lines))
