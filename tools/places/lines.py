@@ -8,7 +8,7 @@ from typing import NamedTuple
 from hammer_parts.plain.journal import LONGEST, MOST_ACTIONS, MOST_COUNT, MOST_EDITS
 from hammer_parts.plain.words import is_name
 
-from .texts import Said, listed, marked, meant, near, quoted
+from .texts import Said, marked, meant, near, quoted
 
 MARK = "\ufeff"
 DIGITS = re.compile(r"[0-9]{1,10}")

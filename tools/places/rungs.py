@@ -12,7 +12,7 @@ from hammer_parts.plain.words import FLAGS, is_name, number_of
 
 from .refused import Refused
 from .tags import bytewise, described, no_place
-from .texts import Said, counted, listed, marked, meant, near, quoted
+from .texts import Said, counted, marked, meant, near, quoted
 
 INSTRUCTION = re.compile(r"([A-Za-z]+)[ \t\r\n]*\(([^)]*)\)")
 OPERAND = re.compile(r"[^, \t\r\n]+")
@@ -111,7 +111,11 @@ class Fault(NamedTuple):
 
     def earlier(self, rungs: list[str]) -> int:
         label = self.one.operands[0][0].lower()
-        return next(at for at, text in enumerate(rungs) if any(one.op == "LBL" and one.operands[0].lower() == label for one in instructions(read_rung(bytewise(text)))))
+        for at, text in enumerate(rungs):
+            for one in instructions(read_rung(bytewise(text))):
+                if one.op == "LBL" and one.operands[0].lower() == label:
+                    return at
+        raise LookupError(label)
 
     def count(self) -> str:
         given = counted(len(self.one.operands), "operand")

@@ -10,7 +10,7 @@ from hammer_parts.plain.words import FLAGS, is_name, is_tag_name, operand_form
 
 from .refused import Refused
 from .shape import name_fault
-from .texts import Said, counted, listed, meant, quoted
+from .texts import Said, counted, meant, quoted
 
 MOST_IMAGE, MOST_STRUCTURE = 262_144, 4_096
 
@@ -128,7 +128,8 @@ def part_fault(refused: Refused, before: str, found: Found, part: tuple, code: s
     if code == "G9":
         return f"{quoted(before)} has four variable subscripts already"
     if code == "G6":
-        return f"the subscript of {quoted(before)} must be {'a number here' if kind == 'by' and not in_rungs(refused) else 'an integer without a variable subscript'}"
+        wanted = "an integer without a variable subscript" if in_rungs(refused) else "a number here"
+        return f"the subscript of {quoted(before)} must be {wanted}"
     if kind == "member":
         if found.dim:
             return f"{quoted(before)} is {what}: name an element first"
@@ -177,7 +178,8 @@ def declared(refused: Refused, code: str, one: dict) -> Said:
     if code == "Y4":
         return refused.say(f"an array of BOOLs has 32 elements, or 64 and so on, not {one['dim']}", [*keys, "dim"])
     if code == "G8":
-        return refused.say(f"with this tag they have {counted(up_to(size_with(refused, one), 4), 'byte')}; at most {MOST_IMAGE:,}", [*keys, "name"])
+        size = counted(up_to(size_with(refused, one), 4), "byte")
+        return refused.say(f"with this tag they have {size}; at most {MOST_IMAGE:,}", [*keys, "name"])
     if code == "G7":
         return refused.say(f"the chain of aliases from {quoted(name)} never ends", [*keys, "alias"])
     return refused.say(no_place(refused, one["alias"], scope, True), [*keys, "alias"])

@@ -1,4 +1,4 @@
-"""A line of a trace that was refused, or that breaks a law: the line, a mark under the word at fault, and the tasks that its numbers name."""
+"""A line of a trace that was refused, or that breaks a law: the line, a mark under the word at fault, and the names of its numbers."""
 
 from __future__ import annotations
 

@@ -115,7 +115,8 @@ class Words(Room):
         self.assertEqual(self.said(4, "check", "lime.json"), "'lime.json', the project, isn't there; is line.json meant?")
         self.assertEqual(self.said(4, "replay", "line.json", ""), "the word for the journal is empty.")
         self.assertEqual(self.said(4, "run", "line.json", "."), "'.', the script, is a folder.")
-        self.assertEqual(self.said(4, "check", "nowhere/x.json"), "'nowhere/x.json', the project, isn't there; nor is its folder 'nowhere'.")
+        told = "'nowhere/x.json', the project, isn't there; nor is its folder 'nowhere'."
+        self.assertEqual(self.said(4, "check", "nowhere/x.json"), told)
 
     def test_a_file_that_is_too_long(self) -> None:
         with open(f"{self.room}/long.txt", "wb") as file:
@@ -192,7 +193,8 @@ C4: neither the program nor the controller declares the tag. To do: declare it, 
     def test_of_a_file_that_has_changed(self) -> None:
         self.put("line.json", LINE)
         status, text = explain("--project", "line.json", "project P8 tasks.1", cwd=self.room)
-        self.assertEqual((status, text.partition("\n")[0]), (0, "line.json: the file isn't refused so: it has changed since, or is another"))
+        told = "line.json: the file isn't refused so: it has changed since, or is another"
+        self.assertEqual((status, text.partition("\n")[0]), (0, told))
 
     def test_of_a_script(self) -> None:
         self.put("shift.txt", "# late shift\nrun 100 10 2\n@0 5 mode run\n@2 6 clear\nend\n")

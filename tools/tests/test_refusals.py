@@ -1,4 +1,4 @@
-"""What is said of refused projects and journals: the cases of refused_projects.py and refused_journals.py, on the plain reading of the rules."""
+"""What is said of refused projects and journals: those of refused_projects.py and refused_journals.py, by the plain reading of the rules."""
 
 from __future__ import annotations
 
