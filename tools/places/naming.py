@@ -74,7 +74,7 @@ def not_once(refused: Refused) -> Said:
     name = str(refused.at([*refused.keys, "name"]))
     tasks = [task["name"] for task in refused.at(["tasks"]) for one in task["programs"] if one.lower() == name.lower()]
     why = f"it is listed {len(tasks)} times, by {listed(dict.fromkeys(tasks))}" if tasks else "no task lists it"
-    return refused.say(why, [*refused.keys, "name"])
+    return refused.say(why, [*refused.keys, "name"], "twice" if tasks else "no task")
 
 
 def second_continuous(refused: Refused) -> Said:

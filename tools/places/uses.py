@@ -170,7 +170,7 @@ class Uses:
         try:
             found = self.tags.resolve(scope, bytewise(rest), True)
         except NotThere:
-            raise NoTag(no_place(self.project, rest, scope, True)) from None
+            raise NoTag(no_place(self.project, rest, scope, True)[0]) from None
         size = (found.dim or 1) * (1 if found.base == "BOOL" else self.tags.types.size(found.base, 0) * 8)
         return found.tag, self.expanded(scope, form), found.at, found.at + size
 

@@ -155,7 +155,7 @@ class Codes(Room):
         status, text = explain(*codes, *FAULTS, "held")
         self.assertEqual(status, 0)
         for line in text.splitlines():
-            self.assertRegex(line, r"^\S+: \S.*\. To do: \S.*\.$")
+            self.assertRegex(line, r"^\S+: \S.*\. To do: \S.*[.?]$")
 
     def codes(self, *words: str) -> list[str]:
         status, text = explain(*words)
@@ -202,7 +202,7 @@ C4: neither the program nor the controller declares the tag. To do: declare it, 
 shift.txt, line 4: no lane 2: lanes of this script are below 2
     @2 6 clear
     ^
-J2: a lane above 30; in a script, one that isn't below LANES. To do: choose a lane.
+J2: in a script, a lane that isn't below LANES. To do: choose another, or have more.
 """))
 
     def test_of_a_trace(self) -> None:
@@ -212,7 +212,7 @@ J2: a lane above 30; in a script, one that isn't below LANES. To do: choose a la
 trace.txt, line 2: there is no program 2: they are 0 to 1
     began 0 2 0
             ^
-K2: a task, program or bit of a mask that the project doesn't have; a lane above 31. To do: is the trace of this project?.
+K2: a task, program or bit of a mask that the project doesn't have. To do: is the trace of this project?
 """))
         status, text = explain("--project", "line.json", "--journal", "trace.txt", "no L1 1", cwd=self.room)
         self.assertEqual((status, text.splitlines()[1]), (0, "    began 0 2 0"))
