@@ -4,17 +4,21 @@
 # A crate that is kept from an earlier run counts as proved. A planted bug is being tried as long as `rt` has a folder for it, and one
 # that was tried in an earlier run has none: these are left out of the count.
 tell_progress() {
-    local name=$1 pid=$2 log=$3 folder=$4 every=${PROGRESS_SECONDS:-60} seconds=0 edit
+    local name=$1 pid=$2 log=$3 folder=$4 every=${PROGRESS_SECONDS:-60} begun=$SECONDS next edit bugs
     local -A tried=()
     local -a now
     shift 4
+    next=$every
     while kill -0 "$pid" 2>/dev/null; do
         sleep 1
         now=("${TMPDIR:-/tmp}/rt-edit-$pid-"*)
         [ -e "${now[0]}" ] || now=()
         for edit in "${now[@]}"; do tried[$edit]=1; done
-        ((++seconds % every)) || printf '%s: %s min: %s of %s crates proved%s; under way:%s\n' "$name" "$((seconds / 60))" \
-            "$(crates_proved "$log")" "$#" "$(bugs_tried "$((${#tried[@]} - ${#now[@]}))" "$folder")" "$(under_way "$log" "$folder" "$@")" >&2
+        ((SECONDS - begun >= next)) || continue
+        bugs=$(bugs_tried "$((${#tried[@]} - ${#now[@]}))" "$folder")
+        printf '%s: %s min: %s of %s crates proved%s; under way:%s\n' "$name" "$((next / 60))" "$(crates_proved "$log")" "$#" "$bugs" \
+            "$(under_way "$log" "$folder" "$@")" >&2
+        next=$((next + every))
     done
 }
 
@@ -26,11 +30,12 @@ bugs_tried() {
     [ ! -e "${every[0]}" ] || printf ', %s of %s planted bugs tried' "$1" "${#every[@]}"
 }
 
-# The crates that are begun and not done, and those whose planted bugs are being tried.
+# The crates that are begun and not done.
 under_way() {
     local log=$1 folder=$2 crate
     shift 2
     for crate in "$@"; do
-        [ "$folder/crates/$crate/out" -nt "$log.begun" ] && ! grep -q "^rt: $crate \(proved\|NOT PROVED\|is kept\)" "$log" && printf ' %s' "$crate"
+        [ "$folder/crates/$crate/out" -nt "$log.begun" ] || continue
+        grep -q "^rt: $crate \(proved\|NOT PROVED\|is kept\)" "$log" || printf ' %s' "$crate"
     done
 }

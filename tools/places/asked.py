@@ -52,7 +52,8 @@ def codes_in(text: str) -> list[str]:
     reply = REPLY.search(text)
     words = words_in(reply.group(4) if reply else text)
     are_codes = all(map(CODE.fullmatch, words))
-    return [word for at, word in enumerate(words) if CODE.fullmatch(word) and not (PLACES.fullmatch(word) and is_place(words[:at], are_codes))]
+    places = {at for at, word in enumerate(words) if PLACES.fullmatch(word) and is_place(words[:at], are_codes)}
+    return [word for at, word in enumerate(words) if CODE.fullmatch(word) and at not in places]
 
 
 def words_in(text: str) -> list[str]:

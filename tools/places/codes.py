@@ -8,6 +8,8 @@ from collections.abc import Iterator
 from functools import cache
 from typing import NamedTuple
 
+from .texts import sentence
+
 TOP = os.path.dirname(os.path.dirname(os.path.dirname(os.path.realpath(__file__))))
 DOCUMENTS = ("FORMATS.md", "CONTROLLER.md")
 CODE = re.compile(r"[A-Z]\d{1,2}|\d/\d{1,2}|\d{1,2}|held")
@@ -23,7 +25,7 @@ class Row(NamedTuple):
     advice: str
 
     def sentence(self) -> str:
-        return f"{self.meaning}. To do: {self.advice}."
+        return f"{self.meaning}. To do: {sentence(self.advice)}"
 
 
 def cells(line: str) -> list[str]:

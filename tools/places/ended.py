@@ -34,13 +34,13 @@ def what(program: str, words: list[str], status: str, files: list[File], first: 
     if status == CANT_BE_READ:
         faults = [fault for fault in (file.fault() for file in files) if fault]
         if faults:
-            return f"{sentence(faults[0])} To do: {rows[0].advice}."
+            return f"{sentence(faults[0])} To do: {sentence(rows[0].advice)}"
     if status == TOO_LONG:
         long = [file for file in files if file.is_long()]
         if long:
-            return f"the {long[0].kind} {long[0].name} has more than 16,777,216 bytes. To do: {rows[0].advice}."
+            return f"the {long[0].kind} {long[0].name} has more than 16,777,216 bytes. To do: {sentence(rows[0].advice)}"
     if status == WRONG_WORDS:
-        return f"{sentence(wrong_words(program, words))} To do: {rows[0].advice}."
+        return f"{sentence(wrong_words(program, words))} To do: {sentence(rows[0].advice)}"
     row = next((row for row in rows if ("picture" in row.meaning) == (program in PICTURES)), rows[0])
     return row.meaning if len(first.split()) > 1 and status in REFUSED else row.sentence()
 

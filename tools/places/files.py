@@ -8,7 +8,7 @@ from dataclasses import dataclass
 from functools import cache
 
 from .codes import TOP
-from .texts import meant, quoted
+from .texts import counted, meant, near, quoted
 
 MOST_BYTES = 16_777_216
 USAGE = re.compile(r"`usage: logix (.*?)`")
@@ -60,10 +60,10 @@ class File:
 def meant_file(name: str) -> str:
     folder, base = os.path.split(name)
     try:
-        found = meant(base, os.listdir(folder or "."))
+        names = os.listdir(folder or ".")
     except OSError:
         return f"; nor is its folder {quoted(folder)}"
-    return found if "meant" in found else ""
+    return meant(base, names) if near(base, names) else ""
 
 
 def files_of(program: str, words: list[str]) -> list[File]:
@@ -83,8 +83,8 @@ def wrong_words(program: str, words: list[str]) -> str:
         return "a command must follow"
     known = commands()
     if words[0] not in known:
-        return f"there is no command {quoted(words[0])}" + (f"{meant(words[0], known)}" if "meant" in meant(words[0], known) else f"; there are {', '.join(known)}")
-    wanted = known[words[0]]
-    if len(words) - 1 != len(wanted):
-        return f"the command is '{' '.join([words[0], *wanted])}': {len(wanted)} word{'s' * (len(wanted) != 1)} after it, not {len(words) - 1}"
-    return f"the command is '{' '.join([words[0], *wanted])}'"
+        others = meant(words[0], known) if near(words[0], known) else f"; there are {', '.join(known)}"
+        return f"there is no command {quoted(words[0])}{others}"
+    command = f"the command is '{' '.join([words[0], *known[words[0]]])}'"
+    wanted, given = len(known[words[0]]), len(words) - 1
+    return command if given == wanted else f"{command}: {counted(wanted, 'word')} after it, not {given}"

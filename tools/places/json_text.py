@@ -132,8 +132,10 @@ class _Reader:
         return NoJson(self._at, "a comma is missing before this")
 
     def _ended(self) -> NoJson:
-        line = line_of(self._text, self._open[-1])[0] if self._open else 1
-        return NoJson(len(self._text), f"the text ends, and the bracket of line {line} is still open" if self._open else "there is no project")
+        if not self._open:
+            return NoJson(len(self._text), "there is no project")
+        line, _, _ = line_of(self._text, self._open[-1])
+        return NoJson(len(self._text), f"the text ends, and the bracket of line {line} is still open")
 
     def _member(self, node: Node) -> None:
         found, key = self._peek(), self._at

@@ -8,7 +8,7 @@ from typing import NamedTuple
 from hammer_parts.plain.journal import LONGEST, MOST_ACTIONS, MOST_COUNT, MOST_EDITS
 from hammer_parts.plain.words import is_name
 
-from .texts import Said, listed, marked, meant, near, quoted
+from .texts import Said, marked, meant, near, quoted
 
 MARK = "\ufeff"
 DIGITS = re.compile(r"[0-9]{1,10}")
@@ -72,7 +72,7 @@ def judge(kind: str, code: str, number: int, lines: list[str]) -> None:
         lane = next(word for word in words_of(line) if word.text.startswith("@"))
         head = words_of(next(one for one in lines if one and not one.startswith("#")))
         most = f"of this script are below {head[3].text}" if kind == "script" else "are 0 to 30; the operator, 31, has no @"
-        raise Wrong(f"no lane {lane.text[1:]}: lanes {most}", lane.at)
+        raise Wrong(f"no lane {lane.text[1:]}: lanes {most}", lane.at, "script" if kind == "script" else "above")
     elif code == "J4":
         judge_count(kind, line, is_first(number, lines))
     elif code in ("J3", "J5"):

@@ -19,7 +19,8 @@ def wrong_value(refused: Refused) -> Said:
         return said
     kind, value = refused.keys[0], refused.at(refused.keys)
     if kind == "programs":
-        return refused.say(f"the program has no routine {quoted(value)}{meant(value, refused.names(*refused.keys[:2], 'routines'))}", applies="of nothing")
+        routines = refused.names(*refused.keys[:2], "routines")
+        return refused.say(f"the program has no routine {quoted(value)}{meant(value, routines)}", applies="of nothing")
     if kind == "tasks":
         return refused.say(f"there is no program {quoted(value)}{meant(value, refused.names('programs'))}", applies="of nothing")
     if refused.keys[-1] == "trigger":
@@ -73,7 +74,7 @@ def not_once(refused: Refused) -> Said:
     name = str(refused.at([*refused.keys, "name"]))
     tasks = [task["name"] for task in refused.at(["tasks"]) for one in task["programs"] if one.lower() == name.lower()]
     why = f"it is listed {len(tasks)} times, by {listed(dict.fromkeys(tasks))}" if tasks else "no task lists it"
-    return refused.say(why, [*refused.keys, "name"])
+    return refused.say(why, [*refused.keys, "name"], "twice" if tasks else "no task")
 
 
 def second_continuous(refused: Refused) -> Said:

@@ -32,6 +32,10 @@ def textual(text: str) -> str:
     return text.encode("latin-1").decode("utf-8", "replace")
 
 
+def numbers(count: int) -> str:
+    return f"0 to {count - 1}" if count > 1 else "0"
+
+
 @dataclass
 class Program:
     """A program's routines as its edits have them: the base, and what was accepted for it."""
@@ -93,11 +97,11 @@ class Follower:
             return self.of_module(line, action, code)
         return self.of_edit(line, action, cause)
 
-    def mark(self, line: str, word: int, why: str) -> Said:
+    def mark(self, line: str, word: int, why: str, applies: str = "") -> Said:
         """Under the action's word of this number."""
         words = words_of(line)
         words = words[1:] if words[0].text.startswith("@") else words
-        return Said(why, marked(line, words[min(word, len(words) - 1)].at))
+        return Said(why, marked(line, words[min(word, len(words) - 1)].at), [], applies)
 
     # ---- words and forces
 
@@ -106,10 +110,10 @@ class Follower:
         name = action.names[0] if action.names else ""
         one = next((at for at, one in enumerate(connections) if one["name"].lower() == name.lower()), None)
         if code in ("N1", "F1") and one is None and name:
-            return self.mark(line, 1, f"there is no connection {quoted(name)}{meant(name, self.project.names('connections'))}")
+            return self.mark(line, 1, f"there is no connection {quoted(name)}{meant(name, self.project.names('connections'))}", "connection")
         if code in ("N2", "F1") and one is not None:
             words = self.project.half.connections[one][3]
-            return self.mark(line, 2, f"{connections[one]['name']} has {counted(words, 'word')}, " + (f"0 to {words - 1}" if words > 1 else "0"))
+            return self.mark(line, 2, f"{connections[one]['name']} has {counted(words, 'word')}, {numbers(words)}", "word that")
         if code == "N3" and one is not None:
             return self.mark(line, 0, f"{connections[one]['name']} is an {connections[one]['direction']}put")
         return self.mark(line, 0, "this command")
@@ -119,7 +123,8 @@ class Follower:
     def of_edit(self, line: str, action: Action, cause: list[str]) -> Said:
         code, places = cause[0], cause[1:]
         if code == "E1":
-            return self.mark(line, 1, f"there is no program {quoted(action.names[0])}{meant(action.names[0], self.project.names('programs'))}")
+            name = action.names[0]
+            return self.mark(line, 1, f"there is no program {quoted(name)}{meant(name, self.project.names('programs'))}")
         at, program = next((at, one) for at, (name, one) in enumerate(self.programs.items()) if name == action.names[0].lower())
         if code == "E2":
             names = self.project.names("programs", str(at), "routines")
@@ -143,4 +148,5 @@ class Follower:
         if code == "E6":
             return self.mark(line, 0, f"edit {place} takes rung {edit.index}, which another edit replaces or deletes")
         count = len(program.base[action.names[1].lower()])
-        return self.mark(line, 0, f"edit {place} names rung {edit.index}; the base has {counted(count, 'rung')}" + (f", 0 to {count - 1}" if count > 1 else ""))
+        has = f"{counted(count, 'rung')}, {numbers(count)}" if count else "no rung"
+        return self.mark(line, 0, f"edit {place} names rung {edit.index}; the base has {has}", "inserts" if edit.what == "i" else "replaces")

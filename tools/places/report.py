@@ -49,7 +49,8 @@ class Report:
         if self.refused:
             lines += self.first(name, project, journal)
         if self.lost:
-            lines.append(f"the report has lost {counted(self.lost, 'line')}: it keeps {MOST_LINES:,}. To do: watch less, or take fewer steps.")
+            many = counted(self.lost, "line")
+            lines.append(f"the report has lost {many}: it keeps {MOST_LINES:,}. To do: watch less, or take fewer steps.")
         return lines
 
     def first(self, name: str, project: Refused | None, journal: list[str]) -> list[str]:
@@ -59,8 +60,9 @@ class Report:
         if found is None or project is None:
             return [f"{many}, the first by {' '.join(cause)}", *sentences(cause[0])]
         said = followed(project, journal, self.answers)
-        where = f"line {found}" + (f" of {name}" if name else " of the journal")
-        return [f"{many}; {'the first is' if self.refused > 1 else 'it is'} {where}: {said.why}", *said.lines()[1:], *codes_said(last_of(cause), said.applies)]
+        which = "the first is" if self.refused > 1 else "it is"
+        head = f"{many}; {which} line {found} of {name or 'the journal'}: {said.why}"
+        return [head, *said.lines()[1:], *codes_said(last_of(cause), said.applies)]
 
 
 def last_of(cause: list[str]) -> list[str]:

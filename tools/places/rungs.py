@@ -11,8 +11,8 @@ from hammer_parts.plain.rungs import MNEMONICS, instructions, read_rung
 from hammer_parts.plain.words import FLAGS, is_name, number_of
 
 from .refused import Refused
-from .tags import bytewise, described, no_place
-from .texts import Said, counted, listed, marked, meant, near, quoted
+from .tags import Why, bytewise, described, no_place
+from .texts import Said, counted, marked, meant, near, quoted
 
 INSTRUCTION = re.compile(r"([A-Za-z]+)[ \t\r\n]*\(([^)]*)\)")
 OPERAND = re.compile(r"[^, \t\r\n]+")
@@ -106,12 +106,17 @@ class Fault(NamedTuple):
             return whole[self.code](), self.one.at, ""
         for kind, (text, at) in zip(kinds_of(self.one.op, [text for text, _ in self.one.operands]) or "", self.one.operands):
             if self.checker.operand(kind, bytewise(text)) == int(self.code[1:]):
-                return self.operand(kind, text), at, "no name" if kind in "nrlLe" else "wrong type"
+                why, applies = self.operand(kind, text)
+                return why, at, applies
         return "this instruction", self.one.at, ""
 
     def earlier(self, rungs: list[str]) -> int:
         label = self.one.operands[0][0].lower()
-        return next(at for at, text in enumerate(rungs) if any(one.op == "LBL" and one.operands[0].lower() == label for one in instructions(read_rung(bytewise(text)))))
+        for at, text in enumerate(rungs):
+            for one in instructions(read_rung(bytewise(text))):
+                if one.op == "LBL" and one.operands[0].lower() == label:
+                    return at
+        raise LookupError(label)
 
     def count(self) -> str:
         given = counted(len(self.one.operands), "operand")
@@ -121,16 +126,17 @@ class Fault(NamedTuple):
         says = "at most 8" if len(wanted) > 1 else str(wanted[0])
         return f"{self.one.op} has {given}; {says} must stand here"
 
-    def operand(self, kind: str, text: str) -> str:
+    def operand(self, kind: str, text: str) -> Why:
         """Why this operand has the code."""
         named = {"C11": self.routine, "C12": self.label, "C15": self.task}
         if self.code in named:
-            return named[self.code](text)
+            return named[self.code](text), ""
         if self.code == "C10":
-            return f"{quoted(text)} is out of range: numbers have 32 bits"
+            return f"{quoted(text)} is out of range: numbers have 32 bits", ""
         if self.code in TAG_CODES and number_of(text) is None and text not in FLAGS:
-            return no_place(self.refused, text, self.program, False) or f"{quoted(text)} names nothing"
-        return f"{quoted(text)} is {self.what(kind, text)}; {WANTED.get(kind, 'something else')} must stand here"
+            return no_place(self.refused, text, self.program, False)
+        why = f"{quoted(text)} is {self.what(kind, text)}; {WANTED.get(kind, 'something else')} must stand here"
+        return why, "no name" if kind in "nrlLe" else "wrong type"
 
     def what(self, kind: str, text: str) -> str:
         if kind in "rlLe":

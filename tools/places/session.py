@@ -1,4 +1,4 @@
-"""A session of `logix_live` that goes by on a terminal: each line that can't be done, and each command that is refused, is explained there."""
+"""A session of `logix_live` on a terminal: each line that can't be done, and each command that is refused, is explained there."""
 
 from __future__ import annotations
 

@@ -145,7 +145,8 @@ def out_of_form(refused: Refused) -> Said | None:
 
 
 def number_out_of_range(refused: Refused, value: int, wanted: dict) -> Said | None:
-    least, most = (wanted["minimum"], wanted["maximum"]) if "minimum" in wanted else (min(wanted.get("enum", [0])), max(wanted.get("enum", [0])))
+    words = wanted.get("enum", [value])
+    least, most = wanted.get("minimum", min(words)), wanted.get("maximum", max(words))
     if least <= value <= most:
         return None
     return refused.say(f"{subject(refused)} can't be {value}; it is from {least:,} to {most:,}", applies="out of range")

@@ -10,9 +10,11 @@ from hammer_parts.plain.words import FLAGS, is_name, is_tag_name, operand_form
 
 from .refused import Refused
 from .shape import name_fault
-from .texts import Said, counted, listed, meant, quoted
+from .texts import Said, counted, meant, quoted
 
 MOST_IMAGE, MOST_STRUCTURE = 262_144, 4_096
+# Why something names nothing, and words of the sentence that applies.
+Why = tuple[str, str]
 
 
 def bytewise(text: str) -> str:
@@ -66,12 +68,10 @@ def spelled(form: tuple) -> str:
     return form[0] + "".join(f"[{spelled(value)}]" if part == "by" else parts[part].format(value) for part, value in form[1])
 
 
-def no_place(refused: Refused, text: str, scope: int | None, fixed: bool) -> str:
+def no_place(refused: Refused, text: str, scope: int | None, fixed: bool) -> Why:
     """Why a text names nothing."""
     form = operand_form(bytewise(text))
-    if not form:
-        return no_form(text)
-    return first_fault(refused, form, scope, fixed) or ""
+    return first_fault(refused, form, scope, fixed) or ("", "") if form else (no_form(text), "")
 
 
 def no_form(text: str) -> str:
@@ -93,11 +93,11 @@ def longest(text: str) -> str:
     return next((text[:end] for end in range(len(text), 0, -1) if operand_form(bytewise(text[:end]))), "")
 
 
-def first_fault(refused: Refused, form: tuple, scope: int | None, fixed: bool) -> str | None:
+def first_fault(refused: Refused, form: tuple, scope: int | None, fixed: bool) -> Why | None:
     """The first part of an operand form, from the left, that names nothing."""
     tags, (name, parts) = refused.half.tags, form
     if not (tags.names[scope].get(name.lower()) or tags.names[None].get(name.lower())):
-        return f"there is no tag {quoted(name)}{meant(name, tag_names(refused, scope))}"
+        return f"there is no tag {quoted(name)}{meant(name, tag_names(refused, scope))}", ""
     try:
         found = tags.follow(scope, (name, []), fixed)
     except NoTag as fault:
@@ -114,30 +114,32 @@ def first_fault(refused: Refused, form: tuple, scope: int | None, fixed: bool) -
     return None
 
 
-def alias_fault(refused: Refused, name: str, scope: int | None, code: str) -> str:
+def alias_fault(refused: Refused, name: str, scope: int | None, code: str) -> Why:
     own = scope if scope is not None and name.lower() in refused.half.tags.names[scope] else None
     _, where, target = refused.half.tags.names[own][name.lower()]
     if code == "G7":
-        return f"{quoted(name)} is an alias of {quoted(target)}, and the chain never ends"
-    return f"{quoted(name)} is an alias of {quoted(target)}: {no_place(refused, target, where, True)}"
+        return f"{quoted(name)} is an alias of {quoted(target)}, and the chain never ends", ""
+    why, applies = no_place(refused, target, where, True)
+    return f"{quoted(name)} is an alias of {quoted(target)}: {why}", applies
 
 
-def part_fault(refused: Refused, before: str, found: Found, part: tuple, code: str) -> str:
+def part_fault(refused: Refused, before: str, found: Found, part: tuple, code: str) -> Why:
     """Why this member, element or bit isn't there."""
-    (kind, value), what = part, described(refused, found)
+    (kind, value), what = part, f"{quoted(before)} is {described(refused, found)}"
     if code == "G9":
-        return f"{quoted(before)} has four variable subscripts already"
+        return f"{quoted(before)} has four variable subscripts already", ""
     if code == "G6":
-        return f"the subscript of {quoted(before)} must be {'a number here' if kind == 'by' and not in_rungs(refused) else 'an integer without a variable subscript'}"
+        wanted = "an integer without a variable subscript" if in_rungs(refused) else "a number here"
+        return f"the subscript of {quoted(before)} must be {wanted}", "no integer" if in_rungs(refused) else "in an alias"
     if kind == "member":
         if found.dim:
-            return f"{quoted(before)} is {what}: name an element first"
+            return f"{what}: name an element first", "whole array"
         names = members_of(refused, found.base)
-        return f"{quoted(before)} is {what} and has no member {quoted(value)}" + (meant(value, names) if names else "")
+        return f"{what} and has no member {quoted(value)}" + (meant(value, names) if names else ""), "such member"
     if kind == "bit":
         bits = BITS[found.base] if found.base in INTEGERS and not found.dim else 0
-        return f"{quoted(before)} is {what}: " + (f"its bits are 0 to {bits - 1}" if bits else "it has no bits")
-    return f"{quoted(before)} is {what}: " + (f"its elements are 0 to {found.dim - 1}" if found.dim else "it has no elements")
+        return (f"{what}: its bits are 0 to {bits - 1}", "out of range") if bits else (f"{what}: it has no bits", "no integer")
+    return (f"{what}: its elements are 0 to {found.dim - 1}", "out of range") if found.dim else (f"{what}: it has no elements", "no array")
 
 
 def in_rungs(refused: Refused) -> bool:
@@ -161,7 +163,8 @@ def declaration(refused: Refused) -> Said:
         name = text.removeprefix("Program:").partition(".")[0]
         if is_name(bytewise(name)) and "." in text:
             return refused.say(f"there is no program {quoted(name)}{meant(name, refused.names('programs'))}", keys)
-    return refused.say(no_place(refused, rest, scope, True))
+    why, applies = no_place(refused, rest, scope, True)
+    return refused.say(why, applies=applies)
 
 
 def declared(refused: Refused, code: str, one: dict) -> Said:
@@ -169,7 +172,7 @@ def declared(refused: Refused, code: str, one: dict) -> Said:
     keys, name = refused.keys, one["name"]
     scope = int(keys[1]) if keys[0] == "programs" else None
     if code == "G1":
-        return refused.say(f"{quoted(name)} is no name of a tag: {tag_name_fault(name, scope)}", [*keys, "name"])
+        return refused.say(f"{quoted(name)} is no name of a tag: {tag_name_fault(name, scope)}", [*keys, "name"], "has a" if scope is not None and ":" in name else "wrong form")
     if code == "G2":
         return refused.say(f"the name {quoted(name)} is taken: line {earlier_line(refused, name)} has it", [*keys, "name"])
     if code == "Y1":
@@ -177,10 +180,12 @@ def declared(refused: Refused, code: str, one: dict) -> Said:
     if code == "Y4":
         return refused.say(f"an array of BOOLs has 32 elements, or 64 and so on, not {one['dim']}", [*keys, "dim"])
     if code == "G8":
-        return refused.say(f"with this tag they have {counted(up_to(size_with(refused, one), 4), 'byte')}; at most {MOST_IMAGE:,}", [*keys, "name"])
+        size = counted(up_to(size_with(refused, one), 4), "byte")
+        return refused.say(f"with this tag they have {size}; at most {MOST_IMAGE:,}", [*keys, "name"])
     if code == "G7":
         return refused.say(f"the chain of aliases from {quoted(name)} never ends", [*keys, "alias"])
-    return refused.say(no_place(refused, one["alias"], scope, True), [*keys, "alias"])
+    why, applies = no_place(refused, one["alias"], scope, True)
+    return refused.say(why, [*keys, "alias"], applies)
 
 
 def tag_name_fault(name: str, scope: int | None) -> str:

@@ -9,7 +9,7 @@ from .codes import sentences
 from .files import File
 from .json_text import NoJson
 from .refused import Refused, refused_of
-from .texts import Said
+from .texts import Said, marked
 
 KINDS = ("journal", "script", "link", "trace", "line")
 
@@ -35,7 +35,7 @@ def of_line(kind: str, code: str, number: int, name: str, contents: bytes, about
     if kind == "trace":
         said = traces.told(code, number, every, project_names(about, "tasks"), project_names(about, "programs"))
     elif code == "U1":
-        said = Said("OUT must be an output of the first project, IN an input of the second, of as many words", lines.marked(every[number - 1], 0))
+        said = Said("OUT must be an output of the first project, IN an input of the second, of as many words", marked(every[number - 1], 0))
     else:
         said = lines.told("journal" if kind == "line" else kind, code, number, every)
     return [f"{name}, line {number}: {said.why}", *said.lines()[1:], *sentences(code, said.applies)]

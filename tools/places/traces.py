@@ -1,4 +1,4 @@
-"""A line of a trace that was refused, or that breaks a law: the line, a mark under the word at fault, and the tasks that its numbers name."""
+"""A line of a trace that was refused, or that breaks a law: the line, a mark under the word at fault, and the names of its numbers."""
 
 from __future__ import annotations
 
@@ -24,14 +24,14 @@ SLOTS = {
 def told(code: str, number: int, lines: list[str], tasks: list[str], programs: list[str]) -> Said:
     """What is said of `trace CODE line NUMBER`."""
     if code == "K1" and number == len(lines) + 1:
-        return Said("the line 'end' is missing: here the text ends")
+        return Said("the line 'end' is missing: here the text ends", applies="no line")
     if not 1 <= number <= len(lines):
         return Said("there is no such line: the file has changed since, or is another")
     line = lines[number - 1]
     try:
         (judge_form if code == "K1" else judge_numbers)(line, len(tasks), len(programs))
     except Wrong as wrong:
-        return Said(wrong.why, marked(line.expandtabs(1), wrong.at))
+        return Said(wrong.why, marked(line.expandtabs(1), wrong.at), [], wrong.applies)
     return Said("this line", marked(line.expandtabs(1), 0))
 
 
@@ -60,13 +60,13 @@ def judge_numbers(line: str, tasks: int, programs: int) -> None:
             continue
         number = int(digits)
         if what in ("R", "O") and number >= 1 << tasks:
-            raise Wrong(f"bit {number.bit_length() - 1} of {number} is no task: they are 0 to {tasks - 1}", word.at)
+            raise Wrong(f"bit {number.bit_length() - 1} of {number} is no task: they are 0 to {tasks - 1}", word.at, "a task")
         if what in ("T", "W", "MARK") and number >= tasks:
-            raise Wrong(f"there is no task {number}: they are 0 to {tasks - 1}", word.at)
+            raise Wrong(f"there is no task {number}: they are 0 to {tasks - 1}", word.at, "a task")
         if what == "G" and number >= programs:
-            raise Wrong(f"there is no program {number}: they are 0 to {programs - 1}", word.at)
+            raise Wrong(f"there is no program {number}: they are 0 to {programs - 1}", word.at, "a task")
         if what == "LANE" and number > 31:
-            raise Wrong(f"there is no lane {number}: they are 0 to 31", word.at)
+            raise Wrong(f"there is no lane {number}: they are 0 to 31", word.at, "a lane")
 
 
 def breach(event: int, lines: list[str], tasks: list[str], programs: list[str]) -> Said:

@@ -66,7 +66,8 @@ class Uses:
         inside = self.half.routine_names(at).index(routine.lower())
         read, checked = (list(instructions(routines[at][inside][int(rung)])) for routines in (self.half.texts, self.half.checked))
         text = self.project.at(["programs", str(at), "routines", str(inside), "rungs", rung])
-        places = self.written(at, inside, read, checked, int(number)) if what == "write" else self.read(at, read[int(number)], checked[int(number)])
+        number = int(number)
+        places = self.written(at, inside, read, checked, number) if what == "write" else self.read(at, read[number], checked[number])
         found = [place for place in places if place[0] == tag] or [(tag, self.names[tag], *self.whole(tag))]
         return [Use(line, what == "write", *place, text) for place in dict.fromkeys(found)]
 
@@ -169,7 +170,7 @@ class Uses:
         try:
             found = self.tags.resolve(scope, bytewise(rest), True)
         except NotThere:
-            raise NoTag(no_place(self.project, rest, scope, True)) from None
+            raise NoTag(no_place(self.project, rest, scope, True)[0]) from None
         size = (found.dim or 1) * (1 if found.base == "BOOL" else self.tags.types.size(found.base, 0) * 8)
         return found.tag, self.expanded(scope, form), found.at, found.at + size
 

@@ -65,7 +65,7 @@ J1: a line of another form, or of over 65,536 bytes. To do: correct the line.
 line.txt, line 3: no lane 31: lanes are 0 to 30; the operator, 31, has no @
     @31 clear
     ^
-J2: a lane above 30; in a script, one that isn't below LANES. To do: choose a lane.
+J2: a lane above 30. To do: choose another.
 """),
     Case("no steps", "mode run\ncpu 0\nend\n", "journal J4 line 2", """\
 line.txt, line 2: cpu 0 does nothing

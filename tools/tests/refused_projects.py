@@ -189,7 +189,7 @@ P6: a name is the same as an earlier one, but for case. To do: rename one.
 line.json, line 20: program Line: it is listed 2 times, by Every10ms and OnEye
         {"name": "Line", "main": "Main", "routines": [
                  ^
-P7: a program isn't in one task's list, once. To do: put it into one.
+P7: a program is listed twice. To do: leave it in one list.
 """),
     Case("a type that isn't there", '"type": "BOOL"', '"type": "BOOLEAN"', "project P9 tags.5 Y1", """\
 line.json, line 13: tag LineRun: there is no type 'BOOLEAN'; is BOOL meant?
@@ -201,13 +201,13 @@ Y1: there is no such type. To do: declare it, or correct the spelling.
 line.json, line 11: tag StopPB: 'Local:1:I' is an array of 2 DINTs: its elements are 0 to 1
         {"name": "StopPB", "alias": "Local:1:I[2].1"},
                                     ^
-G5: a subscript or bit number out of range; a bit of no integer; brackets after no array. To do: stay inside.
+G5: a subscript or bit number is out of range. To do: stay inside.
 """),
     Case("a member that isn't there", '"Stagger.PRE"', '"Stagger.PST"', "project P9 initial.0.tag G4", """\
 line.json, line 43: initial value Stagger.PST: 'Stagger' is a TIMER and has no member 'PST'; there are PRE, ACC, EN, TT and DN
         {"tag": "Stagger.PST", "value": 500},
                 ^
-G4: no such member; a whole array has none. To do: name one; of an array, an element first.
+G4: no such member. To do: name one that it has.
 """),
     Case("an instruction that isn't there", "EQU(Parts.ACC,10)", "EQ(Parts.ACC,10)", "project P10 programs.0.routines.1.rungs.1 T2 0", """\
 line.json, line 29: program Line, routine Count, rung 1: 'EQ' is no instruction; is EQU or NEQ or MEQ meant?

@@ -71,7 +71,7 @@ class Documents(unittest.TestCase):
     def test_the_places_of_an_instruction_are_all_named(self) -> None:
         """What a search for a neighbour finds in the crates stands in the list, but for worked runs."""
         listed = re.search(r"^## An instruction$(.*?)^## ", text("docs/CHANGING.md"), re.MULTILINE | re.DOTALL).group(1)
-        for path in glob.glob("*/s*/**/*", root_dir=f"{TOP}/crates", recursive=True) + glob.glob("*/proofs/**/*", root_dir=f"{TOP}/crates", recursive=True):
+        for path in (found for part in ("src", "specs", "proofs") for found in glob.glob(f"*/{part}/**/*", root_dir=f"{TOP}/crates", recursive=True)):
             crate, name = path.split("/")[0], os.path.basename(path)
             if name.endswith((".rt", ".antt")) and crate != "test_cases" and re.search(r"\b(?:Clr|Equ|Mvm)\b", text(f"crates/{path}")):
                 with self.subTest(path=path):

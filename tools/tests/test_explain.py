@@ -115,7 +115,8 @@ class Words(Room):
         self.assertEqual(self.said(4, "check", "lime.json"), "'lime.json', the project, isn't there; is line.json meant?")
         self.assertEqual(self.said(4, "replay", "line.json", ""), "the word for the journal is empty.")
         self.assertEqual(self.said(4, "run", "line.json", "."), "'.', the script, is a folder.")
-        self.assertEqual(self.said(4, "check", "nowhere/x.json"), "'nowhere/x.json', the project, isn't there; nor is its folder 'nowhere'.")
+        told = "'nowhere/x.json', the project, isn't there; nor is its folder 'nowhere'."
+        self.assertEqual(self.said(4, "check", "nowhere/x.json"), told)
 
     def test_a_file_that_is_too_long(self) -> None:
         with open(f"{self.room}/long.txt", "wb") as file:
@@ -154,7 +155,7 @@ class Codes(Room):
         status, text = explain(*codes, *FAULTS, "held")
         self.assertEqual(status, 0)
         for line in text.splitlines():
-            self.assertRegex(line, r"^\S+: \S.*\. To do: \S.*\.$")
+            self.assertRegex(line, r"^\S+: \S.*\. To do: \S.*[.?]$")
 
     def codes(self, *words: str) -> list[str]:
         status, text = explain(*words)
@@ -192,7 +193,8 @@ C4: neither the program nor the controller declares the tag. To do: declare it, 
     def test_of_a_file_that_has_changed(self) -> None:
         self.put("line.json", LINE)
         status, text = explain("--project", "line.json", "project P8 tasks.1", cwd=self.room)
-        self.assertEqual((status, text.partition("\n")[0]), (0, "line.json: the file isn't refused so: it has changed since, or is another"))
+        told = "line.json: the file isn't refused so: it has changed since, or is another"
+        self.assertEqual((status, text.partition("\n")[0]), (0, told))
 
     def test_of_a_script(self) -> None:
         self.put("shift.txt", "# late shift\nrun 100 10 2\n@0 5 mode run\n@2 6 clear\nend\n")
@@ -200,7 +202,7 @@ C4: neither the program nor the controller declares the tag. To do: declare it, 
 shift.txt, line 4: no lane 2: lanes of this script are below 2
     @2 6 clear
     ^
-J2: a lane above 30; in a script, one that isn't below LANES. To do: choose a lane.
+J2: in a script, a lane that isn't below LANES. To do: choose another, or have more.
 """))
 
     def test_of_a_trace(self) -> None:
@@ -210,7 +212,7 @@ J2: a lane above 30; in a script, one that isn't below LANES. To do: choose a la
 trace.txt, line 2: there is no program 2: they are 0 to 1
     began 0 2 0
             ^
-K2: a task, program or bit of a mask that the project doesn't have; a lane above 31. To do: is the trace of this project?.
+K2: a task, program or bit of a mask that the project doesn't have. To do: is the trace of this project?
 """))
         status, text = explain("--project", "line.json", "--journal", "trace.txt", "no L1 1", cwd=self.room)
         self.assertEqual((status, text.splitlines()[1]), (0, "    began 0 2 0"))

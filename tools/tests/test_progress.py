@@ -1,4 +1,4 @@
-"""The gate and tools/prove on a small repository with an `rt` that plays its part: what is told on the way, and that all else is rt's own."""
+"""The gate and tools/prove on a small repository with an `rt` that plays its part: what is told on the way; all else is rt's own."""
 
 from __future__ import annotations
 
@@ -21,7 +21,9 @@ mkdir -p crates/high/out/rlib
 echo 'rt: mid: trying its must-fail edits (3)'
 room=${TMPDIR:-/tmp}
 for bug in a b; do mkdir "$room/rt-edit-$$-$bug" && sleep "${RT_SECONDS:-2.5}" && rmdir "$room/rt-edit-$$-$bug"; done
-for name in logix logix_live logix_timeline logix_wave; do mkdir -p "crates/$name/out"; printf '#!/bin/sh\\n' >"crates/$name/out/$name"; done
+for name in logix logix_live logix_timeline logix_wave; do
+    mkdir -p "crates/$name/out" && printf '#!/bin/sh\\n' >"crates/$name/out/$name"
+done
 chmod +x crates/*/out/logix*
 echo '7 passed, 0 failed'
 exit "${RT_STATUS:-0}"
@@ -75,7 +77,8 @@ class Progress(unittest.TestCase):
         ran = self.call(".ci/run")
         self.assertEqual(ran.returncode, 0, ran.stderr)
         self.assertEqual(ran.stdout, OUTPUT)
-        self.assertEqual(self.told("gate", ran.stderr)[:1], ["gate: 0 min: 2 of 7 crates proved, 1 of 3 planted bugs tried; under way: high"])
+        told = "gate: 0 min: 2 of 7 crates proved, 1 of 3 planted bugs tried; under way: high"
+        self.assertEqual(self.told("gate", ran.stderr)[:1], [told])
         self.assertEqual(os.listdir(f"{self.room}/tmp"), [])
         self.assertTrue(os.path.isfile(f"{self.room}/crates/logix/out/logix.sum"))
 

@@ -44,7 +44,7 @@ N1: no connection has the name. To do: correct the name.
 logix_live: line 6: no lane 31: lanes are 0 to 30; the operator, 31, has no @
     @31 clear
     ^
-J2: a lane above 30; in a script, one that isn't below LANES. To do: choose a lane.
+J2: a lane above 30. To do: choose another.
 logix_live: refused: rung 3 of the edited routine: there is no tag 'Motr1'; is Motor1 meant?
     @1 accept Line Main r 2 XIC(Stagger.DN)OTE(Motr1);
     XIC(Stagger.DN)OTE(Motr1);
