@@ -7,7 +7,6 @@ from dataclasses import dataclass
 
 from .definitions import MAX_FRAMES
 from .findings import Findings
-from .flags import loose_flags
 from .model import Program
 from .profile import MAX_PROJECT_INSTRUCTIONS, MAX_TASKS, key, shown
 from .taking_ladder import TakenRoutine, TakenRung, refuse, refuse_labels
@@ -53,8 +52,8 @@ class Settling:
                 is_met = False
                 for rung in routine.rungs:
                     faults = list(_faults(rung, names, events))
-                    if program in flagged and routine.made_of is None:
-                        faults += [f"{i.op}: what an Add-On Instruction leaves in the flag isn't told" for i in loose_flags(rung.found)]
+                    if program in flagged:
+                        faults += [f"{op}: what an Add-On Instruction leaves in the flag isn't told" for op in rung.loose]
                     if id(rung) in deep:
                         faults.append(f"its calls may open more than {MAX_FRAMES} frames inside one another, or nobody knows how many")
                     is_met |= self._refuse(rung, faults)
