@@ -116,7 +116,7 @@ class _Judge:
         left_out = self._definition.scope.left_out
         for tag in [*self._add_on.parameters, *self._add_on.local_tags]:
             if key(tag.name) in self._missed:
-                self._fault(self._where, f"{shown(tag.name)}: {left_out[key(tag.name)]}")
+                self._fault(self._where, f"{shown(tag.name)}: {left_out[key(tag.name)]}", tag.type)
             elif key(tag.name) in left_out:
                 self._all._findings.note(f"passed over: {self._where}: {shown(tag.name)}: {left_out[key(tag.name)]}")
 

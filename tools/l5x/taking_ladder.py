@@ -175,7 +175,7 @@ class _Routine:
                 return
         except Unknown as unknown:
             for name in unknown.args[0]:
-                self._findings.unknown_at(place, name.upper(), unknown_told(name))
+                self._findings.unknown_at(place, name, unknown_told(name))
         except (RungFault, CallFault) as fault:
             faults = [str(fault)]
         for why in faults:
@@ -200,7 +200,7 @@ class _Routine:
             except CallFault:
                 for call in calls:
                     ladder.findings.named(type_key(call.op))
-                    ladder.findings.unknown.setdefault(ladder.add_ons[call.op], []).append(place)
+                    ladder.findings.count_unknown(place, ladder.add_ons[call.op])
                 raise
             found = elements(text)
         return TakenRung(place, text, found, loose)
