@@ -92,7 +92,7 @@ class Settling:
         for routine in program.routines:
             if routine.made_of is None:
                 for rung in routine.rungs:
-                    called = [key(i.texts[0]) for i in rung.instructions if i.op == "JSR" and key(i.texts[0]) in made]
+                    called = rung.called().intersection(made)
                     if any(depths.get(key(routine.routine.name), 0) + _levels(name, made) > MAX_FRAMES for name in called):
                         yield rung
 
@@ -171,11 +171,10 @@ class Settling:
 
 def _faults(rung: TakenRung, routines: set[str], events: set[str]) -> Iterator[str]:
     """What a rung names that isn't there."""
-    for instruction in rung.instructions:
-        name = instruction.texts[0] if instruction.texts else ""
-        if instruction.op == "JSR" and key(name) not in routines:
+    for op, name in rung.refers:
+        if op == "JSR" and key(name) not in routines:
             yield f"JSR: routine {name} isn't taken (C11)"
-        if instruction.op == "EVENT" and key(name) not in events:
+        if op == "EVENT" and key(name) not in events:
             yield f"EVENT: {name} is no event task that is taken (C15)"
 
 

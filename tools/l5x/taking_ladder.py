@@ -31,13 +31,22 @@ class TakenRung:
     # The instructions that read a flag which the rung, as the file has it, hasn't set before.
     loose: list[str] = field(default_factory=list)
     is_left_out: bool = False
+    # The routines and the event tasks that it names, each with the instruction that does.
+    refers: list[tuple[str, str]] = field(init=False)
+
+    def __post_init__(self) -> None:
+        self.refers = [(i.op, i.texts[0]) for i in self.instructions if i.op in ("JSR", "EVENT") and i.texts]
 
     @property
     def instructions(self) -> list[Instruction]:
         return instructions(self.found)
 
     def called(self) -> set[str]:
-        return {key(i.texts[0]) for i in self.instructions if i.op == "JSR"}
+        return {key(name) for op, name in self.refers if op == "JSR"}
+
+    def empty(self) -> None:
+        """Leaves an empty rung in its place."""
+        self.text, self.found, self.loose, self.refers, self.is_left_out = EMPTY_RUNG, elements(EMPTY_RUNG), [], [], True
 
 
 @dataclass(eq=False)
@@ -121,7 +130,7 @@ def refuse(rung: TakenRung, why: str, findings: Findings) -> None:
     """Lists the rung, and leaves an empty one in its place."""
     findings.fault(rung.place, why)
     _note_bound(rung.place, (i.op for i in rung.instructions), findings)
-    rung.text, rung.found, rung.loose, rung.is_left_out = EMPTY_RUNG, elements(EMPTY_RUNG), [], True
+    rung.empty()
 
 
 def _note_bound(place: str, names: Iterable[str], findings: Findings) -> None:
