@@ -12,7 +12,7 @@ from .flags import loose_flags
 from .ladder_text import Unknown, label_faults, text_of, with_blanks
 from .model import AddOn, Export, Rung, Tag
 from .profile import MAX_RUNGS, OPERANDS, key, shown
-from .rungs import Element, Instruction, RungFault, instructions, names_called, unknown_told
+from .rungs import Instruction, RungFault, instructions, names_called, unknown_told
 from .tags import Entry, NameFault, Scope, Type, form
 from .taking_types import TypeFault, Types, type_key
 
