@@ -163,6 +163,9 @@ class OnlyThere(unittest.TestCase):
         self.assertIn("note: tag In: a consumed tag becomes the tag of an input for `link`", ended.lines)
         self.assertIn("note: tag Out: a produced tag becomes the tag of an output for `link`", ended.lines)
         self.assertIn("note: passed over: tag Odd: no DINTs and no structure of at most 512 bytes", ended.lines)
+        both = '<Tag Name="Two" TagType="Produced" AliasFor="Out"/>'
+        ended = convert(file("MOV(In,Out);", tags + both))
+        self.assertEqual([c["name"] for c in json.loads(ended.project)["connections"]], ["Out", "In"])
         inner = program("P", routine("Go"), made.format("Own", "Produced", "DINT", "Produce"))
         ended = convert(content(f"<Programs>{inner}</Programs><Tasks>{task('T', 'P')}</Tasks>"))
         self.assertIn("note: passed over: program P tag Own: a produced tag of a program", ended.lines)
