@@ -12,7 +12,7 @@ from .flags import loose_flags
 from .ladder_text import Unknown, label_faults, text_of, with_blanks
 from .model import AddOn, Export, Rung, Tag
 from .profile import MAX_RUNGS, OPERANDS, key, shown
-from .rungs import Element, Instruction, RungFault, instructions, names_called, unknown_told
+from .rungs import Instruction, RungFault, instructions, names_called, unknown_told
 from .tags import Entry, NameFault, Scope, Type, form
 from .taking_types import TypeFault, Types, type_key
 
@@ -116,7 +116,7 @@ class _Judge:
         left_out = self._definition.scope.left_out
         for tag in [*self._add_on.parameters, *self._add_on.local_tags]:
             if key(tag.name) in self._missed:
-                self._fault(self._where, f"{shown(tag.name)}: {left_out[key(tag.name)]}")
+                self._fault(self._where, f"{shown(tag.name)}: {left_out[key(tag.name)]}", tag.type)
             elif key(tag.name) in left_out:
                 self._all._findings.note(f"passed over: {self._where}: {shown(tag.name)}: {left_out[key(tag.name)]}")
 

@@ -18,7 +18,7 @@ from .model import Routine
 from .profile import BLANK, COUNT, FLAGS, LABEL, MAX_NAME_BYTES, MAX_ROUTINE_INSTRUCTIONS, MAX_RUNG_BYTES, OWN_LABEL, ROUTINE, TASK
 from .profile import is_name, key, number, operand_kinds, shown
 from .rungs import Element, Instruction, RungFault, elements, instructions
-from .tags import Scope, Type, form, spelled
+from .tags import NameFault, Scope, Type, form, spelled
 
 _NO_DATA = (BLANK, COUNT, LABEL, OWN_LABEL, ROUTINE, TASK)
 _SUM_DIGITS = (4, 8, 16)
@@ -70,7 +70,7 @@ class Expander:
     def _call(self, instruction: Instruction, caller: str) -> str:
         definition = self._definitions.found.get(instruction.op)
         if definition is None:
-            raise CallFault(f"{shown(self._definitions.names[instruction.op], 40)}: an Add-On Instruction that isn't taken")
+            raise CallFault(f"{shown(self._definitions.names[instruction.op], 40)}: {self._why(instruction)}")
         call = judged(instruction, definition, self._scope, self._may_change)
         if len(self.made) + definition.routines > self._room:
             raise CallFault(f"{shown(definition.add_on.name)}: its program would have too many routines with those of the call (P11)")
@@ -81,6 +81,14 @@ class Expander:
         except CallFault as fault:
             raise CallFault(f"{shown(definition.add_on.name)}: {fault}") from None
         return "".join(_parts(call, name))
+
+    def _why(self, instruction: Instruction) -> str:
+        """Why no tag that is taken is an instance of what is called."""
+        try:
+            self._scope.found(instruction.texts[0] if instruction.texts else "")
+        except NameFault as fault:
+            return str(fault)
+        return "an Add-On Instruction that isn't taken"
 
     # ---- names
 

@@ -45,9 +45,13 @@ class Findings:
         self.notes_made.append(f"note: {text}")
 
     def unknown_at(self, place: str, name: str, why: str) -> None:
-        """An instruction that isn't taken."""
+        """An instruction that isn't taken, as it is spelled where it is met first."""
         self.fault(place, why)
-        self.unknown.setdefault(name, []).append(place)
+        self.count_unknown(place, name)
+
+    def count_unknown(self, place: str, name: str) -> None:
+        spelled = next((other for other in self.unknown if other.lower() == name.lower()), name)
+        self.unknown.setdefault(spelled, []).append(place)
 
     @property
     def faults(self) -> list[str]:

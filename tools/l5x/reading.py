@@ -195,9 +195,10 @@ class _Reader:
         tag.kind = attributes.get("TagType", "Base")
         tag.usage = attributes.get("Usage", "")
         tag.is_required = _is(attributes.get("Required"))
-        tag.direction = _DIRECTIONS.get(tag.kind)
         if tag.kind == "Alias" or "AliasFor" in attributes:
             tag.alias_for = attributes.get("AliasFor", "")
+        else:
+            tag.direction = _DIRECTIONS.get(tag.kind)
         self._tag = tag
         if self._tags is not None:
             self._tags.append(tag)

@@ -7,7 +7,6 @@ from dataclasses import dataclass
 
 from .definitions import MAX_FRAMES
 from .findings import Findings
-from .flags import loose_flags
 from .model import Program
 from .profile import MAX_PROJECT_INSTRUCTIONS, MAX_TASKS, key, shown
 from .taking_ladder import TakenRoutine, TakenRung, refuse, refuse_labels
@@ -53,8 +52,8 @@ class Settling:
                 is_met = False
                 for rung in routine.rungs:
                     faults = list(_faults(rung, names, events))
-                    if program in flagged and routine.made_of is None:
-                        faults += [f"{i.op}: what an Add-On Instruction leaves in the flag isn't told" for i in loose_flags(rung.found)]
+                    if program in flagged:
+                        faults += [f"{op}: what an Add-On Instruction leaves in the flag isn't told" for op in rung.loose]
                     if id(rung) in deep:
                         faults.append(f"its calls may open more than {MAX_FRAMES} frames inside one another, or nobody knows how many")
                     is_met |= self._refuse(rung, faults)
@@ -93,7 +92,7 @@ class Settling:
         for routine in program.routines:
             if routine.made_of is None:
                 for rung in routine.rungs:
-                    called = [key(i.texts[0]) for i in rung.instructions if i.op == "JSR" and key(i.texts[0]) in made]
+                    called = rung.called().intersection(made)
                     if any(depths.get(key(routine.routine.name), 0) + _levels(name, made) > MAX_FRAMES for name in called):
                         yield rung
 
@@ -172,11 +171,10 @@ class Settling:
 
 def _faults(rung: TakenRung, routines: set[str], events: set[str]) -> Iterator[str]:
     """What a rung names that isn't there."""
-    for instruction in rung.instructions:
-        name = instruction.texts[0] if instruction.texts else ""
-        if instruction.op == "JSR" and key(name) not in routines:
+    for op, name in rung.refers:
+        if op == "JSR" and key(name) not in routines:
             yield f"JSR: routine {name} isn't taken (C11)"
-        if instruction.op == "EVENT" and key(name) not in events:
+        if op == "EVENT" and key(name) not in events:
             yield f"EVENT: {name} is no event task that is taken (C15)"
 
 

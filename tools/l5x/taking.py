@@ -107,6 +107,7 @@ class _Taking:
 
     def _take_programs(self, considered: list[Program], others: Others) -> None:
         names: set[str] = set()
+        values = self._tags.first_values()
         for program in considered:
             where = f"program {shown(program.name)}"
             why = self._program_fault(program, names)
@@ -116,15 +117,14 @@ class _Taking:
                 self._tags.drop_program(program.name)
                 self._programs = [p for p in self._programs if key(p.program.name) != key(program.name)]
                 continue
-            routines = take_routines(program, self._ladder(program, others))
+            routines = take_routines(program, self._ladder(program, others, values))
             self._programs.append(TakenProgram(program, where, self._main(program), routines))
 
-    def _ladder(self, program: Program, others: Others) -> Ladder:
+    def _ladder(self, program: Program, others: Others, values: dict[str, int]) -> Ladder:
         scope, options = self._tags.programs[key(program.name)], self._options
         names = {key(routine.name) for routine in program.routines}
         room = MAX_ROUTINES - len(program.routines)
         expander = Expander(self._definitions, scope, names, room, options.tick_ms, others.of(program))
-        values = self._tags.first_values()
         add_ons = self._definitions.names
         return Ladder(scope, values, add_ons, expander, options.tick_ms, options.by_rung, self._findings, self._met)
 

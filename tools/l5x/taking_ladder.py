@@ -9,6 +9,7 @@ from .calls import CallFault
 from .checking import layout_note, operand_faults, times_named
 from .expanding import Expander, Made
 from .findings import Findings
+from .flags import loose_flags
 from .ladder_text import Unknown, label_faults, text_of, with_blanks
 from .model import Program, Routine, Rung
 from .profile import MAX_ROUTINE_INSTRUCTIONS, MAX_ROUTINES, MAX_RUNGS, key, shown
@@ -27,14 +28,25 @@ class TakenRung:
     place: str
     text: str
     found: list[Element]
+    # The instructions that read a flag which the rung, as the file has it, hasn't set before.
+    loose: list[str] = field(default_factory=list)
     is_left_out: bool = False
+    # The routines and the event tasks that it names, each with the instruction that does.
+    refers: list[tuple[str, str]] = field(init=False)
+
+    def __post_init__(self) -> None:
+        self.refers = [(i.op, i.texts[0]) for i in self.instructions if i.op in ("JSR", "EVENT") and i.texts]
 
     @property
     def instructions(self) -> list[Instruction]:
         return instructions(self.found)
 
     def called(self) -> set[str]:
-        return {key(i.texts[0]) for i in self.instructions if i.op == "JSR"}
+        return {key(name) for op, name in self.refers if op == "JSR"}
+
+    def empty(self) -> None:
+        """Leaves an empty rung in its place."""
+        self.text, self.found, self.loose, self.refers, self.is_left_out = EMPTY_RUNG, elements(EMPTY_RUNG), [], [], True
 
 
 @dataclass(eq=False)
@@ -118,7 +130,7 @@ def refuse(rung: TakenRung, why: str, findings: Findings) -> None:
     """Lists the rung, and leaves an empty one in its place."""
     findings.fault(rung.place, why)
     _note_bound(rung.place, (i.op for i in rung.instructions), findings)
-    rung.text, rung.found, rung.is_left_out = EMPTY_RUNG, elements(EMPTY_RUNG), True
+    rung.empty()
 
 
 def _note_bound(place: str, names: Iterable[str], findings: Findings) -> None:
@@ -165,14 +177,14 @@ class _Routine:
         faults: list[str] = []
         before = dict(self._ladder.expander.made)
         try:
-            text, found = self._read(rung, place)
-            faults = self._faults(found, place)
+            taken = self._read(rung, place)
+            faults = self._faults(taken.found, place)
             if not faults:
-                self._found.rungs.append(TakenRung(place, text, found))
+                self._found.rungs.append(taken)
                 return
         except Unknown as unknown:
             for name in unknown.args[0]:
-                self._findings.unknown_at(place, name.upper(), unknown_told(name))
+                self._findings.unknown_at(place, name, unknown_told(name))
         except (RungFault, CallFault) as fault:
             faults = [str(fault)]
         for why in faults:
@@ -180,15 +192,16 @@ class _Routine:
         self._ladder.expander.made = before
         if self._ladder.by_rung:
             _note_bound(place, names_called(rung.text or ""), self._findings)
-            self._found.rungs.append(TakenRung(place, EMPTY_RUNG, elements(EMPTY_RUNG), True))
+            self._found.rungs.append(TakenRung(place, EMPTY_RUNG, elements(EMPTY_RUNG), is_left_out=True))
         else:
             self._is_whole = False
 
-    def _read(self, rung: Rung, place: str) -> tuple[str, list[Element]]:
+    def _read(self, rung: Rung, place: str) -> TakenRung:
         """The rung as the project has it, with its calls expanded."""
         ladder = self._ladder
         text = text_of(rung, ladder.add_ons, ladder.met)
         text, found = with_blanks(text, ladder.add_ons, ladder.scope, ladder.values)
+        loose = [i.op for i in loose_flags(found)]
         calls = [i for i in instructions(found) if i.is_call]
         if calls:
             try:
@@ -196,10 +209,10 @@ class _Routine:
             except CallFault:
                 for call in calls:
                     ladder.findings.named(type_key(call.op))
-                    ladder.findings.unknown.setdefault(ladder.add_ons[call.op], []).append(place)
+                    ladder.findings.count_unknown(place, ladder.add_ons[call.op])
                 raise
             found = elements(text)
-        return text, found
+        return TakenRung(place, text, found, loose)
 
     def _faults(self, found: list[Element], place: str) -> list[str]:
         faults: list[str] = []

@@ -243,8 +243,8 @@ class Tags:
 
     def _note_connected(self) -> None:
         for taken in self.taken:
-            if taken.tag.kind in _CONNECTED:
-                way = {"out": "an output", "in": "an input"}[taken.tag.direction or "in"]
+            if taken.tag.kind in _CONNECTED and taken.tag.direction is not None:
+                way = {"out": "an output", "in": "an input"}[taken.tag.direction]
                 self._findings.note(f"{taken.where}: a {_CONNECTED[taken.tag.kind]} tag becomes the tag of {way} for `link`")
 
     def _note_bits(self) -> None:

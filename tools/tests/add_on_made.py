@@ -131,7 +131,9 @@ class Maker:
                 good = [n for n in names.coils if p.kind == "BOOL" and n != "EnableOut"] or []
                 if p.kind != "BOOL":
                     good = [n for n in names.results if BITS.get(kinds.get(n, "DINT"), 0) >= BITS[p.kind] and "[Idx]" not in n]
-                good = [n for n in good if n not in given]
+                # Two references may be to one place, and which of two outputs it keeps isn't told.
+                is_met = any(n.startswith("Ref") for n in given)
+                good = [n for n in good if n not in given and not (is_met and n.startswith("Ref"))]
                 operands.append(draw.choice(good or [""]))
                 given.add(operands[-1])
         # Nothing fits somewhere.

@@ -62,7 +62,8 @@ class Built(unittest.TestCase):
     def test_200_calls(self):
         """Each counts its own calls; the report has them all after one scan, and twice as much after two."""
         count = add_on("Count", taken_in("By", "DINT") + given_out("Sum", "DINT"), ["ADD(Sum,By,Sum);"])
-        programs = "".join(program(f"P{p}", routine("Go", *(f"Count(v[{k}],{k},n[{k}]);" for k in range(50 * p, 50 * p + 50)))) for p in range(4))
+        rungs = [f"Count(v[{k}],{k},n[{k}]);" for k in range(200)]
+        programs = "".join(program(f"P{p}", routine("Go", *rungs[50 * p : 50 * p + 50])) for p in range(4))
         tags = tag("v", "Count", more='Dimensions="200"') + tag("n", "DINT", more='Dimensions="200"')
         text = with_add_ons(count, tags=tags, programs=programs)
         listed = "".join(f'<ScheduledProgram Name="P{p}"/>' for p in range(4))

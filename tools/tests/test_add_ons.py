@@ -9,6 +9,7 @@ from l5x_files import alias, content, convert, file, program, routine, tag, task
 FLIP = add_on("Flip", taken_in("Go") + given_out("Done"), ["XIC(Go)OTE(Done);"])
 FLIP_TAGS = tag("F", "Flip") + tag("a", "BOOL") + tag("b", "BOOL")
 CALL = "Flip(F,a,b);"
+RECORD = '<DataType Name="Rec" Class="User"><Members><Member Name={} Hidden="false"/></Members></DataType>'
 FRONT = "OTE(F.EnableIn)OTE(F.EnableOut)[XIC(a)OTL(F.Go),XIO(a)OTU(F.Go),NOP()]JSR({},0)"
 BACK = "[XIC(F.Done)OTL(b),XIO(F.Done)OTU(b),NOP()]XIC(F.EnableOut)"
 
@@ -185,7 +186,8 @@ class AddOns(unittest.TestCase):
 
     def test_instructions_that_call_themselves(self) -> None:
         inside = add_on("Odd", logic=["Odd(I);"], locals_=local("I", "Odd"))
-        self.listed(with_add_ons(inside, "Odd(O);", tag("O", "Odd")), "Add-On Instruction Odd: it has itself inside, or a type that has (Y3)")
+        why = "it has itself inside, or a type that has (Y3)"
+        self.listed(with_add_ons(inside, "Odd(O);", tag("O", "Odd")), f"Add-On Instruction Odd: {why}")
         circle = add_on("Odd", in_out("I", "Even"), ["Even(I,I);"]) + add_on("Even", in_out("I", "Even"), ["Odd(O,I);"], local("O", "Odd"))
         ended = convert(with_add_ons(circle, "Odd(O,E);", tag("O", "Odd") + tag("E", "Even")))
         self.assertEqual(ended.status, 1)
@@ -268,11 +270,12 @@ class AddOns(unittest.TestCase):
         other = program("Q", routine("Go", "MOV(1,j);"))
         kind = task("U", "Q", 'Type="PERIODIC" Rate="10" Priority="9"')
         text = with_add_ons(definition, "Fit(f[i],1,n,m,a[0]);", own + alias("j", "i.0").replace("i.0", "i"), programs=other, tasks=kind)
-        self.listed(text, "program P routine Go rung 0: Fit: the subscript of f[i] may change while it runs: program Q of another task names i")
+        why = "the subscript of f[i] may change while it runs: program Q of another task names i"
+        self.listed(text, f"program P routine Go rung 0: Fit: {why}")
 
     def test_a_copy_in_an_argument(self) -> None:
         definition = add_on("Fill", in_out("Arr", "DINT", 4) + taken_in("N", "DINT"), ["FLL(0,Arr[0],N);"])
-        types = '<DataType Name="Rec" Class="User"><Members><Member Name="L" DataType="DINT" Dimension="4" Hidden="false"/></Members></DataType>'
+        types = RECORD.format('"L" DataType="DINT" Dimension="4"')
         tags = tag("f", "Fill") + tag("a", "DINT", more='Dimensions="4"') + tag("r", "Rec")
         self.taken(with_add_ons(definition, "Fill(f,a,2);", tags, types=types))
         self.listed(with_add_ons(definition, "Fill(f,r.L,2);", tags, types=types),
@@ -284,8 +287,21 @@ class AddOns(unittest.TestCase):
         many = "".join("Flip(F,a,b)" for _ in range(40)) + ";"
         self.call_listed(FLIP, many, "with its calls expanded the rung has more than 4,096 bytes (P5)", FLIP_TAGS)
         inner = add_on("Inner", logic=["MOV(A[I],N);"], locals_=local("A", "DINT", 4) + local("I", "DINT") + local("N", "DINT"))
-        self.call_listed(inner, "Inner(x[n]);", "Inner: rung 0 of its Logic: MOV: x[n].A[x[n].I]: a variable subscript where none may stand (C7)",
-                         tag("x", "Inner", more='Dimensions="2"') + tag("n", "DINT"))  # fmt: skip
+        why = "Inner: rung 0 of its Logic: MOV: x[n].A[x[n].I]: a variable subscript where none may stand (C7)"
+        self.call_listed(inner, "Inner(x[n]);", why, tag("x", "Inner", more='Dimensions="2"') + tag("n", "DINT"))
+
+    def test_instances_that_are_not_there(self) -> None:
+        self.call_listed(FLIP, CALL, "Flip: the file has no tag F (C4)", tag("a", "BOOL") + tag("b", "BOOL"))
+        self.call_listed(FLIP, CALL, "Flip: an Add-On Instruction that isn't taken", FLIP_TAGS.replace('"Flip"', '"DINT"'))
+        self.call_listed(FLIP, "Flip();", "Flip:  is no operand form (C9)", tag("a", "BOOL"))
+        wide = add_on("Wide", locals_=local("A", "DINT", 2000))
+        text = with_add_ons(wide, "Wide(w);", tag("w", "Wide"))
+        self.listed(text, "Add-On Instruction Wide: it has 8,004 bytes; it may have 4,096 (Y5)", "tag w: its type Wide isn't taken",
+                    "program P routine Go rung 0: Wide: tag w isn't taken (C4)")  # fmt: skip
+        types = RECORD.format('"R" DataType="REAL" Dimension="0"')
+        odd = add_on("Odd", in_out("X", "Rec"))
+        text = with_add_ons(odd, "Odd(O,r);", tag("O", "Odd") + tag("r", "Rec"), types=types)
+        self.listed(text, "Add-On Instruction Odd: X: its type Rec isn't taken", "type Rec: member R: type REAL isn't in the profile")
 
     def test_flags_of_who_calls(self) -> None:
         other = program("Q", routine("Go", "XIC(S:Z)OTE(b);"))
@@ -294,6 +310,9 @@ class AddOns(unittest.TestCase):
         self.listed(both, "program Q routine Go rung 0: XIC: what an Add-On Instruction leaves in the flag isn't told")
         kind = task("U", "Q", 'Type="PERIODIC" Rate="10" Priority="9"')
         self.taken(text.replace("</Tasks>", kind + "</Tasks>"))
+        after = f"ADD(n,1,n){CALL[:-1]}XIC(S:Z)OTE(b);"
+        self.call_listed(FLIP, after, "XIC: what an Add-On Instruction leaves in the flag isn't told", FLIP_TAGS + tag("n", "DINT"))
+        self.taken(with_add_ons(FLIP, f"{CALL[:-1]}ADD(n,1,n)XIC(S:Z)OTE(b);", FLIP_TAGS + tag("n", "DINT")))
         sound = program("Q", routine("Go", "ADD(n,1,n)XIC(S:Z)OTE(b);"))
         text = with_add_ons(FLIP, CALL, FLIP_TAGS + tag("n", "DINT"), programs=sound)
         self.taken(text.replace('<ScheduledProgram Name="P"/>', '<ScheduledProgram Name="P"/><ScheduledProgram Name="Q"/>'))
@@ -307,7 +326,8 @@ class AddOns(unittest.TestCase):
         )
         names = [f"R{k}" for k in range(front)]
         routines = routine("Go", f"JSR({names[0]},0);" if names else f"A{levels}(x);")
-        routines += "".join(routine(n, f"JSR({m},0);") for n, m in zip(names, names[1:])) + (routine(names[-1], f"A{levels}(x);") if names else "")
+        routines += "".join(routine(n, f"JSR({m},0);") for n, m in zip(names, names[1:]))
+        routines += routine(names[-1], f"A{levels}(x);") if names else ""
         text = with_add_ons(definitions, tags=tag("x", f"A{levels}"))
         return text.replace(program("P", routine("Go", "NOP();")), program("P", routines))
 

@@ -13,6 +13,10 @@ OLDER = ["LIM(1,n,5)NOP();", "NEQ(n,1)LES(n,2)[GRT(n,3),xic(b)]LEQ( n , 4 )GEQ(n
 TAGS = tag("n", "DINT") + tag("b", "BOOL")
 
 
+def plain(rung: str) -> str:
+    return rung.replace("xic", "XIC").replace("le(", "LE(").replace(" ", "")
+
+
 def of_routines(routines: str, tags: str = TAGS, more: str = "") -> str:
     return file(tags=tags, tasks=more).replace(routine("Go", "NOP();"), routines)
 
@@ -30,11 +34,10 @@ class Mnemonics(unittest.TestCase):
         for rungs in (NEWER, OLDER):
             text = of_routines(routine("Go", *rungs))
             old, new = (convert(text, "--text", which).project for which in ("old", "new"))
-            self.assertEqual(old, "program P routine Go\nLIM(1,n,5)NOP();\nNEQ(n,1)LES(n,2)[GRT(n,3),XIC(b)]LEQ(n,4)GEQ(n,5)EQU(n,6)NOP();\n"
-                                  "MOV(1,n);\n")  # fmt: skip
-            self.assertEqual(new, "program P routine Go\nLIMIT(1,n,5)NOP();\nNE(n,1)LT(n,2)[GT(n,3),XIC(b)]LE(n,4)GE(n,5)EQ(n,6)NOP();\n"
-                                  "MOVE(1,n);\n")  # fmt: skip
-            self.assertEqual(convert(new and of_routines(routine("Go", *new.splitlines()[1:])), "--text", "old").project, old)
+            head = "program P routine Go\n"
+            self.assertEqual(old, head + "".join(f"{rung}\n" for rung in map(plain, OLDER)))
+            self.assertEqual(new, head + "".join(f"{rung}\n" for rung in map(plain, NEWER)))
+            self.assertEqual(convert(of_routines(routine("Go", *new.splitlines()[1:])), "--text", "old").project, old)
 
     def test_wrong_words(self) -> None:
         self.assertEqual(call(["--text", "newest", "x.L5X"]).status, 3)
@@ -50,7 +53,8 @@ class LeftOut(unittest.TestCase):
         return {r["name"]: r["rungs"] for p in json.loads(ended.project)["programs"] for r in p["routines"]}
 
     def test_only_the_rung_goes(self) -> None:
-        text = of_routines(routine("Go", "XIC(b)NOP();", "GSV(a,b,c,d)OTE(b);", "CLR(n)CLR(gone);", "XIC(b", "JSR(Sub,0);", "OTE(b);") + routine("Sub", "MSG(m);"))
+        rungs = ["XIC(b)NOP();", "GSV(a,b,c,d)OTE(b);", "CLR(n)CLR(gone);", "XIC(b", "JSR(Sub,0);", "OTE(b);"]
+        text = of_routines(routine("Go", *rungs) + routine("Sub", "MSG(m);"))
         found = self.left(
             text,
             "program P routine Go rung 1: GSV isn't in the table of instructions",
@@ -69,9 +73,11 @@ class LeftOut(unittest.TestCase):
             path = os.path.join(folder, "file.L5X")
             with open(path, "wb") as export:
                 export.write(text)
-            for words, status in ((["--leave-out", path], 1), (["--leave-out", "rungs", path], 0), ([path, "--leave-out", "rungs"], 0),
-                                  ([path, "--leave-out"], 1), (["--leave-out=rungs", path], 0), (["rungs", "--leave-out", path], 3)):  # fmt: skip
-                self.assertEqual(call(words).status, status, words)
+            for words in (["--leave-out", "rungs", path], [path, "--leave-out", "rungs"], ["--leave-out=rungs", path]):
+                self.assertEqual(call(words).status, 0, words)
+            for words in (["--leave-out", path], [path, "--leave-out"], [path]):
+                self.assertEqual(call(words).status, 1, words)
+            self.assertEqual(call(["rungs", "--leave-out", path]).status, 3)
 
     def test_what_names_what_is_gone(self) -> None:
         other = program("Q", routine("Go", "NOP();").replace('"RLL"', '"ST"'))
@@ -118,16 +124,16 @@ class OnlyThere(unittest.TestCase):
         self.assertEqual([p["name"] for p in json.loads(ended.project)["programs"]], ["P"])
 
     def test_what_no_rung_names(self) -> None:
-        tags = "".join(tag(f"t{k}", of) for k, of in enumerate(("MESSAGE", "AXIS_CIP_DRIVE", "MOTION_GROUP", "ALARM_ANALOG", "REAL", "STRING")))
+        kinds = ("MESSAGE", "AXIS_CIP_DRIVE", "MOTION_GROUP", "ALARM_ANALOG", "REAL", "STRING")
+        tags = "".join(tag(f"t{k}", of) for k, of in enumerate(kinds))
         ended = convert(file(tags=tags).replace("</Controller>", '<Trends><Trend Name="a"/><Trend Name="b"/></Trends></Controller>'))
         self.assertEqual(ended.status, 0)
         self.assertIn("note: passed over: 2 of Trend, which no run needs", ended.lines)
         self.assertIn("note: passed over: tag t0: type MESSAGE isn't in the profile", ended.lines)
-        for words in (["--watch", "t4"],):
-            ended = convert(file(tags=tags), *words)
-            self.assertEqual(ended.status, 1)
-            self.assertIn("tag t4: type REAL isn't in the profile", ended.lines)
-            self.assertIn("note: passed over: tag t3: type ALARM_ANALOG isn't in the profile", ended.lines)
+        ended = convert(file(tags=tags), "--watch", "t4")
+        self.assertEqual(ended.status, 1)
+        self.assertIn("tag t4: type REAL isn't in the profile", ended.lines)
+        self.assertIn("note: passed over: tag t3: type ALARM_ANALOG isn't in the profile", ended.lines)
 
     def test_bits_whose_word_is_not_told(self) -> None:
         data = (
@@ -157,6 +163,9 @@ class OnlyThere(unittest.TestCase):
         self.assertIn("note: tag In: a consumed tag becomes the tag of an input for `link`", ended.lines)
         self.assertIn("note: tag Out: a produced tag becomes the tag of an output for `link`", ended.lines)
         self.assertIn("note: passed over: tag Odd: no DINTs and no structure of at most 512 bytes", ended.lines)
+        both = '<Tag Name="Two" TagType="Produced" AliasFor="Out"/>'
+        ended = convert(file("MOV(In,Out);", tags + both))
+        self.assertEqual([c["name"] for c in json.loads(ended.project)["connections"]], ["Out", "In"])
         inner = program("P", routine("Go"), made.format("Own", "Produced", "DINT", "Produce"))
         ended = convert(content(f"<Programs>{inner}</Programs><Tasks>{task('T', 'P')}</Tasks>"))
         self.assertIn("note: passed over: program P tag Own: a produced tag of a program", ended.lines)

@@ -22,6 +22,7 @@ WORDS = {
     "valve": (["--watch", "V101.EnableIn,V101.EnableOut,V101.Cmd,V101_Coil,V101_Cycles,V101_Ready"], 0),
     "recipe": (["--watch", "Now,Later,T_Sweet.PRE,T_Sweet.DN,T_Sour.DN,Done[0],Done[1],Done[2],Done[3],Steps[1].EnableIn"], 0),
     "twice": (["--watch", "A1.EnableIn,A1.By,A1.Sum"], 0),
+    "many": (["--watch", "Totals[0],Totals[1],Totals[49],Totals[50],Totals[199],Lanes[199].EnableIn"], 0),
     "newer": (["--watch", "Level,Copy", "--watch-all-bools"], 0),
 }
 
