@@ -12,7 +12,7 @@ from hammer_parts.plain.project import FITS, read, write
 from hammer_parts.plain.tags import BITS, MEMBERS, Found, Refused, Tags, Types
 from hammer_parts.plain.words import operand_form
 
-SCOPE = "program:"
+from .tests import SCOPE
 
 
 class Unknown(Exception):
@@ -42,7 +42,7 @@ class Places:
 
     def scoped(self, text: str) -> tuple[int | None, str]:
         """The scope that a text asks for, and what is looked up there."""
-        if not text.lower().startswith(SCOPE):
+        if not text.startswith(SCOPE):
             return None, text
         name, _, rest = text[len(SCOPE) :].partition(".")
         if name.lower() not in self.programs:

@@ -190,9 +190,12 @@ class Player:
             finally:
                 session.close()
             trace = self.trace(copy, session.journal(), room, runner.events())
-            if runner.pacer or self.scenario.pace.steps or run.stopped or idle >= MOST_IDLE or trace is None:
+            if runner.pacer or self.scenario.pace.steps or run.stopped or trace is None:
                 break
             if all(trace.lines[events] == b"idle" for events in run.paces):
+                break
+            if idle >= MOST_IDLE:
+                run.notes.append(f"scans aren't over after {idle} steps: the ticks go on")
                 break
             idle *= 4
         if run.stopped:

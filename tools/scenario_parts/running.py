@@ -68,9 +68,9 @@ class Runner:
                 if text not in self.words:
                     self.words[text] = self.copy.word(text)
                 word = self.words[text]
-                self.followed.update(name.encode() for name, _, _ in word.beside)
+                self.followed.update(key_of(name) for name, _, _ in word.beside)
                 if word.own and item.what.value is None:
-                    self.followed.add(text.encode())
+                    self.followed.add(key_of(text))
 
     def go(self, items: list[Item], deadline: float, progress: Callable[[int], None]) -> Run:
         pace, end, run = self.scenario.pace.ms, self.scenario.end, self.run
@@ -123,14 +123,17 @@ class Runner:
     def set(self, what: Set) -> None:
         name = what.setting.name
         word = self.words[name.text]
-        old = self.word_now(word, name.text)
+        if word.own and self.session.waiting:
+            # (the program may have changed what is kept of the word)
+            self.look(self.session.ask())
+        old = self.word_now(word)
         key = (name.text, what.since)
         if what.value is None:
             value = self.before.pop(key)
         else:
             value = what.value
             if what.setting.lasts is not None:
-                self.before[key] = self.values.get(name.text.encode(), self.opening(name.text)) if word.own else old >> word.shift
+                self.before[key] = self.values.get(key_of(name.text), self.opening(name.text)) if word.own else old >> word.shift
         new = old & ~word.mask() | value << word.shift & word.mask()
         self.send(word, new, name.line)
 
@@ -143,13 +146,13 @@ class Runner:
         if "trigger" in self.copy.connection(word.connection) and word.word != last:
             self.act(f"in {word.connection} {last} {signed(self.module(word.connection, last), 32)}", OPERATOR, line)
 
-    def word_now(self, word: Word, text: str) -> int:
+    def word_now(self, word: Word) -> int:
         """The word as it is: of an input as its module has it, of a connection of the tool's as the program has it."""
         if not word.own:
             return self.module(word.connection, word.word)
         made = 0
         for name, shift, bits in word.beside:
-            value = self.values.get(name.encode(), self.opening(name))
+            value = self.values.get(key_of(name), self.opening(name))
             made |= (value & ((1 << bits) - 1)) << shift
         return made & 0xFFFF_FFFF
 
@@ -187,8 +190,8 @@ class Runner:
             self.is_running = False
         if self.followed:
             for found in SET.finditer(data):
-                if found[1] in self.followed:
-                    self.values[found[1]] = int(found[2])
+                if found[1].lower() in self.followed:
+                    self.values[found[1].lower()] = int(found[2])
         return self.is_running
 
     # ---- the pace
@@ -205,3 +208,8 @@ class Runner:
         self.owed = max(0, self.owed - steps)
         if len(self.session.waiting) > AT_ONCE:
             self.look(self.session.ask())
+
+
+def key_of(text: str) -> bytes:
+    """What a tag's value is kept under: a report spells it as it is watched."""
+    return text.lower().encode()

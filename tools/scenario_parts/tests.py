@@ -16,6 +16,7 @@ OPERATORS = {
 }  # fmt: skip
 OPERATOR = re.compile(r"<>|<=|>=|=|<|>")
 DEEPEST = 50
+SCOPE = "Program:"
 
 
 @dataclass(frozen=True)
@@ -125,7 +126,9 @@ def read_name(line: Line, what: str) -> Name:
     start, found = line.at, line.match(TAG)
     if not found:
         raise line.expected(what)
-    return Name(found[0], line, start)
+    text = found[0]
+    # (the project's reader takes this word in one spelling alone)
+    return Name(SCOPE + text[len(SCOPE) :] if text.lower().startswith(SCOPE.lower()) else text, line, start)
 
 
 def whole_test(line: Line) -> Test:

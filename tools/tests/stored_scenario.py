@@ -140,6 +140,13 @@ class Written(ScenarioTest):
         called = self.play(*done, "require", "end: h[0] = 5 and h[1] = 5", "at 20: h[1] = 6 and h[0] = 3")
         self.assertEqual(called.status, 0, called.out)
 
+    def test_the_rest_of_a_word_in_a_pace_of_steps(self):
+        """Bits of a counter's status, one after another, in any spelling; the program sets one too, within the steps before."""
+        self.project(tags=[*LAMP["tags"], {"name": "Cnt", "type": "COUNTER"}], rungs=["OTE(Cnt.OV);"])
+        done = ("at 1: cnt.dn = 1", "at 1: CNT.UN = 1", "at 2: cnt.cd = 1 for 1", "run 3")
+        called = self.play(PACE, *done, "require", "end: Cnt.DN = 1 and Cnt.UN = 1 and Cnt.OV = 1 and Cnt.CD = 0")
+        self.assertEqual(called.status, 0, called.out)
+
     def test_nothing_else_changes(self):
         """The same project, but for names: the same report from a tag that is written as from an input."""
         self.project(rungs=["MOV(Speed,n);"], watch=["n"])
