@@ -1,4 +1,4 @@
-"""tools/online on the built programs: walks of random commands, places reached from before and from behind, long sessions.
+"""tools/online on the built programs: walks of random commands, places reached from before and from behind, and how it ends.
 
 The gate runs this after `rt ci`. A walk of 1,000 commands takes a minute; here each example has as many as there is time for.
 """
@@ -6,7 +6,6 @@ The gate runs this after `rt ci`. A walk of 1,000 commands takes a minute; here 
 import os
 import signal
 import subprocess
-import time
 import unittest
 from unittest import mock
 
@@ -65,22 +64,6 @@ class Places(unittest.TestCase):
             page.do("go", to=page.session.at - 1)
             self.assertNotEqual(page.values()[name], value)
         self.assertGreater(changed, 5)
-
-
-class Long(unittest.TestCase):
-    def test_the_last_event_of_a_session(self):
-        with Page(built()) as page:
-            for _ in range(250):
-                page.do("cpu", count=4_000_000)
-            self.assertEqual((page.session.at, page.session.lost), (1_000_000_000, None))
-            page.do("tick", count=1)
-            self.assertEqual((page.session.at, page.notes()[-1]), (1_000_000_000, "a session has at most 1,000,000,000 events: J4"))
-            page.do("play", speed=1, steps=1)
-            time.sleep(0.2)
-            page.do("pause")
-            self.assertEqual(page.session.at, 1_000_000_000)
-            page.do("go", to=5)
-            self.assertEqual((page.session.at, page.shown.snapshot()["step"]), (5, 5))
 
 
 class Words(unittest.TestCase):

@@ -423,6 +423,33 @@ class Taken(unittest.TestCase):
             self.assertFalse(page.do("check")["same"])
 
 
+class Refusals(unittest.TestCase):
+    def test_a_line_that_the_controller_refuses_changes_nothing(self):
+        with Page() as page:
+            page.act("mode run")
+            page.session.add(Act("cpu 0"))
+            self.assertEqual((page.session.at, page.session.journal.length, page.session.journal.acts), (1, 1, ["mode run"]))
+            self.assertRegex(page.notes()[-1], r"^line J4 \d+$")
+            page.do("cpu", count=5)
+            page.do("go", to=1)
+            self.assertTrue(page.do("check")["same"])
+
+    def test_no_more_events_than_a_session_has(self):
+        with Page() as page, mock.patch("online_parts.session.MOST_EVENTS", 40), mock.patch.object(player, "MOST_EVENTS", 40):
+            page.act("mode run")
+            page.do("cpu", count=30)
+            page.do("cpu", count=10)
+            self.assertEqual((page.session.at, page.notes()[-1]), (31, "a session has at most 40 events: J4"))
+            page.do("play", speed=100, steps=2)
+            end = time.monotonic() + 20
+            while page.player.playing and time.monotonic() < end:
+                time.sleep(0.02)
+            with page.session.lock:
+                self.assertEqual((page.player.playing, page.session.at), (False, 40))
+            page.do("go", to=5)
+            self.assertTrue(page.do("check")["same"])
+
+
 class Ends(unittest.TestCase):
     def test_a_process_that_is_gone_is_started_again(self):
         with Page() as page:
