@@ -23,9 +23,9 @@ def usage_words():
 
 
 def programs():
-    """The programs that a user runs, as the tools have them, and the two tools that a package has beside them."""
+    """The programs that a user runs, as the tools have them, and the tools that a package has beside them."""
     listed = re.search(r"^programs=\((.*)\)$", text(f"{TOP}/tools/programs.sh"), re.MULTILINE).group(1)
-    return [*listed.split(), "logix_from_l5x", "logix_explain"]
+    return [*listed.split(), "logix_from_l5x", "logix_ladder", "logix_online", "logix_explain"]
 
 
 class Manual(unittest.TestCase):
