@@ -77,7 +77,7 @@ class Commands:
     def do_stop(self, kind, place="", value=0):
         """One stop more."""
         watch = self.session.watch
-        if kind not in COMPARED and kind not in FAULTS or len(watch.stops) >= MOST:
+        if _text(kind) not in COMPARED and kind not in FAULTS or len(watch.stops) >= MOST:
             raise Refused(400, f"no stop, or more than {MOST}")
         made = Stop(kind, name(place) if kind in COMPARED else "", whole(value, -2**31, 2**31 - 1) if kind in COMPARED else 0)
         watch.stops = [stop for stop in watch.stops if stop != made] + [made]

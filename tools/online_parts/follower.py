@@ -77,7 +77,7 @@ class Waiting:
             if self.closed:
                 self.follower.close()
             self.follower.tell(entries, acts, to)
-        except (Ended, OSError, ValueError):  # (the last two: closed in the middle)
+        except (Ended, OSError):
             self.closed = True
 
     def take(self, to):

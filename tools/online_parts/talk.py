@@ -28,46 +28,52 @@ class Talk:
                 pass  # what the system lets have is enough
         self.told = 0  # lines
         self.last = None  # the answer to the mark, once that is told
+        # Each is held at a call on its stream: whoever closes it waits, since the stream's number may be another's right after.
+        self.writing, self.reading, self.closed = threading.Lock(), threading.Lock(), False
 
     def tell(self, pieces):
         """Tells texts of whole lines, and yields what is answered, as pieces of whole lines."""
         pieces, first, size = iter(pieces), [], 0
+        self.last = None
         for piece in pieces:
             first.append(piece)
             size += len(piece)
             if size > AT_ONCE:
+                threading.Thread(target=self.write_all, args=(first, pieces), daemon=True).start()
                 break
         else:
             self.write(first, MARK)
-            yield from self.answers()
-            return
-        self.last = None
-        writer = threading.Thread(target=self.write_all, args=(first, pieces), daemon=True)
-        writer.start()
         yield from self.answers()
 
     def write_all(self, first, rest):
-        self.write(first)
-        for piece in rest:
-            self.write([piece])
-        self.write([], MARK)
+        if self.write(first) and all(self.write([piece]) for piece in rest):
+            self.write([], MARK)
 
     def write(self, pieces, mark=b""):
+        """Answers whether it could be written; where not, the reader says how the process ended."""
         data = "".join(pieces).encode() + mark
         self.told += data.count(b"\n")
         if mark:
             self.last = b"line J1 %d\n" % self.told
-        try:
-            view = memoryview(data)
-            while view:
-                view = view[self.process.stdin.write(view):]
-        except (OSError, ValueError):
-            self.last = None  # the reader says how the process ended
+        view = memoryview(data)
+        while view:
+            with self.writing:
+                try:
+                    if self.closed:
+                        return False
+                    view = view[self.process.stdin.write(view):]
+                except OSError:
+                    return False
+        return True
+
+    def read(self):
+        with self.reading:
+            return b"" if self.closed else os.read(self.process.stdout.fileno(), READ)
 
     def answers(self):
         kept = b""
         while True:
-            piece = os.read(self.process.stdout.fileno(), READ)
+            piece = self.read()
             if not piece:
                 self.process.wait()
                 raise Ended(self.process.returncode, kept.decode(errors="replace"))
@@ -86,11 +92,10 @@ class Talk:
     def close(self):
         self.process.kill()
         self.process.wait()
-        for stream in (self.process.stdin, self.process.stdout):
-            try:
-                stream.close()
-            except OSError:
-                pass
+        with self.writing, self.reading:
+            self.closed = True
+            self.process.stdin.close()
+            self.process.stdout.close()
 
 
 class TalkAnew:

@@ -8,10 +8,12 @@ import os
 import pty
 import re
 import shutil
+import signal
 import subprocess
 import sys
 import tempfile
 import unittest
+import urllib.request
 
 sys.dont_write_bytecode = True
 TOP = os.path.dirname(os.path.dirname(os.path.dirname(os.path.abspath(__file__))))
@@ -63,6 +65,8 @@ class Package(unittest.TestCase):
             self.helps(root)
             self.names_its_own_commands(root)
             self.plays_scenarios(root)
+            self.draws_rungs(root)
+            self.goes_online(root)
             self.dpkg(root, "--purge", "logix")
             left = [path for path in glob.glob(f"{root}/**", recursive=True) if os.path.isfile(path) and "/var/" not in path]
             self.assertEqual(left, [])
@@ -140,6 +144,22 @@ class Package(unittest.TestCase):
             self.assertTrue(os.path.isfile(f"{root}/usr/bin/{command}"), command)
         for path in re.findall(r"/usr/share/[\w./-]*\w", text):
             self.assertTrue(os.path.exists(root + path.partition("/FOLDER")[0]), path)
+
+    def draws_rungs(self, root):
+        words = [f"{root}/usr/bin/logix_ladder", f"{root}/usr/share/doc/logix/examples/conveyor/project.json", "Conveyor", "Count"]
+        ran = subprocess.run(words, capture_output=True, timeout=60, check=False)
+        self.assertEqual((ran.returncode, ran.stderr, ran.stdout[:4]), (0, b"", b"<svg"))
+        self.assertIn(b">Conveyor / Count<", ran.stdout)
+
+    def goes_online(self, root):
+        words = [f"{root}/usr/bin/logix_online", f"{root}/usr/share/doc/logix/examples/conveyor/project.json"]
+        with subprocess.Popen(words, stdout=subprocess.PIPE, stderr=subprocess.PIPE) as process:
+            address = process.stdout.readline().decode().strip()
+            for name, wanted in (("", b"<!doctype html>"), ("page.js", b"// The page"), ("layout", b'{"title": "project.json", "proved": true')):
+                with urllib.request.urlopen(address + name, timeout=60) as answer:
+                    self.assertTrue(answer.read().startswith(wanted), name)
+            process.send_signal(signal.SIGINT)
+            self.assertEqual((process.wait(60), process.stderr.read()), (0, b""))
 
 
 if __name__ == "__main__":

@@ -25,7 +25,8 @@ def usage_words():
 def programs():
     """The programs that a user runs, as the tools have them, and the tools that a package has beside them."""
     listed = re.search(r"^programs=\((.*)\)$", text(f"{TOP}/tools/programs.sh"), re.MULTILINE).group(1)
-    return [*listed.split(), "logix_from_l5x", "logix_xref", "logix_explain", "logix_scenario", "logix_compare"]
+    tools = "from_l5x ladder online xref explain scenario compare".split()
+    return [*listed.split(), *(f"logix_{tool}" for tool in tools)]
 
 
 class Manual(unittest.TestCase):
