@@ -165,7 +165,7 @@ idle_task task = codes "s- t:" ++ task ++ codes "\n"
 -- where values are known, each signal has one at the first time: a string has `-`
 abbrev pub beginning : ℕ → List (List ℕ) → List ℕ → List ℕ
 beginning from tasks values =
-    if is_empty values then [] else codes "#" ++ decimal from ++ codes "\n" ++ values_text ++ values ++ flat_map idle_task tasks ++ idle_text
+    if is_empty values then [] else stamp None from ++ values_text ++ values ++ flat_map idle_task tasks ++ idle_text
 
 -- the time that stands before the changes
 abbrev pub begun_at : ℕ → List ℕ → Option ℕ

@@ -1,7 +1,7 @@
 // The watched places of a picture.
 ghost use Rattle.std.specs.Prelude.{◌≡◌, ◌++◌, map, IfOk, OnOk};
 ghost use Rattle.std.specs.List.{filter_map};
-ghost use Rattle.lgx_chart.specs.Places.{is_before, is_shown, set_to, after_line, value_at_start, shown, untold, places_of, is_bool_at, is_bool};
+ghost use Rattle.lgx_chart.specs.Places.{is_before, is_shown, set_to, after_line, value_at_start, shown, unknown, untold, places_of, is_bool_at, is_bool};
 
 use crate::asked::{Asked, Place, View, is_told};
 use crate::clock::time_of;
@@ -92,18 +92,15 @@ fn push_told(
     Ok(())
 }
 
-/// The place of that name, unless it is told.
-fn untold(alloc: Global, places: &[Place], name: &[u8]) -> Result<Option<Place>, Memory>
-    ensures { IfOk result (λ place. place ≡ untold places.now name.now) }
+/// A place that isn't told, as it is shown.
+fn unknown(alloc: Global, view: View, entries: &[Entry], name: &[u8]) -> Result<Place, Memory>
+    ensures { IfOk result (λ p. p ≡ shown view entries.now (unknown name.now)) }
 {
-    if is_told(places, name) {
-        return Ok(None);
-    }
-    Ok(Some(Place {
+    Ok(Place {
         name: owned(alloc, name)?,
         is_bool: false,
-        start: None,
-    }))
+        start: value_at_start(view, entries, name, None),
+    })
 }
 
 /// Adds the places that are named and not told.
@@ -117,8 +114,8 @@ fn push_untold(
     ensures { OnOk result (places.new.items ≡ places.old.items ++ map (shown asked.now.view entries.now) (filter_map (untold asked.now.places) names.now)) }
 {
     for name in names {
-        if let Some(place) = untold(alloc, asked.places.as_slice(), name.as_slice())? {
-            places.push(shown(alloc, asked.view, entries, &place)?)?;
+        if !is_told(asked.places.as_slice(), name.as_slice()) {
+            places.push(unknown(alloc, asked.view, entries, name.as_slice())?)?;
         }
     }
     Ok(())

@@ -325,8 +325,7 @@ fn push_beginning(
     if values.is_empty() {
         return Ok(());
     }
-    push_count(text, alloc, b"#", u64::from(from))?;
-    push(text, b"\n")?;
+    push_stamp(text, alloc, None, from)?;
     push(text, values_text())?;
     push(text, values)?;
     push_idle_tasks(text, tasks)?;
