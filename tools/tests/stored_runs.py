@@ -195,9 +195,9 @@ class Pictures(StoredRun):
     REPORT = b"0 0 reply 31 ok\nend 0 0 run lost 0\n"
 
     def test_wrong_words_end_with_1(self):
-        for name in ("logix_wave", "logix_timeline"):
-            usage = f"usage: {name} < REPORT, {name} tick < REPORT\n".encode()
-            self.runs(["tock"], usage, 1, name)
+        times = "[--from N] [--to N] [--bool NAME=VALUE].. [--number NAME=VALUE].. < REPORT\n"
+        self.runs(["tock"], f"usage: logix_wave [tick] {times}".encode(), 1, "logix_wave")
+        self.runs(["tock"], f"usage: logix_timeline [tick] [--width N] {times}".encode(), 1, "logix_timeline")
 
     def test_no_report_ends_with_2(self):
         for name in ("logix_wave", "logix_timeline"):
@@ -210,6 +210,25 @@ class Pictures(StoredRun):
 
     def test_the_stored_drawing(self):
         self.runs([], contents(f"{CONVEYOR}/report.svg"), 0, "logix_timeline", contents(f"{CONVEYOR}/report.txt"))
+
+    def told(self, tool, *words):
+        """What a tool writes of this report, in which nothing changes, where it is told of a project."""
+        self.put("project.json", json.dumps(Stations.PROJECT))
+        words = [f"{TOP}/tools/{tool}", *words, "--project", f"{self.room}/project.json"]
+        ran = subprocess.run(words, input=self.REPORT, capture_output=True, timeout=60)
+        self.assertEqual((ran.returncode, ran.stderr), (0, b""))
+        return ran.stdout.decode()
+
+    def test_a_project_gives_each_signal_its_first_value(self):
+        text, zero = self.told("wave", "tick"), "b" + 32 * "0"
+        self.assertIn("$var integer 32 w:n n $end\n$var wire 1 w:a a $end\n$var integer 32 w:t.ACC \\t.ACC $end\n", text)
+        ending = f"#0\n$dumpvars\n{zero} w:n\n1w:a\n{zero} w:t.ACC\ns- reply\ns- fault\n$end\ns31_ok reply\n"
+        self.assertTrue(text.endswith(ending), text)
+
+    def test_a_project_gives_each_place_its_lane(self):
+        text = self.told("timeline", "--width", "800")
+        self.assertEqual([text.count(f"<title>{name}</title>") for name in Stations.OPENING], [1, 1, 1])
+        self.assertIn('width="800"', text)
 
     def test_a_report_is_drawn(self):
         for name in ("logix_wave", "logix_timeline"):

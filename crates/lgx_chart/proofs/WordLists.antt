@@ -1,10 +1,11 @@
 -- The words of a line, as a list.
-use Rattle.std.proofs.Common.{◌≡◌, ◌≢◌, ℕ, ◌<◌, List, [], ◌∷◌, length, map, true, false, eqb, None, refl, sym, ap, ◌∙◌, arith, true≢false}
+use Rattle.std.proofs.Common.{◌≡◌, ◌≢◌, ℕ, ◌<◌, List, [], ◌∷◌, length, map, Bool, true, false, eqb, None, refl, sym, ap, ◌∙◌, arith, true≢false}
 use Rattle.std.specs.List.{list_all}
 use Rattle.std.proofs.lemmas.Bool.Decides.{nat_tests}
 use Rattle.std.proofs.lemmas.List.Folds.{list_all-map}
 use Rattle.spec_base.specs.Pieces.{pieces}
 use Rattle.spec_base.proofs.Splits.{some_piece}
+use Rattle.lgx_chart.specs.Asked.{started}
 use Rattle.lgx_chart.specs.Words.{is_printed, is_word, are_words}
 use Rattle.lgx_chart.specs.Forms.{are_two_numbers, begin_of, fault_of, set_of, entry_of, end_of}
 
@@ -28,6 +29,12 @@ pub three_numbers : (kind a b rest : List ℕ) → pieces 47 rest ≡ a ∷ piec
 three_numbers kind a b rest split =
     let more = some_piece 47 b in
     ap (λ ps. are_two_numbers (kind ∷ ps)) (split ∙ ap (λ ps. a ∷ ps) more.2)
+
+-- three parts or more are no name and value
+pub three_parts : (is_bool : Bool) (name a b rest : List ℕ) → pieces 61 rest ≡ a ∷ pieces 61 b → started is_bool (name ∷ pieces 61 rest) ≡ None
+three_parts is_bool name a b rest split =
+    let more = some_piece 61 b in
+    ap (λ ps. started is_bool (name ∷ ps)) (split ∙ ap (λ ps. a ∷ ps) more.2)
 
 -- ---- lists of another length
 

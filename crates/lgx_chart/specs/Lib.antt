@@ -3,6 +3,8 @@ pub mod Clocks
 pub mod Forms
 pub mod Charts
 pub mod Reading
+pub mod Asked
+pub mod Places
 pub mod Vcd
 pub mod ChartPlan
 pub mod WavePlan

@@ -1,6 +1,6 @@
 // What a picture counts as time.
-ghost use Rattle.std.specs.Prelude.{◌≡◌, map, string_bytes};
-ghost use Rattle.lgx_chart.specs.Clocks.{clock_of, time_of};
+ghost use Rattle.std.specs.Prelude.{◌≡◌};
+ghost use Rattle.lgx_chart.specs.Clocks.{time_of};
 
 /// What a picture counts as time.
 #[derive(Clone, Copy, Debug, PartialEq, Eq)]
@@ -9,17 +9,6 @@ pub enum Clock {
     Step,
     /// The tick, a millisecond.
     Tick,
-}
-
-/// The clock that a program's words ask for: steps with no word, ticks with the word `tick`.
-pub fn clock_of(words: &[String]) -> Option<Clock>
-    ensures { result ≡ clock_of (map string_bytes words.now) }
-{
-    match words {
-        [] => Some(Clock::Step),
-        [word] if word.as_str() == "tick" => Some(Clock::Tick),
-        _ => None,
-    }
 }
 
 /// The time of a line.

@@ -1,19 +1,17 @@
 // Pictures of a report.
 ghost use Rattle.std.specs.Prelude.{◌≡◌, ℕ, List, IfOk};
-ghost use Rattle.lgx_chart.specs.declared.clock.Clock.{Clock as ClockView};
 ghost use Rattle.lgx_chart.specs.declared.entry.Chart.{Chart as ChartView};
 
-use crate::clock::Clock;
 use crate::entry::Chart;
 use lgx_num::Memory;
 use std::alloc::Global;
 
 /// A kind of picture of reports, as a text.
-pub trait Picture {
-    /// The text of a report's picture, by the clock that counts its time.
-    ghost text: { Self → ClockView → ChartView → List ℕ };
+pub trait Picture: Drop + Sized {
+    /// The text of a report's picture.
+    ghost text: { Self → ChartView → List ℕ };
 
     /// The picture's text.
-    fn to_text(&self, alloc: Global, clock: Clock, chart: &Chart) -> Result<Vec<u8>, Memory>
-        ensures { IfOk result (λ t. t.items ≡ text self.now clock chart.now) };
+    fn to_text(&self, alloc: Global, chart: &Chart) -> Result<Vec<u8>, Memory>
+        ensures { IfOk result (λ t. t.items ≡ text self.now chart.now) };
 }

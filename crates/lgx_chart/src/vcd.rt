@@ -1,16 +1,17 @@
 // Writes a report as a wave file.
-ghost use Rattle.std.specs.Prelude.{◌≡◌, ◌++◌, codes, OnOk, IfOk};
+ghost use Rattle.std.specs.Prelude.{◌≡◌, ◌++◌, codes, None, OnOk, IfOk};
 ghost use Rattle.std.specs.List.{flat_map, join_with_byte, list_all};
 ghost use Rattle.lgx_num.specs.Name.{is_name_byte};
-ghost use Rattle.lgx_chart.specs.Clocks.{time_of};
-ghost use Rattle.lgx_chart.specs.Vcd.{binary, bits_of, begun, change, stamp, changes_from, reference, task_signal, watch_signal, unit_of, ending, opening, signals, vcd_text};
+ghost use Rattle.lgx_chart.specs.Vcd.{binary, level_of, value_of, begun, valued, change, stamp, last_time, changes_from, reference, task_signal, kind_text, watch_signal, unit_of, ending, opening, signals, first_value, first_values, idle_task, beginning, begun_at, after_signals, wave_of, vcd_text};
 
+use crate::asked::{Asked, Place, View};
 use crate::clock::{Clock, time_of};
 use crate::entry::{Chart, End, Entry, Note};
+use crate::places::{is_bool, places_of};
 use crate::text_out::{push, push_count, push_joined};
 use crate::vcd_texts::{
-    end_text, lost_text, other_signals, task_text, tasks_scope, timescale_text, version_text,
-    watch_text, watches_scope,
+    end_text, idle_text, lost_text, other_signals, task_text, tasks_scope, timescale_text,
+    values_text, version_text, watch_text, watches_scope, wire_text,
 };
 use lgx_num::{Items, Memory, is_name_byte};
 use std::alloc::Global;
@@ -59,18 +60,18 @@ fn push_begin(
     program: &[u8],
     version: u32,
 ) -> Result<(), Memory>
-    ensures { OnOk result (text.new.items ≡ text.old.items ++ change (Note.Begin task.now program.now version)) }
+    ensures { OnOk result (text.new.items ≡ text.old.items ++ begun program.now version ++ codes " t:" ++ task.now ++ codes "\n") }
 {
     push_version(text, alloc, program, version)?;
     push_signal(text, b" t:", task)
 }
 
-/// Adds a new value of a watched place.
-fn push_set(text: &mut Vec<u8>, watch: &[u8], value: i32) -> Result<(), Memory>
-    ensures { OnOk result (text.new.items ≡ text.old.items ++ change (Note.Set watch.now value)) }
+/// Adds a value of a watched place.
+fn push_set(text: &mut Vec<u8>, is_bool: bool, watch: &[u8], value: i32) -> Result<(), Memory>
+    ensures { OnOk result (text.new.items ≡ text.old.items ++ valued is_bool watch.now value) }
 {
-    push_value(text, value)?;
-    push_signal(text, b" w:", watch)
+    push_value(text, is_bool, value)?;
+    push_signal(text, b"w:", watch)
 }
 
 /// Adds words as one string, and its signal.
@@ -82,17 +83,33 @@ fn push_string(text: &mut Vec<u8>, words: &[Items<u8>], signal: &[u8]) -> Result
     push(text, signal)
 }
 
-/// Adds a value.
-fn push_value(text: &mut Vec<u8>, value: i32) -> Result<(), Memory>
-    ensures { OnOk result (text.new.items ≡ text.old.items ++ codes "b" ++ bits_of value) }
+/// The level of a one-bit wire.
+fn level_of(value: i32) -> &'static [u8]
+    ensures { result.now ≡ level_of value }
 {
+    if value == 0 { b"0" } else { b"1" }
+}
+
+/// Adds a value.
+fn push_value(text: &mut Vec<u8>, is_bool: bool, value: i32) -> Result<(), Memory>
+    ensures { OnOk result (text.new.items ≡ text.old.items ++ value_of is_bool value) }
+{
+    if is_bool {
+        return push(text, level_of(value));
+    }
     push(text, b"b")?;
-    push_binary(text, 32, value.cast_unsigned())
+    push_binary(text, 32, value.cast_unsigned())?;
+    push(text, b" ")
 }
 
 /// Adds what a line changes.
-fn push_change(text: &mut Vec<u8>, alloc: Global, note: &Note) -> Result<(), Memory>
-    ensures { OnOk result (text.new.items ≡ text.old.items ++ change note.now) }
+fn push_change(
+    text: &mut Vec<u8>,
+    alloc: Global,
+    places: &[Place],
+    note: &Note,
+) -> Result<(), Memory>
+    ensures { OnOk result (text.new.items ≡ text.old.items ++ change places.now note.now) }
 {
     match note {
         Note::Begin {
@@ -102,7 +119,12 @@ fn push_change(text: &mut Vec<u8>, alloc: Global, note: &Note) -> Result<(), Mem
         } => push_begin(text, alloc, task.as_slice(), program.as_slice(), *version),
         Note::Reply(words) => push_string(text, words.as_slice(), b" reply\n"),
         Note::Fault(words) => push_string(text, words.as_slice(), b" fault\n"),
-        Note::Set { watch, value } => push_set(text, watch.as_slice(), *value),
+        Note::Set { watch, value } => push_set(
+            text,
+            is_bool(places, watch.as_slice()),
+            watch.as_slice(),
+            *value,
+        ),
     }
 }
 
@@ -119,24 +141,36 @@ fn push_stamp(text: &mut Vec<u8>, alloc: Global, last: Option<u32>, time: u32) -
     push(text, b"\n")
 }
 
-/// Adds all changes, each time before its first change.
+/// The time of the end, within the times that are shown.
+fn last_time(view: View, end: &End) -> u32
+    ensures { result ≡ last_time view end.now }
+{
+    view.from
+        .max(view.to.min(time_of(view.clock, end.tick, end.step)))
+}
+
+/// Adds the changes that are shown, each time before its first change.
 fn push_changes(
     text: &mut Vec<u8>,
     alloc: Global,
-    clock: Clock,
+    view: View,
+    places: &[Place],
+    begun: Option<u32>,
     entries: &[Entry],
     end: &End,
 ) -> Result<(), Memory>
-    ensures { OnOk result (text.new.items ≡ text.old.items ++ changes_from clock None entries.now end.now) }
+    ensures { OnOk result (text.new.items ≡ text.old.items ++ changes_from view places.now begun entries.now end.now) }
 {
-    let mut last = None;
+    let mut last = begun;
     for entry in entries {
-        let time = time_of(clock, entry.tick, entry.step);
-        push_stamp(text, alloc, last, time)?;
-        push_change(text, alloc, &entry.note)?;
-        last = Some(time);
+        if view.is_shown(entry) {
+            let time = time_of(view.clock, entry.tick, entry.step);
+            push_stamp(text, alloc, last, time)?;
+            push_change(text, alloc, places, &entry.note)?;
+            last = Some(time);
+        }
     }
-    push_stamp(text, alloc, last, time_of(clock, end.tick, end.step))
+    push_stamp(text, alloc, last, last_time(view, end))
 }
 
 /// Whether a text is letters, digits and underscores.
@@ -177,23 +211,31 @@ fn push_task_signals(text: &mut Vec<u8>, tasks: &[Items<u8>]) -> Result<(), Memo
     Ok(())
 }
 
-/// Adds the signal of a watched place.
-fn push_watch_signal(text: &mut Vec<u8>, watch: &[u8]) -> Result<(), Memory>
-    ensures { OnOk result (text.new.items ≡ text.old.items ++ watch_signal watch.now) }
+/// What stands before the name of a watched place.
+fn kind_text(is_bool: bool) -> &'static [u8]
+    ensures { result.now ≡ kind_text is_bool }
 {
-    push(text, watch_text())?;
-    push(text, watch)?;
+    if is_bool { wire_text() } else { watch_text() }
+}
+
+/// Adds the signal of a watched place.
+fn push_watch_signal(text: &mut Vec<u8>, place: &Place) -> Result<(), Memory>
+    ensures { OnOk result (text.new.items ≡ text.old.items ++ watch_signal place.now) }
+{
+    let name = place.name.as_slice();
+    push(text, kind_text(place.is_bool))?;
+    push(text, name)?;
     push(text, b" ")?;
-    push_reference(text, watch)?;
+    push_reference(text, name)?;
     push(text, end_text())
 }
 
 /// Adds the signals of watched places.
-fn push_watch_signals(text: &mut Vec<u8>, watches: &[Items<u8>]) -> Result<(), Memory>
-    ensures { OnOk result (text.new.items ≡ text.old.items ++ flat_map watch_signal watches.now) }
+fn push_watch_signals(text: &mut Vec<u8>, places: &[Place]) -> Result<(), Memory>
+    ensures { OnOk result (text.new.items ≡ text.old.items ++ flat_map watch_signal places.now) }
 {
-    for watch in watches {
-        push_watch_signal(text, watch.as_slice())?;
+    for place in places {
+        push_watch_signal(text, place)?;
     }
     Ok(())
 }
@@ -227,31 +269,125 @@ fn push_opening(text: &mut Vec<u8>, alloc: Global, clock: Clock, end: &End) -> R
     push(text, end_text())
 }
 
-/// Adds the signals, in the order in which they first appear.
-fn push_signals(text: &mut Vec<u8>, chart: &Chart) -> Result<(), Memory>
-    ensures { OnOk result (text.new.items ≡ text.old.items ++ signals chart.now) }
+/// Adds the signals: the tasks in the order in which they first began, the watched places.
+fn push_signals(text: &mut Vec<u8>, tasks: &[Items<u8>], places: &[Place]) -> Result<(), Memory>
+    ensures { OnOk result (text.new.items ≡ text.old.items ++ signals tasks.now places.now) }
 {
     push(text, tasks_scope())?;
-    push_task_signals(text, chart.tasks.as_slice())?;
+    push_task_signals(text, tasks)?;
     push(text, watches_scope())?;
-    push_watch_signals(text, chart.watches.as_slice())?;
+    push_watch_signals(text, places)?;
     push(text, other_signals())
 }
 
-/// A report as the text of a wave file. One signal a task that began and one a watched place that changed; replies and faults
-/// have one each. Out of memory is the one fault.
-pub fn vcd_text(alloc: Global, chart: &Chart, clock: Clock) -> Result<Vec<u8>, Memory>
-    ensures { IfOk result (λ text. text.items ≡ vcd_text clock chart.now) }
+/// Adds the value of a place at the first time, if it is known.
+fn push_first_value(text: &mut Vec<u8>, place: &Place) -> Result<(), Memory>
+    ensures { OnOk result (text.new.items ≡ text.old.items ++ first_value place.now) }
+{
+    match place.start {
+        Some(value) => push_set(text, place.is_bool, place.name.as_slice(), value),
+        None => Ok(()),
+    }
+}
+
+/// The values that are known at the first time.
+fn first_values(alloc: Global, places: &[Place]) -> Result<Vec<u8>, Memory>
+    ensures { IfOk result (λ text. text.items ≡ first_values places.now) }
 {
     let mut text = Vec::new(alloc);
-    push_opening(&mut text, alloc, clock, &chart.end)?;
-    push_signals(&mut text, chart)?;
+    for place in places {
+        push_first_value(&mut text, place)?;
+    }
+    Ok(text)
+}
+
+/// Adds that no program of these tasks began.
+fn push_idle_tasks(text: &mut Vec<u8>, tasks: &[Items<u8>]) -> Result<(), Memory>
+    ensures { OnOk result (text.new.items ≡ text.old.items ++ flat_map idle_task tasks.now) }
+{
+    for task in tasks {
+        push_signal(text, b"s- t:", task.as_slice())?;
+    }
+    Ok(())
+}
+
+/// Adds the values at the first time, if some are known.
+#[tactic(auto, using(crate::proofs::Texts::some_values, crate::proofs::Texts::no_values))]
+fn push_beginning(
+    text: &mut Vec<u8>,
+    alloc: Global,
+    from: u32,
+    tasks: &[Items<u8>],
+    values: &[u8],
+) -> Result<(), Memory>
+    ensures { OnOk result (text.new.items ≡ text.old.items ++ beginning from tasks.now values.now) }
+{
+    if values.is_empty() {
+        return Ok(());
+    }
+    push_stamp(text, alloc, None, from)?;
+    push(text, values_text())?;
+    push(text, values)?;
+    push_idle_tasks(text, tasks)?;
+    push(text, idle_text())
+}
+
+/// The time that stands before the changes.
+#[tactic(auto, using(crate::proofs::Texts::some_values, crate::proofs::Texts::no_values))]
+fn begun_at(from: u32, values: &[u8]) -> Option<u32>
+    ensures { result ≡ begun_at from values.now }
+{
+    if values.is_empty() {
+        return None;
+    }
+    Some(from)
+}
+
+/// Adds what stands after the signals.
+fn push_after_signals(
+    text: &mut Vec<u8>,
+    alloc: Global,
+    view: View,
+    places: &[Place],
+    chart: &Chart,
+) -> Result<(), Memory>
+    ensures { OnOk result (text.new.items ≡ text.old.items ++ after_signals view places.now chart.now) }
+{
+    let values = first_values(alloc, places)?;
+    push_beginning(text, alloc, view.from, chart.tasks.as_slice(), &values)?;
     push_changes(
-        &mut text,
+        text,
         alloc,
-        clock,
+        view,
+        places,
+        begun_at(view.from, &values),
         chart.entries.as_slice(),
         &chart.end,
-    )?;
+    )
+}
+
+/// Adds a report as the text of a wave file that shows these places.
+fn push_wave(
+    text: &mut Vec<u8>,
+    alloc: Global,
+    view: View,
+    places: &[Place],
+    chart: &Chart,
+) -> Result<(), Memory>
+    ensures { OnOk result (text.new.items ≡ text.old.items ++ wave_of view places.now chart.now) }
+{
+    push_opening(text, alloc, view.clock, &chart.end)?;
+    push_signals(text, chart.tasks.as_slice(), places)?;
+    push_after_signals(text, alloc, view, places, chart)
+}
+
+/// A report as the text of a wave file, with one signal a task that began and one a watched place; replies and faults have one
+/// each. Out of memory is the one fault.
+pub fn vcd_text(alloc: Global, asked: &Asked, chart: &Chart) -> Result<Vec<u8>, Memory>
+    ensures { IfOk result (λ text. text.items ≡ vcd_text asked.now chart.now) }
+{
+    let places = places_of(alloc, asked, chart)?;
+    let mut text = Vec::new(alloc);
+    push_wave(&mut text, alloc, asked.view, &places, chart)?;
     Ok(text)
 }

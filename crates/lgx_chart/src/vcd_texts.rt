@@ -1,6 +1,6 @@
 // The fixed texts of a wave file. Proofs of what stands beside them don't look inside.
 ghost use Rattle.std.specs.Prelude.{◌≡◌};
-ghost use Rattle.lgx_chart.specs.Vcd.{version_text, lost_text, timescale_text, end_text, task_text, watch_text, tasks_scope, watches_scope, other_signals};
+ghost use Rattle.lgx_chart.specs.Vcd.{version_text, lost_text, timescale_text, end_text, task_text, wire_text, watch_text, tasks_scope, watches_scope, other_signals, values_text, idle_text};
 
 #[tactic(auto, unfolding(crate::specs::Vcd::version_text))]
 pub(crate) fn version_text() -> &'static [u8]
@@ -63,4 +63,25 @@ pub(crate) fn other_signals() -> &'static [u8]
     ensures { result.now ≡ other_signals }
 {
     b"$upscope $end\n$var string 1 reply reply $end\n$var string 1 fault fault $end\n$enddefinitions $end\n"
+}
+
+#[tactic(auto, unfolding(crate::specs::Vcd::wire_text))]
+pub(crate) fn wire_text() -> &'static [u8]
+    ensures { result.now ≡ wire_text }
+{
+    b"$var wire 1 w:"
+}
+
+#[tactic(auto, unfolding(crate::specs::Vcd::values_text))]
+pub(crate) fn values_text() -> &'static [u8]
+    ensures { result.now ≡ values_text }
+{
+    b"$dumpvars\n"
+}
+
+#[tactic(auto, unfolding(crate::specs::Vcd::idle_text))]
+pub(crate) fn idle_text() -> &'static [u8]
+    ensures { result.now ≡ idle_text }
+{
+    b"s- reply\ns- fault\n$end\n"
 }

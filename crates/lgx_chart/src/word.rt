@@ -1,13 +1,13 @@
 // A program that draws a report, over any picture, any files and any sink.
-ghost use Rattle.std.specs.Prelude.{◌≡◌, ◌++◌, option_map, IfOk, OnOk};
+ghost use Rattle.std.specs.Prelude.{◌≡◌, ◌++◌, ℕ, List, Option, option_map, IfOk, OnOk};
 ghost use Rattle.lgx_answer.specs.Plan.{Says};
 ghost use Rattle.lgx_answer.specs.Endings.{ending_of};
 ghost use Rattle.lgx_answer.specs.Answered.{Answered};
+ghost use Rattle.lgx_chart.specs.declared.entry.Chart.{Chart};
 ghost use Rattle.lgx_chart.specs.ChartPlan.{code_text, fault_text, refused, on_report, drawn, input_name, chart_plan};
 
 use crate::chart::read_chart;
-use crate::clock::Clock;
-use crate::entry::Chart;
+use crate::entry::Chart as Report;
 use crate::error::{ChartCode, ChartError, ChartFault};
 use crate::picture::Picture;
 use crate::text_out::{push, push_count};
@@ -55,15 +55,10 @@ struct Said {
 }
 
 /// The picture of a report is said.
-fn say_picture<P: Picture>(
-    alloc: Global,
-    picture: &P,
-    clock: Clock,
-    chart: &Chart,
-) -> Result<Said, Memory>
-    ensures { IfOk result (λ said. Says (drawn (P.text picture.now clock) chart.now) said.verdict said.text) }
+fn say_picture<P: Picture>(alloc: Global, picture: &P, chart: &Report) -> Result<Said, Memory>
+    ensures { IfOk result (λ said. Says (drawn (P.text picture.now) chart.now) said.verdict said.text) }
 {
-    let text = picture.to_text(alloc, clock, chart)?;
+    let text = picture.to_text(alloc, chart)?;
     Ok(Said {
         verdict: Verdict::Ok,
         text: Items::of(text),
@@ -83,16 +78,11 @@ fn say_refusal(alloc: Global, fault: ChartFault) -> Result<Said, Memory>
 
 /// What is said of these bytes.
 #[tactic(auto, using(crate::proofs::Programs::drawn_says, crate::proofs::Programs::refused_says))]
-fn said_of<P: Picture>(
-    alloc: Global,
-    picture: &P,
-    clock: Clock,
-    bytes: &[u8],
-) -> Result<Said, Memory>
-    ensures { IfOk result (λ said. Says (on_report (drawn (P.text picture.now clock)) bytes.now) said.verdict said.text) }
+fn said_of<P: Picture>(alloc: Global, picture: &P, bytes: &[u8]) -> Result<Said, Memory>
+    ensures { IfOk result (λ said. Says (on_report (drawn (P.text picture.now)) bytes.now) said.verdict said.text) }
 {
     match read_chart(alloc, bytes) {
-        Ok(chart) => say_picture(alloc, picture, clock, &chart),
+        Ok(chart) => say_picture(alloc, picture, &chart),
         Err(ChartError::Line(fault)) => say_refusal(alloc, fault),
         Err(ChartError::Memory) => Err(Memory),
     }
@@ -100,17 +90,16 @@ fn said_of<P: Picture>(
 
 /// A picture of a report that is to be read.
 #[derive(Drop)]
-struct Drawn<'a, P: Picture> {
-    picture: &'a P,
-    clock: Clock,
+struct Drawn<P: Picture> {
+    picture: P,
 }
 
-impl<'a, P: Picture> Word for Drawn<'a, P> {
+impl<P: Picture> Word for Drawn<P> {
     type Text = NoLines;
 
     ghost file = { λ _. input_name };
 
-    ghost next = { λ d. on_report (drawn (P.text d.picture.now d.clock)) };
+    ghost next = { λ d. on_report (drawn (P.text d.picture)) };
 
     ghost left = { λ _. 0 };
 
@@ -119,22 +108,23 @@ impl<'a, P: Picture> Word for Drawn<'a, P> {
     }
 
     fn judge(self, alloc: Global, bytes: Vec<u8>) -> Result<Step<Self, NoLines>, Memory> {
-        let Said { verdict, text } = said_of(alloc, self.picture, self.clock, &bytes)?;
+        let Said { verdict, text } = said_of(alloc, &self.picture, &bytes)?;
         Ok(Step::Say(verdict, text))
     }
 }
 
-/// Reads a report and writes its picture, by one put; or the usage line if no clock is asked for. A text that is no report is
+/// Reads a report and writes its picture, by one put; or the usage line if none is asked for. A text that is no report is
 /// refused as a project is by `logix`, with one line, `report CODE line N`. The report is the one file, and its name is empty.
+/// Memory may have run out before.
+#[tactic(auto, using(crate::proofs::Programs::out_of_memory))]
 pub fn draw<P: Picture, F: Files, K: Sink>(
     alloc: Global,
     usage: &[u8],
-    picture: &P,
-    clock: Option<Clock>,
+    asked: Result<Option<P>, Memory>,
     files: &mut F,
     sink: &mut K,
 ) -> Status
-    ensures { Answered (chart_plan usage.now (option_map (P.text picture.now) clock)) (record {
+    ensures { (wanted : Option (Chart → List ℕ)) → IfOk asked (λ picture. wanted ≡ option_map P.text picture) → Answered (chart_plan usage.now wanted) (record {
       told = F.told files.old;
       failures = record { old = F.failures files.old; new = F.failures files.new };
       held = record { old = K.held sink.old; new = K.held sink.new };
@@ -142,8 +132,9 @@ pub fn draw<P: Picture, F: Files, K: Sink>(
       answer = ending_of result;
     }) }
 {
-    match clock {
-        Some(clock) => answer(alloc, Drawn { picture, clock }, files, sink),
-        None => say(Verdict::Usage, usage, files, sink),
+    match asked {
+        Ok(Some(picture)) => answer(alloc, Drawn { picture }, files, sink),
+        Ok(None) => say(Verdict::Usage, usage, files, sink),
+        Err(Memory) => Status::Memory,
     }
 }

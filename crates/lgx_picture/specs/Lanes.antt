@@ -5,26 +5,26 @@ use Rattle.std.specs.List.{join_with_byte}
 use Rattle.std.specs.Str.{bytes_eq}
 use Rattle.lgx_chart.specs.declared.entry.Note.{Note}
 use Rattle.lgx_chart.specs.declared.entry.Note.TheVariants.{Begin, Reply, Fault, Set}
-use Rattle.lgx_chart.specs.declared.entry.Chart.{Chart}
+use Rattle.lgx_chart.specs.declared.asked.Place.{Place}
 use Rattle.lgx_picture.specs.declared.lanes.Lane.{Lane}
 use Rattle.lgx_picture.specs.declared.lanes.Lane.TheVariants.{Task, Faults, Replies, Watch}
 use Rattle.lgx_picture.specs.declared.sizes.TheConstants.{MAX_LANES, NAME_LETTERS, CUT_LETTERS}
 
 -- From the top: the tasks, the faults, the replies, the watched places. A report that was read has no more.
-abbrev pub lanes_of : Chart → List Lane
-lanes_of chart = take MAX_LANES (map Task chart.tasks ++ (Faults ∷ Replies ∷ []) ++ map Watch chart.watches)
+abbrev pub lanes_of : List (List ℕ) → List Place → List Lane
+lanes_of tasks places = take MAX_LANES (map Task tasks ++ (Faults ∷ Replies ∷ []) ++ map Watch places)
 
 abbrev pub name_of : Lane → List ℕ
 name_of (Task name) = name
 name_of Faults = codes "faults"
 name_of Replies = codes "replies"
-name_of (Watch name) = name
+name_of (Watch place) = place.name
 
 abbrev pub class_of : Lane → List ℕ
 class_of (Task name) = codes "task"
 class_of Faults = codes "fault"
 class_of Replies = codes "reply"
-class_of (Watch name) = codes "watch"
+class_of (Watch place) = codes "watch"
 
 -- of a long name the end, since the last parts of a tag's name tell most
 abbrev pub short : List ℕ → List ℕ
@@ -66,4 +66,4 @@ abbrev pub said_in : Lane → Note → Option (List ℕ)
 said_in (Task name) note = begun_in name note
 said_in Faults note = fault_in note
 said_in Replies note = reply_in note
-said_in (Watch name) note = set_in name note
+said_in (Watch place) note = set_in place.name note

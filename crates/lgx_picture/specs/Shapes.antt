@@ -1,8 +1,8 @@
 -- Shapes of a drawing, as text (Scalable Vector Graphics 1.1). Places are pixels from the left and from the top.
-use Rattle.std.specs.Prelude.{ℕ, List, [], ◌∷◌, ◌++◌, nat_eq, if◌then◌else◌, codes}
+use Rattle.std.specs.Prelude.{ℕ, ◌+◌, ◌-◌, List, [], ◌∷◌, ◌++◌, nat_eq, if◌then◌else◌, codes}
 use Rattle.std.specs.Fmt.{decimal}
 use Rattle.std.specs.List.{flat_map}
-use Rattle.lgx_picture.specs.declared.sizes.TheConstants.{LEFT, RIGHT}
+use Rattle.lgx_picture.specs.declared.sizes.TheConstants.{LEFT}
 
 -- a byte that has a meaning in such a text is written by its name
 abbrev pub escaped_byte : ℕ → List ℕ
@@ -28,14 +28,21 @@ line_from class x y = codes "<path class=\"" ++ class ++ codes "\" d=\"M" ++ dec
 unfoldable pub down_to : ℕ → List ℕ
 down_to y = codes "V" ++ decimal y ++ codes "\"/>\n"
 
--- across to the end of the time, and the line's end
-unfoldable pub to_the_end : List ℕ
-to_the_end = codes "H" ++ decimal RIGHT ++ codes "\"/>\n"
+-- across to a place, and the line's end
+unfoldable pub across_to : ℕ → List ℕ
+across_to x = codes "H" ++ decimal x ++ codes "\"/>\n"
 
 -- a line down
 abbrev pub upright : List ℕ → ℕ → ℕ → ℕ → List ℕ
 upright class x top bottom = line_from class x top ++ down_to bottom
 
--- a line across, from the time 0 to the end
-abbrev pub ground_line : ℕ → List ℕ
-ground_line y = line_from (codes "base") LEFT y ++ to_the_end
+-- a line across, from the first time to a place
+abbrev pub ground_line : ℕ → ℕ → List ℕ
+ground_line right y = line_from (codes "base") LEFT y ++ across_to right
+
+unfoldable pub bar_text : List ℕ
+bar_text = codes "<path class=\"mark\" style=\"stroke-width:32;stroke-opacity:.4\" d=\"M"
+
+-- a broad line, from the left side of a stroke to the right side of another
+abbrev pub bar : ℕ → ℕ → ℕ → List ℕ
+bar first last y = bar_text ++ decimal (first - 1) ++ codes " " ++ decimal y ++ across_to (last + 1)

@@ -6,7 +6,7 @@ ghost use Rattle.lgx_picture.specs.declared.lanes.Lane.TheVariants.{Task as Task
 ghost use Rattle.lgx_picture.specs.Lanes.{lanes_of, name_of, class_of, short, begun_in, fault_in, reply_in, set_in, said_in};
 
 use crate::sizes::{CUT_LETTERS, MAX_LANES, NAME_LETTERS};
-use lgx_chart::{Chart, Note, owned, push, push_count, push_joined};
+use lgx_chart::{Note, Place, owned, push, push_count, push_joined};
 use lgx_num::{Items, Memory};
 use std::alloc::Global;
 
@@ -20,7 +20,7 @@ pub(crate) enum Lane {
     /// All replies.
     Replies,
     /// The values of a watched place.
-    Watch(Items<u8>),
+    Watch(Place),
 }
 
 /// Adds the lanes of tasks.
@@ -33,30 +33,41 @@ fn push_task_lanes(lanes: &mut Vec<Lane>, alloc: Global, tasks: &[Items<u8>]) ->
     Ok(())
 }
 
-/// Adds the lanes of watched places.
-fn push_watch_lanes(
-    lanes: &mut Vec<Lane>,
-    alloc: Global,
-    watches: &[Items<u8>],
-) -> Result<(), Memory>
-    ensures { OnOk result (lanes.new.items ≡ lanes.old.items ++ map WatchLane watches.now) }
+/// A place of its own.
+fn copied(alloc: Global, place: &Place) -> Result<Place, Memory>
+    ensures { IfOk result (λ copy. copy ≡ place.now) }
 {
-    for watch in watches {
-        lanes.push(Lane::Watch(owned(alloc, watch.as_slice())?))?;
+    Ok(Place {
+        name: owned(alloc, place.name.as_slice())?,
+        is_bool: place.is_bool,
+        start: place.start,
+    })
+}
+
+/// Adds the lanes of watched places.
+fn push_watch_lanes(lanes: &mut Vec<Lane>, alloc: Global, places: &[Place]) -> Result<(), Memory>
+    ensures { OnOk result (lanes.new.items ≡ lanes.old.items ++ map WatchLane places.now) }
+{
+    for place in places {
+        lanes.push(Lane::Watch(copied(alloc, place)?))?;
     }
     Ok(())
 }
 
 /// The lanes of a report.
-pub(crate) fn lanes_of(alloc: Global, chart: &Chart) -> Result<Vec<Lane>, Memory>
-    ensures lanes { IfOk result (λ lanes. lanes.items ≡ lanes_of chart.now) }
+pub(crate) fn lanes_of(
+    alloc: Global,
+    tasks: &[Items<u8>],
+    places: &[Place],
+) -> Result<Vec<Lane>, Memory>
+    ensures lanes { IfOk result (λ lanes. lanes.items ≡ lanes_of tasks.now places.now) }
     ensures few { IfOk result (λ lanes. length lanes.items ≤ MAX_LANES) }
 {
     let mut lanes = Vec::new(alloc);
-    push_task_lanes(&mut lanes, alloc, chart.tasks.as_slice())?;
+    push_task_lanes(&mut lanes, alloc, tasks)?;
     lanes.push(Lane::Faults)?;
     lanes.push(Lane::Replies)?;
-    push_watch_lanes(&mut lanes, alloc, chart.watches.as_slice())?;
+    push_watch_lanes(&mut lanes, alloc, places)?;
     lanes.truncate(MAX_LANES);
     Ok(lanes)
 }
@@ -101,7 +112,7 @@ fn begun(alloc: Global, program: &[u8], version: u32) -> Result<Items<u8>, Memor
 }
 
 /// The digits of a value, with `-` before them if it is negative.
-fn digits_of(alloc: Global, value: i32) -> Result<Items<u8>, Memory>
+pub(crate) fn digits_of(alloc: Global, value: i32) -> Result<Items<u8>, Memory>
     ensures { IfOk result (λ text. text ≡ signed_decimal value) }
 {
     let digits = value.to_string(alloc)?;
@@ -171,7 +182,7 @@ impl Lane {
             Lane::Task(name) => name.as_slice(),
             Lane::Faults => b"faults",
             Lane::Replies => b"replies",
-            Lane::Watch(name) => name.as_slice(),
+            Lane::Watch(place) => place.name.as_slice(),
         }
     }
 
@@ -195,7 +206,7 @@ impl Lane {
             Lane::Task(name) => begun_in(alloc, name.as_slice(), note),
             Lane::Faults => fault_in(alloc, note),
             Lane::Replies => reply_in(alloc, note),
-            Lane::Watch(name) => set_in(alloc, name.as_slice(), note),
+            Lane::Watch(place) => set_in(alloc, place.name.as_slice(), note),
         }
     }
 }

@@ -1,6 +1,6 @@
 // How a drawing looks. Proofs of what stands beside these texts don't look inside.
 ghost use Rattle.std.specs.Prelude.{◌≡◌};
-ghost use Rattle.lgx_picture.specs.Svg.{open_text, view_text, style, legend};
+ghost use Rattle.lgx_picture.specs.Svg.{open_text, height_text, view_text, style, legend, hint};
 
 /// The colours and letters, in light and in dark, and the ground.
 pub(crate) const STYLE: &[u8] =
@@ -8,20 +8,31 @@ pub(crate) const STYLE: &[u8] =
 
 /// What the colours mean.
 pub(crate) const LEGEND: &[u8] =
-    b"<g class=\"task\"><path class=\"mark\" d=\"M14 36V50\"/><text x=\"22\" y=\"47\">a task begins PROGRAM:VERSION</text></g><g class=\"fault\"><path class=\"mark\" d=\"M254 36V50\"/><text x=\"262\" y=\"47\">a fault</text></g><g class=\"reply\"><path class=\"mark\" d=\"M344 36V50\"/><text x=\"352\" y=\"47\">LANE and reply</text></g><g class=\"watch\"><path class=\"value\" d=\"M484 48H494V39H504\"/><text x=\"512\" y=\"47\">a watched value</text></g><text x=\"654\" y=\"47\">of marks in one place the last is written; pointing at it shows all</text>\n";
+    b"<g class=\"task\"><path class=\"mark\" d=\"M14 36V50\"/><text x=\"22\" y=\"47\">a task begins PROGRAM:VERSION</text></g><g class=\"fault\"><path class=\"mark\" d=\"M254 36V50\"/><text x=\"262\" y=\"47\">a fault</text></g><g class=\"reply\"><path class=\"mark\" d=\"M344 36V50\"/><text x=\"352\" y=\"47\">LANE and reply</text></g><g class=\"watch\"><path class=\"value\" d=\"M484 48H494V39H504\"/><text x=\"512\" y=\"47\">a watched value</text></g>";
+
+/// How marks in one place are written.
+pub(crate) const HINT: &[u8] =
+    b"<text x=\"654\" y=\"47\">of marks in one place the last is written; pointing at it shows all</text>\n";
 
 #[tactic(auto, unfolding(crate::specs::Svg::open_text))]
 pub(crate) fn open_text() -> &'static [u8]
     ensures { result.now ≡ open_text }
 {
-    b"<svg xmlns=\"http://www.w3.org/2000/svg\" width=\"1400\" height=\""
+    b"<svg xmlns=\"http://www.w3.org/2000/svg\" width=\""
+}
+
+#[tactic(auto, unfolding(crate::specs::Svg::height_text))]
+pub(crate) fn height_text() -> &'static [u8]
+    ensures { result.now ≡ height_text }
+{
+    b"\" height=\""
 }
 
 #[tactic(auto, unfolding(crate::specs::Svg::view_text))]
 pub(crate) fn view_text() -> &'static [u8]
     ensures { result.now ≡ view_text }
 {
-    b"\" viewBox=\"0 0 1400 "
+    b"\" viewBox=\"0 0 "
 }
 
 #[tactic(auto, unfolding(crate::specs::Svg::style))]
@@ -36,4 +47,11 @@ pub(crate) fn legend() -> &'static [u8]
     ensures { result.now ≡ legend }
 {
     LEGEND
+}
+
+#[tactic(auto, unfolding(crate::specs::Svg::hint))]
+pub(crate) fn hint() -> &'static [u8]
+    ensures { result.now ≡ hint }
+{
+    HINT
 }

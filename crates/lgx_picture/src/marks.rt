@@ -1,6 +1,6 @@
 // The marks of a lane.
 ghost use Rattle.std.specs.Prelude.{◌≡◌, ◌++◌, IfOk};
-ghost use Rattle.lgx_picture.specs.Marks.{level_of, mark_of, marks_of};
+ghost use Rattle.lgx_picture.specs.Marks.{level_at, level_of, mark_of, marks_of};
 
 use crate::lanes::Lane;
 use crate::scale::Scale;
@@ -19,25 +19,35 @@ pub(crate) struct Mark {
     pub label: Items<u8>,
 }
 
+/// How high a value stands.
+pub(crate) fn level_at(value: i32) -> u32
+    ensures { result ≡ level_at value }
+{
+    value.abs_diff(i32::MIN)
+}
+
 /// How high a line's value stands; 0 if it has none.
 fn level_of(note: &Note) -> u32
     ensures { result ≡ level_of note.now }
 {
     match note {
-        Note::Set { value, .. } => value.abs_diff(i32::MIN),
+        Note::Set { value, .. } => level_at(*value),
         Note::Begin { .. } | Note::Reply(_) | Note::Fault(_) => 0,
     }
 }
 
-/// The mark of a line, if it says something in the lane.
+/// The mark of a line, if it is shown and says something in the lane.
 fn mark_of(alloc: Global, scale: Scale, lane: &Lane, entry: &Entry) -> Result<Option<Mark>, Memory>
     ensures { IfOk result (λ mark. mark ≡ mark_of scale lane.now entry.now) }
 {
+    if !scale.view.is_shown(entry) {
+        return Ok(None);
+    }
     let Some(label) = lane.said_in(alloc, &entry.note)? else {
         return Ok(None);
     };
     Ok(Some(Mark {
-        x: scale.x_of(time_of(scale.clock, entry.tick, entry.step)),
+        x: scale.x_of(time_of(scale.view.clock, entry.tick, entry.step)),
         tick: entry.tick,
         step: entry.step,
         level: level_of(&entry.note),

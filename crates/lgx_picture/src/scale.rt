@@ -1,35 +1,55 @@
 // Where times stand.
 ghost use Rattle.std.specs.Prelude.{◌≡◌, ◌≤◌};
-ghost use Rattle.lgx_picture.specs.declared.sizes.TheConstants.{RIGHT};
-ghost use Rattle.lgx_picture.specs.Marks.{scale_of, x_of};
+ghost use Rattle.lgx_picture.specs.Marks.{scale_of, x_of, right_of, edge_of};
 
-use crate::sizes::{LEFT, RIGHT, WIDTH};
-use lgx_chart::{Clock, End, time_of};
+use crate::sizes::{AFTER, LEFT, PAGE};
+use lgx_chart::{End, View, time_of};
 
-/// The clock that counts, and the time of the end.
+/// What is shown, the last time of it, and from the first time to the last so many pixels.
 #[derive(Clone, Copy)]
 pub(crate) struct Scale {
-    pub clock: Clock,
+    pub view: View,
     pub end: u32,
+    pub width: u16,
 }
 
 impl Scale {
     /// The scale of a report that ends so.
-    pub(crate) fn of(clock: Clock, end: &End) -> Scale
-        ensures { result ≡ scale_of clock end.now }
+    pub(crate) fn of(view: View, end: &End) -> Scale
+        ensures { result ≡ scale_of view end.now }
     {
         Scale {
-            clock,
-            end: time_of(clock, end.tick, end.step),
+            view,
+            end: view.to.min(time_of(view.clock, end.tick, end.step)),
+            width: view
+                .width
+                .unwrap_or(PAGE)
+                .saturating_sub((LEFT + AFTER) as u16),
         }
     }
 
     /// Where a time stands.
-    #[tactic(auto, using(crate::proofs::Places::within))]
+    #[tactic(auto, using(crate::proofs::Places::within, crate::proofs::Places::small_area))]
     pub(crate) fn x_of(self, time: u32) -> u32
         ensures value { result ≡ x_of self time }
-        ensures near { result ≤ RIGHT }
+        ensures near { result ≤ right_of self }
     {
-        (LEFT + u64::from(time.min(self.end)) * WIDTH / u64::from(self.end.max(1))) as u32
+        let shown = u64::from(time.min(self.end).saturating_sub(self.view.from));
+        let all = u64::from(self.end.saturating_sub(self.view.from).max(1));
+        (LEFT + shown * u64::from(self.width) / all) as u32
+    }
+
+    /// Where the last time stands.
+    pub(crate) fn right(self) -> u64
+        ensures { result ≡ right_of self }
+    {
+        LEFT + u64::from(self.width)
+    }
+
+    /// The width of the drawing.
+    pub(crate) fn edge(self) -> u64
+        ensures { result ≡ edge_of self }
+    {
+        LEFT + u64::from(self.width) + AFTER
     }
 }

@@ -1,8 +1,8 @@
 // Shapes of a drawing, as text.
 ghost use Rattle.std.specs.Prelude.{◌≡◌, ◌++◌, OnOk};
-ghost use Rattle.lgx_picture.specs.Shapes.{escaped_byte, escaped, words_from, words, line_from, down_to, to_the_end, upright, ground_line};
+ghost use Rattle.lgx_picture.specs.Shapes.{escaped_byte, escaped, words_from, words, line_from, down_to, across_to, upright, ground_line, bar_text, bar};
 
-use crate::sizes::{LEFT, RIGHT};
+use crate::sizes::LEFT;
 use lgx_chart::{push, push_count};
 use lgx_num::Memory;
 use std::alloc::Global;
@@ -99,12 +99,12 @@ fn push_down_to(text: &mut Vec<u8>, alloc: Global, y: u64) -> Result<(), Memory>
     push(text, b"\"/>\n")
 }
 
-/// Adds the way across to the end of the time, and the line's end.
-#[tactic(auto, unfolding(crate::specs::Shapes::to_the_end))]
-pub(crate) fn push_to_the_end(text: &mut Vec<u8>, alloc: Global) -> Result<(), Memory>
-    ensures { OnOk result (text.new.items ≡ text.old.items ++ to_the_end) }
+/// Adds the way across to a place, and the line's end.
+#[tactic(auto, unfolding(crate::specs::Shapes::across_to))]
+pub(crate) fn push_across_to(text: &mut Vec<u8>, alloc: Global, x: u64) -> Result<(), Memory>
+    ensures { OnOk result (text.new.items ≡ text.old.items ++ across_to x) }
 {
-    push_count(text, alloc, b"H", RIGHT)?;
+    push_count(text, alloc, b"H", x)?;
     push(text, b"\"/>\n")
 }
 
@@ -123,10 +123,39 @@ pub(crate) fn push_upright(
     push_down_to(text, alloc, bottom)
 }
 
-/// Adds a line across, from the time 0 to the end.
-pub(crate) fn push_ground_line(text: &mut Vec<u8>, alloc: Global, y: u64) -> Result<(), Memory>
-    ensures { OnOk result (text.new.items ≡ text.old.items ++ ground_line y) }
+/// Adds a line across, from the first time to a place.
+pub(crate) fn push_ground_line(
+    text: &mut Vec<u8>,
+    alloc: Global,
+    right: u64,
+    y: u64,
+) -> Result<(), Memory>
+    ensures { OnOk result (text.new.items ≡ text.old.items ++ ground_line right y) }
 {
     push_line_from(text, alloc, b"base", LEFT, y)?;
-    push_to_the_end(text, alloc)
+    push_across_to(text, alloc, right)
+}
+
+/// What a broad line begins with. Proofs of what stands beside it don't look inside.
+#[tactic(auto, unfolding(crate::specs::Shapes::bar_text))]
+fn bar_text() -> &'static [u8]
+    ensures { result.now ≡ bar_text }
+{
+    b"<path class=\"mark\" style=\"stroke-width:32;stroke-opacity:.4\" d=\"M"
+}
+
+/// Adds a broad line, from the left side of a stroke to the right side of another.
+pub(crate) fn push_bar(
+    text: &mut Vec<u8>,
+    alloc: Global,
+    first: u32,
+    last: u32,
+    y: u64,
+) -> Result<(), Memory>
+    ensures { OnOk result (text.new.items ≡ text.old.items ++ bar first last y) }
+{
+    let left = u64::from(first.saturating_sub(1));
+    push_count(text, alloc, bar_text(), left)?;
+    push_count(text, alloc, b" ", y)?;
+    push_across_to(text, alloc, u64::from(last) + 1)
 }

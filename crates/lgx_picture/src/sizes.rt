@@ -2,17 +2,20 @@
 use spec_base::limits::MAX_TASKS;
 use spec_machine::limits::MAX_WATCHES;
 
-/// Where the time 0 stands; names stand before it.
+/// Where the first time stands; names stand before it.
 pub(crate) const LEFT: u64 = 200;
 
-/// From the time 0 to the end.
-pub(crate) const WIDTH: u64 = 1080;
+/// From the last time to the edge of the drawing.
+pub(crate) const AFTER: u64 = 120;
 
-/// Where the end stands.
-pub(crate) const RIGHT: u64 = LEFT + WIDTH;
+/// The width of the drawing, if none is asked for.
+pub(crate) const PAGE: u16 = 1400;
 
-/// The width of the drawing.
-pub(crate) const EDGE: u64 = 1400;
+/// The least width with room for all of the legend.
+pub(crate) const HINT_WIDTH: u64 = 1140;
+
+/// How far a begin stands from the one before at most, in pixels, if both are of one bar; and how many begins are no bar yet.
+pub(crate) const GAP: u32 = 3;
 
 /// Where the first lane begins.
 pub(crate) const TOP: u64 = 92;
@@ -38,8 +41,8 @@ pub(crate) const NAME_LETTERS: usize = 25;
 /// The letters of a longer name that are written, after two dots.
 pub(crate) const CUT_LETTERS: usize = 23;
 
-/// The lanes of a drawing: tasks, watched places, faults and replies.
-pub(crate) const MAX_LANES: usize = MAX_TASKS + MAX_WATCHES + 2;
+/// The lanes of a drawing: tasks, watched places that are told and others, faults and replies.
+pub(crate) const MAX_LANES: usize = MAX_TASKS + 2 * MAX_WATCHES + 2;
 
 /// The lines down a drawing, at most.
 pub(crate) const GRID_LINES: u64 = 11;

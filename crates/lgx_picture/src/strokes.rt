@@ -1,11 +1,13 @@
 // The strokes of a lane.
-ghost use Rattle.std.specs.Prelude.{◌≡◌, ◌+◌, ◌*◌, ◌++◌, nat_le, unwrap_or, OnOk};
-ghost use Rattle.lgx_picture.specs.declared.sizes.TheConstants.{EDGE, LETTER};
-ghost use Rattle.lgx_picture.specs.Marks.{is_at, first_x, told, opening, label, closing, strokes};
+ghost use Rattle.std.specs.Prelude.{◌≡◌, ◌+◌, ◌*◌, ◌++◌, nat_le, None, unwrap_or, OnOk};
+ghost use Rattle.std.specs.Option.{option_or};
+ghost use Rattle.lgx_picture.specs.declared.sizes.TheConstants.{LETTER};
+ghost use Rattle.lgx_picture.specs.Marks.{edge_of, is_at, first_x, told, opening, beside, closing, strokes};
 
 use crate::marks::Mark;
+use crate::scale::Scale;
 use crate::shapes::{push_escaped, push_upright, push_words};
-use crate::sizes::{EDGE, LETTER};
+use crate::sizes::LETTER;
 use lgx_chart::{push, push_count};
 use lgx_num::Memory;
 use std::alloc::Global;
@@ -21,7 +23,7 @@ fn is_at(other: Option<u32>, x: u32) -> bool
 }
 
 /// Where the first mark stands.
-fn first_x(marks: &[Mark]) -> Option<u32>
+pub(crate) fn first_x(marks: &[Mark]) -> Option<u32>
     ensures { result ≡ first_x marks.now }
 {
     match marks {
@@ -31,7 +33,7 @@ fn first_x(marks: &[Mark]) -> Option<u32>
 }
 
 /// Adds what a viewer shows of a mark.
-fn push_told(text: &mut Vec<u8>, alloc: Global, mark: &Mark) -> Result<(), Memory>
+pub(crate) fn push_told(text: &mut Vec<u8>, alloc: Global, mark: &Mark) -> Result<(), Memory>
     ensures { OnOk result (text.new.items ≡ text.old.items ++ told mark.now) }
 {
     push_count(text, alloc, b"tick ", u64::from(mark.tick))?;
@@ -57,31 +59,42 @@ fn has_room(x: u32, letters: usize, next: u64) -> bool
     u128::from(x) + u128::from(LETTER) * letters as u128 + 8 <= u128::from(next)
 }
 
-/// Adds the text beside a stroke, if there is room.
-fn push_label(
+/// Adds a text beside a place, if there is room.
+pub(crate) fn push_beside(
     text: &mut Vec<u8>,
     alloc: Global,
     top: u32,
     next: u64,
-    mark: &Mark,
+    x: u32,
+    said: &[u8],
 ) -> Result<(), Memory>
-    ensures { OnOk result (text.new.items ≡ text.old.items ++ label top next mark.now) }
+    ensures { OnOk result (text.new.items ≡ text.old.items ++ beside top next x said.now) }
 {
-    if !has_room(mark.x, mark.label.len(), next) {
+    if !has_room(x, said.len(), next) {
         return Ok(());
     }
-    let beside = u64::from(mark.x) + 4;
+    let right = u64::from(x) + 4;
     let up = u64::from(top) + 16;
-    push_words(text, alloc, b"label", beside, up, mark.label.as_slice())
+    push_words(text, alloc, b"label", right, up, said)
 }
 
-/// Where a text beside a stroke has to end.
-fn next_place(next: Option<u32>) -> u64
-    ensures { result ≡ unwrap_or next EDGE }
+/// Where a text beside a place has to end.
+pub(crate) fn next_place(scale: Scale, next: Option<u32>) -> u64
+    ensures { result ≡ unwrap_or next (edge_of scale) }
 {
     match next {
-        None => EDGE,
+        None => scale.edge(),
         Some(x) => u64::from(x),
+    }
+}
+
+/// The first of two places, if there is one.
+fn first_place(next: Option<u32>, after: Option<u32>) -> Option<u32>
+    ensures { result ≡ option_or next after }
+{
+    match next {
+        None => after,
+        Some(x) => Some(x),
     }
 }
 
@@ -89,11 +102,12 @@ fn next_place(next: Option<u32>) -> u64
 fn push_closing(
     text: &mut Vec<u8>,
     alloc: Global,
+    scale: Scale,
     top: u32,
     next: Option<u32>,
     mark: &Mark,
 ) -> Result<(), Memory>
-    ensures { OnOk result (text.new.items ≡ text.old.items ++ closing top next mark.now) }
+    ensures { OnOk result (text.new.items ≡ text.old.items ++ closing scale top next mark.now) }
 {
     if is_at(next, mark.x) {
         return Ok(());
@@ -102,24 +116,34 @@ fn push_closing(
     let to = u64::from(top) + 40;
     push(text, b"</title>")?;
     push_upright(text, alloc, b"mark", u64::from(mark.x), from, to)?;
-    push_label(text, alloc, top, next_place(next), mark)?;
+    push_beside(
+        text,
+        alloc,
+        top,
+        next_place(scale, next),
+        mark.x,
+        mark.label.as_slice(),
+    )?;
     push(text, b"</g>\n")
 }
 
-/// Adds the strokes of a lane.
+/// Adds the strokes of marks, after which another mark may stand.
 pub(crate) fn push_strokes(
     text: &mut Vec<u8>,
     alloc: Global,
+    scale: Scale,
     top: u32,
+    after: Option<u32>,
     marks: &[Mark],
 ) -> Result<(), Memory>
-    ensures { OnOk result (text.new.items ≡ text.old.items ++ strokes top None marks.now) }
+    ensures { OnOk result (text.new.items ≡ text.old.items ++ strokes scale top after None marks.now) }
 {
     let mut before = None;
     for (number, mark) in marks.iter().enumerate() {
+        let next = first_place(first_x(&marks[number + 1..]), after);
         push_opening(text, before, mark.x)?;
         push_told(text, alloc, mark)?;
-        push_closing(text, alloc, top, first_x(&marks[number + 1..]), mark)?;
+        push_closing(text, alloc, scale, top, next, mark)?;
         before = Some(mark.x);
     }
     Ok(())

@@ -1,18 +1,20 @@
 // Writes a report as a drawing.
-ghost use Rattle.std.specs.Prelude.{◌≡◌, ◌+◌, ◌*◌, ◌++◌, ◌≤◌, length, codes, find, OnOk, IfOk};
+ghost use Rattle.std.specs.Prelude.{◌≡◌, ◌+◌, ◌*◌, ◌++◌, ◌^◌, ◌<◌, ◌≤◌, length, codes, find, OnOk, IfOk};
 ghost use Rattle.lgx_picture.specs.declared.sizes.TheConstants.{MAX_LANES};
+ghost use Rattle.lgx_chart.specs.Places.{places_of};
 ghost use Rattle.lgx_picture.specs.Shapes.{words};
-ghost use Rattle.lgx_picture.specs.Svg.{lane_title, lane_head, lane_text, top_of, lane_at, lanes_from, reaches, spacing, grid_line, grid, unit_of, head, ending, front, svg_text};
+ghost use Rattle.lgx_picture.specs.Lanes.{lanes_of};
+ghost use Rattle.lgx_picture.specs.Svg.{lane_title, lane_head, lane_text, top_of, lanes_from, reaches, spacing, grid_line, first_multiple, grid_line_after, grid_by, grid, unit_of, view_box, head, hint_within, ending, front, drawing_of, svg_text};
 
 use crate::lanes::{Lane, lanes_of, short};
-use crate::looks::{legend, open_text, style, view_text};
+use crate::looks::{height_text, hint, legend, open_text, style, view_text};
 use crate::marks::{Mark, marks_of};
+use crate::runs::push_marks;
 use crate::scale::Scale;
 use crate::shapes::{push_escaped, push_ground_line, push_upright, push_words};
-use crate::sizes::{GRID_LINES, LANE, MAX_LANES, MAX_SPACING, SPACINGS, TOP};
-use crate::strokes::push_strokes;
+use crate::sizes::{GRID_LINES, HINT_WIDTH, LANE, MAX_LANES, MAX_SPACING, SPACINGS, TOP};
 use crate::values::push_values;
-use lgx_chart::{Chart, Clock, End, Entry, push, push_count};
+use lgx_chart::{Asked, Chart, Clock, End, Entry, places_of, push, push_count};
 use lgx_num::Memory;
 use std::alloc::Global;
 
@@ -28,28 +30,35 @@ fn push_lane_title(text: &mut Vec<u8>, lane: &Lane) -> Result<(), Memory>
 }
 
 /// Adds a lane's name and its line.
-fn push_lane_head(text: &mut Vec<u8>, alloc: Global, lane: &Lane, top: u32) -> Result<(), Memory>
-    ensures { OnOk result (text.new.items ≡ text.old.items ++ lane_head lane.now top) }
+fn push_lane_head(
+    text: &mut Vec<u8>,
+    alloc: Global,
+    scale: Scale,
+    lane: &Lane,
+    top: u32,
+) -> Result<(), Memory>
+    ensures { OnOk result (text.new.items ≡ text.old.items ++ lane_head scale lane.now top) }
 {
     let name = short(alloc, lane.name())?;
     push_lane_title(text, lane)?;
     push_words(text, alloc, b"name", 10, u64::from(top) + 36, &name)?;
-    push_ground_line(text, alloc, u64::from(top) + 40)
+    push_ground_line(text, alloc, scale.right(), u64::from(top) + 40)
 }
 
 /// Adds a lane.
 fn push_lane(
     text: &mut Vec<u8>,
     alloc: Global,
+    scale: Scale,
     lane: &Lane,
     top: u32,
     marks: &[Mark],
 ) -> Result<(), Memory>
-    ensures { OnOk result (text.new.items ≡ text.old.items ++ lane_text lane.now top marks.now) }
+    ensures { OnOk result (text.new.items ≡ text.old.items ++ lane_text scale lane.now top marks.now) }
 {
-    push_lane_head(text, alloc, lane, top)?;
-    push_values(text, alloc, lane, top, marks)?;
-    push_strokes(text, alloc, top, marks)?;
+    push_lane_head(text, alloc, scale, lane, top)?;
+    push_values(text, alloc, scale, lane, top, marks)?;
+    push_marks(text, alloc, scale, lane, top, marks)?;
     push(text, b"</g>\n")
 }
 
@@ -74,7 +83,7 @@ fn push_lanes(
 {
     for (number, lane) in lanes.iter().enumerate() {
         let marks = marks_of(alloc, scale, lane, entries)?;
-        push_lane(text, alloc, lane, top_of(number), &marks)?;
+        push_lane(text, alloc, scale, lane, top_of(number), &marks)?;
     }
     Ok(())
 }
@@ -130,16 +139,41 @@ fn push_grid_line(
     push_words(text, alloc, b"time", x, below + 22, digits.as_bytes())
 }
 
+/// The first multiple of a time that isn't before another.
+#[tactic(auto, using(crate::proofs::Places::small_multiple), unfolding(crate::specs::Svg::first_multiple))]
+fn first_multiple(time: u32, from: u32) -> u64
+    ensures value { result ≡ first_multiple time from }
+    ensures near { result < 2 ^ 34 }
+{
+    let reached = (u64::from(from) + u64::from(time)).saturating_sub(1);
+    reached / u64::from(time.max(1)) * u64::from(time)
+}
+
+/// Adds the lines down a drawing, at the multiples of a time.
+#[tactic(auto, using(crate::proofs::Places::small_product), unfolding(crate::specs::Svg::grid_by))]
+fn push_grid_by(
+    text: &mut Vec<u8>,
+    alloc: Global,
+    scale: Scale,
+    bottom: u32,
+    time: u32,
+) -> Result<(), Memory>
+    ensures { OnOk result (text.new.items ≡ text.old.items ++ grid_by scale bottom time) }
+{
+    let first = first_multiple(time, scale.view.from);
+    let spacing = u64::from(time);
+    for number in 0..GRID_LINES {
+        push_grid_line(text, alloc, scale, bottom, first + number * spacing)?;
+    }
+    Ok(())
+}
+
 /// Adds the lines down a drawing.
-#[tactic(auto, using(crate::proofs::Places::small_product), unfolding(crate::specs::Svg::grid))]
 fn push_grid(text: &mut Vec<u8>, alloc: Global, scale: Scale, bottom: u32) -> Result<(), Memory>
     ensures { OnOk result (text.new.items ≡ text.old.items ++ grid scale bottom) }
 {
-    let spacing = u64::from(spacing(scale.end));
-    for number in 0..GRID_LINES {
-        push_grid_line(text, alloc, scale, bottom, number * spacing)?;
-    }
-    Ok(())
+    let time = spacing(scale.end.saturating_sub(scale.view.from));
+    push_grid_by(text, alloc, scale, bottom, time)
 }
 
 /// What time is counted in.
@@ -152,15 +186,32 @@ fn unit_of(clock: Clock) -> &'static [u8]
     }
 }
 
+/// Adds the corners of what is seen.
+#[tactic(auto, unfolding(crate::specs::Svg::view_box))]
+fn push_view_box(text: &mut Vec<u8>, alloc: Global, edge: u64, height: u64) -> Result<(), Memory>
+    ensures { OnOk result (text.new.items ≡ text.old.items ++ view_box edge height) }
+{
+    push_count(text, alloc, view_text(), edge)?;
+    push_count(text, alloc, b" ", height)?;
+    push(text, b"\">\n")
+}
+
 /// Adds the head.
 #[tactic(auto, unfolding(crate::specs::Svg::head))]
-fn push_head(text: &mut Vec<u8>, alloc: Global, height: u64) -> Result<(), Memory>
-    ensures { OnOk result (text.new.items ≡ text.old.items ++ head height) }
+fn push_head(text: &mut Vec<u8>, alloc: Global, edge: u64, height: u64) -> Result<(), Memory>
+    ensures { OnOk result (text.new.items ≡ text.old.items ++ head edge height) }
 {
-    push_count(text, alloc, open_text(), height)?;
-    push_count(text, alloc, view_text(), height)?;
-    push(text, b"\">\n")?;
+    push_count(text, alloc, open_text(), edge)?;
+    push_count(text, alloc, height_text(), height)?;
+    push_view_box(text, alloc, edge, height)?;
     push(text, style())
+}
+
+/// How marks in one place are written, where the drawing has room for it.
+fn hint_within(edge: u64) -> &'static [u8]
+    ensures { result.now ≡ hint_within edge }
+{
+    if HINT_WIDTH <= edge { hint() } else { b"\n" }
 }
 
 /// Adds how a report ends.
@@ -195,31 +246,54 @@ fn push_front(
     ensures { OnOk result (text.new.items ≡ text.old.items ++ front scale end.now bottom) }
 {
     let below = u64::from(bottom) + 22;
-    push_head(text, alloc, u64::from(bottom) + 30)?;
+    push_head(text, alloc, scale.edge(), u64::from(bottom) + 30)?;
     push_head_words(text, alloc, end)?;
     push(text, legend())?;
+    push(text, hint_within(scale.edge()))?;
     push_grid(text, alloc, scale, bottom)?;
-    push_words(text, alloc, b"unit", 10, below, unit_of(scale.clock))
+    push_words(text, alloc, b"unit", 10, below, unit_of(scale.view.clock))
 }
 
-/// Adds a report as a drawing.
-fn push_svg(text: &mut Vec<u8>, alloc: Global, clock: Clock, chart: &Chart) -> Result<(), Memory>
-    ensures { OnOk result (text.new.items ≡ text.old.items ++ svg_text clock chart.now) }
+/// Adds a report as a drawing with these lanes.
+fn push_drawing(
+    text: &mut Vec<u8>,
+    alloc: Global,
+    scale: Scale,
+    chart: &Chart,
+    lanes: &[Lane],
+) -> Result<(), Memory>
+    requires { length lanes.now ≤ MAX_LANES }
+    ensures { OnOk result (text.new.items ≡ text.old.items ++ drawing_of scale chart.now lanes.now) }
 {
-    let lanes = lanes_of(alloc, chart)?;
-    let scale = Scale::of(clock, &chart.end);
     push_front(text, alloc, scale, &chart.end, top_of(lanes.len()))?;
-    push_lanes(text, alloc, scale, chart.entries.as_slice(), &lanes)?;
+    push_lanes(text, alloc, scale, chart.entries.as_slice(), lanes)?;
     push(text, b"</svg>\n")
 }
 
-/// A report as a drawing: a lane for each task that began, the faults, the replies and each watched place that changed, with
-/// time from left to right. Marks that follow one another in one place share a stroke, so of a report that was read a lane has
-/// at most as many as the drawing has places across. Out of memory is the one fault.
-pub fn svg_text(alloc: Global, clock: Clock, chart: &Chart) -> Result<Vec<u8>, Memory>
-    ensures { IfOk result (λ text. text.items ≡ svg_text clock chart.now) }
+/// The lanes of a drawing.
+fn lanes_asked(alloc: Global, asked: &Asked, chart: &Chart) -> Result<Vec<Lane>, Memory>
+    ensures lanes { IfOk result (λ lanes. lanes.items ≡ lanes_of chart.now.tasks (places_of asked.now chart.now)) }
+    ensures few { IfOk result (λ lanes. length lanes.items ≤ MAX_LANES) }
 {
+    let places = places_of(alloc, asked, chart)?;
+    lanes_of(alloc, chart.tasks.as_slice(), &places)
+}
+
+/// A report as a drawing: a lane for each task that began, the faults, the replies and each watched place, with time from left to
+/// right. Marks that follow one another in one place share a stroke, and many begins that stand close together are a bar with
+/// their count, so of a report that was read a lane has at most as many as the drawing has places across. Out of memory is the
+/// one fault.
+pub fn svg_text(alloc: Global, asked: &Asked, chart: &Chart) -> Result<Vec<u8>, Memory>
+    ensures { IfOk result (λ text. text.items ≡ svg_text asked.now chart.now) }
+{
+    let lanes = lanes_asked(alloc, asked, chart)?;
     let mut text = Vec::new(alloc);
-    push_svg(&mut text, alloc, clock, chart)?;
+    push_drawing(
+        &mut text,
+        alloc,
+        Scale::of(asked.view, &chart.end),
+        chart,
+        &lanes,
+    )?;
     Ok(text)
 }

@@ -1,12 +1,15 @@
 // The values of a watched place as a step line.
-ghost use Rattle.std.specs.Prelude.{◌≡◌, ◌++◌, OnOk};
+ghost use Rattle.std.specs.Prelude.{◌≡◌, ◌++◌, codes, OnOk};
 ghost use Rattle.std.specs.List.{flat_map};
-ghost use Rattle.lgx_picture.specs.Marks.{lowest, highest, band_of, y_of, corner, step_line, values};
+ghost use Rattle.lgx_picture.specs.Shapes.{line_from, across_to};
+ghost use Rattle.lgx_picture.specs.Marks.{right_of, start_level, lowest, highest, band_of, y_of, corner, step_line, start_text, value_lines, values};
 
-use crate::lanes::Lane;
-use crate::marks::Mark;
-use crate::shapes::{push_line_from, push_to_the_end};
-use crate::sizes::{FLOOR, RISE, ZERO};
+use crate::lanes::{Lane, digits_of};
+use crate::marks::{Mark, level_at};
+use crate::scale::Scale;
+use crate::shapes::{push_across_to, push_line_from};
+use crate::sizes::{FLOOR, LEFT, RISE, ZERO};
+use crate::strokes::{first_x, next_place, push_beside};
 use lgx_chart::push_count;
 use lgx_num::Memory;
 use std::alloc::Global;
@@ -19,11 +22,21 @@ pub(crate) struct Band {
     pub high: u32,
 }
 
-/// The lowest level of these and of 0.
-fn lowest(marks: &[Mark]) -> u32
-    ensures { result ≡ lowest marks.now }
+/// The level of the value at the first time, or of 0.
+fn start_level(start: Option<i32>) -> u32
+    ensures { result ≡ start_level start }
 {
-    let mut level = ZERO;
+    match start {
+        Some(value) => level_at(value),
+        None => ZERO,
+    }
+}
+
+/// The lowest level of these and of 0.
+fn lowest(start: Option<i32>, marks: &[Mark]) -> u32
+    ensures { result ≡ lowest start marks.now }
+{
+    let mut level = ZERO.min(start_level(start));
     for mark in marks {
         level = level.min(mark.level);
     }
@@ -31,10 +44,10 @@ fn lowest(marks: &[Mark]) -> u32
 }
 
 /// The highest level of these and of 0.
-fn highest(marks: &[Mark]) -> u32
-    ensures { result ≡ highest marks.now }
+fn highest(start: Option<i32>, marks: &[Mark]) -> u32
+    ensures { result ≡ highest start marks.now }
 {
-    let mut level = ZERO;
+    let mut level = ZERO.max(start_level(start));
     for mark in marks {
         level = level.max(mark.level);
     }
@@ -43,13 +56,13 @@ fn highest(marks: &[Mark]) -> u32
 
 impl Band {
     /// The band of a lane with these marks.
-    fn of(top: u32, marks: &[Mark]) -> Band
-        ensures { result ≡ band_of top marks.now }
+    fn of(top: u32, start: Option<i32>, marks: &[Mark]) -> Band
+        ensures { result ≡ band_of top start marks.now }
     {
         Band {
             top,
-            low: lowest(marks),
-            high: highest(marks),
+            low: lowest(start, marks),
+            high: highest(start, marks),
         }
     }
 
@@ -81,43 +94,105 @@ fn push_corners(text: &mut Vec<u8>, alloc: Global, band: Band, marks: &[Mark]) -
     Ok(())
 }
 
+/// Adds a step line that begins at a place and a level, over these marks.
+fn push_steps(
+    text: &mut Vec<u8>,
+    alloc: Global,
+    scale: Scale,
+    band: Band,
+    x: u64,
+    level: u32,
+    marks: &[Mark],
+) -> Result<(), Memory>
+    ensures { OnOk result (text.new.items ≡ text.old.items ++ line_from (codes "value") x (y_of band level) ++ flat_map (corner band) marks.now ++ across_to (right_of scale)) }
+{
+    push_line_from(text, alloc, b"value", x, band.y_of(level))?;
+    push_corners(text, alloc, band, marks)?;
+    push_across_to(text, alloc, scale.right())
+}
+
 /// Adds a step line, if there is a value.
 fn push_step_line(
     text: &mut Vec<u8>,
     alloc: Global,
+    scale: Scale,
     band: Band,
+    start: Option<i32>,
     marks: &[Mark],
 ) -> Result<(), Memory>
-    ensures { OnOk result (text.new.items ≡ text.old.items ++ step_line band marks.now) }
+    ensures { OnOk result (text.new.items ≡ text.old.items ++ step_line scale band start marks.now) }
 {
+    if let Some(value) = start {
+        return push_steps(text, alloc, scale, band, LEFT, level_at(value), marks);
+    }
     match marks {
         [] => Ok(()),
-        [first, others @ ..] => {
-            push_line_from(
-                text,
-                alloc,
-                b"value",
-                u64::from(first.x),
-                band.y_of(first.level),
-            )?;
-            push_corners(text, alloc, band, others)?;
-            push_to_the_end(text, alloc)
-        }
+        [first, others @ ..] => push_steps(
+            text,
+            alloc,
+            scale,
+            band,
+            u64::from(first.x),
+            first.level,
+            others,
+        ),
     }
+}
+
+/// Adds the value at the first time, if it is known and there is room.
+fn push_start_text(
+    text: &mut Vec<u8>,
+    alloc: Global,
+    scale: Scale,
+    top: u32,
+    start: Option<i32>,
+    marks: &[Mark],
+) -> Result<(), Memory>
+    ensures { OnOk result (text.new.items ≡ text.old.items ++ start_text scale top start marks.now) }
+{
+    let Some(value) = start else {
+        return Ok(());
+    };
+    let digits = digits_of(alloc, value)?;
+    let next = next_place(scale, first_x(marks));
+    push_beside(text, alloc, top, next, LEFT as u32, digits.as_slice())
+}
+
+/// Adds the values of a watched place.
+fn push_value_lines(
+    text: &mut Vec<u8>,
+    alloc: Global,
+    scale: Scale,
+    top: u32,
+    start: Option<i32>,
+    marks: &[Mark],
+) -> Result<(), Memory>
+    ensures { OnOk result (text.new.items ≡ text.old.items ++ value_lines scale top start marks.now) }
+{
+    push_step_line(
+        text,
+        alloc,
+        scale,
+        Band::of(top, start, marks),
+        start,
+        marks,
+    )?;
+    push_start_text(text, alloc, scale, top, start, marks)
 }
 
 /// Adds the values of a lane, if it is that of a watched place.
 pub(crate) fn push_values(
     text: &mut Vec<u8>,
     alloc: Global,
+    scale: Scale,
     lane: &Lane,
     top: u32,
     marks: &[Mark],
 ) -> Result<(), Memory>
-    ensures { OnOk result (text.new.items ≡ text.old.items ++ values lane.now top marks.now) }
+    ensures { OnOk result (text.new.items ≡ text.old.items ++ values scale lane.now top marks.now) }
 {
     match lane {
         Lane::Task(_) | Lane::Faults | Lane::Replies => Ok(()),
-        Lane::Watch(_) => push_step_line(text, alloc, Band::of(top, marks), marks),
+        Lane::Watch(place) => push_value_lines(text, alloc, scale, top, place.start, marks),
     }
 }

@@ -1,7 +1,8 @@
 //! Judges the rows of a table of reports and their pictures on standard input.
 //!
-//! A row is `KIND | REPORT | STATUS / TEXT`: how the program ends, and what it writes. A report, and what is written, may be the
-//! name of a text. What differs is printed, and at the end how many rows there were.
+//! A row is `KIND | REPORT | STATUS / TEXT`: how the program ends, and what it writes. After KIND, further words of the call may
+//! stand. A report, and what is written, may be the name of a text. What differs is printed, and at the end how many rows there
+//! were.
 //!
 //! | kind | the call | TEXT |
 //! |---|---|---|
@@ -11,7 +12,8 @@
 //! | `drawing`, `drawing-more-words` | `logix_timeline` with no word, two words | all that is written |
 //! | `drawn`, `drawn-tick` | the same with no word, the word `tick` | what stands after the legend |
 //! | `drawing-failing` | the same; the sink fails as above | |
-//! | `long` | `logix_timeline` on a report of so many lines, each a begin of one task | how many strokes there are |
+//! | `long` | `logix_timeline` on a report of so many lines, each a reply | how many strokes there are |
+//! | `long-begins` | the same, each a begin of one task | what the first bar shows first |
 #![tactic(auto)]
 
 mod long;
@@ -19,7 +21,7 @@ mod long;
 use lgx_chart::{Status, wave};
 use lgx_io::{Input, MemSink};
 use lgx_picture::draw_timeline;
-use long::say_strokes;
+use long::{say_bar, say_strokes};
 use std::alloc::{AllocError, Global};
 use std::io::{self, Cursor};
 use test_rows::{Row, Texts, Told, judge_table, push_plain};
@@ -36,10 +38,18 @@ fn main(rt: HostRuntime) -> io::Result<()> {
 
 /// Says what comes out of a row.
 fn say(texts: &Texts, row: &Row<'_>, told: &mut Told) {
-    if row.kind == "long" {
-        say_strokes(texts.alloc, row.given, told);
-    } else {
-        say_call(texts, row, told);
+    match row.kind {
+        "long" => say_strokes(texts.alloc, row.given, told),
+        "long-begins" => say_bar(texts.alloc, row.given, told),
+        _ => say_call(texts, row, told),
+    }
+}
+
+/// The first word of a row, which names the call.
+fn kind_of<'a>(row: &Row<'a>) -> &'a str {
+    match row.kind.split_once(' ') {
+        Some((kind, _)) => kind,
+        None => row.kind,
     }
 }
 
@@ -48,14 +58,16 @@ fn say_call(texts: &Texts, row: &Row<'_>, told: &mut Told) {
     let mut report = Vec::new(texts.alloc);
     let mut words = Vec::new(texts.alloc);
     let mut puts = Vec::new(texts.alloc);
+    let kind = kind_of(row);
     let is_whole = push_report(&mut report, texts, row.given).is_ok()
-        && push_words(texts.alloc, &mut words, row.kind).is_ok()
-        && push_failing(&mut puts, row.kind).is_ok();
+        && push_words(texts.alloc, &mut words, kind).is_ok()
+        && push_more_words(texts.alloc, &mut words, row.kind).is_ok()
+        && push_failing(&mut puts, kind).is_ok();
     if !is_whole {
         told.lack();
     }
     let mut sink = MemSink::new(texts.alloc, puts);
-    let status = ended(texts.alloc, row.kind, &words, report, &mut sink);
+    let status = ended(texts.alloc, kind, &words, report, &mut sink);
     told.number(i64::from(status.number()));
     say_text(texts, row, sink.held(), told);
 }
@@ -80,6 +92,14 @@ fn push_words(alloc: Global, words: &mut Vec<String>, kind: &str) -> Result<(), 
     }
     for word in words {
         word.push_str("tick")?;
+    }
+    Ok(())
+}
+
+/// Adds the words that stand after the first.
+fn push_more_words(alloc: Global, words: &mut Vec<String>, kind: &str) -> Result<(), AllocError> {
+    for word in kind.split(' ').skip(1) {
+        words.push(String::from_str(alloc, word)?)?;
     }
     Ok(())
 }
@@ -117,8 +137,8 @@ fn ended(
 fn say_text(texts: &Texts, row: &Row<'_>, held: &[u8], told: &mut Told) {
     let (_, name) = row.wanted.split_once(" / ").unwrap_or(("", ""));
     told.word("/");
-    let shown = text_after(row.kind, std::str::from_utf8(held).unwrap_or("no text"));
-    if held == usage(row.kind) {
+    let shown = text_after(kind_of(row), std::str::from_utf8(held).unwrap_or("no text"));
+    if held == usage(kind_of(row)) {
         told.word("USAGE");
     } else if !shown.is_empty() && texts.get(name).unwrap_or(b"") == shown.as_bytes() {
         told.word(name);
