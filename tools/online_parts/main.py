@@ -6,10 +6,9 @@ import signal
 import subprocess
 import sys
 from functools import lru_cache
-from importlib.machinery import SourceFileLoader
-from importlib.util import module_from_spec, spec_from_loader
 
-from ladder_parts.programs import TOOLS, Ended, find
+from ladder_parts.programs import Ended, find
+from places.codes import CODE, table
 
 from . import journal as journals
 from .player import Player
@@ -26,17 +25,19 @@ class NoJournal(Exception):
     """A journal with a line that the controller doesn't take; says so as `./logix` does."""
 
 
+def codes_of(text):
+    """The codes in a text, without the numbers after one that say where a refusal is."""
+    words = [word for word in text.replace("refused", " ").split() if CODE.fullmatch(word)]
+    return [word for at, word in enumerate(words) if not (word.isdigit() and any(code[0].isalpha() for code in words[:at]))]
+
+
 def explainer():
-    """What tools/explain says of the codes in a text, each as code and text."""
-    loader = SourceFileLoader("explain", os.path.join(TOOLS, "explain"))
-    explain = module_from_spec(spec_from_loader("explain", loader))
-    loader.exec_module(explain)
-    table = explain.table()
+    """What the documents' tables say of the codes in a text, each as code and sentence."""
+    known = table()
 
     @lru_cache(1_000)
     def said(text):
-        words = [word for word in text.replace("refused", " ").split() if explain.CODE.fullmatch(word)]
-        return [[code, table[code][0]] for code in explain.without_places(words) if code in table]
+        return [[code, known[code][0].sentence()] for code in codes_of(text) if code in known]
 
     return said
 

@@ -50,6 +50,7 @@ class Progress(unittest.TestCase):
         self.put("bin/rt", RT)
         self.put("tools/tests/test_nothing.py", "")
         self.put("tools/tests/hammer_run.py", "")
+        self.put("tools/tests/browser.sh", "#!/bin/sh\n")
         self.put("HANDLES", "\n")
         for bug in "abc":
             self.put(f"crates/mid/must-fail/{bug}.edit", "")
