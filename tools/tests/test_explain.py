@@ -217,6 +217,19 @@ K2: a task, program or bit of a mask that the project doesn't have. To do: is th
         status, text = explain("--project", "line.json", "--journal", "trace.txt", "no L1 1", cwd=self.room)
         self.assertEqual((status, text.splitlines()[1]), (0, "    began 0 2 0"))
 
+    def test_of_a_link_script(self) -> None:
+        self.put("line.json", LINE)
+        self.put("link.txt", "link Out2 In2\nend\n")
+        words = ["--project", "line.json", "--project", "line.json", "--journal", "link.txt", "link U1 line 1"]
+        self.assertEqual(explain(*words, cwd=self.room), (0, """\
+link.txt, line 1: the second project has no input 'In2'; is In1 meant?
+    link Out2 In2
+              ^
+U1: OUT is no output of A, or IN no input of B. To do: correct the first line.
+"""))
+        self.put("link.txt", "link Out2 In1\nend\n")
+        self.assertEqual(explain(*words, cwd=self.room)[1].splitlines()[0], "link.txt, line 1: they have 1 word and 2 words")
+
     def test_of_a_refused_command(self) -> None:
         self.put("line.json", LINE)
         self.put("line.txt", "mode run\ncpu 2\n@0 test Line\n@1 test Lime\nend\n")
