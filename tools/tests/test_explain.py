@@ -96,6 +96,13 @@ class Ended(Room):
         self.assertEqual(on_terminal(words), (0, data, ""))
 
 
+    def test_what_is_told_never_stops_the_program(self) -> None:
+        words = [*self.runner("logix", "#!/bin/sh\necho end 0 0 run lost many; echo more\n"), "replay", "p", "j"]
+        status, out, said = on_terminal(words)
+        self.assertEqual((status, out), (0, b"end 0 0 run lost many\nmore\n"))
+        self.assertRegex(said, "^logix: this couldn't be explained, by a fault of tools/places: ValueError")
+
+
 class Words(Room):
     """Wrong words, and files that aren't there: which."""
 
