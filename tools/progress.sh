@@ -4,7 +4,7 @@
 # A crate that is kept from an earlier run counts as proved. A planted bug is being tried as long as `rt` has a folder for it, and one
 # that was tried in an earlier run has none: these are left out of the count.
 tell_progress() {
-    local name=$1 pid=$2 log=$3 folder=$4 every=${PROGRESS_SECONDS:-60} begun=$SECONDS next edit bugs
+    local name=$1 pid=$2 log=$3 folder=$4 every=${PROGRESS_SECONDS:-60} begun=$SECONDS next edit bugs crates
     local -A tried=()
     local -a now
     shift 4
@@ -16,8 +16,10 @@ tell_progress() {
         for edit in "${now[@]}"; do tried[$edit]=1; done
         ((SECONDS - begun >= next)) || continue
         bugs=$(bugs_tried "$((${#tried[@]} - ${#now[@]}))" "$folder")
-        printf '%s: %s min: %s of %s crates proved%s; under way:%s\n' "$name" "$((next / 60))" "$(crates_proved "$log")" "$#" "$bugs" \
-            "$(under_way "$log" "$folder" "$@")" >&2
+        crates=$(under_way "$log" "$folder" "$@")
+        [ -s "$log" ] || crates=' rt reads the sources'
+        printf '%s: %s min: %s of %s crates proved%s; under way:%s\n' \
+            "$name" "$((next / 60))" "$(crates_proved "$log")" "$#" "$bugs" "$crates" >&2
         next=$((next + every))
     done
 }

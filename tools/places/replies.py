@@ -110,7 +110,8 @@ class Follower:
         name = action.names[0] if action.names else ""
         one = next((at for at, one in enumerate(connections) if one["name"].lower() == name.lower()), None)
         if code in ("N1", "F1") and one is None and name:
-            return self.mark(line, 1, f"there is no connection {quoted(name)}{meant(name, self.project.names('connections'))}", "connection")
+            others = meant(name, self.project.names("connections"))
+            return self.mark(line, 1, f"there is no connection {quoted(name)}{others}", "connection")
         if code in ("N2", "F1") and one is not None:
             words = self.project.half.connections[one][3]
             return self.mark(line, 2, f"{connections[one]['name']} has {counted(words, 'word')}, {numbers(words)}", "word that")
@@ -149,4 +150,5 @@ class Follower:
             return self.mark(line, 0, f"edit {place} takes rung {edit.index}, which another edit replaces or deletes")
         count = len(program.base[action.names[1].lower()])
         has = f"{counted(count, 'rung')}, {numbers(count)}" if count else "no rung"
-        return self.mark(line, 0, f"edit {place} names rung {edit.index}; the base has {has}", "inserts" if edit.what == "i" else "replaces")
+        applies = "inserts" if edit.what == "i" else "replaces"
+        return self.mark(line, 0, f"edit {place} names rung {edit.index}; the base has {has}", applies)

@@ -56,10 +56,14 @@ class Passing:
         text = line.decode("utf-8", "replace")
         if self.first is None:
             self.first = line[:MOST_OF_A_LINE]
-        if self.report:
-            self.report.take(text)
-        if self.session:
-            tell(self.program, self.session.take(text))
+        try:
+            if self.report:
+                self.report.take(text)
+            if self.session:
+                tell(self.program, self.session.take(text))
+        except Exception as fault:  # what is told of a program never stops it
+            self.report = self.session = None
+            tell(self.program, [unexplained(fault)])
 
 
 def put(to: int, contents: bytes) -> None:
@@ -101,14 +105,22 @@ def run(file: str, words: list[str]) -> int:
     return status
 
 
+def unexplained(fault: Exception) -> str:
+    return f"this couldn't be explained, by a fault of tools/places: {type(fault).__name__}: {fault}"
+
+
 # The modules that know the rules are loaded only when they are needed, and while the program runs.
 
 
 def tell_of(program: str, status: int, first: str, report: Report | None, words: list[str]) -> None:
-    if status or report and (report.refused or report.lost):
-        from .ended import ended
+    if not (status or report and (report.refused or report.lost)):
+        return
+    from .ended import ended
 
+    try:
         tell(program, ended(program, words, status, first, report))
+    except Exception as fault:  # the status stays the program's
+        tell(program, [f"status {status}; {unexplained(fault)}"])
 
 
 def report_of(program: str, words: list[str]) -> Report | None:

@@ -172,7 +172,8 @@ def declared(refused: Refused, code: str, one: dict) -> Said:
     keys, name = refused.keys, one["name"]
     scope = int(keys[1]) if keys[0] == "programs" else None
     if code == "G1":
-        return refused.say(f"{quoted(name)} is no name of a tag: {tag_name_fault(name, scope)}", [*keys, "name"], "has a" if scope is not None and ":" in name else "wrong form")
+        applies = "has a" if scope is not None and ":" in name else "wrong form"
+        return refused.say(f"{quoted(name)} is no name of a tag: {tag_name_fault(name, scope)}", [*keys, "name"], applies)
     if code == "G2":
         return refused.say(f"the name {quoted(name)} is taken: line {earlier_line(refused, name)} has it", [*keys, "name"])
     if code == "Y1":

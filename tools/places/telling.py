@@ -9,7 +9,7 @@ from .codes import sentences
 from .files import File
 from .json_text import NoJson
 from .refused import Refused, refused_of
-from .texts import Said, marked
+from .texts import Said, counted, marked, meant, quoted
 
 KINDS = ("journal", "script", "link", "trace", "line")
 
@@ -29,16 +29,34 @@ def readable(contents: bytes | None) -> Refused | None:
     return found if found and not found.judged else None
 
 
-def of_line(kind: str, code: str, number: int, name: str, contents: bytes, about: bytes | None) -> list[str]:
-    """Of `KIND CODE line NUMBER`; `about` is the project."""
+def of_line(kind: str, code: str, number: int, file: File, projects: list[bytes | None]) -> list[str]:
+    """Of `KIND CODE line NUMBER`."""
+    contents = file.contents()
     every = lines.lines_of(contents)
     if kind == "trace":
-        said = traces.told(code, number, every, project_names(about, "tasks"), project_names(about, "programs"))
-    elif code == "U1":
-        said = Said("OUT must be an output of the first project, IN an input of the second, of as many words", marked(every[number - 1], 0))
+        said = traces.told(code, number, contents, project_names(projects[0], "tasks"), project_names(projects[0], "programs"))
+    elif code == "U1" and number <= len(every):
+        said = of_link_head(every[number - 1], *(readable(one) for one in (*projects, None, None)[:2]))
     else:
         said = lines.told("journal" if kind == "line" else kind, code, number, every)
-    return [f"{name}, line {number}: {said.why}", *said.lines()[1:], *sentences(code, said.applies)]
+    return [f"{file.name}, line {number}: {said.why}", *said.lines()[1:], *sentences(code, said.applies)]
+
+
+def of_link_head(line: str, a: Refused | None, b: Refused | None) -> Said:
+    """U1: of `link OUT IN`."""
+    sizes = []
+    for project, word, direction in zip((a, b), lines.words_of(line)[1:], ("out", "in")):
+        if project is None:
+            return Said("this line", marked(line, 0))
+        both = zip(project.at(["connections"]) or [], project.half.connections)
+        every = {one["name"]: half[3] for one, half in both if one["direction"] == direction}
+        found = [size for name, size in every.items() if name.lower() == word.text.lower()]
+        if not found:
+            which = "first" if direction == "out" else "second"
+            why = f"the {which} project has no {direction}put {quoted(word.text)}{meant(word.text, every)}"
+            return Said(why, marked(line, word.at), [], "no output")
+        sizes += found
+    return Said(f"they have {counted(sizes[0], 'word')} and {counted(sizes[1], 'word')}", marked(line, 0), [], "differ")
 
 
 def of_breach(words: list[str], name: str, contents: bytes, about: bytes | None) -> list[str]:
@@ -71,9 +89,9 @@ def place(kind: str, rest: list[str], first: str, files: list[File]) -> list[str
         return project.told(file.name, contents, rest) if contents is not None else []
     file = files[-1] if files else None
     contents = file.contents() if file else None
-    about = projects[0].contents() if projects else None
+    about = [one.contents() for one in projects]
     if contents is None or file.kind == "project":
         return []
     if kind == "no":
-        return of_breach(rest, file.name, contents, about)
-    return of_line(kind, rest[0], int(rest[1]), file.name, contents, about)
+        return of_breach(rest, file.name, contents, about[0] if about else None)
+    return of_line(kind, rest[0], int(rest[1]), file, about or [None])

@@ -21,8 +21,11 @@ SLOTS = {
 }  # fmt: skip
 
 
-def told(code: str, number: int, lines: list[str], tasks: list[str], programs: list[str]) -> Said:
+def told(code: str, number: int, contents: bytes, tasks: list[str], programs: list[str]) -> Said:
     """What is said of `trace CODE line NUMBER`."""
+    *lines, rest = contents.decode("utf-8", "replace").split("\n")
+    if rest and number == len(lines) + 1:
+        return Said("the line has no LF at its end", marked(rest.expandtabs(1), len(rest)), [], "another form")
     if code == "K1" and number == len(lines) + 1:
         return Said("the line 'end' is missing: here the text ends", applies="no line")
     if not 1 <= number <= len(lines):
@@ -37,6 +40,8 @@ def told(code: str, number: int, lines: list[str], tasks: list[str], programs: l
 
 def judge_form(line: str, *_: int) -> None:
     words = words_of(line)
+    if line.endswith("\r"):
+        raise Wrong("a CR stands at its end", len(line) - 1)
     if not words or line != " ".join(word.text for word in words):
         raise Wrong("one space must stand between words, and none at the ends", 0)
     verb, rest = words[0], words[1:]
@@ -49,6 +54,8 @@ def judge_form(line: str, *_: int) -> None:
     for word, what in zip(rest, form):
         if not re.fullmatch(SLOTS[what], word.text):
             raise Wrong(f"{quoted(word.text)} is no {what} of '{' '.join([verb.text, *form])}'", word.at)
+        if any(int(digits) >= 1 << 32 for digits in re.findall(r"\d+", word.text)):
+            raise Wrong(f"{quoted(word.text)} has more than 32 bits", word.at)
 
 
 def judge_numbers(line: str, tasks: int, programs: int) -> None:

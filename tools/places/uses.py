@@ -148,18 +148,25 @@ class Uses:
             places: dict[str, list[Use]] = {}
             for use in self.uses:
                 places.setdefault(use.place.lower(), []).append(use)
-            return [line for _, uses in sorted(places.items(), key=lambda one: natural(one[0])) for line in self.block(uses[0].place, uses)]
+            in_order = sorted(places.items(), key=lambda one: natural(one[0]))
+            return [line for _, uses in in_order for line in self.block(uses[0].place, uses[0].tag, uses)]
         tag, place, first, end = self.asked(asked)
-        return self.block(place, [use for use in self.uses if use.tag == tag and use.first < end and first < use.end])
+        return self.block(place, tag, [use for use in self.uses if use.tag == tag and use.first < end and first < use.end])
 
-    def block(self, place: str, uses: list[Use]) -> list[str]:
-        """A place with its lines, the writers first."""
+    def block(self, place: str, tag: int, uses: list[Use]) -> list[str]:
+        """A place with its other names and its tag's connections, and its lines, the writers first."""
         names = self.aliases.get(place.lower(), [])
-        lines = [place + (f" = {', '.join(names)}" if names else "")]
+        lines = [place + (f" = {', '.join(names)}" if names else "") + self.connections(tag)]
         for use in sorted(uses, key=lambda one: not one.is_write):
             other = f"  as {use.place}" if use.place.lower() != place.lower() else ""
             lines.append(f"{use.line}  {visible(use.rung.strip())}{other}")
         return lines if uses else [*lines, "  no instruction names it"]
+
+    def connections(self, tag: int) -> str:
+        start = self.tags.spans[tag][2]
+        every = zip(self.half.file["connections"], self.half.connections)
+        found = [f"{one['direction']}put {one['name']}" for one, (_, _, byte, _, _) in every if byte == start]
+        return f" ({', '.join(found)})" if found else ""
 
     def asked(self, text: str) -> tuple[int, str, int, int]:
         """The place that a person names."""

@@ -96,6 +96,13 @@ class Ended(Room):
         self.assertEqual(on_terminal(words), (0, data, ""))
 
 
+    def test_what_is_told_never_stops_the_program(self) -> None:
+        words = [*self.runner("logix", "#!/bin/sh\necho end 0 0 run lost many; echo more\n"), "replay", "p", "j"]
+        status, out, said = on_terminal(words)
+        self.assertEqual((status, out), (0, b"end 0 0 run lost many\nmore\n"))
+        self.assertRegex(said, "^logix: this couldn't be explained, by a fault of tools/places: ValueError")
+
+
 class Words(Room):
     """Wrong words, and files that aren't there: which."""
 
@@ -216,6 +223,19 @@ K2: a task, program or bit of a mask that the project doesn't have. To do: is th
 """))
         status, text = explain("--project", "line.json", "--journal", "trace.txt", "no L1 1", cwd=self.room)
         self.assertEqual((status, text.splitlines()[1]), (0, "    began 0 2 0"))
+
+    def test_of_a_link_script(self) -> None:
+        self.put("line.json", LINE)
+        self.put("link.txt", "link Out2 In2\nend\n")
+        words = ["--project", "line.json", "--project", "line.json", "--journal", "link.txt", "link U1 line 1"]
+        self.assertEqual(explain(*words, cwd=self.room), (0, """\
+link.txt, line 1: the second project has no input 'In2'; is In1 meant?
+    link Out2 In2
+              ^
+U1: OUT is no output of A, or IN no input of B. To do: correct the first line.
+"""))
+        self.put("link.txt", "link Out2 In1\nend\n")
+        self.assertEqual(explain(*words, cwd=self.room)[1].splitlines()[0], "link.txt, line 1: they have 1 word and 2 words")
 
     def test_of_a_refused_command(self) -> None:
         self.put("line.json", LINE)

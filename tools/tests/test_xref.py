@@ -43,13 +43,13 @@ class Xref(unittest.TestCase):
 
     def test_who_writes_a_bit_of_a_word(self) -> None:
         self.assertEqual(self.told("Motor1"), """\
-Local:2:O.0 = Motor1
+Local:2:O.0 = Motor1 (output Out2)
   write Line Main 2 1 OTE  XIC(Stagger.DN)OTE(Motor1);
   write Line Main 4 0 MOV  MOV(Lots[LineNo],Local:2:O);  as Local:2:O
   read Line Count 0 0 XIC  XIC(Motor1)CTU(Parts,?,?);""")
 
     def test_a_bit_that_no_instruction_names(self) -> None:
-        self.assertEqual(self.told("local:1:i[1].3"), "Local:1:I[1].3\n  no instruction names it")
+        self.assertEqual(self.told("local:1:i[1].3"), "Local:1:I[1].3 (input In1)\n  no instruction names it")
 
     def test_a_part_of_a_timer(self) -> None:
         beside = "Line Main 1 1 TON  XIC(LineRun)TON(Stagger,?,?);  as Stagger"
