@@ -2,24 +2,21 @@
 
 from __future__ import annotations
 
-import re
-
 from .calls import MayChange
 from .model import Program, Task
 from .profile import key, shown
 from .tags import Found, NameFault
 from .taking_tags import Tags
-
-_WORD = re.compile(r"[A-Za-z_][A-Za-z0-9_:]*")
+from .words import Needed
 
 
 class Others:
     """Goes by the names that rungs have: whoever names a tag, or an alias of a part of it, may change it."""
 
-    def __init__(self, programs: list[Program], tasks: list[Task], tags: Tags) -> None:
+    def __init__(self, programs: list[Program], tasks: list[Task], tags: Tags, needed: Needed) -> None:
         self._programs = programs
+        self._words = needed.words
         self._task_of = {key(name): key(task.name) for task in tasks for name in task.programs}
-        self._names: dict[str, set[str]] = {}
         # The names by which a tag of the controller goes.
         self._aliases: dict[str, set[str]] = {}
         self._changing: set[str] = set()
@@ -44,14 +41,7 @@ class Others:
             if found.tag in self._changing:
                 return f"{shown(found.tag)} comes in from outside"
             names = {found.tag} | self._aliases.get(found.tag, set())
-            by = next((other for other in others if names & self._named(other)), None)
+            by = next((other for other in others if names & self._words[key(other.name)]), None)
             return None if by is None else f"program {shown(by.name)} of another task names {shown(found.tag)}"
 
         return may_change
-
-    def _named(self, program: Program) -> set[str]:
-        """All words in the rungs of a program."""
-        if key(program.name) not in self._names:
-            texts = (rung.text or "" for routine in program.routines for rung in routine.rungs)
-            self._names[key(program.name)] = {key(word) for text in texts for word in _WORD.findall(text)}
-        return self._names[key(program.name)]

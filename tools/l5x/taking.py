@@ -8,7 +8,7 @@ from dataclasses import dataclass, field
 from .definitions import Definitions
 from .expanding import Expander
 from .findings import Findings
-from .model import Export, Program, Task
+from .model import Export, Program, Tag, Task
 from .others import Others
 from .profile import INTEGER_BITS, MAX_PROGRAMS, MAX_ROUTINES, MAX_WATCHES, NEW_NAMES, is_name, key, shown
 from .settling import Settling, TakenProgram
@@ -18,6 +18,7 @@ from .taking_ladder import Ladder, take_routines
 from .taking_tags import Connection, Tags
 from .taking_tasks import TakenTask, take_tasks
 from .taking_types import take_types
+from .words import Needed
 
 Project = dict[str, object]
 MADE_TASK = "MainTask"
@@ -68,12 +69,14 @@ class _Taking:
         for kind, count in export.passed.items():
             findings.note(f"passed over: {count:,} of {kind}, which no run needs")
         considered = self._considered()
-        self._types = take_types(export, self._tag_types(considered), findings)
+        needed = Needed(export, considered, options.watch)
+        tags = list(self._all_tags(considered))
+        self._types = take_types(export, (t.type for t in tags), (t.type for t in tags if needed.has(t)), findings)
         self._definitions = Definitions(export, self._types, options.tick_ms, findings, self._met)
         self._tags = Tags(self._types, findings, options.tick_ms)
-        self._tags.take(export, considered)
+        self._tags.take(export, considered, needed)
         scheduled = self._scheduled(considered)
-        self._take_programs(considered, Others(considered, scheduled, self._tags))
+        self._take_programs(considered, Others(considered, scheduled, self._tags, needed))
         self._tasks = take_tasks(scheduled, options.tick_ms, findings)
         self._connections = self._tags.connections()
         self._tie_triggers()
@@ -98,10 +101,9 @@ class _Taking:
             self._findings.fault("file", f"it has no {target.lower()} whose Use is Target")
         return programs
 
-    def _tag_types(self, considered: list[Program]) -> Iterator[str]:
+    def _all_tags(self, considered: list[Program]) -> Iterator[Tag]:
         for tags in [self._export.tags, *(m.tags for m in self._export.modules), *(p.tags for p in considered)]:
-            for tag in tags:
-                yield tag.type
+            yield from tags
 
     # ---- programs
 

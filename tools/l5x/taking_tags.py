@@ -13,6 +13,7 @@ from .profile import INTEGER_BITS, MAX_CONNECTION_BYTES, MAX_CONNECTIONS, MAX_IM
 from .profile import MAX_TAGS, MAX_VALUES, is_name, is_tag_name, key, shown, whole
 from .tags import Entry, Found, NameFault, Scope, Type, bits_of, rounded, size_of
 from .taking_types import TypeFault, Types, type_key
+from .words import Needed
 
 _CONNECTED = {"Produced": "produced", "Consumed": "consumed"}
 # So many BOOLs of a module's tag are told one by one.
@@ -49,7 +50,7 @@ class Tags:
         self._tick_ms = tick_ms
         self._add_ons: dict[str, AddOn] = {}
 
-    def take(self, export: Export, programs: list[Program]) -> None:
+    def take(self, export: Export, programs: list[Program], needed: Needed) -> None:
         self._add_ons = export.add_on_of
         for module in export.modules:
             of = f"module:{key(module.name)}"
@@ -66,7 +67,7 @@ class Tags:
             scope = self.programs.setdefault(key(program.name), fresh)
             where = f"program {shown(program.name)} tag"
             self._declare(program.tags, scope, where, f"Program:{program.name}.")
-        self._settle()
+        self._settle(needed)
         for scope in [self.controller, *self.programs.values()]:
             scope.told = self._findings.named
         self._note_connected()
@@ -154,13 +155,13 @@ class Tags:
 
     # ---- settling
 
-    def _settle(self) -> None:
-        """Refuses tags until none is left that names what isn't taken, or passes a limit."""
+    def _settle(self, needed: Needed) -> None:
+        """Refuses tags until none is left that names what isn't taken, or passes a limit; those that aren't needed come last."""
         while True:
             refused: list[tuple[TakenTag, str]] = []
             counts: dict[int, int] = {}
             values = connections = at = 0
-            for taken in self.taken:
+            for taken in sorted(self.taken, key=lambda one: not needed.has(one.tag)):
                 counts[id(taken.scope)] = counts.get(id(taken.scope), 0) + 1
                 after = rounded(at + (size_of(taken.of, self._types.structures) if taken.of else 0), 4)
                 connected = connections + (taken.tag.direction is not None)

@@ -72,7 +72,8 @@ def _dimension(text: str | None) -> int | None:
     return dim
 
 
-def take_types(export: Export, tag_types: Iterable[str], findings: Findings) -> Types:
+def take_types(export: Export, tag_types: Iterable[str], needed: Iterable[str], findings: Findings) -> Types:
+    """The types that tags have are taken before others, and before these the needed ones."""
     types = Types()
     declared: dict[str, DataType] = {}
     for data_type in [*export.types, *map(data_type_of, export.add_on_of.values())]:
@@ -87,7 +88,8 @@ def take_types(export: Export, tag_types: Iterable[str], findings: Findings) -> 
     wanted = _closure({key(name) for name in tag_types}, declared)
     types.order = list(declared)
     ordered = _inner_first(declared)
-    used = [name for name in ordered if name in wanted]
+    first = _closure({key(name) for name in needed}, declared)
+    used = [name for name in ordered if name in first] + [name for name in ordered if name in wanted - first]
     unused = [name for name in ordered if name not in wanted and declared[name].is_own]
     sound = set(ordered)
     cyclic = [name for name in declared if name not in sound]

@@ -6,7 +6,7 @@ import tempfile
 import unittest
 
 from add_on_files import add_on, given_out, taken_in, with_add_ons
-from l5x_files import call, content, convert, file, program, routine, tag, task
+from l5x_files import alias, call, content, convert, file, program, routine, tag, task
 
 NEWER = ["LIMIT(1,n,5)NOP();", "NE(n,1)LT(n,2)[GT(n,3),xic(b)]le( n , 4 )GE(n,5)EQ(n,6)NOP();", "MOVE(1,n);"]
 OLDER = ["LIM(1,n,5)NOP();", "NEQ(n,1)LES(n,2)[GRT(n,3),xic(b)]LEQ( n , 4 )GEQ(n,5)EQU(n,6)NOP();", "MOV(1,n);"]
@@ -134,6 +134,20 @@ class OnlyThere(unittest.TestCase):
         self.assertEqual(ended.status, 1)
         self.assertIn("tag t4: type REAL isn't in the profile", ended.lines)
         self.assertIn("note: passed over: tag t3: type ALARM_ANALOG isn't in the profile", ended.lines)
+
+    def test_limits_are_for_what_is_named(self) -> None:
+        member = '<DataType Name="T{0}" Class="User"><Members><Member Name="m" DataType="DINT" Dimension="0"/></Members></DataType>'
+        types = "".join(member.format(k) for k in range(70))
+        tags = "".join(tag(f"t{k}", f"T{k}") for k in range(70))
+        last = tag("last", "DINT") + tag("big", "DINT", more='Dimensions="60000"')
+        ended = convert(file("CLR(t69.m)CLR(last)CLR(big[0]);", tags + last, types))
+        self.assertEqual(ended.status, 0, ended.lines)
+        self.assertEqual(sum(" types without it (P11)" in line for line in ended.lines), 6)
+        many = "".join(tag(f"u{k}", "DINT", more='Dimensions="60000"' if k == 1 else "") for k in range(4200))
+        ended = convert(file("XIC(first)CLR(big[0]);", many + alias("first", "last.0") + last))
+        self.assertEqual(ended.status, 0, ended.lines)
+        self.assertIn("note: passed over: tag u1: all tags have over 262,144 bytes with it (G8)", ended.lines)
+        self.assertEqual(len(json.loads(ended.project)["tags"]), 4096)
 
     def test_bits_whose_word_is_not_told(self) -> None:
         data = (

@@ -174,7 +174,7 @@ class Taking(unittest.TestCase):
         many = "".join(tag(f"t{k}", "DINT") for k in range(4097))
         self.passed_over(file(tags=many), "tag t4096: its scope has 4,096 tags without it (P11)")
         large = "".join(tag(f"t{k}", "DINT", more='Dimensions="60000"') for k in range(2))
-        self.listed(file("CLR(t1[0]);", tags=large), "tag t1: all tags have over 262,144 bytes with it (G8)")
+        self.listed(file("CLR(t0[0])CLR(t1[0]);", tags=large), "tag t1: all tags have over 262,144 bytes with it (G8)")
         elements = "".join(f'<Element Index="[{k}]" Value="1"/>' for k in range(10_001))
         array = f'<Array DataType="SINT" Dimensions="10001">{elements}</Array>'
         values = tag("a", "SINT", array, 'Dimensions="10001"')
