@@ -176,6 +176,14 @@ class Written(ScenarioTest):
         called = self.play("at 0: Speed = 1", "at 5 engineer 1: accept Main Go i 1 FLL(0,Speed,1);", "run 10")
         self.assertIn("which a COP, CPS or FLL that names it sees", called.err)
 
+    def test_where_a_copy_fills_bits_without_a_name(self):
+        types = [{"name": "Cmd", "members": [{"name": "On", "type": "BOOL"}, {"name": "Rate", "type": "INT"}, {"name": "n", "type": "DINT"}]}]
+        tags = [*LAMP["tags"], {"name": "a", "type": "Cmd"}, {"name": "b", "type": "Cmd"}]
+        self.project(types=types, tags=tags, rungs=["COP(a,b,1);"])
+        why = "b.On can't be written: its tag b is no input, and a COP, CPS or FLL fills it, with bits of the same word that have no name"
+        self.refused("at 0: b.On = 1", 6, why)
+        self.assertEqual(self.play("at 0: a.On = 1, b.n = 5", "run 10", "require", "end: b.On = 1 and b.n = 0").status, 0)
+
     def test_what_cannot_be_written(self):
         self.project(tags=[*LAMP["tags"], {"name": "big", "type": "DINT", "dim": 129}])
         self.refused("at 0: big[3] = 1", 6, "big[3] can't be written: its tag big has 516 bytes, and a connection at most 512")
