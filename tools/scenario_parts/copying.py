@@ -18,6 +18,7 @@ from hammer_parts.plain.tags import Found, Refused
 from .places import Places, Unknown
 
 MOST_BYTES, MOST_CONNECTIONS, MOST_TYPES, MOST_TAGS, MOST_WATCHES = 512, 64, 64, 4_096, 256
+MOST_NAMED = 8
 COPIES = re.compile(r"\b(?:COP|CPS|FLL)\s*\(([^()]*)\)", re.IGNORECASE)
 
 
@@ -99,7 +100,7 @@ def make_copy(project: dict, written: list[str], edits: list[tuple[str, str]]) -
     for text in written:
         made.judge_rest(text, places.find(text))
     made.put_bools()
-    return Copy(made.project, Places(made.project), made.notes)
+    return Copy(made.project, Places(made.project), made.notes())
 
 
 class Copier:
@@ -108,7 +109,7 @@ class Copier:
         given = self.project.setdefault("connections", [])
         self.inputs = {places.resolve(one["tag"]).tag for one in given if one["direction"] == "in"}
         self.bools: list[tuple[int | None, int, str]] = []
-        self.notes: list[str] = []
+        self.noted: list[str] = []
 
     def connect(self, text: str, found: Found) -> None:
         """Sees to it that some input has the place's tag."""
@@ -150,7 +151,16 @@ class Copier:
         return name if scope is None else f"Program:{self.project['programs'][scope]['name']}.{name}"
 
     def note(self, scope: int | None, name: str) -> None:
-        self.notes.append(f"{self.full(scope, name)} is no input: the copy of the project has a word of a connection of its own for it")
+        self.noted.append(self.full(scope, name))
+
+    def notes(self) -> list[str]:
+        """What is told of all tags that are no inputs."""
+        count = len(self.noted)
+        if not count:
+            return []
+        names = ", ".join(self.noted[:MOST_NAMED]) + (f" and {count - MOST_NAMED} more" if count > MOST_NAMED else "")
+        what, them = ("no input", "it") if count == 1 else ("no inputs", "them")
+        return [f"{names}: {what}, so the copy of the project has a connection of the tool's for {them}"]
 
     def declared(self, scope: int | None, name: str) -> dict:
         described = self.project if scope is None else self.project["programs"][scope]

@@ -130,8 +130,7 @@ class Written(ScenarioTest):
             "end: T.PRE = 90 and s[2] = 4 and s[4] = -3", "always: n.31 = 0 or n < 0",
         )  # fmt: skip
         self.assertEqual((called.status, called.err), (0, ""), called.out)
-        self.assertIn("note: Speed is no input: the copy of the project has a word", called.out)
-        self.assertIn("note: Program:Main.Own is no input", called.out)
+        self.assertIn("note: Speed, Program:Main.Own, M, T, f, s, n: no inputs, so the copy of the project has a connection of", called.out)
 
     def test_the_rest_of_a_word_is_the_program_s(self):
         """The program counts in one half of the word, and the operator writes the other."""
