@@ -2,8 +2,9 @@
 
 A tag that is no input is written by a word of such a connection. Where the tag may be a connection's own (a DINT, an array of DINTs, a
 structure) nothing else changes; BOOLs become bits of an array of the tool's, of which they are aliases; any other tag becomes the one
-member of a structure. None of this can be seen by the program, but for the end of a tag whose size is no multiple of 4, up to which
-copies go: so that is refused where a copy instruction names the tag.
+member of a structure. None of this can be seen by the program, but for two things: the end of a tag whose size is no multiple of 4, up to
+which copies go; and, of a word that is written for one of its members, the bits that have no name, if a copy filled them. Both are refused
+where a copy instruction names the tag.
 """
 
 from __future__ import annotations
@@ -17,6 +18,7 @@ from hammer_parts.plain.tags import Found, Refused
 from .places import Places, Unknown
 
 MOST_BYTES, MOST_CONNECTIONS, MOST_TYPES, MOST_TAGS, MOST_WATCHES = 512, 64, 64, 4_096, 256
+MOST_NAMED = 8
 COPIES = re.compile(r"\b(?:COP|CPS|FLL)\s*\(([^()]*)\)", re.IGNORECASE)
 
 
@@ -91,13 +93,14 @@ def make_copy(project: dict, written: list[str], edits: list[tuple[str, str]]) -
     places = Places(project)
     wanted: dict[int, str] = {}
     for text in written:
-        found = places.find(text)
-        wanted.setdefault(found.tag, text)
+        wanted.setdefault(places.find(text).tag, text)
     made = Copier(copy.deepcopy(project), places, edits)
     for text in wanted.values():
         made.connect(text, places.find(text))
+    for text in written:
+        made.judge_rest(text, places.find(text))
     made.put_bools()
-    return Copy(made.project, Places(made.project), made.notes)
+    return Copy(made.project, Places(made.project), made.notes())
 
 
 class Copier:
@@ -106,7 +109,7 @@ class Copier:
         given = self.project.setdefault("connections", [])
         self.inputs = {places.resolve(one["tag"]).tag for one in given if one["direction"] == "in"}
         self.bools: list[tuple[int | None, int, str]] = []
-        self.notes: list[str] = []
+        self.noted: list[str] = []
 
     def connect(self, text: str, found: Found) -> None:
         """Sees to it that some input has the place's tag."""
@@ -130,9 +133,34 @@ class Copier:
             )
         self.move(scope, declared)
 
+    def judge_rest(self, text: str, found: Found) -> None:
+        """Refuses a place whose word has bits without a name that a copy may fill: they couldn't be kept."""
+        if found.tag in self.inputs or not self.is_copied(found.tag, into=True):
+            return
+        scope, name, start, _ = self.places.tags.spans[found.tag]
+        tag = self.places.resolve(self.full(scope, name))
+        first = found.at - (found.at - start * 8) % 32
+        leaves = self.places.leaves(tag.base, tag.dim, tag.at, name)
+        if sum(bits for _, at, bits in leaves if first <= at < first + 32) < 32:
+            raise Unknown(
+                f"{text} can't be written: its tag {name} is no input, and a COP, CPS or FLL fills it, "
+                "with bits of the same word that have no name"
+            )
+
+    def full(self, scope: int | None, name: str) -> str:
+        return name if scope is None else f"Program:{self.project['programs'][scope]['name']}.{name}"
+
     def note(self, scope: int | None, name: str) -> None:
-        full = name if scope is None else f"Program:{self.project['programs'][scope]['name']}.{name}"
-        self.notes.append(f"{full} is no input: the copy of the project has a word of a connection of its own for it")
+        self.noted.append(self.full(scope, name))
+
+    def notes(self) -> list[str]:
+        """What is told of all tags that are no inputs."""
+        count = len(self.noted)
+        if not count:
+            return []
+        names = ", ".join(self.noted[:MOST_NAMED]) + (f" and {count - MOST_NAMED} more" if count > MOST_NAMED else "")
+        what, them = ("no input", "it") if count == 1 else ("no inputs", "them")
+        return [f"{names}: {what}, so the copy of the project has a connection of the tool's for {them}"]
 
     def declared(self, scope: int | None, name: str) -> dict:
         described = self.project if scope is None else self.project["programs"][scope]
@@ -187,8 +215,8 @@ class Copier:
             raise Unknown(f"no tag can be added: the project has {MOST_TAGS}")
         return unused("HmiTag", {one["name"].lower() for each in described for one in each.get("tags", [])})
 
-    def is_copied(self, tag: int) -> bool:
-        """Whether a copy instruction of the project, or of a rung to be accepted, names the tag."""
+    def is_copied(self, tag: int, into: bool = False) -> bool:
+        """Whether a copy instruction of the project, or of a rung to be accepted, names the tag; as its destination, if asked so."""
         rungs = [
             (at, rung)
             for at, program in enumerate(self.project["programs"])
@@ -198,7 +226,7 @@ class Copier:
         rungs += [(self.places.programs.get(name.lower()), text) for name, text in self.edits]
         for scope, text in rungs:
             for operands in COPIES.findall(text):
-                for operand in operands.split(","):
+                for operand in operands.split(",")[1:2] if into else operands.split(","):
                     if self.names(scope, re.split(r"[.\[]", operand.strip())[0], tag):
                         return True
         return False

@@ -83,6 +83,8 @@ def run(said: argparse.Namespace, programs: Programs) -> int:
     if said.list:
         return suite.listed(said)
     if not alone or said.project or said.junit:
+        if said.journal or said.report or said.timeline or said.wave:
+            return refuse("--journal, --report, --timeline and --wave are of one scenario on its own project, without --junit", 2)
         return suite.run(said, programs)
     progress = Progress()
     try:

@@ -5,6 +5,8 @@ from __future__ import annotations
 import io
 import json
 import os
+import shlex
+import stat
 import sys
 import tempfile
 import unittest
@@ -37,11 +39,15 @@ LAMP = {
 
 
 def programs(folder: str, built: bool) -> str:
-    """A folder of programs: links to the plain ones, or to those that are built here."""
+    """A folder of programs: links to those that are built here, or starters of the plain ones."""
     os.makedirs(folder, exist_ok=True)
     for name in BUILT if built else PLAIN:
-        target = f"{TOP}/crates/{name}/out/{name}" if built else f"{TESTS}/{PLAIN[name]}"
-        os.symlink(target, f"{folder}/{name}")
+        if built:
+            os.symlink(f"{TOP}/crates/{name}/out/{name}", f"{folder}/{name}")
+            continue
+        with open(f"{folder}/{name}", "w", encoding="utf-8") as file:
+            file.write(f'#!/bin/sh\nexec {shlex.quote(sys.executable)} -B {shlex.quote(f"{TESTS}/{PLAIN[name]}")} "$@"\n')
+        os.chmod(f"{folder}/{name}", stat.S_IRWXU)
     return folder
 
 

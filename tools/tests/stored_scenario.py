@@ -130,8 +130,7 @@ class Written(ScenarioTest):
             "end: T.PRE = 90 and s[2] = 4 and s[4] = -3", "always: n.31 = 0 or n < 0",
         )  # fmt: skip
         self.assertEqual((called.status, called.err), (0, ""), called.out)
-        self.assertIn("note: Speed is no input: the copy of the project has a word", called.out)
-        self.assertIn("note: Program:Main.Own is no input", called.out)
+        self.assertIn("note: Speed, Program:Main.Own, M, T, f, s, n: no inputs, so the copy of the project has a connection of", called.out)
 
     def test_the_rest_of_a_word_is_the_program_s(self):
         """The program counts in one half of the word, and the operator writes the other."""
@@ -175,6 +174,14 @@ class Written(ScenarioTest):
         self.assertEqual(self.play("at 0: n = 1", "run 10").status, 0)
         called = self.play("at 0: Speed = 1", "at 5 engineer 1: accept Main Go i 1 FLL(0,Speed,1);", "run 10")
         self.assertIn("which a COP, CPS or FLL that names it sees", called.err)
+
+    def test_where_a_copy_fills_bits_without_a_name(self):
+        types = [{"name": "Cmd", "members": [{"name": "On", "type": "BOOL"}, {"name": "Rate", "type": "INT"}, {"name": "n", "type": "DINT"}]}]
+        tags = [*LAMP["tags"], {"name": "a", "type": "Cmd"}, {"name": "b", "type": "Cmd"}]
+        self.project(types=types, tags=tags, rungs=["COP(a,b,1);"])
+        why = "b.On can't be written: its tag b is no input, and a COP, CPS or FLL fills it, with bits of the same word that have no name"
+        self.refused("at 0: b.On = 1", 6, why)
+        self.assertEqual(self.play("at 0: a.On = 1, b.n = 5", "run 10", "require", "end: b.On = 1 and b.n = 0").status, 0)
 
     def test_what_cannot_be_written(self):
         self.project(tags=[*LAMP["tags"], {"name": "big", "type": "DINT", "dim": 129}])

@@ -155,6 +155,11 @@ class Suites(ScenarioTest):
         self.assertEqual((ran.returncode, ran.stdout), (2, b""))
         self.assertIn(b"c <d>.scenario, line 2: expected", ran.stderr)
 
+    def test_files_of_many_are_refused(self):
+        called = self.call(f"{TOP}/examples", "--report", f"{self.room}/r.txt")
+        self.assertEqual((called.status, called.out, os.path.exists(f"{self.room}/r.txt")), (2, "", False))
+        self.assertIn("are of one scenario on its own project", called.err)
+
     def test_no_scenario(self):
         os.mkdir(f"{self.room}/empty")
         self.assertEqual(self.call(f"{self.room}/empty").status, 2)
