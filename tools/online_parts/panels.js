@@ -145,7 +145,7 @@ function word(now, layout, connection, {place, names}, at) {
   };
   if (place) follow(place, redraw);
   else redraw();
-  const more = !input && !place ? "" : folding(`${connection.name} ${at}`, !names.length, element("summary", {className: "quiet", textContent: "all bits", "data-key": `all ${connection.name} ${at}`}), all);
+  const more = !input && !place ? "" : folding(`${connection.name} ${at}`, !names.length && connection.words.length === 1, element("summary", {className: "quiet", textContent: "all bits", "data-key": `all ${connection.name} ${at}`}), all);
   const forced = force && force[2] ? element("span", {className: "forced", textContent: ` ${now.enabled ? "FORCED" : "force installed, not enabled"}: mask ${force[2]} value ${force[3]}`}) : "";
   return element("div", {className: "word"}, element("h3", {}, `${input ? "in" : "out"} ${connection.name} word ${at}`, number, forced), names.length ? named : "", more);
 }

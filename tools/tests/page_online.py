@@ -14,6 +14,7 @@ import time
 import unittest
 
 from plain_programs import TOP
+from png import smaller
 
 from selenium import webdriver
 from selenium.webdriver.common.by import By
@@ -418,7 +419,7 @@ def picture(path):
     """The picture of README: the conveyor, an edit tested, and the way back to a change."""
     driver, online = browser(1280, 900), Online(CONVEYOR)
     try:
-        driver.execute_cdp_cmd("Emulation.setDeviceMetricsOverride", {"width": 1280, "height": 760, "deviceScaleFactor": 1, "mobile": False})
+        driver.execute_cdp_cmd("Emulation.setDeviceMetricsOverride", {"width": 1280, "height": 830, "deviceScaleFactor": 1, "mobile": False})
         page = Page(driver, online.address).started()
         page.click("[data-key='trend Motor']")
         page.draft("#edit", 3, "XIC(HornT.DN)XIO(Horn)OTE(Motor);")
@@ -438,10 +439,11 @@ def picture(path):
         page.click("[data-key='back Motor']")
         Select(page.find("#span")).select_by_value("all")
         page.settled()
-        page.script("document.activeElement.blur()")
+        page.script("document.activeElement.blur(); document.getElementById('ladder').scrollTop = 0")
         page.wait(lambda: not page.script("return document.getElementById('note').classList.contains('shown')"), "the note is gone")
         time.sleep(0.5)
-        driver.save_screenshot(path)
+        with open(path, "wb") as file:
+            file.write(smaller(driver.get_screenshot_as_png()))
     finally:
         driver.quit()
         online.end()

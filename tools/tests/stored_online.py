@@ -13,7 +13,7 @@ from online_files import CONVEYOR, Page, Walk, built
 from plain_programs import PROJECTS, TOP
 from online_parts import player
 
-COMMANDS = 10  # of each example's walk
+COMMANDS = 8  # of each example's walk
 
 
 class Walks(unittest.TestCase):

@@ -513,7 +513,7 @@ class Ends(unittest.TestCase):
 class Walks(unittest.TestCase):
     def test_a_few(self):
         with mock.patch.object(player, "MOST_BEATS", 100):
-            Walk(self, PLAIN, CONVEYOR, 1).take(8)
+            Walk(self, PLAIN, CONVEYOR, 1).take(4)
 
 
 if __name__ == "__main__":
