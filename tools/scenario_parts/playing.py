@@ -25,7 +25,7 @@ from .story import Story, read_reports
 from .tracing import Trace
 
 LEAST_IDLE, MOST_IDLE = 64, 65_536
-MOST_TRACED = 4_000_000
+MOST_TRACED, MOST_LINES = 4_000_000, 100_000
 
 
 class Stopped(Exception):
@@ -95,6 +95,9 @@ class Player:
                 reports = [session.report(), *(self.again(copy, journal) for copy in copies[1:])]
             except Ended as ended:
                 raise Stopped(self.ended_told(ended), ended.status if 0 < ended.status < 8 else 6) from None
+        lines = reports[0].count(b"\n") - 1
+        if lines > MOST_LINES:
+            self.notes.append(f"the report has {lines} lines: a replay of the journal keeps the first {MOST_LINES}")
         story = self.story(reports, watches, trace)
         judge = Judge(self.scenario, story, run.done, self.describer(story, run), reports[0])
         judged = judge.judge()

@@ -102,6 +102,17 @@ class Told(ScenarioTest):
         self.assertIn("note: the scan at 0 ms isn't over after", called.out)
         self.assertIn("major 6/1 of task Cont, at 20 ms", called.out)
 
+    def test_on_after_a_fault(self):
+        """No steps while the controller is faulted; after the change to Run scans are kept again, from their begin on."""
+        self.project(tags=[*LAMP["tags"], {"name": "a", "type": "DINT", "dim": 2}], rungs=["MOV(1,a[n]);"])
+        lines = self.journal(
+            "at 10: n = 5", "at 30: n = 1", "at 30 operator: clear", "at 30 operator: mode run", "run 40", "require", "faults: major 4/20 Cont",
+            "end: a[1] = 1",
+        )  # fmt: skip
+        # The scan at 10 ms has begun, and ends with the MOV; so many steps as the last scan took are told at once, and two idle.
+        wanted = ["mode run", "cpu 4", "tick 10", "in Hmi1 0 5", "cpu 3", "tick 20", "in Hmi1 0 1", "clear", "mode run", "cpu 4", "tick 10", "cpu 3", "end"]
+        self.assertEqual(lines, wanted)
+
     def test_a_copy_that_holds_a_word(self):
         self.project(
             tags=[*LAMP["tags"], {"name": "a", "type": "DINT", "dim": 2}, {"name": "b", "type": "DINT", "dim": 2}],

@@ -164,6 +164,13 @@ class Suites(ScenarioTest):
         os.mkdir(f"{self.room}/empty")
         self.assertEqual(self.call(f"{self.room}/empty").status, 2)
 
+    def test_a_long_report(self):
+        """An ADD that is seen to change in each scan of three steps: more than 100,000 lines, of which none is lost here."""
+        self.project(rungs=["ADD(n,1,n);"])
+        called = self.play("pace 1 ms, 300 steps", "run 600", "require", "end: n = 60100")
+        self.assertEqual((called.status, called.err), (0, ""), called.out)
+        self.assertIn("note: the report has 120201 lines: a replay of the journal keeps the first 100000", called.out)
+
     def test_more_than_256_tags(self):
         """Three hundred counters, each of which is named; the last ones are seen by a second run."""
         count = 300
