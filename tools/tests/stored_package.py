@@ -115,7 +115,8 @@ class Package(unittest.TestCase):
     def takes_an_export(self, root):
         words = [f"{root}/usr/bin/logix_from_l5x", f"{root}/usr/share/doc/logix/examples/l5x/line.L5X"]
         ran = subprocess.run(words, capture_output=True, timeout=60, check=False)
-        self.assertEqual((ran.returncode, ran.stderr.startswith(b"check: ok tasks")), (0, True), ran.stderr)
+        self.assertEqual(ran.returncode, 0, ran.stderr)
+        self.assertRegex(ran.stderr, rb"^summary: 8 of 8 rungs, [^\n]*\ncheck: ok tasks 3 ")
 
     def says_who_writes(self, root):
         words = [f"{root}/usr/bin/logix_xref", f"{root}/usr/share/doc/logix/examples/blink/project.json", "Lamp"]
