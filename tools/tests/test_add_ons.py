@@ -49,7 +49,7 @@ class AddOns(unittest.TestCase):
         self.assertRegex(name, r"Flip_F_[0-9a-f]{4}\Z")
         self.assertEqual(found, {"Go": ["XIC(a)" + FRONT.format(name) + BACK + ";"], name: ["XIC(F.Go)OTE(F.Done);"]})
         self.assertIn(f"note: program P routine Go rung 0: Flip(F) is made into routine {name}", self.lines)
-        self.assertEqual(self.lines[-1], "summary: 1 of 1 rungs, 1 of 1 routines and 3 of 3 tags are taken; 1 routines are made of calls")
+        self.assertEqual(self.lines[-1], "summary: 1 of 1 rungs, 1 of 1 routines and 3 of 3 tags are taken; a routine is made of a call")
 
     def test_the_structure(self) -> None:
         definition = add_on(
