@@ -129,7 +129,7 @@ class OnlyThere(unittest.TestCase):
         tags = "".join(tag(f"t{k}", of) for k, of in enumerate(kinds))
         ended = convert(file(tags=tags).replace("</Controller>", '<Trends><Trend Name="a"/><Trend Name="b"/></Trends></Controller>'))
         self.assertEqual(ended.status, 0)
-        self.assertIn("note: passed over: 2 of Trend, which no run needs", ended.lines)
+        self.assertIn("note: passed over: 2 Trends, which no run needs", ended.lines)
         self.assertIn("note: passed over: tag t0: type MESSAGE isn't in the profile", ended.lines)
         ended = convert(file(tags=tags), "--watch", "t4")
         self.assertEqual(ended.status, 1)
