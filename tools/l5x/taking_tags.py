@@ -17,6 +17,7 @@ from .words import Needed
 
 _CONNECTED = {"Produced": "produced", "Consumed": "consumed"}
 
+
 @dataclass(eq=False)
 class TakenTag:
     tag: Tag

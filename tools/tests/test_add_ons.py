@@ -313,6 +313,9 @@ class AddOns(unittest.TestCase):
         after = f"ADD(n,1,n){CALL[:-1]}XIC(S:Z)OTE(b);"
         self.call_listed(FLIP, after, "XIC: what an Add-On Instruction leaves in the flag isn't told", FLIP_TAGS + tag("n", "DINT"))
         self.taken(with_add_ons(FLIP, f"{CALL[:-1]}ADD(n,1,n)XIC(S:Z)OTE(b);", FLIP_TAGS + tag("n", "DINT")))
+        calls = routine("Go", "ADD(n,1,n)JSR(Sub,0)XIC(S:Z)OTE(b);") + routine("Sub", CALL)
+        text = with_add_ons(FLIP, tags=FLIP_TAGS + tag("n", "DINT")).replace(routine("Go", "NOP();"), calls)
+        self.listed(text, "program P routine Go rung 0: XIC: what an Add-On Instruction leaves in the flag isn't told")
         sound = program("Q", routine("Go", "ADD(n,1,n)XIC(S:Z)OTE(b);"))
         text = with_add_ons(FLIP, CALL, FLIP_TAGS + tag("n", "DINT"), programs=sound)
         self.taken(text.replace('<ScheduledProgram Name="P"/>', '<ScheduledProgram Name="P"/><ScheduledProgram Name="Q"/>'))
