@@ -10,7 +10,10 @@ _SETTERS = frozenset("ADD SUB MUL DIV MOD NEG ABS MOV AND OR XOR NOT MVM CLR".sp
 
 
 def loose_flags(found: list[Element]) -> list[Instruction]:
-    """The instructions that read a flag which no instruction before them in their rung, on whose condition theirs hangs, has set."""
+    """The instructions that read a flag which no instruction before them in their rung, on whose condition theirs hangs, has set.
+
+    What a routine or an Add-On Instruction leaves isn't known.
+    """
     loose: list[Instruction] = []
     is_set = False
     # Of each open branch, what was so where it began.
@@ -22,7 +25,7 @@ def loose_flags(found: list[Element]) -> list[Instruction]:
             is_set = outer[-1]
         elif element == "]":
             is_set = outer.pop()
-        elif element.is_call:
+        elif element.is_call or element.op == "JSR":
             is_set = False
             outer = [False] * len(outer)
         else:

@@ -24,7 +24,7 @@ class RungFault(Exception):
     """The text spells no rung that can be taken; says why."""
 
 
-@dataclass
+@dataclass(slots=True)
 class Instruction:
     # In upper case; of a call of an Add-On Instruction its name, as compared.
     op: str

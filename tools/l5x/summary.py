@@ -21,7 +21,8 @@ def summary(export: Export, considered: list[Program], taken: list[TakenProgram]
         f"summary: {rungs:,} of {all_rungs:,} rungs, {len(own):,} of {all_routines:,} routines"
         f" and {len(tags.kept()):,} of {all_tags:,} tags are taken"
     )
-    lines = [told + (f"; {made:,} routines are made of calls" if made else "")]
+    of_calls = "" if not made else "; a routine is made of a call" if made == 1 else f"; {made:,} routines are made of calls"
+    lines = [told + of_calls]
     for name, places in sorted(findings.unknown.items(), key=lambda one: (-len(one[1]), one[0])):
         times = "once" if len(places) == 1 else f"{len(places):,} times"
         lines.append(f"summary: {shown(name, 40)} isn't taken, {times}; first {places[0]}")

@@ -67,7 +67,7 @@ class _Taking:
         for part in export.encoded:
             findings.fault(part, "its content is encoded")
         for kind, count in export.passed.items():
-            findings.note(f"passed over: {count:,} of {kind}, which no run needs")
+            findings.note(f"passed over: {count:,} {kind}{'s' if count > 1 else ''}, which no run needs")
         considered = self._considered()
         needed = Needed(export, considered, options.watch)
         tags = list(self._all_tags(considered))

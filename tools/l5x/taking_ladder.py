@@ -80,6 +80,14 @@ class Ladder:
     findings: Findings
     # The mnemonics of newer releases that were met.
     met: set[str]
+    # What is wrong with the operands of an instruction, by its text.
+    judged: dict[tuple[str, ...], list[str]] = field(default_factory=dict)
+
+    def faults(self, instruction: Instruction) -> list[str]:
+        text = (instruction.op, *instruction.texts)
+        if text not in self.judged:
+            self.judged[text] = operand_faults(instruction, self.scope)
+        return self.judged[text]
 
 
 def take_routines(program: Program, ladder: Ladder) -> list[TakenRoutine]:
@@ -217,7 +225,7 @@ class _Routine:
     def _faults(self, found: list[Element], place: str) -> list[str]:
         faults: list[str] = []
         for instruction in instructions(found):
-            faults += (mine := operand_faults(instruction, self._ladder.scope))
+            faults += (mine := self._ladder.faults(instruction))
             note = None if mine else layout_note(instruction, self._ladder.scope)
             if note is not None:
                 self._findings.note(f"{place}: {note}")

@@ -16,8 +16,6 @@ from .taking_types import TypeFault, Types, type_key
 from .words import Needed
 
 _CONNECTED = {"Produced": "produced", "Consumed": "consumed"}
-# So many BOOLs of a module's tag are told one by one.
-_TOLD_BITS = 64
 
 
 @dataclass(eq=False)
@@ -253,14 +251,10 @@ class Tags:
         for taken in self.taken:
             if taken.of is None or not taken.tag.is_module or key(taken.of.base) not in self._types.shapes:
                 continue
-            told = [
-                f"{place[1:]} {at // 4}.{at % 4 * 8}"
-                for place, at in itertools.islice(bits_of(taken.of, self._types.structures), _TOLD_BITS + 1)
-            ]
-            more = ", .." if len(told) > _TOLD_BITS else ""
+            places = bits_of(taken.of, self._types.structures)
+            told = ", ".join(f"{place[1:]} {at // 4}.{at % 4 * 8}" for place, at in places)
             if told:
-                listed = ", ".join(told[:_TOLD_BITS]) + more
-                self._findings.note(f"{taken.where}: the file tells no words for its BOOLs, so they are ours, as word.bit: {listed}")
+                self._findings.note(f"{taken.where}: the file tells no words for its BOOLs, so they are ours, as word.bit: {told}")
 
 
 def _judge_value(text: str, number: int, found: Found) -> None:

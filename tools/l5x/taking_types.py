@@ -84,7 +84,8 @@ def take_types(export: Export, tag_types: Iterable[str], needed: Iterable[str], 
         else:
             declared[name] = data_type
     for name, shape in export.shapes.items():
-        declared.setdefault(name, shape)
+        if name.upper() not in SIZES:
+            declared.setdefault(name, shape)
     wanted = _closure({key(name) for name in tag_types}, declared)
     types.order = list(declared)
     ordered = _inner_first(declared)

@@ -49,7 +49,7 @@ class AddOns(unittest.TestCase):
         self.assertRegex(name, r"Flip_F_[0-9a-f]{4}\Z")
         self.assertEqual(found, {"Go": ["XIC(a)" + FRONT.format(name) + BACK + ";"], name: ["XIC(F.Go)OTE(F.Done);"]})
         self.assertIn(f"note: program P routine Go rung 0: Flip(F) is made into routine {name}", self.lines)
-        self.assertEqual(self.lines[-1], "summary: 1 of 1 rungs, 1 of 1 routines and 3 of 3 tags are taken; 1 routines are made of calls")
+        self.assertEqual(self.lines[-1], "summary: 1 of 1 rungs, 1 of 1 routines and 3 of 3 tags are taken; a routine is made of a call")
 
     def test_the_structure(self) -> None:
         definition = add_on(
@@ -313,6 +313,9 @@ class AddOns(unittest.TestCase):
         after = f"ADD(n,1,n){CALL[:-1]}XIC(S:Z)OTE(b);"
         self.call_listed(FLIP, after, "XIC: what an Add-On Instruction leaves in the flag isn't told", FLIP_TAGS + tag("n", "DINT"))
         self.taken(with_add_ons(FLIP, f"{CALL[:-1]}ADD(n,1,n)XIC(S:Z)OTE(b);", FLIP_TAGS + tag("n", "DINT")))
+        calls = routine("Go", "ADD(n,1,n)JSR(Sub,0)XIC(S:Z)OTE(b);") + routine("Sub", CALL)
+        text = with_add_ons(FLIP, tags=FLIP_TAGS + tag("n", "DINT")).replace(routine("Go", "NOP();"), calls)
+        self.listed(text, "program P routine Go rung 0: XIC: what an Add-On Instruction leaves in the flag isn't told")
         sound = program("Q", routine("Go", "ADD(n,1,n)XIC(S:Z)OTE(b);"))
         text = with_add_ons(FLIP, CALL, FLIP_TAGS + tag("n", "DINT"), programs=sound)
         self.taken(text.replace('<ScheduledProgram Name="P"/>', '<ScheduledProgram Name="P"/><ScheduledProgram Name="Q"/>'))

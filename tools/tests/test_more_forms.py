@@ -7,6 +7,7 @@ import unittest
 
 from add_on_files import add_on, given_out, taken_in, with_add_ons
 from l5x_files import alias, call, content, convert, file, program, routine, tag, task
+from hammer_parts.plain.judge import answer
 
 NEWER = ["LIMIT(1,n,5)NOP();", "NE(n,1)LT(n,2)[GT(n,3),xic(b)]le( n , 4 )GE(n,5)EQ(n,6)NOP();", "MOVE(1,n);"]
 OLDER = ["LIM(1,n,5)NOP();", "NEQ(n,1)LES(n,2)[GRT(n,3),xic(b)]LEQ( n , 4 )GEQ(n,5)EQU(n,6)NOP();", "MOV(1,n);"]
@@ -128,7 +129,7 @@ class OnlyThere(unittest.TestCase):
         tags = "".join(tag(f"t{k}", of) for k, of in enumerate(kinds))
         ended = convert(file(tags=tags).replace("</Controller>", '<Trends><Trend Name="a"/><Trend Name="b"/></Trends></Controller>'))
         self.assertEqual(ended.status, 0)
-        self.assertIn("note: passed over: 2 of Trend, which no run needs", ended.lines)
+        self.assertIn("note: passed over: 2 Trends, which no run needs", ended.lines)
         self.assertIn("note: passed over: tag t0: type MESSAGE isn't in the profile", ended.lines)
         ended = convert(file(tags=tags), "--watch", "t4")
         self.assertEqual(ended.status, 1)
@@ -183,6 +184,18 @@ class OnlyThere(unittest.TestCase):
         inner = program("P", routine("Go"), made.format("Own", "Produced", "DINT", "Produce"))
         ended = convert(content(f"<Programs>{inner}</Programs><Tasks>{task('T', 'P')}</Tasks>"))
         self.assertIn("note: passed over: program P tag Own: a produced tag of a program", ended.lines)
+
+
+    def test_a_link_of_two_files(self) -> None:
+        one = '<Tag Name="{0}" TagType="{1}" DataType="DINT"><{2}Info/></Tag>'
+        ours = convert(file("MOV(7,ToB);", one.format("ToB", "Produced", "Produce")))
+        theirs = convert(file("MOV(FromA,n);", one.format("FromA", "Consumed", "Consume") + TAGS), "--watch", "n")
+        script = b"link ToB FromA\na mode run\na cpu 2\nsend\nb mode run\ndeliver 0\nb cpu 2\nend\n"
+        status, text = answer(["link"], [ours.project.encode(), theirs.project.encode(), script])
+        self.assertEqual(status, 0, text)
+        self.assertIn("send 0\n", text)
+        self.assertIn("deliver 0 new\n", text)
+        self.assertIn("b 0 2 set n 7\n", text)
 
 
 class Edits(unittest.TestCase):

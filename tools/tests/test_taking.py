@@ -196,6 +196,9 @@ class Taking(unittest.TestCase):
         self.listed(file("XIC(Local:3:I.Data.0)NOP();", modules=module("In", "3", real)), where)
         self.passed_over(file(modules=module("In", "3", "<InputTag/>")),
                          "module In tag Local:3:I: the file tells neither its structure nor its size")  # fmt: skip
+        odd = INPUT.replace("AB:W:I:0", "BOOL")
+        self.passed_over(file("XIC(b)NOP();", tag("b", "BOOL"), modules=module("In", "3", odd)),
+                         "module In tag Local:3:I: no DINTs and no structure of at most 512 bytes")  # fmt: skip
         rack = module("In", "3", "").replace("<Connection >", "<RackConnection>").replace("</Connection>", "</RackConnection>")
         where = "module In: a rack-optimized connection, whose words are those of its rack"
         self.passed_over(file(modules=rack), where)
