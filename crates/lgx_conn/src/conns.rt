@@ -14,13 +14,22 @@ use std::marker::Model;
 /// The connections of a project in their order, seen as the list of their definitions.
 ///
 /// A name is found by a walk over all names: a map would have to take memory for a key without case at each call.
-#[derive(Drop)]
 pub struct Conns {
     defs: Items<ConnDef>,
     /// For each the number of its first word among the words of all.
     firsts: Vec<u32>,
     /// How many words all have.
     words: u32,
+}
+
+impl Drop for Conns {
+    fn drop(self) {
+        let Conns {
+            defs: _,
+            firsts: _,
+            words: _,
+        } = self;
+    }
 }
 
 impl Model for Conns {

@@ -10,10 +10,15 @@ use std::marker::Model;
 ///
 /// It counts its events: the processor steps, the ticks and the actions, refused and held ones too. It can count
 /// `MAX_EVENTS`. Only an accept takes memory, once the controller is made.
-#[derive(Drop)]
 pub struct Controller {
     pub(crate) parts: Box<Parts>,
     pub(crate) spent: u32,
+}
+
+impl Drop for Controller {
+    fn drop(self) {
+        let Controller { parts: _, spent: _ } = self;
+    }
 }
 
 impl Model for Controller {

@@ -14,9 +14,14 @@ use std::marker::Model;
 /// The edits of all programs of a project, in project order.
 ///
 /// A program is found by a walk over their names: edit commands are rare, and a walk takes no memory.
-#[derive(Drop)]
 pub struct EditBook {
     programs: Vec<ProgramEdits>,
+}
+
+impl Drop for EditBook {
+    fn drop(self) {
+        let EditBook { programs: _ } = self;
+    }
 }
 
 impl Model for EditBook {

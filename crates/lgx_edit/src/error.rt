@@ -7,7 +7,7 @@ use spec_machine::EditFault;
 use std::alloc::{AllocError, AllocFailed};
 
 /// Why an accept isn't done.
-#[derive(Clone, Copy, PartialEq, Eq, Debug)]
+#[derive(Clone, Copy, PartialEq, Eq)]
 pub enum EditError {
     /// It is refused; this is the first cause.
     Edit(EditFault),

@@ -73,9 +73,14 @@ impl PlantParts {
 ///
 /// Contracts see the machine's project, a valid one. Its parts lie in a box, so that whoever owns a project owns one value, and
 /// not each of its lists.
-#[derive(Drop)]
 pub struct Plant {
     parts: Box<PlantParts>,
+}
+
+impl Drop for Plant {
+    fn drop(self) {
+        let Plant { parts: _ } = self;
+    }
 }
 
 impl Model for Plant {
@@ -112,6 +117,7 @@ impl Plant {
     pub fn into_parts(self) -> PlantParts
         ensures { result ≡ self }
     {
-        Box::into_inner(self.parts)
+        let Plant { parts } = self;
+        Box::into_inner(parts)
     }
 }

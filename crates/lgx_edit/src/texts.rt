@@ -7,11 +7,20 @@ use lgx_rung::SourceRung;
 pub type SourceRungs = Items<SourceRung>;
 
 /// A routine: its rungs as they were written, and the same rungs as they run.
-#[derive(Drop)]
 pub struct RoutineText {
     pub name: Name,
     pub source: SourceRungs,
     pub checked: Rungs,
+}
+
+impl Drop for RoutineText {
+    fn drop(self) {
+        let RoutineText {
+            name: _,
+            source: _,
+            checked: _,
+        } = self;
+    }
 }
 
 /// The routines of a program.

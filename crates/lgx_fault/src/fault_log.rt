@@ -14,9 +14,14 @@ use std::marker::Model;
 /// The last [`FAULT_LOG_LENGTH`] faults that were noted, oldest first. Its room is taken once, by [`FaultLog::new`].
 ///
 /// A controller records minor and major faults as long as it runs; how many it keeps is this project's own choice.
-#[derive(Drop)]
 pub struct FaultLog {
     ring: HeapCircularBuffer<Fault>,
+}
+
+impl Drop for FaultLog {
+    fn drop(self) {
+        let FaultLog { ring: _ } = self;
+    }
 }
 
 impl Model for FaultLog {

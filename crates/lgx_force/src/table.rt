@@ -19,11 +19,20 @@ pub struct StoredForce {
 /// The forces of the I/O words. At most [`MAX_FORCES`] words have one.
 ///
 /// It has a place for each word, so that a word is forced without a look at the others.
-#[derive(Drop)]
 pub struct ForceTable {
     words: Vec<Option<StoredForce>>,
     installed: u32,
     enabled: bool,
+}
+
+impl Drop for ForceTable {
+    fn drop(self) {
+        let ForceTable {
+            words: _,
+            installed: _,
+            enabled: _,
+        } = self;
+    }
 }
 
 impl Model for ForceTable {

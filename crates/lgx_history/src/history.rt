@@ -32,10 +32,18 @@ impl Model for Sight {
 }
 
 /// All events so far.
-#[derive(Drop)]
 pub struct History {
     table: Table<(), Known, (), Beginnings, Global>,
     keeper: Seat<(), Known>,
+}
+
+impl Drop for History {
+    fn drop(self) {
+        let History {
+            table: _,
+            keeper: _,
+        } = self;
+    }
 }
 
 impl Model for History {

@@ -13,9 +13,14 @@ use std::marker::Model;
 pub const MAX_SNAPSHOTS: usize = 4096;
 
 /// The first snapshots of a story, oldest first, at most [`MAX_SNAPSHOTS`].
-#[derive(Drop)]
 pub struct Published {
     list: Vec<Snapshot>,
+}
+
+impl Drop for Published {
+    fn drop(self) {
+        let Published { list: _ } = self;
+    }
 }
 
 impl Model for Published {

@@ -13,12 +13,21 @@ use std::marker::Model;
 ///
 /// Processor steps that follow one another are one run, and ticks too; each action is a run of its own. A run takes eight bytes,
 /// and the actions stand beside the runs, in order.
-#[derive(Drop)]
 pub struct Journal {
     runs: Vec<Run>,
     acts: Vec<Event>,
     /// What the runs of processor steps and those of ticks stand for, to be lent.
     counted: [Event; 2],
+}
+
+impl Drop for Journal {
+    fn drop(self) {
+        let Journal {
+            runs: _,
+            acts: _,
+            counted: _,
+        } = self;
+    }
 }
 
 impl Model for Journal {

@@ -106,14 +106,18 @@ fn counted_of(verb: &[u8], count: &[u8]) -> Option<EventRun>
     ensures form { IfSome result (λ r. IsTrue (is_single r)) }
 {
     if verb == b"cpu".as_slice() {
-        let count = unsigned_of(count)?;
+        let Some(count) = unsigned_of(count) else {
+            return None;
+        };
         return Some(EventRun {
             event: Event::Cpu,
             count,
         });
     }
     if verb == b"tick".as_slice() {
-        let count = unsigned_of(count)?;
+        let Some(count) = unsigned_of(count) else {
+            return None;
+        };
         return Some(EventRun {
             event: Event::Tick,
             count,
@@ -127,8 +131,12 @@ fn counted_run(line: &[u8]) -> Option<EventRun>
     ensures run { result ≡ counted_run (words line.now) }
     ensures form { IfSome result (λ r. IsTrue (is_single r)) }
 {
-    let (verb, after) = next_word(line)?;
-    let (count, after) = next_word(after)?;
+    let Some((verb, after)) = next_word(line) else {
+        return None;
+    };
+    let Some((count, after)) = next_word(after) else {
+        return None;
+    };
     match next_word(after) {
         None => counted_of(verb, count),
         Some(_) => None,

@@ -59,9 +59,15 @@ fn is_within(steps: u32, pace: u32, lanes: u32) -> bool
 fn numbers_of(steps: &[u8], pace: &[u8], lanes: &[u8]) -> Option<(u32, u32, u32)>
     ensures { option_map (λ h. bare h.0 h.1 h.2) result ≡ bare_of (unsigned_of steps.now) (unsigned_of pace.now) (unsigned_of lanes.now) }
 {
-    let steps = unsigned_of(steps)?;
-    let pace = unsigned_of(pace)?;
-    let lanes = unsigned_of(lanes)?;
+    let Some(steps) = unsigned_of(steps) else {
+        return None;
+    };
+    let Some(pace) = unsigned_of(pace) else {
+        return None;
+    };
+    let Some(lanes) = unsigned_of(lanes) else {
+        return None;
+    };
     Some((steps, pace, lanes))
 }
 
@@ -69,7 +75,9 @@ fn numbers_of(steps: &[u8], pace: &[u8], lanes: &[u8]) -> Option<(u32, u32, u32)
 fn header_after(verb: &[u8], steps: &[u8], pace: &[u8], text: &[u8]) -> Option<(u32, u32, u32)>
     ensures { option_map (λ h. bare h.0 h.1 h.2) result ≡ header_of (verb.now ∷ steps.now ∷ pace.now ∷ words text.now) }
 {
-    let (lanes, after) = next_word(text)?;
+    let Some((lanes, after)) = next_word(text) else {
+        return None;
+    };
     if next_word(after).is_some() {
         return None;
     }
@@ -83,9 +91,15 @@ fn header_after(verb: &[u8], steps: &[u8], pace: &[u8], text: &[u8]) -> Option<(
 fn header_of(line: &[u8]) -> Option<(u32, u32, u32)>
     ensures { option_map (λ h. bare h.0 h.1 h.2) result ≡ header_of (words line.now) }
 {
-    let (verb, after) = next_word(line)?;
-    let (steps, after) = next_word(after)?;
-    let (pace, after) = next_word(after)?;
+    let Some((verb, after)) = next_word(line) else {
+        return None;
+    };
+    let Some((steps, after)) = next_word(after) else {
+        return None;
+    };
+    let Some((pace, after)) = next_word(after) else {
+        return None;
+    };
     header_after(verb, steps, pace, after)
 }
 

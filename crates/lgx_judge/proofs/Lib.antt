@@ -1,2 +1,3 @@
 pub mod CauseLine
 pub mod Follow
+pub mod Reports

@@ -1,3 +1,4 @@
 pub mod CauseLines
 pub mod Plans
 pub mod Judged
+pub mod ReportLines

@@ -6,7 +6,7 @@ use crate::packet::Packet;
 use std::marker::Model;
 
 /// Whether a packet was taken, or is no newer than the last one taken.
-#[derive(Clone, Copy, Debug, PartialEq, Eq)]
+#[derive(Clone, Copy, PartialEq, Eq)]
 pub enum Taken {
     New,
     Stale,

@@ -9,7 +9,7 @@ use spec_link::{LinkCode, LinkFault};
 use spec_text::JournalCode;
 
 /// The first line that is refused with its first cause, or out of memory.
-#[derive(Clone, Copy, Debug)]
+#[derive(Clone, Copy)]
 pub enum LinkError {
     Line(LinkFault),
     Memory,

@@ -87,9 +87,15 @@ fn names_after(verb: &[u8], output: &[u8], input: &[u8]) -> Option<(Name, Name)>
 fn header_of(line: &[u8]) -> Option<(Name, Name)>
     ensures { option_map (λ h. bare h.0 h.1) result ≡ header_of (words line.now) }
 {
-    let (verb, after) = next_word(line)?;
-    let (output, after) = next_word(after)?;
-    let (input, after) = next_word(after)?;
+    let Some((verb, after)) = next_word(line) else {
+        return None;
+    };
+    let Some((output, after)) = next_word(after) else {
+        return None;
+    };
+    let Some((input, after)) = next_word(after) else {
+        return None;
+    };
     if next_word(after).is_some() {
         return None;
     }

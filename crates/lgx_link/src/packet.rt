@@ -9,9 +9,14 @@ use std::marker::Model;
 pub const MAX_WORDS: usize = 128;
 
 /// All words of a connection in their order, at most [`MAX_WORDS`]. It takes no memory.
-#[derive(Drop)]
 pub struct Words {
     list: ArrayVec<i32, MAX_WORDS>,
+}
+
+impl Drop for Words {
+    fn drop(self) {
+        let Words { list: _ } = self;
+    }
 }
 
 impl Model for Words {

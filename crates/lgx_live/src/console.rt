@@ -5,7 +5,7 @@ ghost use Rattle.lgx_live.specs.Console.{ConsoleSeen, Asks, Says, Flushes};
 use lgx_io::SinkFault;
 
 /// Why no line came.
-#[derive(Clone, Copy, Debug, PartialEq, Eq)]
+#[derive(Clone, Copy, PartialEq, Eq)]
 pub enum AskFault {
     /// The read failed.
     Failed,

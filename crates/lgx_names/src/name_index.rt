@@ -14,12 +14,22 @@ use std::marker::Model;
 ///
 /// The spellings are the names in lower case, each once; beside them stand the numbers of the first names that are
 /// spelled so.
-#[derive(Drop)]
 pub struct NameIndex {
     alloc: Global,
     names: Vec<Name>,
     spellings: IndexSet<Vec<u8>>,
     firsts: Vec<u32>,
+}
+
+impl Drop for NameIndex {
+    fn drop(self) {
+        let NameIndex {
+            alloc: _,
+            names: _,
+            spellings: _,
+            firsts: _,
+        } = self;
+    }
 }
 
 impl Model for NameIndex {

@@ -11,8 +11,8 @@ use Rattle.spec_link.specs.LinkOutput.{OutputLine, OfA, OfB, kept, new_lines, en
 use Rattle.spec_link.proofs.Texts.{written_of_a, written_of_b}
 use Rattle.lgx_record.specs.RecordingView.{RecordingView}
 use Rattle.lgx_record.specs.Records.{Records}
-use Rattle.lgx_report.specs.declared.ends.End.{End}
-use Rattle.lgx_report.specs.ReportLines.{end_line as ended, end_of}
+use Rattle.lgx_judge.specs.declared.ends.End.{End}
+use Rattle.lgx_judge.specs.ReportLines.{end_line as ended, end_of}
 
 -- what follows where a call was answered
 pub on_ok : {T E P Q : Type 0} (r : Result T E) → (P → Q) → OnOk r P → OnOk r Q

@@ -3,12 +3,12 @@ ghost use Rattle.std.specs.Prelude.{◌≡◌, ◌≤◌, [], ◌∷◌, ◌++�
 ghost use Rattle.spec_text.specs.TextLines.{line_of};
 ghost use Rattle.spec_text.specs.ReportText.{line_text};
 ghost use Rattle.spec_link.specs.LinkOutput.{answer_lines, written};
-ghost use Rattle.lgx_report.specs.declared.ends.End.{End as Ends};
-ghost use Rattle.lgx_report.specs.ReportLines.{end_line};
+ghost use Rattle.lgx_judge.specs.declared.ends.End.{End as Ends};
+ghost use Rattle.lgx_judge.specs.ReportLines.{end_line};
 
+use lgx_judge::{End, end_line};
 use lgx_num::Memory;
 use lgx_record::Recording;
-use lgx_report::{End, end_line};
 use lgx_watch::{push_count, push_line_text, push_word};
 use spec_link::LinkAnswer;
 

@@ -9,15 +9,14 @@ ghost use Rattle.lgx_pair.specs.Running.{IsLink, IsAnswered, Follows, events_of_
 use crate::events::{take_times, words_in, words_out};
 use crate::lines::{push_answer, push_end, push_lines};
 use lgx_edit::Plant;
+use lgx_judge::end_of;
 use lgx_link::{Consumer, Packet, Producer, Taken, connection_words};
 use lgx_num::{Memory, Name};
 use lgx_record::Recording;
-use lgx_report::end_of;
 use spec_link::{LinkAnswer, LinkScript, LinkStep};
 use std::alloc::Global;
 
 /// Two controllers under way, and the packets that were sent between them.
-#[derive(Drop)]
 pub(crate) struct Running {
     pub a: Recording,
     pub b: Recording,
@@ -29,6 +28,21 @@ pub(crate) struct Running {
     pub producer: Producer,
     pub consumer: Consumer,
     pub packets: Vec<Packet>,
+}
+
+impl Drop for Running {
+    fn drop(self) {
+        let Running {
+            a: _,
+            b: _,
+            output: _,
+            words: _,
+            input: _,
+            producer: _,
+            consumer: _,
+            packets: _,
+        } = self;
+    }
 }
 
 impl Running {

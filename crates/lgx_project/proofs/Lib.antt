@@ -1,3 +1,8 @@
+pub mod Made
+pub mod Mains
+pub mod Passes
+pub mod Spelled
+pub mod Texts
 mod LineFeed
 mod KeyOrder
 mod Wholes

@@ -1,9 +1,14 @@
-//! The project file: read whole, and carried to the newest schema.
+//! The project file: read whole, from what it describes to the project or its first refusal; and carried to the newest schema.
 #![tactic(auto)]
 
+mod count;
 mod newest;
+mod plant;
+mod programs;
+mod routines;
+mod tasks;
 
-pub use lgx_plant::{
-    Inner, PathText, Project, ProjectCode, ProjectError, ProjectFault, read_project,
-};
+pub use lgx_json::ProjectError;
 pub use newest::migrate;
+pub use plant::{Project, read_project};
+pub use spec_project::{Inner, PathText, ProjectCode, ProjectFault};

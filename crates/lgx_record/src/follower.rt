@@ -11,9 +11,14 @@ use std::marker::Model;
 /// A controller that is followed event by event: each event puts the lines that a report has of it into a log.
 ///
 /// It keeps neither the journal nor the lines, so its memory doesn't grow with the events.
-#[derive(Drop)]
 pub struct Follower {
     parts: Box<FollowerParts>,
+}
+
+impl Drop for Follower {
+    fn drop(self) {
+        let Follower { parts: _ } = self;
+    }
 }
 
 impl Model for Follower {

@@ -9,9 +9,14 @@ use std::alloc::Global;
 use std::marker::Model;
 
 /// A controller with the journal of its events, the log of their report and what the report's lines are written with.
-#[derive(Drop)]
 pub struct Recording {
     parts: Box<Parts>,
+}
+
+impl Drop for Recording {
+    fn drop(self) {
+        let Recording { parts: _ } = self;
+    }
 }
 
 impl Model for Recording {

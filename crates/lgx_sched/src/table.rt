@@ -26,7 +26,6 @@ pub struct ActiveTask {
 }
 
 /// The tasks in project order: which are up, their turns at each priority, and which has something open.
-#[derive(Drop)]
 pub struct TaskTable {
     defs: Items<TaskDef>,
     ups: Vec<Option<ActiveTask>>,
@@ -35,6 +34,19 @@ pub struct TaskTable {
     run_since: u32,
     /// Ticks that are known to find nothing to do.
     quiet: Quiet,
+}
+
+impl Drop for TaskTable {
+    fn drop(self) {
+        let TaskTable {
+            defs: _,
+            ups: _,
+            queues: _,
+            open_task: _,
+            run_since: _,
+            quiet: _,
+        } = self;
+    }
 }
 
 impl Model for TaskTable {

@@ -29,7 +29,6 @@ use std::marker::Model;
 
 /// The recorder of a run: its controller with the journal of the events and the log of their report, and the script that the
 /// lanes follow, if it was made for one.
-#[derive(Drop)]
 pub struct Recorder {
     recording: Recording,
     /// What the lanes are to do; none if the events are given.
@@ -40,6 +39,18 @@ pub struct Recorder {
     ran: bool,
     /// What passes see of its journal, until it is shared.
     history: Option<History>,
+}
+
+impl Drop for Recorder {
+    fn drop(self) {
+        let Recorder {
+            recording: _,
+            script: _,
+            counts: _,
+            ran: _,
+            history: _,
+        } = self;
+    }
 }
 
 impl Model for Recorder {

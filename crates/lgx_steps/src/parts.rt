@@ -31,7 +31,6 @@ pub struct Progress {
 }
 
 /// All parts of a controller. Lists are in project order.
-#[derive(Drop)]
 pub struct Parts {
     /// What an accept takes its memory from; nothing else takes any.
     pub alloc: Global,
@@ -50,6 +49,27 @@ pub struct Parts {
     pub book: EditBook,
     pub forces: ForceTable,
     pub faults: FaultLog,
+}
+
+impl Drop for Parts {
+    fn drop(self) {
+        let Parts {
+            alloc: _,
+            tags: _,
+            names: _,
+            schedule: _,
+            conns: _,
+            mode: _,
+            tick: _,
+            table: _,
+            progress: _,
+            firsts: _,
+            image: _,
+            book: _,
+            forces: _,
+            faults: _,
+        } = self;
+    }
 }
 
 /// What a release was answered, and the fault of an overlap.

@@ -36,9 +36,14 @@ pub(crate) struct Seal {
 /// The table of tags and aliases: declared first, then sealed, and then resolved from.
 ///
 /// Contracts see its declarations, and whether it is sealed.
-#[derive(Drop)]
 pub struct TagTable {
     parts: Box<TableParts>,
+}
+
+impl Drop for TagTable {
+    fn drop(self) {
+        let TagTable { parts: _ } = self;
+    }
 }
 
 /// What is declared, and what was worked out when it was sealed.

@@ -29,9 +29,14 @@ use std::marker::Model;
 /// The table of the types: the built-in ones, and declared structures without a fault.
 ///
 /// Contracts see the declarations, in order.
-#[derive(Drop)]
 pub struct TypeTable {
     parts: Box<TableParts>,
+}
+
+impl Drop for TypeTable {
+    fn drop(self) {
+        let TypeTable { parts: _ } = self;
+    }
 }
 
 /// The structures, their sizes, and the places of their members.

@@ -5,11 +5,20 @@ use lgx_prog::FlatProgram;
 use std::marker::Model;
 
 /// The base of a program, its merged program if edits are accepted, and the program that a scan in progress holds.
-#[derive(Drop)]
 pub struct Versions {
     slots: [Option<Version>; SLOTS],
     places: Places,
     newest: u32,
+}
+
+impl Drop for Versions {
+    fn drop(self) {
+        let Versions {
+            slots: _,
+            places: _,
+            newest: _,
+        } = self;
+    }
 }
 
 impl Model for Versions {

@@ -29,10 +29,15 @@ impl Model for Stamped {
 }
 
 /// The first [`MAX_REPORT_LINES`] lines of a run, and the number of the others. Its room is taken once, by [`Log::new`].
-#[derive(Drop)]
 pub struct Log {
     lines: Vec<Stamped>,
     lost: u64,
+}
+
+impl Drop for Log {
+    fn drop(self) {
+        let Log { lines: _, lost: _ } = self;
+    }
 }
 
 impl Model for Log {

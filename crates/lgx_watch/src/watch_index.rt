@@ -15,10 +15,15 @@ use std::alloc::Global;
 use std::marker::Model;
 
 /// Watched places, and for each grain of the image the set of those that have a byte in it.
-#[derive(Drop)]
 pub struct WatchIndex {
     places: Vec<Place>,
     rows: Vec<[u64; WORDS]>,
+}
+
+impl Drop for WatchIndex {
+    fn drop(self) {
+        let WatchIndex { places: _, rows: _ } = self;
+    }
 }
 
 impl Model for WatchIndex {

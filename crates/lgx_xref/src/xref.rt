@@ -25,10 +25,18 @@ pub type Uses = Items<Use>;
 /// read it.
 ///
 /// Contracts see the lists of uses.
-#[derive(Drop)]
 pub struct Xref {
     writers: Vec<TagUses>,
     readers: Vec<TagUses>,
+}
+
+impl Drop for Xref {
+    fn drop(self) {
+        let Xref {
+            writers: _,
+            readers: _,
+        } = self;
+    }
 }
 
 impl Model for Xref {

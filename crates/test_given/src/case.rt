@@ -7,7 +7,6 @@ use test_rows::{Texts, push_plain};
 pub(crate) type File = (String, Vec<u8>);
 
 /// What a row gives: `WORDS / SETTINGS`.
-#[derive(Drop)]
 pub(crate) struct Case {
     pub words: Vec<String>,
     pub files: Vec<File>,
@@ -15,6 +14,17 @@ pub(crate) struct Case {
     pub reads: Vec<u32>,
     /// The numbers of the puts that fail, and how many bytes each keeps.
     pub puts: Vec<(u32, u32)>,
+}
+
+impl Drop for Case {
+    fn drop(self) {
+        let Case {
+            words: _,
+            files: _,
+            reads: _,
+            puts: _,
+        } = self;
+    }
 }
 
 impl Case {

@@ -16,12 +16,22 @@ use std::marker::Model;
 /// A program that runs over the tags of rows, and where its scan stands.
 ///
 /// That it runs is its invariant: it was made of rungs that can be executed, and every step keeps it.
-#[derive(Drop)]
 pub struct Bench {
     program: FlatProgram,
     position: Position,
     image: Image,
     flags: Flags,
+}
+
+impl Drop for Bench {
+    fn drop(self) {
+        let Bench {
+            program: _,
+            position: _,
+            image: _,
+            flags: _,
+        } = self;
+    }
 }
 
 impl Model for Bench {

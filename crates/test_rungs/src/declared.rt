@@ -15,7 +15,6 @@ use spec_language::{Base, DataType};
 use std::alloc::Global;
 
 /// A table that isn't sealed, of so many programs, with at most so many aliases.
-#[derive(Drop)]
 pub struct Declared {
     table: Box<TagTable>,
     programs: u32,
@@ -25,11 +24,26 @@ pub struct Declared {
     ghost few: { length (aliases table.value.declarations) ≤ count },
 }
 
+impl Drop for Declared {
+    fn drop(self) {
+        let Declared {
+            table: _,
+            programs: _,
+            count: _,
+        } = self;
+    }
+}
+
 /// A table that is sealed.
-#[derive(Drop)]
 pub struct Sealed {
     pub table: Box<TagTable>,
     ghost sealed: { table.value.sealed ≡ true },
+}
+
+impl Drop for Sealed {
+    fn drop(self) {
+        let Sealed { table: _ } = self;
+    }
 }
 
 impl Declared {

@@ -15,9 +15,14 @@ use std::marker::Model;
 
 /// The checked rungs of a program's routines, seen as a list. They can be executed over the image of the tags of
 /// rows.
-#[derive(Drop)]
 pub struct Routines {
     rungs: Vec<Rungs>,
+}
+
+impl Drop for Routines {
+    fn drop(self) {
+        let Routines { rungs: _ } = self;
+    }
 }
 
 impl Model for Routines {

@@ -45,12 +45,22 @@ const ROUTINES: u32 = 64;
 const TASKS: u32 = 32;
 
 /// Tags, and the names of routines and tasks.
-#[derive(Drop)]
 pub struct World {
     tags: Sealed,
     routines: Vec<Name>,
     tasks: Vec<TaskName>,
     program: u32,
+}
+
+impl Drop for World {
+    fn drop(self) {
+        let World {
+            tags: _,
+            routines: _,
+            tasks: _,
+            program: _,
+        } = self;
+    }
 }
 
 impl World {

@@ -1,10 +1,10 @@
 // The controller that is talked to.
 ghost use Rattle.lgx_record.specs.FollowsRun.{FollowsRun};
 
+use lgx_judge::{end_line, end_of};
 use lgx_live::Follow;
 use lgx_num::Memory;
 use lgx_record::Follower;
-use lgx_report::{end_line, end_of};
 use lgx_watch::{Log, Names};
 use spec_machine::Event;
 

@@ -7,9 +7,9 @@ use Rattle.spec_text.specs.ReportText.{report}
 use Rattle.lgx_watch.specs.Kept.{Kept, kept_of}
 use Rattle.lgx_record.specs.RecordingView.{RecordingView}
 use Rattle.lgx_record.specs.Records.{Records}
-use Rattle.lgx_report.specs.declared.ends.End.{End}
-use Rattle.lgx_report.specs.ReportLines.{end_line, report_from, end_of}
-use Rattle.lgx_report.proofs.Reports.{report_from_start}
+use Rattle.lgx_judge.specs.declared.ends.End.{End}
+use Rattle.lgx_judge.specs.ReportLines.{end_line, report_from, end_of}
+use Rattle.lgx_judge.proofs.Reports.{report_from_start}
 use Rattle.word_replay.specs.CountLines.{count_line, counted_report}
 
 -- the lines of the report

@@ -1,8 +1,8 @@
 -- What is left of a text that is handed out line by line.
 use Rattle.std.specs.Prelude.{ℕ, List, [], ◌++◌, length}
 use Rattle.lgx_watch.specs.Kept.{Kept}
-use Rattle.lgx_report.specs.declared.ends.End.{End}
-use Rattle.lgx_report.specs.ReportLines.{end_line, report_from}
+use Rattle.lgx_judge.specs.declared.ends.End.{End}
+use Rattle.lgx_judge.specs.ReportLines.{end_line, report_from}
 use Rattle.word_replay.specs.declared.report_lines.ReportLines.{ReportLines}
 use Rattle.word_replay.specs.declared.counts.Next.{Next}
 use Rattle.word_replay.specs.declared.counts.Next.TheVariants as next

@@ -7,10 +7,10 @@ ghost use Rattle.word_replay.specs.Rest.{counts_rest, counts_left};
 use crate::recorded::replayed;
 use lgx_answer::Lines;
 use lgx_journal::Journal;
+use lgx_judge::{End, end_line, end_of};
 use lgx_num::Memory;
 use lgx_project::Project;
 use lgx_record::Recording;
-use lgx_report::{End, end_line, end_of};
 use lgx_watch::{Log, push_count};
 use std::alloc::Global;
 

@@ -7,10 +7,10 @@ ghost use Rattle.word_replay.specs.Rest.{report_rest};
 use crate::recorded::replayed;
 use lgx_answer::Lines;
 use lgx_journal::Journal;
+use lgx_judge::{End, end_of, report_line};
 use lgx_num::Memory;
 use lgx_project::Project;
 use lgx_record::Recording;
-use lgx_report::{End, end_of, report_line};
 use std::alloc::Global;
 
 /// The lines of the report of what was recorded, from one of them on.

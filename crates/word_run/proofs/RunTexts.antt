@@ -10,9 +10,9 @@ use Rattle.spec_schedule.specs.Partial.{IsComplete}
 use Rattle.spec_lanes.proofs.Scripts.{proper_of}
 use Rattle.lgx_journal.specs.Written.{is_kept_run}
 use Rattle.lgx_record.specs.Records.{Records}
-use Rattle.lgx_report.specs.declared.ends.End.{End}
-use Rattle.lgx_report.specs.ReportLines.{end_of}
-use Rattle.lgx_report.proofs.Reports.{report_from_start}
+use Rattle.lgx_judge.specs.declared.ends.End.{End}
+use Rattle.lgx_judge.specs.ReportLines.{end_of}
+use Rattle.lgx_judge.proofs.Reports.{report_from_start}
 use Rattle.lgx_shared.specs.RecorderView.{RecorderView}
 use Rattle.lgx_shared.specs.Follows.{journal_of}
 use Rattle.word_run.specs.declared.lines.Place.TheVariants.{Journal}

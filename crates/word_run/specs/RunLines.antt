@@ -5,8 +5,8 @@ use Rattle.spec_machine.specs.declared.event.Event.TheVariants.{Cpu}
 use Rattle.spec_text.specs.declared.script.EventRun.{EventRun}
 use Rattle.spec_text.specs.TextLines.{line_of}
 use Rattle.spec_text.specs.JournalText.{event_words, joined}
-use Rattle.lgx_report.specs.declared.ends.End.{End}
-use Rattle.lgx_report.specs.ReportLines.{report_from}
+use Rattle.lgx_judge.specs.declared.ends.End.{End}
+use Rattle.lgx_judge.specs.ReportLines.{report_from}
 use Rattle.lgx_shared.specs.RecorderView.{RecorderView}
 use Rattle.lgx_shared.specs.Follows.{journal_of}
 use Rattle.word_run.specs.declared.lines.Place.{Place}

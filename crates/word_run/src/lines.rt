@@ -10,8 +10,8 @@ ghost use Rattle.word_run.specs.RunLines.{run_at, run_line, rest_of, left_of};
 use crate::kept::show_kept;
 use lgx_answer::Lines;
 use lgx_journal::{Journal, write_event};
+use lgx_judge::{End, end_of, report_line};
 use lgx_num::Memory;
-use lgx_report::{End, end_of, report_line};
 use lgx_shared::Recorder;
 
 /// Which line comes next.

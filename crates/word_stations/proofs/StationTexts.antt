@@ -10,9 +10,9 @@ use Rattle.spec_story.specs.Snapshots.{snapshots}
 use Rattle.spec_text.specs.ReportText.{report}
 use Rattle.lgx_record.specs.RecordingView.{RecordingView}
 use Rattle.lgx_record.specs.Records.{Records}
-use Rattle.lgx_report.specs.declared.ends.End.{End}
-use Rattle.lgx_report.specs.ReportLines.{end_of}
-use Rattle.lgx_report.proofs.Reports.{report_from_start}
+use Rattle.lgx_judge.specs.declared.ends.End.{End}
+use Rattle.lgx_judge.specs.ReportLines.{end_of}
+use Rattle.lgx_judge.proofs.Reports.{report_from_start}
 use Rattle.lgx_stations.specs.declared.watcher.Readings.{Readings}
 use Rattle.lgx_stations.specs.Telling.{AreReadingsOf}
 use Rattle.word_stations.specs.declared.lines.Place.TheVariants.{Report}

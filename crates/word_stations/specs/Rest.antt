@@ -1,8 +1,8 @@
 -- What is left of the text, which is handed out line by line.
 use Rattle.std.specs.Prelude.{ℕ, ◌+◌, ◌-◌, List, ◌++◌, drop, length}
 use Rattle.lgx_record.specs.RecordingView.{RecordingView}
-use Rattle.lgx_report.specs.declared.ends.End.{End}
-use Rattle.lgx_report.specs.ReportLines.{report_from}
+use Rattle.lgx_judge.specs.declared.ends.End.{End}
+use Rattle.lgx_judge.specs.ReportLines.{report_from}
 use Rattle.word_stations.specs.declared.lines.Place.{Place}
 use Rattle.word_stations.specs.declared.lines.Place.TheVariants as place
 

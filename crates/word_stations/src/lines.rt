@@ -3,9 +3,9 @@ ghost use Rattle.std.specs.Prelude.{◌<◌, ◌≤◌, length};
 ghost use Rattle.word_stations.specs.Rest.{rest_of, left_of};
 
 use lgx_answer::Lines;
+use lgx_judge::{End, report_line};
 use lgx_num::Memory;
 use lgx_record::Recording;
-use lgx_report::{End, report_line};
 
 /// Which line comes next.
 #[derive(Clone, Copy)]

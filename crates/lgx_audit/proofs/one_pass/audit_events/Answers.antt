@@ -136,3 +136,48 @@ returns-clause-ok c =
     let h = c.loop-i.invariant in
     subst (λ (ys : List TraceEvent). Legal t ys) (take_all i xs (let e = c.loop-i-test.false in omega arith))
     (legal_of t (take i xs) (each_take (IsWithin (length t.tasks)) Idle i xs c.requires.tasks) h.11 h.12 h.13 h.14)
+
+pub keeps_priority-requires-clause-many : goal.keeps_priority-requires-clause-many
+keeps_priority-requires-clause-many c = c.loop-i.invariant.1
+
+pub gives_at-to_give-requires-clause-many : goal.gives_at-to_give-requires-clause-many
+gives_at-to_give-requires-clause-many c = c.loop-i.invariant.1
+
+pub watch_event-requires-clause-many : goal.watch_event-requires-clause-many
+watch_event-requires-clause-many c = c.loop-i.invariant.1
+
+pub last_after-last-requires-clause-many : goal.last_after-last-requires-clause-many
+last_after-last-requires-clause-many c = c.loop-i.invariant.1
+
+pub keeps_priority-requires-clause-within : goal.keeps_priority-requires-clause-within
+keeps_priority-requires-clause-within c = c.requires.tasks c.loop-i.i c.loop-i-test.true
+
+pub watch_event-requires-clause-within : goal.watch_event-requires-clause-within
+watch_event-requires-clause-within c = c.requires.tasks c.loop-i.i c.loop-i-test.true
+
+pub last_after-last-requires-clause-within : goal.last_after-last-requires-clause-within
+last_after-last-requires-clause-within c = c.requires.tasks c.loop-i.i c.loop-i-test.true
+
+pub gives_at-to_give-requires-clause-within : goal.gives_at-to_give-requires-clause-within
+gives_at-to_give-requires-clause-within c = c.loop-i.invariant.8
+
+pub watch_event-requires-clause-watches : goal.watch_event-requires-clause-watches
+watch_event-requires-clause-watches c = c.loop-i.invariant.5
+
+pub watch_event-requires-clause-regions : goal.watch_event-requires-clause-regions
+watch_event-requires-clause-regions c = λ t below. let a = c.loop-i.invariant.2 t below in omega arith
+
+pub watch_event-requires-clause-downs : goal.watch_event-requires-clause-downs
+watch_event-requires-clause-downs c = λ t below. let a = c.loop-i.invariant.3 t below in omega arith
+
+pub last_after-last-requires-clause-regions : goal.last_after-last-requires-clause-regions
+last_after-last-requires-clause-regions c = λ t below. let a = c.loop-i.invariant.2 t below in omega arith
+
+pub last_after-last-requires-clause-downs : goal.last_after-last-requires-clause-downs
+last_after-last-requires-clause-downs c = λ t below. let a = c.loop-i.invariant.3 t below in omega arith
+
+pub count_event-requires-clause-regions : goal.count_event-requires-clause-regions
+count_event-requires-clause-regions c = λ t below. let a = c.loop-i.invariant.2 t below in omega arith
+
+pub count_event-requires-clause-downs : goal.count_event-requires-clause-downs
+count_event-requires-clause-downs c = λ t below. let a = c.loop-i.invariant.3 t below in omega arith

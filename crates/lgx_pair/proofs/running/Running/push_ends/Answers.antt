@@ -2,7 +2,7 @@ use Rattle.std.proofs.Common.{◌∙◌, sym, subst}
 use Rattle.lgx_core.specs.ControllerView.{ControllerView}
 use Rattle.lgx_core.specs.Represents.{StandsFor}
 use Rattle.spec_link.specs.LinkOutput.{end_line}
-use Rattle.lgx_report.specs.ReportLines.{end_line as ended}
+use Rattle.lgx_judge.specs.ReportLines.{end_line as ended}
 use Rattle.lgx_pair.proofs.Added.{both_ends, end_is, on_ok}
 use Rattle.lgx_pair.proofs.running.Running.push_ends.Goals as goal
 

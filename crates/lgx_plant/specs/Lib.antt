@@ -1,6 +1,0 @@
-pub mod Counting
-pub mod Parts
-pub mod Passes
-pub mod Programs
-pub mod Sources
-pub mod TaskParts

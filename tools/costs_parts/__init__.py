@@ -1,0 +1,1 @@
+"""What `tools/costs` measures and tells."""
