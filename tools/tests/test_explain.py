@@ -103,6 +103,20 @@ class Ended(Room):
         self.assertRegex(said, "^logix: this couldn't be explained, by a fault of tools/places: ValueError")
 
 
+class Output(Room):
+    """A call that has ended, whose output is a file: of sources that were run without proof."""
+
+    def test_a_report_with_a_refused_command(self) -> None:
+        self.put("line.json", LINE)
+        self.put("line.txt", "mode run\n@0 in Inn1 0 1\nend\n")
+        self.put("out", "0 0 reply 31 ok\n0 0 reply 0 refused N1\nend 0 0 run lost 0\n")
+        words = [f"{TOOLS}/explain", "--ended", "logix", "0", "out", "replay", "line.json", "line.txt"]
+        status, out, said = on_terminal(words, cwd=self.room)
+        self.assertEqual((status, out), (0, b""))
+        told = "logix: 1 command is refused; it is line 2 of line.txt: there is no connection 'Inn1'; is In1 meant?"
+        self.assertEqual(said.splitlines()[0], told)
+
+
 class Words(Room):
     """Wrong words, and files that aren't there: which."""
 

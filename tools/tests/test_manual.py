@@ -1,4 +1,4 @@
-"""The man page and the completion: both name the commands of the usage line, the page each program, and it has no warning."""
+"""The man page, the help and the completion: all name the commands of the usage line, the page each program, and it has no warning."""
 
 import os
 import re
@@ -51,6 +51,10 @@ class Manual(unittest.TestCase):
         synopsis, _, _ = text(PAGE).partition(".SH SYNOPSIS\n")[2].partition(".SH ")
         self.assertEqual(names.split(", "), programs())
         self.assertEqual(list(dict.fromkeys(re.findall(r"^\.B (logix\w*)", synopsis, re.MULTILINE))), programs())
+
+    def test_help_has_each_command(self):
+        ran = subprocess.run([f"{TOP}/logix", "--help"], stdout=subprocess.PIPE, text=True, timeout=20, check=True)
+        self.assertEqual(sorted(re.findall(r"^  logix (\w+)", ran.stdout, re.MULTILINE)), sorted(usage_words()))
 
     def test_completion_has_each_command(self):
         script = f"source {COMPLETION}; COMP_WORDS=(logix ''); COMP_CWORD=1; _logix; printf '%s\\n' \"${{COMPREPLY[@]}}\""
