@@ -8,7 +8,7 @@ from ladder_parts.programs import Ended
 from .journal import texts
 from .talk import talk
 
-ROUND = 8_000_000  # bytes of answers that are gone over at once
+ROUND = 2_000_000  # bytes of answers that are gone over at once
 REFUSED = re.compile(rb"^line (\S+) (\d+)\n", re.M)
 BEHIND = 1_000_000  # events that the waiting process is behind
 WORTH = 2_000_000  # so many, and it waits

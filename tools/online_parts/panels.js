@@ -48,7 +48,7 @@ export function drawStops(now) {
 
 // What the last major fault means; and all that are in the log.
 export function drawFaults(now) {
-  const said = ([line, codes]) => [line, ...codes.map(([code, what]) => `${code}: ${what}`)].join(" – ");
+  const said = ([line, codes]) => [line.replace(/ -$/, ""), ...codes.map(([code, what]) => `${code}: ${what}`)].join(" – ");
   const last = now.faults.findLast(([line]) => line.startsWith("major"));
   const text = now.mode === "faulted" && last ? `${said(last)} Then Clear fault and Run mode.` : "";
   if ($("faulted").textContent !== text) $("faulted").textContent = text;

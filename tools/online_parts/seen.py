@@ -13,7 +13,7 @@ from .journal import OPERATOR
 LINES_KEPT = 2_000
 LINES_OF_AN_ANSWER = 200
 TREND_KEPT = 4_000
-WINDOW = 65_536  # bytes that are gone over at a time, from the end
+LEAST, MOST = 4_096, 65_536  # bytes that are gone over at a time, from the end: more each time
 FEW = 8  # so few names are looked for one by one
 
 # Each begins at a line's feed, before the line, which makes them fast.
@@ -23,24 +23,43 @@ TOLD = re.compile(rb"\n(\d+ \d+ (?:set|reply|fault) [^\n]*)")
 ANSWERS = re.compile(rb"\n\d+ \d+ (reply|fault) ([^\n]*)")
 
 
-def last_of(form, mark, names, answer):
-    """The last number that lines of this form give each name; `mark` stands before a name in its line."""
-    found, missing, end = {}, set(names), len(answer) - 1
-    while missing and end > 0:
-        if len(missing) <= FEW:
+def windows(answer):
+    """Parts of an answer from its end, each whole lines from a feed to a feed."""
+    end, size = len(answer) - 1, LEAST
+    while end > 0:
+        start = max(answer.rfind(b"\n", 0, max(end - size, 1)), 0)
+        yield start, end + 1
+        end, size = start, min(size * 4, MOST)
+
+
+def last_of(form, names, answer, mark=None):
+    """The last number that lines of this form give each name. Where few names are left they are looked for one by one, if what stands
+    before a name in its line is a `mark`."""
+    found, missing = {}, set(names)
+    for start, end in windows(answer):
+        if mark and len(missing) <= FEW:
             for name in missing:
                 at = answer.rfind(mark + name + b" ", 0, end)
                 if at >= 0:
                     at += len(mark) + len(name) + 1
                     found[name] = int(answer[at:answer.index(b"\n", at)])
             break
-        start = max(answer.rfind(b"\n", 0, max(end - WINDOW, 1)), 0)
-        some = dict(form.findall(answer, start, end + 1))
-        for name in missing & some.keys():
-            found[name] = int(some[name])
+        some = dict(form.findall(answer, start, end))
+        found.update({name: int(some[name]) for name in missing & some.keys()})
         missing -= some.keys()
-        end = start
+        if not missing:
+            break
     return found
+
+
+def last_lines(answer, count):
+    """The last lines that are told, without those of scans that begin."""
+    found = []
+    for start, end in windows(answer):
+        found = TOLD.findall(answer, start, end) + found
+        if len(found) >= count:
+            break
+    return found[-count:]
 
 
 class Seen:
@@ -63,28 +82,18 @@ class Seen:
         self.sum.update(answer)
         self.bytes += len(answer)
         answer = b"\n" + answer
-        fresh = {self.names[name]: value for name, value in last_of(SETS, b" set ", self.names, answer).items()}
+        fresh = {self.names[name]: value for name, value in last_of(SETS, self.names, answer, b" set ").items()}
         self.values.update(fresh)
         for name in self.trends.keys() & fresh.keys():
             self.trend(name, answer)
         if b" begin " in answer:
-            self.versions.update({self.programs[name]: value for name, value in self.last_versions(answer).items()})
+            self.versions.update({self.programs[name]: value for name, value in last_of(BEGINS, self.programs, answer).items()})
         if b" reply " in answer or b" fault " in answer:
             for verb, rest in ANSWERS.findall(answer):
                 self.told(verb, rest.decode().split(" "), acts)
-        self.last_lines = self.placed(TOLD.findall(answer, max(len(answer) - WINDOW, 0))[-LINES_OF_AN_ANSWER:])
+        self.last_lines = self.placed(last_lines(answer, LINES_OF_AN_ANSWER))
         self.lines.extend(self.last_lines)
         return fresh
-
-    def last_versions(self, answer):
-        """The version of each program's last scan. (A program's name stands after its task's, so a window serves, not a mark.)"""
-        found, end = {}, len(answer) - 1
-        while end > 0 and len(found) < len(self.programs):
-            start = max(answer.rfind(b"\n", 0, max(end - WINDOW, 1)), 0)
-            for name, version in dict(BEGINS.findall(answer, start, end + 1)).items():
-                found.setdefault(name, int(version))
-            end = start
-        return found
 
     def trend(self, name, answer):
         """The last changes of a tag; as many as are kept."""

@@ -1,6 +1,7 @@
 """What a page shows of a session: all of it, or what has changed."""
 
 from functools import lru_cache
+from itertools import islice
 
 from ladder_parts import drawing, rungs
 
@@ -37,7 +38,7 @@ class Shown:
             return session.snap()
         lines = session.seen.last_lines[-LINES_OF_A_FRAME:] if fresh else []
         session.emit("frame", {**self.now(), "values": list(fresh.items()), "lines": lines,
-                               "trend": [[name, list(trend)[-TREND_OF_A_FRAME:]] for name, trend in session.seen.trends.items() if name in fresh]})
+                               "trend": [[name, list(islice(reversed(trend), TREND_OF_A_FRAME))[::-1]] for name, trend in session.seen.trends.items() if name in fresh]})
 
     def snapshot(self):
         """All that a page shows."""
