@@ -117,6 +117,32 @@ class Logix(StoredRun):
         self.runs(["audit", f"{AUDIT}/project.json", f"{AUDIT}/doctored.txt"], b"no L1 4\n", 8)
 
 
+class Stack(StoredRun):
+    """The stack that FORMATS.md says is enough, for the deepest example of each program."""
+
+    ENOUGH = 128 * 1024
+
+    def ends_well(self, name, words, given=b""):
+        def limit():
+            resource.setrlimit(resource.RLIMIT_STACK, (self.ENOUGH, self.ENOUGH))
+
+        called = [program(name), *words]
+        ran = subprocess.run(called, input=given, stdout=subprocess.PIPE, env={}, timeout=60, preexec_fn=limit)
+        self.assertEqual(ran.returncode, 0, called)
+
+    def test_it_is_enough(self):
+        report = contents(f"{CONVEYOR}/report.txt")
+        files = [f"{CONVEYOR}/project.json", f"{CONVEYOR}/journal.txt"]
+        self.ends_well("logix", ["replay", *files])
+        self.ends_well("logix", ["trace", *files])
+        self.ends_well("logix", ["stations", *files, "8"])
+        self.ends_well("logix", ["run", *(f"{TOP}/examples/two_engineers/{name}" for name in ("project.json", "shift.txt"))])
+        self.ends_well("logix", ["link", *(f"{TOP}/examples/two_stations/{name}" for name in ("a.json", "b.json", "link.txt"))])
+        self.ends_well("logix_live", files[:1], contents(files[1]))
+        self.ends_well("logix_timeline", [], report)
+        self.ends_well("logix_wave", [], report)
+
+
 class Stations(StoredRun):
     """Made runs with stations, judged by their report alone: what is watched right after a tick follows from its lines."""
 
