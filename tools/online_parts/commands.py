@@ -35,7 +35,7 @@ class Commands:
             raise Refused(400, "wrong fields") from fault
         if command in ("pause", "draw", "whole"):
             return method(**fields) or {}
-        with self.session.lock:
+        with self.player.first():
             return method(**fields) or {}
 
     # On

@@ -85,8 +85,8 @@ def serve(session, title):
     if not session.programs.live.proved:
         print("online: the controller isn't proved yet: each command takes a minute or two, and it can't play in real time; "
               "tools/prove builds the proved one", file=sys.stderr)
-    print(server.address, flush=True)
     try:
+        print(server.address, flush=True)
         server.serve_forever(0.1)
     except KeyboardInterrupt:
         pass

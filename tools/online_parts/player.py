@@ -2,11 +2,13 @@
 
 import threading
 import time
+from contextlib import contextmanager
 
 from .journal import MOST_EVENTS, Beat
 from .stops import Stop, first
 
 FRAME = 0.03  # s
+LONG = 0.06  # s: where the beats of a frame take more, the next has fewer
 MOST_OF_A_FRAME = 400_000  # events
 FIRST_BATCH = 64  # beats, of a run up to something
 LAST_BATCH = 65_536
@@ -20,8 +22,22 @@ class Player:
         self.playing, self.speed, self.steps, self.reached = False, 1.0, 20, 0.0
         self.plays = 0  # how often playing began: of each its thread
         self.halt = threading.Event()  # asks a run up to something to end
+        self.asking, self.counting = 0, threading.Lock()  # commands that wait for their turn: they come first
+        self.most = MOST_OF_A_FRAME  # events of the next frame
         self.began = self.rate_at = 0.0
         self.beats = self.rate_beats = 0
+
+    @contextmanager
+    def first(self):
+        """The turn of a command."""
+        with self.counting:
+            self.asking += 1
+        try:
+            with self.session.lock:
+                yield
+        finally:
+            with self.counting:
+                self.asking -= 1
 
     # By the clock
 
@@ -48,12 +64,14 @@ class Player:
                 self.catch_up()
                 took = time.monotonic() - start
             time.sleep(max(FRAME - took, 0.002))
+            while self.asking:
+                time.sleep(0.001)
 
     def due(self):
         """The beats that are due by the clock. Where the controller can't keep up the clock waits."""
         now = time.monotonic()
         due = int((now - self.began) * 1000 * self.speed) - self.beats
-        most = max(MOST_OF_A_FRAME // (1 + self.steps), 1)
+        most = max(int(self.most) // (1 + self.steps), 1)
         if due > most:
             self.began += (due - most) / (1000 * self.speed)
             due = most
@@ -66,9 +84,11 @@ class Player:
         session, due = self.session, self.due()
         if not due:
             return
+        began = time.monotonic()
         room = (MOST_EVENTS - session.at) // (1 + self.steps)
         self.beats += due
         fresh = self.told(Beat(self.steps, min(due, room)), session.watch.stops) if room else session.add(Beat(self.steps, 1))[1]
+        self.most = max(due * (1 + self.steps) / 2, 1) if time.monotonic() - began > LONG else min(self.most * 1.5, MOST_OF_A_FRAME)
         self.playing = self.playing and bool(session.here) and room > 0
         if session.here:
             self.frame(fresh)
