@@ -80,8 +80,8 @@ def serve(session, title):
     shown = Shown(session, player, {"title": title})
     session.on_snap = shown.snapshot
     server = Server(0, session, player, shown, Uses(session))
-    for number in (signal.SIGTERM, signal.SIGHUP):
-        signal.signal(number, signal.default_int_handler)  # as Ctrl-C
+    for number in (signal.SIGINT, signal.SIGTERM, signal.SIGHUP):
+        signal.signal(number, signal.default_int_handler)  # also where Ctrl-C was to be ignored, as in the background
     if not session.programs.live.proved:
         print("online: the controller isn't proved yet: each command takes a minute or two, and it can't play in real time; "
               "tools/prove builds the proved one", file=sys.stderr)
