@@ -88,8 +88,11 @@ class Sessions(StoredRun):
         self.answers(b"tick 1\n" * 200_000 + b"end\n", b"end 200000 0 program lost 0\n", most_memory=24_000_000)
 
     def test_wrong_words_end_with_1(self):
-        for words in ([], [BLINK, BLINK], [b"\xff\xfe"], [""]):
+        for words in ([], [BLINK, BLINK], ["", ""], [b"\xff\xfe"]):
             self.runs(words, b"usage: logix_live P\n", 1, "logix_live")
+
+    def test_an_empty_word_is_a_file_that_is_not_there(self):
+        self.runs([""], b"", 4, "logix_live")
 
     def test_a_refused_project_ends_with_2_and_nothing_is_read(self):
         self.put("project.json", "{")

@@ -222,7 +222,8 @@ class Pictures(StoredRun):
 
     def test_wrong_words_end_with_1(self):
         times = "[--from N] [--to N] [--bool NAME=VALUE].. [--number NAME=VALUE].. < REPORT\n"
-        self.runs(["tock"], f"usage: logix_wave [tick] {times}".encode(), 1, "logix_wave")
+        for words in (["tock"], [b"\xff\xfe"]):
+            self.runs(words, f"usage: logix_wave [tick] {times}".encode(), 1, "logix_wave")
         self.runs(["tock"], f"usage: logix_timeline [tick] [--width N] {times}".encode(), 1, "logix_timeline")
 
     def test_no_report_ends_with_2(self):

@@ -58,11 +58,10 @@ OnProject (Ok project) c = IsTalked project c
 abbrev pub OnFile : List ℕ → LiveCall → Type 0
 OnFile name c = IsMissed name c ⊎ ((bytes : List ℕ) × Came c.told name bytes × OnProject (project_of bytes) c)
 
--- the one word, if there is one and no other; an empty one, which stands for words that are no text, names no file
+-- the one word, if there is one and no other
 abbrev pub only_word : List (List ℕ) → Option (List ℕ)
 only_word [] = None
-only_word ([] ∷ []) = None
-only_word ((byte ∷ bytes) ∷ []) = Some (byte ∷ bytes)
+only_word (name ∷ []) = Some name
 only_word (name ∷ other ∷ more) = None
 
 abbrev pub OnName : Option (List ℕ) → LiveCall → Type 0

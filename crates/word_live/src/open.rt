@@ -107,17 +107,14 @@ fn open_file<F: Files, C: Console>(
     }
 }
 
-/// The one word, if there is one and no other. An empty one names no file.
+/// The one word, if there is one and no other.
 fn only_word(words: &[String]) -> Option<&str>
     ensures { option_map (λ word. word.now) result ≡ only_word (map string_bytes words.now) }
 {
-    let [word] = words else {
-        return None;
-    };
-    if word.is_empty() {
-        return None;
+    match words {
+        [word] => Some(word.as_str()),
+        _ => None,
     }
-    Some(word.as_str())
 }
 
 /// The program `logix_live`, over any files and any console: with the name of a file alone it reads the project of this file, and
