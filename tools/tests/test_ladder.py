@@ -8,10 +8,10 @@ import xml.etree.ElementTree as trees
 from unittest import mock
 
 from plain_programs import LOGIX, PROJECTS, contents
-from hammer_parts.plain.judge import answer
-from ladder_parts import drawing, forms, main, rungs
-from ladder_parts.elements import Look, Mark
-from ladder_parts.programs import routines
+from lib.hammer.plain.judge import answer
+from lib.ladder import drawing, forms, main, rungs
+from lib.ladder.elements import Look, Mark
+from lib.ladder.programs import routines
 
 SVG = "{http://www.w3.org/2000/svg}"
 NO_RUNGS = {  # with the place where each stops being one
@@ -125,7 +125,7 @@ class Drawing(unittest.TestCase):
         self.assertEqual([text.text for text in svg.iter(f"{SVG}text") if text.get("class") == "note"], ["never", "3", "12 times"])
 
     def test_each_mnemonic_has_a_form(self):
-        from hammer_parts.plain.rungs import MNEMONICS
+        from lib.hammer.plain.rungs import MNEMONICS
         self.assertEqual(set(forms.CONTACTS) | set(forms.COILS) | set(forms.TITLES), MNEMONICS)
 
     def test_parameters_of_calls(self):

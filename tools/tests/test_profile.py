@@ -5,7 +5,7 @@ import re
 import unittest
 
 from l5x_files import TOP
-from l5x import profile
+from lib.l5x import profile
 
 
 def text(*path: str) -> str:
