@@ -1,7 +1,8 @@
-"""Where things are: the top folder (of the repository, or a package's share/logix), its tools, and the programs."""
+"""Where things are, and what is in files."""
 
 import os
 
+# Of the repository, or of a package its share/logix.
 TOP = os.path.dirname(os.path.dirname(os.path.dirname(os.path.realpath(__file__))))
 TOOLS = f"{TOP}/tools"
 EXAMPLES = f"{TOP}/examples"
@@ -10,5 +11,15 @@ PACKAGED = f"{os.path.dirname(os.path.dirname(TOP))}/libexec/logix"
 
 
 def built(name):
-    """The file of a program that tools/prove or the gate has built; whether it is there isn't said."""
+    """The file of a program that tools/prove or the gate builds."""
     return f"{TOP}/crates/{name}/out/{name}"
+
+
+def read_bytes(path):
+    with open(path, "rb") as file:
+        return file.read()
+
+
+def read_text(path):
+    with open(path, encoding="utf-8") as file:
+        return file.read()

@@ -11,7 +11,6 @@ from plain_programs import LOGIX, PROJECTS, contents
 from lib.hammer.plain.judge import answer
 from lib.ladder import drawing, forms, main, rungs
 from lib.ladder.elements import Look, Mark
-from lib.ladder.programs import routines
 
 SVG = "{http://www.w3.org/2000/svg}"
 NO_RUNGS = {  # with the place where each stops being one
@@ -57,7 +56,7 @@ class Neutral(unittest.TestCase):
     def test_each_rung_of_each_example_is_read_and_spelled(self):
         count = 0
         for path in PROJECTS:
-            for _, _, texts in routines(answer(["text"], [contents(path).encode()])[1]):
+            for _, _, texts in rungs.routines(answer(["text"], [contents(path).encode()])[1]):
                 for text in texts:
                     self.assertEqual(rungs.spelled(rungs.read(text)), text)
                     count += 1
@@ -78,7 +77,7 @@ class Neutral(unittest.TestCase):
 
     def test_what_text_writes_as_routines(self):
         listing = "program P routine M\nprogram(x);\nprogram P routine S\nprogram Q routine M\n;\n"
-        self.assertEqual(routines(listing), [("P", "M", ["program(x);"]), ("P", "S", []), ("Q", "M", [";"])])
+        self.assertEqual(rungs.routines(listing), [("P", "M", ["program(x);"]), ("P", "S", []), ("Q", "M", [";"])])
 
 
 class Drawing(unittest.TestCase):
@@ -97,7 +96,7 @@ class Drawing(unittest.TestCase):
 
     def test_examples(self):
         for path in PROJECTS:
-            for _, _, texts in routines(answer(["text"], [contents(path).encode()])[1]):
+            for _, _, texts in rungs.routines(answer(["text"], [contents(path).encode()])[1]):
                 self.check(texts, 900)
 
     def test_long_rungs_are_wrapped(self):

@@ -13,14 +13,14 @@ from unittest import mock
 
 from online_files import CONVEYOR, PLAIN, Page, Walk, anew
 from plain_programs import LIVE, PROJECTS
-from lib.ladder.programs import Ended, Program
+from lib.programs import Ended, Program
 from lib.online import follower, player, taking
 from lib.online.edits import Program as Edited
 from lib.online.guards import Refused
 from lib.online.journal import Act
 from lib.online.seen import Seen
 from lib.online.stops import Stop, first
-from lib.online.talk import Talk, TalkAnew
+from lib.talk import Talk, TalkAnew
 
 # Programs that answer as a controller might, and end as it might.
 ECHO = "import sys\nfor at, line in enumerate(sys.stdin.buffer, 1):\n    sys.stdout.buffer.write(b'line J1 %d\\n' % at if line == b'?\\n' else line); sys.stdout.buffer.flush()\n"

@@ -11,7 +11,7 @@ import tempfile
 import traceback
 from typing import TextIO
 
-from lib.paths import PACKAGED, built
+from lib.programs import place
 
 from .edits import edits_told
 from .neutral import neutral_text
@@ -23,8 +23,7 @@ from .writing import text_of
 
 TAKEN, NOT_TAKEN, NO_EXPORT, WRONG_WORDS, NOT_WRITTEN, NO_MEMORY, BROKEN = 0, 1, 2, 3, 5, 6, 70
 CHECK_SECONDS = 60
-# Where it is built, or where the package puts it.
-LOGIX = next(filter(os.path.isfile, (built("logix"), f"{PACKAGED}/logix")), "")
+LOGIX = place("logix")
 
 
 class _Words(argparse.ArgumentParser):

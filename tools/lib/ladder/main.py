@@ -2,8 +2,10 @@
 
 import sys
 
+from lib.programs import Ended, find, run
+
 from .drawing import Part, sheet
-from .programs import Ended, find, routines, run
+from .rungs import routines
 
 USAGE = "usage: ladder P [PROGRAM [ROUTINE]]"
 

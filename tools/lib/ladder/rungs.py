@@ -116,3 +116,15 @@ def instructions(elements):
                 yield from instructions(leg)
         else:
             yield element
+
+
+def routines(listing):
+    """From what `./logix text` writes: of each routine, in order, its program, its name, and its rungs' texts."""
+    found = []
+    for line in listing.splitlines():
+        words = line.split(" ")
+        if words[0] == "program" and not line.endswith(";"):
+            found.append((words[1], words[3], []))
+        else:
+            found[-1][2].append(line)
+    return found

@@ -1,7 +1,6 @@
 """The rungs of all routines, with the edits under way, as the replies to the edit commands tell it (docs/CONTROLLER.md, section 13)."""
 
 from lib.ladder import rungs
-from lib.ladder.programs import routines
 
 
 class Program:
@@ -45,7 +44,7 @@ class Book:
 
     def __init__(self, listing):
         self.programs = {}
-        for program, routine, texts in routines(listing):
+        for program, routine, texts in rungs.routines(listing):
             self.programs.setdefault(program, Program()).base[routine] = texts
 
     @staticmethod

@@ -3,10 +3,10 @@
 import re
 import threading
 
-from lib.ladder.programs import Ended
+from lib.programs import Ended
+from lib.talk import talk
 
 from .journal import texts
-from .talk import talk
 
 ROUND = 2_000_000  # bytes of answers that are gone over at once
 REFUSED = re.compile(rb"^line (\S+) (\d+)\n", re.M)

@@ -7,7 +7,8 @@ import subprocess
 import sys
 from functools import lru_cache
 
-from lib.ladder.programs import Ended, find
+from lib.paths import read_bytes, read_text
+from lib.programs import Ended, find, run
 from lib.places.codes import CODE, table
 
 from . import journal as journals
@@ -52,18 +53,14 @@ def read_journal(program, project, path):
         if line.startswith(b"line "):
             _, code, number = line.decode().split()
             raise NoJournal(f"journal {code} line {number}")
-    with open(path, encoding="utf-8") as file:
-        return journals.read(file.read())
+    return journals.read(read_text(path))
 
 
 def open_session(words, explain):
     """The session of these files, at the journal's end; refuses a project as `./logix` does."""
     logix, live = find("logix", "logix_live")
-    with open(words[0], "rb") as file:
-        data = file.read()
-    checked = subprocess.run([*logix.words, "check", words[0]], stdout=subprocess.PIPE, stdin=subprocess.DEVNULL, check=False)
-    if checked.returncode:
-        raise Ended(checked.returncode, checked.stdout.decode(errors="replace"))
+    data = read_bytes(words[0])
+    run(logix, "check", words[0])
     session = Session(Programs(logix, live), json.loads(data), explain)
     try:
         if len(words) > 1:

@@ -6,7 +6,7 @@ import shutil
 import tempfile
 from dataclasses import dataclass
 
-from lib.ladder.programs import Ended, Program, run
+from lib.programs import Ended, Program, run
 
 from .edits import Book
 from .follower import Follower, Waiting

@@ -8,6 +8,8 @@ import threading
 from http.server import BaseHTTPRequestHandler, ThreadingHTTPServer
 from socketserver import TCPServer
 
+from lib.paths import read_bytes
+
 from . import guards, taking
 from .commands import Commands
 from .guards import Refused
@@ -113,8 +115,7 @@ class Handler(BaseHTTPRequestHandler):
         path, _, query = self.rest_of_path().partition("?")
         if path in FILES:
             name, kind = FILES[path]
-            with open(os.path.join(HERE, name), "rb") as file:
-                self.answer(200, kind, file.read())
+            self.answer(200, kind, read_bytes(os.path.join(HERE, name)))
         elif path == "layout":
             self.answer(200, "application/json", json.dumps(self.server.shown.layout()).encode())
         elif path == "events":

@@ -8,7 +8,7 @@ import re
 import threading
 import time
 
-from lib.ladder.programs import Ended
+from lib.programs import Ended
 
 from .edits import Book
 from .journal import MOST_EVENTS, Act, Journal, action

@@ -6,13 +6,13 @@ import os
 import re
 import subprocess
 
-from lib.ladder.programs import Ended
+from lib.programs import Ended
 
 from .edits import Book
 from .follower import Follower
 from .journal import Act, action, texts
 from .seen import Seen
-from .talk import talk
+from lib.talk import talk
 
 BUCKETS = 600  # of the whole trend
 MOST_EVENTS = 50_000_000  # of a journal whose whole trend is told

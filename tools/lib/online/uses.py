@@ -3,7 +3,7 @@
 import os
 import subprocess
 
-from lib.ladder.programs import Ended, run
+from lib.programs import Ended, run
 
 from .journal import Act
 from .plan import PROGRAM, steps_of

@@ -7,7 +7,7 @@ from collections.abc import Iterator
 from functools import cache
 from typing import NamedTuple
 
-from lib.paths import TOP
+from lib.paths import TOP, read_text
 
 from .texts import sentence
 
@@ -56,10 +56,9 @@ def table() -> dict[str, list[Row]]:
     """All that is said of each code."""
     said: dict[str, list[Row]] = {}
     for name in DOCUMENTS:
-        with open(f"{TOP}/docs/{name}", encoding="utf-8") as file:
-            for codes, row in rows(file.read()):
-                for code in codes:
-                    said.setdefault(code, []).append(row)
+        for codes, row in rows(read_text(f"{TOP}/docs/{name}")):
+            for code in codes:
+                said.setdefault(code, []).append(row)
     return said
 
 

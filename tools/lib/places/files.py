@@ -7,7 +7,7 @@ import re
 from dataclasses import dataclass
 from functools import cache
 
-from lib.paths import TOP
+from lib.paths import TOP, read_bytes, read_text
 
 from .texts import counted, meant, near, quoted
 
@@ -20,8 +20,7 @@ LIVE = ("P",)
 @cache
 def commands() -> dict[str, list[str]]:
     """The commands of `logix` with the words that follow each, as the usage line has them."""
-    with open(f"{TOP}/docs/FORMATS.md", encoding="utf-8") as file:
-        parts = USAGE.search(file.read()).group(1).split(", ")
+    parts = USAGE.search(read_text(f"{TOP}/docs/FORMATS.md")).group(1).split(", ")
     return {part.split()[0]: part.split()[1:] for part in parts}
 
 
@@ -37,8 +36,7 @@ class File:
         if not os.path.isfile(self.name) or os.path.getsize(self.name) > MOST_BYTES:
             return None
         try:
-            with open(self.name, "rb") as file:
-                return file.read()
+            return read_bytes(self.name)
         except OSError:
             return None
 

@@ -7,7 +7,7 @@ from functools import cache
 
 from lib.hammer.plain.words import is_name
 
-from lib.paths import TOP
+from lib.paths import TOP, read_text
 
 from .refused import KINDS, Refused
 from .texts import Said, counted, listed, meant, near, quoted
@@ -25,8 +25,7 @@ NOT_TAKEN = {
 
 @cache
 def schema() -> dict:
-    with open(f"{TOP}/docs/project.schema.json", encoding="utf-8") as file:
-        return json.load(file)
+    return json.loads(read_text(f"{TOP}/docs/project.schema.json"))
 
 
 def form(refused: Refused, keys: list[str]) -> dict:

@@ -6,6 +6,8 @@ import os
 from collections.abc import Callable, Iterator
 from dataclasses import dataclass, field
 
+from lib.paths import read_bytes
+
 from .comparing import Unreadable, first_difference
 from .running import Done
 from .scenario import Fault, Requirement, Scenario, When
@@ -170,8 +172,7 @@ class Judge:
     def same_report(self, one: Requirement) -> Verdict:
         path = os.path.join(os.path.dirname(self.scenario.path), one.file)
         try:
-            with open(path, "rb") as file:
-                difference = first_difference(file.read(), self.report, one.exactly)
+            difference = first_difference(read_bytes(path), self.report, one.exactly)
         except OSError as fault:
             return Verdict(one, False, [f"{path} can't be read: {fault.strerror}"])
         except Unreadable as unreadable:

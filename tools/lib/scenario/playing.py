@@ -11,7 +11,8 @@ import time
 from collections.abc import Callable
 from dataclasses import dataclass, field
 
-from lib.paths import TOOLS
+from lib.paths import TOOLS, read_bytes
+from lib.programs import Ended
 
 from .agenda import Set, agenda
 from .copying import MOST_WATCHES, Copy, make_copy
@@ -22,7 +23,7 @@ from .programs import Programs
 from .reading import read_file
 from .running import Run, Runner
 from .scenario import Scenario, When
-from .session import Ended, Session
+from .session import Session
 from .story import Story, read_reports
 from .tracing import Trace
 
@@ -111,14 +112,13 @@ class Player:
 
     def load(self) -> dict:
         try:
-            with open(self.path, "rb") as file:
-                contents = file.read()
+            project = read_bytes(self.path)
         except OSError as fault:
             raise self.wrong_project(f"the project {self.path} can't be read: {fault.strerror}") from None
         refusal = refusal_of(self.live, self.path)
         if refusal:
             raise self.wrong_project(f"the project {self.path} is refused: {refusal}")
-        return json.loads(contents)
+        return json.loads(project)
 
     def wrong_project(self, why: str) -> Wrong:
         line = self.scenario.project_line

@@ -1,11 +1,11 @@
-"""Where the proved programs are: built in this repository, installed by a package, or in a folder that is named."""
+"""The proved programs of a scenario: those that are built or installed, or in a folder that is named."""
 
 from __future__ import annotations
 
 import os
 import subprocess
 
-from lib.paths import PACKAGED, TOP, built
+from lib.programs import IS_PACKAGED, asking, place
 
 WHAT_TO_DO = "run tools/prove, which proves and builds it, or name a folder that has it: --programs FOLDER"
 
@@ -23,19 +23,12 @@ class Programs:
         self.checks: dict[str, subprocess.Popen] = {}
 
     def path(self, name: str) -> str:
-        if self.folder is not None or os.path.isdir(PACKAGED):
-            path = os.path.join(self.folder if self.folder is not None else PACKAGED, name)
-        else:
-            path = built(name)
+        path = place(name) if self.folder is None else os.path.join(self.folder, name)
         if not os.access(path, os.X_OK) or os.path.isdir(path):
             raise Missing(f"there is no program {name} at {path}: {WHAT_TO_DO}")
-        if self.folder is None and not os.path.isdir(PACKAGED) and name not in self.checks:
-            self.checks[name] = self.check(name)
+        if self.folder is None and not IS_PACKAGED and name not in self.checks:
+            self.checks[name] = asking(name)
         return path
-
-    def check(self, name: str) -> subprocess.Popen:
-        words = ["bash", "-c", '. "$top/tools/programs.sh"; is_proved "$1"', "bash", name]
-        return subprocess.Popen(words, env={**os.environ, "top": TOP}, stdin=subprocess.DEVNULL, stdout=subprocess.DEVNULL)
 
     def sure(self) -> None:
         """Waits until each program that was asked for is known to be the proved one."""

@@ -9,7 +9,7 @@ import os
 import subprocess
 import threading
 
-from lib.ladder.programs import Ended
+from .programs import Ended
 
 AT_ONCE = 32_768  # so much goes into an empty pipe without anybody who reads
 MARK = b"?\n"
@@ -88,6 +88,13 @@ class Talk:
                 yield whole
             if is_last:
                 return
+
+    def end(self):
+        """Ends the journal; what is answered to that."""
+        self.write(["end\n"])
+        last = self.process.stdout.read()
+        self.process.wait()
+        return last
 
     def close(self):
         self.process.kill()
