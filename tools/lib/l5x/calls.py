@@ -5,9 +5,11 @@ from __future__ import annotations
 from collections.abc import Callable
 from dataclasses import dataclass, field
 
+from lib.neutral import Element, Instruction
+from lib.texts import shown
+
 from .model import AddOn, Tag
-from .profile import FLAGS, INTEGER_BITS, key, number, shown
-from .rungs import Element, Instruction
+from .profile import FLAGS, INTEGER_BITS, key, number
 from .tags import Found, NameFault, Scope, Type, overlap, subscripts
 
 ENABLE_IN, ENABLE_OUT = "enablein", "enableout"
@@ -65,7 +67,7 @@ def judged(instruction: Instruction, definition: Definition, scope: Scope, may_c
 
 class _Judge:
     def __init__(self, instruction: Instruction, definition: Definition, scope: Scope, may_change: MayChange) -> None:
-        self._texts = instruction.texts
+        self._texts = instruction.operands
         self._definition = definition
         self._scope = scope
         self._may_change = may_change

@@ -2,10 +2,12 @@
 
 from __future__ import annotations
 
+from lib.neutral import Instruction
+from lib.texts import shown
+
 from .profile import BIT, BIT_OR_FLAG, BLANK, COUNT, COUNTER, FILLED, FLAGS, INTEGER, INTEGER_BITS
 from .profile import LABEL, NUMBER, OWN_LABEL, ROUTINE, SOURCE, TARGET, TASK, TIMER, TIMER_OR_COUNTER
-from .profile import is_name, number, operand_kinds, parameter_count, shown
-from .rungs import Instruction
+from .profile import is_name, number, operand_kinds, parameter_count
 from .tags import Found, NameFault, Scope, Type
 
 _WANTED = {
@@ -18,19 +20,19 @@ _WANTED = {
 
 def operand_faults(instruction: Instruction, scope: Scope) -> list[str]:
     """What is wrong with the operands that are data, and with the form of those that are names."""
-    kinds = operand_kinds(instruction.op, instruction.texts)
-    if kinds is None and any(text.count("[") > text.count("]") for text in instruction.texts):
+    kinds = operand_kinds(instruction.op, instruction.operands)
+    if kinds is None and any(text.count("[") > text.count("]") for text in instruction.operands):
         return [f"{instruction.op}: a subscript of several dimensions (C1)"]
     if kinds is None:
-        return [f"{instruction.op} has {len(instruction.texts)} operands (C1)"]
-    faults = (_fault(kind, text, scope) for kind, text in zip(kinds, instruction.texts))
+        return [f"{instruction.op} has {len(instruction.operands)} operands (C1)"]
+    faults = (_fault(kind, text, scope) for kind, text in zip(kinds, instruction.operands))
     return [f"{instruction.op}: {fault}" for fault in faults if fault is not None]
 
 
 def times_named(instruction: Instruction, scope: Scope) -> list[str]:
     """The operands that are a timer's PRE or ACC."""
     found = []
-    for text in instruction.texts:
+    for text in instruction.operands:
         try:
             if scope.found(text).is_time:
                 found.append(text)
@@ -43,7 +45,7 @@ def layout_note(instruction: Instruction, scope: Scope) -> str | None:
     """What to know of a copy between types, where a structure or a timer lies otherwise than in the real controller."""
     if instruction.op not in ("COP", "CPS"):
         return None
-    source, target = (scope.found(text).of.base for text in instruction.texts[:2])
+    source, target = (scope.found(text).of.base for text in instruction.operands[:2])
     if source == target or all(base in INTEGER_BITS or base == "COUNTER" for base in (source, target)):
         return None
     return f"{instruction.op} from {shown(source, 40)} to {shown(target, 40)} goes by the layout of docs/FORMATS.md"

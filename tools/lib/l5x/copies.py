@@ -2,9 +2,11 @@
 
 from __future__ import annotations
 
+from lib.neutral import Instruction
+from lib.texts import shown
+
 from .calls import Definition
-from .profile import decimal, key, shown
-from .rungs import Instruction
+from .profile import decimal, key
 from .tags import Form, Scope, Structure, Type, form, size_of, spelled
 
 _COPIES = ("COP", "CPS", "FLL")
@@ -27,7 +29,7 @@ def passed_ends(instruction: Instruction, definition: Definition, structures: di
 def _passing(instruction: Instruction, definition: Definition, structures: dict[str, Structure]) -> list[str]:
     if instruction.op not in _COPIES:
         return []
-    source, target, count = instruction.texts
+    source, target, count = instruction.operands
     length = decimal(count)
     one = size_of(Type(definition.scope.found(target).of.base), structures)
     texts = [target] if instruction.op == "FLL" else [source, target]

@@ -4,8 +4,10 @@ from __future__ import annotations
 
 from xml.etree.ElementTree import Element
 
+from lib.texts import shown
+
 from .model import DataType, Export, Member, Tag, Value
-from .profile import INTEGER_BITS, MAX_VALUES, key, shown
+from .profile import INTEGER_BITS, MAX_VALUES, key
 from .values import value
 
 _PLAIN = ("BOOL", *INTEGER_BITS)

@@ -4,6 +4,9 @@ from __future__ import annotations
 
 from collections.abc import Iterator
 
+from lib.neutral import Instruction, instructions
+from lib.texts import shown
+
 from .calls import ENABLE_IN, ENABLE_OUT, CallFault, Definition, judged
 from .checking import layout_note, operand_faults, times_named
 from .copies import copy_fault, passed_ends
@@ -11,8 +14,8 @@ from .findings import Findings
 from .flags import loose_flags
 from .ladder_text import Unknown, label_faults, text_of, with_blanks
 from .model import AddOn, Export, Rung, Tag
-from .profile import MAX_RUNGS, OPERANDS, key, shown
-from .rungs import Instruction, RungFault, instructions, names_called, unknown_told
+from .profile import MAX_RUNGS, OPERANDS, key
+from .rungs import RungFault, names_called, unknown_told
 from .tags import Entry, NameFault, Scope, Type, form
 from .taking_types import TypeFault, Types, type_key
 
@@ -206,7 +209,7 @@ class _Judge:
 
     def _note_arrays(self, instruction: Instruction) -> None:
         """Which InOut arrays have a variable subscript, or are meant as a whole."""
-        for text in instruction.texts if OPERANDS[instruction.op] else ():
+        for text in instruction.operands if OPERANDS[instruction.op] else ():
             try:
                 found = self._definition.scope.found(text)
             except NameFault:

@@ -5,7 +5,9 @@ from __future__ import annotations
 import re
 from collections.abc import Iterator
 
-from .profile import key, shown
+from lib.texts import shown
+
+from .profile import key
 from .settling import TakenProgram
 from .taking_ladder import TakenRoutine
 

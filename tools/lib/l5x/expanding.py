@@ -11,13 +11,16 @@ import re
 from collections.abc import Iterator
 from dataclasses import dataclass
 
+from lib.neutral import Element, Instruction, instructions
+from lib.texts import shown
+
 from .calls import ENABLE_IN, ENABLE_OUT, Call, CallFault, MayChange, judged
 from .checking import operand_faults, times_named
 from .definitions import Definitions
 from .model import Routine
 from .profile import BLANK, COUNT, FLAGS, LABEL, MAX_NAME_BYTES, MAX_ROUTINE_INSTRUCTIONS, MAX_RUNG_BYTES, OWN_LABEL, ROUTINE, TASK
-from .profile import is_name, key, number, operand_kinds, shown
-from .rungs import Element, Instruction, RungFault, elements, instructions
+from .profile import is_name, key, number, operand_kinds
+from .rungs import RungFault, elements
 from .tags import NameFault, Scope, Type, form, spelled
 
 _NO_DATA = (BLANK, COUNT, LABEL, OWN_LABEL, ROUTINE, TASK)
@@ -85,7 +88,7 @@ class Expander:
     def _why(self, instruction: Instruction) -> str:
         """Why no tag that is taken is an instance of what is called."""
         try:
-            self._scope.found(instruction.texts[0] if instruction.texts else "")
+            self._scope.found(instruction.operands[0] if instruction.operands else "")
         except NameFault as fault:
             return str(fault)
         return "an Add-On Instruction that isn't taken"
@@ -166,8 +169,8 @@ def _substituted(text: str, found: list[Element], call: Call) -> str:
 
     parts, at = [], 0
     for instruction in instructions(found):
-        kinds = None if instruction.is_call else operand_kinds(instruction.op, instruction.texts)
-        for k, (operand, place) in enumerate(zip(instruction.texts, instruction.places)):
+        kinds = None if instruction.is_call else operand_kinds(instruction.op, instruction.operands)
+        for k, (operand, place) in enumerate(zip(instruction.operands, instruction.places)):
             if kinds is not None and kinds[k] in _NO_DATA or operand in FLAGS or operand == "?" or number(operand) is not None:
                 continue
             parts += [text[at:place], spelled(form(operand), named)]

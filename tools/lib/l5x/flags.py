@@ -2,7 +2,8 @@
 
 from __future__ import annotations
 
-from .rungs import Element, Instruction
+from lib.neutral import Element, Instruction
+
 
 ARITHMETIC_FLAGS = ("S:V", "S:Z", "S:N")
 # What stores a number, and with it the flags.
@@ -29,7 +30,7 @@ def loose_flags(found: list[Element]) -> list[Instruction]:
             is_set = False
             outer = [False] * len(outer)
         else:
-            if not is_set and any(text in ARITHMETIC_FLAGS for text in element.texts):
+            if not is_set and any(text in ARITHMETIC_FLAGS for text in element.operands):
                 loose.append(element)
             is_set = is_set or element.op in _SETTERS
     return loose

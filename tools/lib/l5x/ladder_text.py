@@ -4,9 +4,12 @@ from __future__ import annotations
 
 from collections.abc import Collection
 
+from lib.neutral import Element, Instruction, instructions
+from lib.texts import shown
+
 from .model import Rung
-from .profile import BLANK, MAX_RUNG_BYTES, NEW_NAMES, OPERANDS, decimal, key, shown
-from .rungs import Element, Instruction, RungFault, elements, instructions, renamed, unknown_instructions, without_leftovers
+from .profile import BLANK, MAX_RUNG_BYTES, NEW_NAMES, OPERANDS, decimal, key
+from .rungs import RungFault, elements, renamed, unknown_instructions, without_leftovers
 from .tags import NameFault, Scope
 
 
@@ -39,16 +42,16 @@ def with_blanks(text: str, add_ons: Collection[str], scope: Scope, values: dict[
     """The text with `?` for PRE and ACC where their numbers stand, if the tag has the same; and what it spells."""
     found, plain = elements(text, add_ons), text
     for instruction in reversed(instructions(found)):
-        if instruction.is_call or BLANK not in OPERANDS[instruction.op] or len(instruction.texts) != 3:
+        if instruction.is_call or BLANK not in OPERANDS[instruction.op] or len(instruction.operands) != 3:
             continue
         for k, member in ((2, "ACC"), (1, "PRE")):
-            number = decimal(instruction.texts[k])
+            number = decimal(instruction.operands[k])
             if number is None:
                 continue
-            if number != _value_of(instruction.texts[0], member, scope, values):
+            if number != _value_of(instruction.operands[0], member, scope, values):
                 raise RungFault(f"{instruction.op}: {member} {number} isn't the value of the tag; `?` is taken")
             at = instruction.places[k]
-            text = text[:at] + "?" + text[at + len(instruction.texts[k]) :]
+            text = text[:at] + "?" + text[at + len(instruction.operands[k]) :]
     return text, found if text is plain else elements(text, add_ons)
 
 
@@ -70,7 +73,7 @@ def label_faults(rungs: list[list[Instruction]]) -> list[tuple[int, str]]:
             if instruction.op == "SBR" and not (number == 0 and instruction.leads):
                 faults.append((number, "SBR isn't the first element of its routine (C17)"))
             if instruction.op == "LBL":
-                name = instruction.texts[0]
+                name = instruction.operands[0]
                 if not instruction.leads:
                     faults.append((number, f"LBL {name} isn't the first element of its rung (C14)"))
                 if key(name) in labels:
@@ -78,6 +81,6 @@ def label_faults(rungs: list[list[Instruction]]) -> list[tuple[int, str]]:
                 labels.add(key(name))
     for number, found in enumerate(rungs):
         for instruction in found:
-            if instruction.op == "JMP" and key(instruction.texts[0]) not in labels:
-                faults.append((number, f"JMP to {instruction.texts[0]}, and no such label (C12)"))
+            if instruction.op == "JMP" and key(instruction.operands[0]) not in labels:
+                faults.append((number, f"JMP to {instruction.operands[0]}, and no such label (C12)"))
     return faults

@@ -2,8 +2,10 @@
 
 from __future__ import annotations
 
+from lib.neutral import canonical
+
 from .profile import NEW_NAMES
-from .rungs import canonical, elements, renamed
+from .rungs import elements, renamed
 from .taking import Project
 
 _BACK = {old: new for new, old in NEW_NAMES.items()}

@@ -2,9 +2,11 @@
 
 from __future__ import annotations
 
+from lib.texts import shown
+
 from .calls import MayChange
 from .model import Program, Task
-from .profile import key, shown
+from .profile import key
 from .tags import Found, NameFault
 from .taking_tags import Tags
 from .words import Needed

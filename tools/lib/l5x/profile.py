@@ -11,7 +11,6 @@ MAX_NAME_BYTES = 40
 MAX_TAG_NAME_BYTES = 80
 MAX_TAG_NAME_PARTS = 4
 MAX_SUBSCRIPTS = 4
-MAX_FORKS = 16
 MAX_PARAMETERS = 8
 MAX_ROUTINE_INSTRUCTIONS = 65_536
 MAX_PROJECT_INSTRUCTIONS = 131_072
@@ -109,12 +108,6 @@ def is_tag_name(text: str) -> bool:
 def whole(text: str | None) -> int | None:
     """The number that a few decimal digits are."""
     return int(text) if text is not None and _WHOLE.match(text) else None
-
-
-def shown(text: str, most: int = 80) -> str:
-    """A text of the file on one line of the list, cut where it is long."""
-    plain = "".join(c if c.isprintable() else "?" for c in text)
-    return plain if len(plain) <= most else plain[: most - 2] + ".."
 
 
 def operand_kinds(op: str, texts: list[str]) -> tuple[str, ...] | None:

@@ -5,9 +5,11 @@ from __future__ import annotations
 from collections.abc import Callable
 from xml.etree.ElementTree import Element
 
+from lib.texts import shown
+
 from .decorated import Decorated
 from .model import AddOn, DataType, Export, Member, Module, Program, Routine, Rung, Tag, Task
-from .profile import key, shown
+from .profile import key
 from .source import NoExport, events
 
 _TARGETS = ("Controller", "Program", "Routine")

@@ -5,10 +5,12 @@ from __future__ import annotations
 from collections.abc import Iterator
 from dataclasses import dataclass
 
+from lib.texts import shown
+
 from .definitions import MAX_FRAMES
 from .findings import Findings
 from .model import Program
-from .profile import MAX_PROJECT_INSTRUCTIONS, MAX_TASKS, key, shown
+from .profile import MAX_PROJECT_INSTRUCTIONS, MAX_TASKS, key
 from .taking_ladder import TakenRoutine, TakenRung, refuse, refuse_labels
 from .taking_tags import Connection, Tags
 from .taking_tasks import TakenTask

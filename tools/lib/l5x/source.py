@@ -8,7 +8,8 @@ import xml.parsers.expat as expat
 from collections.abc import Iterator
 from typing import BinaryIO
 
-from .profile import shown
+from lib.texts import shown
+
 
 ROOT = "RSLogix5000Content"
 MAX_PROLOG_BYTES = 65_536

@@ -2,9 +2,10 @@
 
 from __future__ import annotations
 
+from lib.texts import shown
+
 from .findings import Findings
 from .model import Export, Program
-from .profile import shown
 from .settling import TakenProgram
 from .taking_tags import Tags
 

@@ -7,8 +7,10 @@ import re
 from collections.abc import Callable, Iterator
 from dataclasses import dataclass, field
 
+from lib.texts import shown
+
 from .profile import COUNTER_MEMBERS, INTEGER_BITS, MAX_SUBSCRIPTS, TIMER_MEMBERS
-from .profile import is_name, is_tag_name, key, shown
+from .profile import is_name, is_tag_name, key
 
 
 class NameFault(Exception):

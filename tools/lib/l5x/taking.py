@@ -5,12 +5,14 @@ from __future__ import annotations
 from collections.abc import Callable, Iterator
 from dataclasses import dataclass, field
 
+from lib.texts import shown
+
 from .definitions import Definitions
 from .expanding import Expander
 from .findings import Findings
 from .model import Export, Program, Tag, Task
 from .others import Others
-from .profile import INTEGER_BITS, MAX_PROGRAMS, MAX_ROUTINES, MAX_WATCHES, NEW_NAMES, is_name, key, shown
+from .profile import INTEGER_BITS, MAX_PROGRAMS, MAX_ROUTINES, MAX_WATCHES, NEW_NAMES, is_name, key
 from .settling import Settling, TakenProgram
 from .summary import summary
 from .tags import Found, NameFault, Scope, Structure, Type

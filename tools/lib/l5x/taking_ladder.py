@@ -5,6 +5,9 @@ from __future__ import annotations
 from collections.abc import Iterable
 from dataclasses import dataclass, field
 
+from lib.neutral import Element, Instruction, instructions
+from lib.texts import shown
+
 from .calls import CallFault
 from .checking import layout_note, operand_faults, times_named
 from .expanding import Expander, Made
@@ -12,9 +15,9 @@ from .findings import Findings
 from .flags import loose_flags
 from .ladder_text import Unknown, label_faults, text_of, with_blanks
 from .model import Program, Routine, Rung
-from .profile import MAX_ROUTINE_INSTRUCTIONS, MAX_ROUTINES, MAX_RUNGS, key, shown
+from .profile import MAX_ROUTINE_INSTRUCTIONS, MAX_ROUTINES, MAX_RUNGS, key
 from .profile import is_name
-from .rungs import Element, Instruction, RungFault, elements, instructions, names_called, unknown_told
+from .rungs import RungFault, elements, names_called, unknown_told
 from .tags import Scope
 from .taking_types import type_key
 
@@ -35,7 +38,7 @@ class TakenRung:
     refers: list[tuple[str, str]] = field(init=False)
 
     def __post_init__(self) -> None:
-        self.refers = [(i.op, i.texts[0]) for i in self.instructions if i.op in ("JSR", "EVENT") and i.texts]
+        self.refers = [(i.op, i.operands[0]) for i in self.instructions if i.op in ("JSR", "EVENT") and i.operands]
 
     @property
     def instructions(self) -> list[Instruction]:
@@ -84,7 +87,7 @@ class Ladder:
     judged: dict[tuple[str, ...], list[str]] = field(default_factory=dict)
 
     def faults(self, instruction: Instruction) -> list[str]:
-        text = (instruction.op, *instruction.texts)
+        text = (instruction.op, *instruction.operands)
         if text not in self.judged:
             self.judged[text] = operand_faults(instruction, self.scope)
         return self.judged[text]

@@ -6,11 +6,13 @@ import itertools
 import re
 from dataclasses import dataclass
 
+from lib.texts import shown
+
 from .add_on_values import default_values
 from .findings import Findings
 from .model import AddOn, Export, Program, Tag
 from .profile import INTEGER_BITS, MAX_CONNECTION_BYTES, MAX_CONNECTIONS, MAX_IMAGE_BYTES, MAX_NAME_BYTES
-from .profile import MAX_TAGS, MAX_VALUES, is_name, is_tag_name, key, shown, whole
+from .profile import MAX_TAGS, MAX_VALUES, is_name, is_tag_name, key, whole
 from .tags import Entry, Found, NameFault, Scope, Type, bits_of, rounded, size_of
 from .taking_types import TypeFault, Types, type_key
 from .words import Needed

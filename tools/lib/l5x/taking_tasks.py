@@ -5,9 +5,11 @@ from __future__ import annotations
 from dataclasses import dataclass, field
 from decimal import Decimal, InvalidOperation
 
+from lib.texts import shown
+
 from .findings import Findings
 from .model import Task
-from .profile import DEFAULT_WATCHDOG_MS, MAX_TICKS, is_name, key, shown, whole
+from .profile import DEFAULT_WATCHDOG_MS, MAX_TICKS, is_name, key, whole
 
 _KINDS = {"CONTINUOUS": "continuous", "PERIODIC": "periodic", "EVENT": "event"}
 _NO_TRIGGER = ("", "event instruction only")

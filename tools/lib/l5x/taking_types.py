@@ -6,10 +6,12 @@ import re
 from collections.abc import Iterable
 from dataclasses import dataclass, field
 
+from lib.texts import shown
+
 from .findings import Findings
 from .model import AddOn, DataType, Export, Member
 from .profile import MAX_ELEMENTS, MAX_MEMBERS, MAX_NAME_BYTES, MAX_STRUCTURE_BYTES, MAX_TYPES
-from .profile import is_name, key, shown, whole
+from .profile import is_name, key, whole
 from .tags import SIZES, Structure, Type, structure_size
 
 

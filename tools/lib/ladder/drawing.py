@@ -5,7 +5,8 @@
 
 from dataclasses import dataclass, field
 
-from . import rungs as texts
+from lib.neutral import elements, tree
+
 from .layout import Maker
 from .shapes import FONT, SIZE, Shape, said, text
 
@@ -32,10 +33,10 @@ text{{font:{SIZE}px {FONT};fill:#1c2126}}
 """
 
 
-def rung(tree, number="", letters="", width=WIDTH, mark_of=lambda at: None, live_of=lambda instruction: None):
-    """A rung as a shape, with its height: its tree, its number and edit letters at the left. `mark_of` tells the Mark of an instruction
+def rung(spelled, number="", letters="", width=WIDTH, mark_of=lambda at: None, live_of=lambda instruction: None):
+    """A rung as a shape, with its height: its elements, its number and edit letters at the left. `mark_of` tells the Mark of an instruction
     by its place in the text, `live_of` its Live."""
-    series = Maker(mark_of, live_of).series(tree, width - LEFT - RIGHT)
+    series = Maker(mark_of, live_of).series(tree(spelled), width - LEFT - RIGHT)
     width = max(width, series.w + LEFT + RIGHT)  # (of one box that is wider than all the room)
     y, height = series.up + SPACE, series.up + series.down + 2 * SPACE
     made = Shape("svg", {"width": width, "height": height, "viewBox": f"0 0 {said(width)} {said(height)}"})
@@ -65,7 +66,7 @@ def sheet(parts, width=WIDTH):
             drawn.append(text(part.heading, SPACE, below + HEADING - 8, "heading"))
             below += HEADING
         for number, line in enumerate(part.rungs):
-            shape, height = rung(texts.read(line), number, width=width, mark_of=lambda at, number=number: part.marks.get((number, at)))
+            shape, height = rung(elements(line), number, width=width, mark_of=lambda at, number=number: part.marks.get((number, at)))
             shape.fields["y"] = below
             drawn.append(shape)
             below += height

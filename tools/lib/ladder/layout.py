@@ -2,8 +2,9 @@
 
 from dataclasses import dataclass, field
 
+from lib.neutral import Branch
+
 from .elements import Mark, element
-from .rungs import Branch
 from .shapes import Shape, wire
 
 GAP = 10  # of wire before each element

@@ -2,10 +2,10 @@
 
 import sys
 
+from lib.neutral import routines
 from lib.programs import Ended, find, run
 
 from .drawing import Part, sheet
-from .rungs import routines
 
 USAGE = "usage: ladder P [PROGRAM [ROUTINE]]"
 

@@ -1,6 +1,6 @@
 """The rungs of all routines, with the edits under way, as the replies to the edit commands tell it (docs/CONTROLLER.md, section 13)."""
 
-from lib.ladder import rungs
+from lib.neutral import canonical, elements, routines
 
 
 class Program:
@@ -44,7 +44,7 @@ class Book:
 
     def __init__(self, listing):
         self.programs = {}
-        for program, routine, texts in rungs.routines(listing):
+        for program, routine, texts in routines(listing):
             self.programs.setdefault(program, Program()).base[routine] = texts
 
     @staticmethod
@@ -68,4 +68,4 @@ class Book:
 def edits_of(text):
     for edit in text.split("|"):
         kind, index, *rest = edit.strip(" \t\r").split(None, 2)
-        yield kind, int(index), None if kind == "d" else rungs.spelled(rungs.read(rest[0]))
+        yield kind, int(index), None if kind == "d" else canonical(elements(rest[0]))

@@ -165,7 +165,7 @@ class Plan:
 
     def live(self, program, instruction):
         """An instruction's places, for the drawing, and all names that are to be watched for it."""
-        op, operands = instruction
+        op, operands = instruction.op, instruction.operands
         places = [None if at == 0 and op in NO_TAG_FIRST else self.place(program, text) for at, text in enumerate(operands)]
         members = self.timed(program, operands[0]) if operands and op not in NO_TAG_FIRST else {}
         told = [place and place.told() for place in places]

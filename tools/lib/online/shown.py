@@ -3,7 +3,8 @@
 from functools import lru_cache
 from itertools import islice
 
-from lib.ladder import drawing, rungs
+from lib.ladder import drawing
+from lib.neutral import NoRung, canonical, elements
 
 from .journal import Act
 from .watch import ROWS
@@ -94,9 +95,9 @@ class Shown:
 
     def draw_one(self, program, text, width):
         try:
-            tree = rungs.read(text)
-        except rungs.NoRung as fault:
+            found = elements(text)
+        except NoRung as fault:
             return {"fault": fault.at}
         plan = self.session.plan
-        shape, _ = drawing.rung(tree, width=width, live_of=lambda instruction: plan.live(program, instruction)[0])
-        return {"shape": shape.listed(), "text": rungs.spelled(tree)}
+        shape, _ = drawing.rung(found, width=width, live_of=lambda instruction: plan.live(program, instruction)[0])
+        return {"shape": shape.listed(), "text": canonical(found)}

@@ -1,6 +1,6 @@
 """What is watched: the places that the page shows, and of all other rungs as many as there is room for."""
 
-from lib.ladder import rungs
+from lib.neutral import elements, instructions
 
 MOST = 256
 MOST_TRENDS = 4
@@ -21,7 +21,7 @@ class Watch:
         """The names of all places in rungs, each perhaps more than once."""
         for text in texts:
             if (program, text) not in self.names:
-                found = [name for each in rungs.instructions(rungs.read(text)) for name in self.plan.live(program, each)[1]]
+                found = [name for each in instructions(elements(text)) for name in self.plan.live(program, each)[1]]
                 self.names[program, text] = tuple(found)
             yield from self.names[program, text]
 

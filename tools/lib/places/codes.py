@@ -8,8 +8,8 @@ from functools import cache
 from typing import NamedTuple
 
 from lib.paths import TOP, read_text
+from lib.texts import sentence
 
-from .texts import sentence
 
 DOCUMENTS = ("FORMATS.md", "CONTROLLER.md")
 CODE = re.compile(r"[A-Z]\d{1,2}|\d/\d{1,2}|\d{1,2}|held")

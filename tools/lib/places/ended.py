@@ -2,11 +2,12 @@
 
 from __future__ import annotations
 
+from lib.texts import sentence
+
 from .codes import sentences, table
 from .files import File, files_of, wrong_words
 from .report import Report
 from .telling import parts, place, readable
-from .texts import sentence
 
 WRONG_WORDS, CANT_BE_READ, TOO_LONG = "1", "4", "7"
 REFUSED = ("2", "3", "8")

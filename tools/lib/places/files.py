@@ -8,8 +8,8 @@ from dataclasses import dataclass
 from functools import cache
 
 from lib.paths import TOP, read_bytes, read_text
+from lib.texts import counted, meant, near, quoted
 
-from .texts import counted, meant, near, quoted
 
 MOST_BYTES = 16_777_216
 USAGE = re.compile(r"`usage: logix (.*?)`")

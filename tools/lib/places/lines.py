@@ -7,8 +7,8 @@ from typing import NamedTuple
 
 from lib.hammer.plain.journal import LONGEST, MOST_ACTIONS, MOST_COUNT, MOST_EDITS
 from lib.hammer.plain.words import is_name
+from lib.texts import Said, marked, meant, near, quoted
 
-from .texts import Said, marked, meant, near, quoted
 
 MARK = "\ufeff"
 DIGITS = re.compile(r"[0-9]{1,10}")

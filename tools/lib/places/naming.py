@@ -3,11 +3,11 @@
 from __future__ import annotations
 
 from lib.hammer.plain.project import FITS
+from lib.texts import Said, counted, listed, meant, quoted
 
 from .refused import Refused
 from .shape import out_of_form
 from .tags import described, resolved, scoped
-from .texts import Said, counted, listed, meant, quoted
 
 MOST_CONNECTION = 512
 

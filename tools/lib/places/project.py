@@ -4,11 +4,12 @@ from __future__ import annotations
 
 import re
 
+from lib.texts import marked
+
 from . import naming, rungs, shape, tags
 from .codes import sentences
 from .json_text import NoJson, decoded, line_of, read
 from .refused import refused_of
-from .texts import marked
 
 CODE = re.compile(r"[A-Z]\d{1,2}")
 SAID = {

@@ -7,9 +7,9 @@ from dataclasses import dataclass, field
 
 from lib.hammer.plain.project import Project
 from lib.hammer.plain.reader import Fault
+from lib.texts import Said, marked, quoted
 
 from .json_text import Text, decoded, line_of, read
-from .texts import Said, marked, quoted
 
 # What an element of each list is.
 KINDS = {

@@ -7,11 +7,11 @@ import re
 from dataclasses import dataclass, field
 
 from lib.hammer.plain.journal import Action, Bad, action_of
+from lib.texts import Said, counted, marked, meant, quoted
 
 from .lines import words_of
 from .refused import Refused
 from .rungs import check_fault, text_fault
-from .texts import Said, counted, marked, meant, quoted
 
 EDITS = ("accept", "test", "untest", "assemble", "cancel")
 NOT_OF_AN_EDIT = ("N", "F", "M")

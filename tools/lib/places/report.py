@@ -4,11 +4,12 @@ from __future__ import annotations
 
 from dataclasses import dataclass, field
 
+from lib.texts import Said, counted
+
 from .codes import sentences
 from .project import codes_said
 from .refused import Refused
 from .replies import Follower, action_in
-from .texts import Said, counted
 
 MOST_LINES = 100_000
 

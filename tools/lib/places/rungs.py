@@ -7,15 +7,14 @@ from collections.abc import Callable
 from typing import NamedTuple
 
 from lib.hammer.plain.check import OF_TAG, Checker, Scope, kinds_of
-from lib.hammer.plain.rungs import MNEMONICS, instructions, read_rung
+from lib.hammer.plain.rungs import MNEMONICS, read_rung
 from lib.hammer.plain.words import FLAGS, is_name, number_of
+from lib.neutral import Instruction, elements, instructions
+from lib.texts import Said, counted, marked, meant, near, quoted
 
 from .refused import Refused
 from .tags import Why, bytewise, described, no_place
-from .texts import Said, counted, marked, meant, near, quoted
 
-INSTRUCTION = re.compile(r"([A-Za-z]+)[ \t\r\n]*\(([^)]*)\)")
-OPERAND = re.compile(r"[^, \t\r\n]+")
 TAG_CODES = {f"C{number}" for number in OF_TAG.values()}
 # What stands at an operand of each kind of tools/lib/hammer/plain/check.py.
 WANTED = {
@@ -24,23 +23,6 @@ WANTED = {
     "F": "an integer or an array of integers", "q": "a ?", "n": "a count from 0 to 8", "r": "a routine's name", "l": "a label",
     "L": "a label", "e": "an event task's name",
 }  # fmt: skip
-
-
-class Instruction(NamedTuple):
-    """Where it and its operands stand in the rung's text."""
-
-    op: str
-    at: int
-    operands: list[tuple[str, int]]
-
-
-def placed(rung: str) -> list[Instruction]:
-    """The instructions of a rung, in the order of its text."""
-    found = []
-    for one in INSTRUCTION.finditer(rung):
-        operands = [(part.group(), one.start(2) + part.start()) for part in OPERAND.finditer(one.group(2))]
-        found.append(Instruction(one.group(1).upper(), one.start(), operands))
-    return found
 
 
 def text_fault(rung: str, code: str, place: int) -> Said:
@@ -75,7 +57,7 @@ def of_project(refused: Refused) -> Said:
 
 def check_fault(refused: Refused, program: int, rungs: list[str], code: str, rung: int, number: int) -> Said:
     """A C code at an instruction of these rungs."""
-    one = placed(rungs[rung])[number]
+    one = instructions(elements(rungs[rung]))[number]
     routines = tuple(name.lower() for name in refused.names("programs", str(program), "routines"))
     tasks = [(task["name"], task["kind"] == "event") for task in refused.at(["tasks"])]
     scope = Scope(refused.half.tags, program, routines, tuple((name.lower(), event) for name, event in tasks))
@@ -98,22 +80,22 @@ class Fault(NamedTuple):
         if self.code == "C1":
             return self.count(), self.one.at, "of a JSR" if self.one.op == "JSR" else "too many"
         whole: dict[str, Callable[[], str]] = {
-            "C13": lambda: f"the label {quoted(self.one.operands[0][0])} stands earlier, in rung {self.earlier(rungs)}",
+            "C13": lambda: f"the label {quoted(self.one.operands[0])} stands earlier, in rung {self.earlier(rungs)}",
             "C14": lambda: "an LBL must be the first of its rung", "C16": lambda: "this is the routine's 65,537th instruction",
             "C17": lambda: "an SBR must be the first of its routine's first rung",
         }  # fmt: skip
         if self.code in whole:
             return whole[self.code](), self.one.at, ""
-        for kind, (text, at) in zip(kinds_of(self.one.op, [text for text, _ in self.one.operands]) or "", self.one.operands):
+        for kind, text, at in zip(kinds_of(self.one.op, self.one.operands) or "", self.one.operands, self.one.places):
             if self.checker.operand(kind, bytewise(text)) == int(self.code[1:]):
                 why, applies = self.operand(kind, text)
                 return why, at, applies
         return "this instruction", self.one.at, ""
 
     def earlier(self, rungs: list[str]) -> int:
-        label = self.one.operands[0][0].lower()
+        label = self.one.operands[0].lower()
         for at, text in enumerate(rungs):
-            for one in instructions(read_rung(bytewise(text))):
+            for one in instructions(elements(text)):
                 if one.op == "LBL" and one.operands[0].lower() == label:
                     return at
         raise LookupError(label)

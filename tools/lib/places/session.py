@@ -6,13 +6,14 @@ import threading
 from collections import deque
 from dataclasses import dataclass, field
 
+from lib.texts import Said
+
 from .codes import sentences
 from .lines import told
 from .project import codes_said
 from .refused import Refused
 from .replies import Follower, action_in
 from .report import last_of
-from .texts import Said
 
 KEPT_LINES = 20_000
 MOST_EXPLAINED = 20

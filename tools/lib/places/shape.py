@@ -8,9 +8,9 @@ from functools import cache
 from lib.hammer.plain.words import is_name
 
 from lib.paths import TOP, read_text
+from lib.texts import Said, counted, listed, meant, near, quoted
 
 from .refused import KINDS, Refused
-from .texts import Said, counted, listed, meant, near, quoted
 
 MOST_INSTRUCTIONS = 131_072
 MOST_RUNG = 4_096

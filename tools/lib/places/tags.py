@@ -7,10 +7,10 @@ from collections.abc import Iterator
 from lib.hammer.plain.tags import BITS, INTEGERS, MEMBERS, SIZES, Found, up_to
 from lib.hammer.plain.tags import Refused as NoTag
 from lib.hammer.plain.words import FLAGS, is_name, is_tag_name, operand_form
+from lib.texts import Said, counted, meant, quoted
 
 from .refused import Refused
 from .shape import name_fault
-from .texts import Said, counted, meant, quoted
 
 MOST_IMAGE, MOST_STRUCTURE = 262_144, 4_096
 # Why something names nothing, and words of the sentence that applies.

@@ -4,12 +4,13 @@ from __future__ import annotations
 
 import re
 
+from lib.texts import Said, counted, marked, meant, quoted
+
 from . import lines, project, traces
 from .codes import sentences
 from .files import File
 from .json_text import NoJson
 from .refused import Refused, refused_of
-from .texts import Said, counted, marked, meant, quoted
 
 KINDS = ("journal", "script", "link", "trace", "line")
 

@@ -4,8 +4,9 @@ from __future__ import annotations
 
 import re
 
+from lib.texts import Said, listed, marked, near, quoted
+
 from .lines import Wrong, words_of
-from .texts import Said, listed, marked, near, quoted
 
 NUMBER = r"0|[1-9]\d{0,9}"
 MARKS = rf"up|down|copy|copyend|sync|syncend|-|trigger:(?:{NUMBER})"

@@ -12,10 +12,10 @@ from lib.hammer.plain.tags import BITS
 from lib.hammer.plain.tags import Refused as NotThere
 from lib.hammer.plain.words import operand_form
 from lib.hammer.plain.xref import read_too, written
+from lib.texts import listed, meant, quoted, visible
 
 from .refused import Refused, refused_of
 from .tags import bytewise, no_place, scope_of, spelled, tag_names
-from .texts import listed, meant, quoted, visible
 
 BLOCKS = ("COP", "CPS", "FLL")
 

@@ -24,6 +24,12 @@ def quoted(text: str) -> str:
     return f"'{shown[:KEPT_OF_A_NAME]}..'" if len(shown) > KEPT_OF_A_NAME + 2 else f"'{shown}'"
 
 
+def shown(text: str, most: int = 80) -> str:
+    """The text on one line, cut where it is long."""
+    plain = "".join(c if c.isprintable() else "?" for c in text)
+    return plain if len(plain) <= most else plain[: most - 2] + ".."
+
+
 def marked(text: str, at: int) -> list[str]:
     """The text on one line, as much of it as fits, and a mark under its character `at`."""
     before, after = visible(text[:at]), visible(text[at:])
