@@ -10,9 +10,9 @@ import tempfile
 TOP = os.path.dirname(os.path.dirname(os.path.dirname(os.path.abspath(__file__))))
 sys.path.insert(0, f"{TOP}/tools")
 
-from hammer_parts.limits import LIMITS  # noqa: E402
-from hammer_parts.main import Hammer  # noqa: E402
-from hammer_parts.program import Program  # noqa: E402
+from lib.hammer.limits import LIMITS  # noqa: E402
+from lib.hammer.main import Hammer  # noqa: E402
+from lib.hammer.program import Program  # noqa: E402
 
 ALL = sys.maxsize
 COUNTS = {

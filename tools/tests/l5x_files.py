@@ -15,7 +15,7 @@ TOP = os.path.dirname(TOOLS)
 SAMPLES = os.path.join(TOP, "examples", "l5x")
 sys.path.insert(0, TOOLS)
 
-from l5x.main import main  # noqa: E402
+from lib.l5x.main import main  # noqa: E402
 
 
 @dataclass

@@ -7,14 +7,14 @@ import subprocess
 import tempfile
 
 from plain_programs import LIVE, LOGIX, TOP, contents
-from online_parts.commands import Commands
-from online_parts.guards import Refused
-from online_parts.main import explainer
-from online_parts.player import Player
-from online_parts.processes import Programs
-from online_parts.session import Session
-from online_parts.shown import Shown
-from online_parts.uses import Uses
+from lib.online.commands import Commands
+from lib.online.guards import Refused
+from lib.online.main import explainer
+from lib.online.player import Player
+from lib.online.processes import Programs
+from lib.online.session import Session
+from lib.online.shown import Shown
+from lib.online.uses import Uses
 
 PLAIN = Programs(LOGIX, LIVE)
 CONVEYOR = f"{TOP}/examples/conveyor/project.json"

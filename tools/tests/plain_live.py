@@ -6,10 +6,10 @@ import sys
 
 sys.dont_write_bytecode = True
 sys.path.insert(0, os.path.dirname(os.path.dirname(os.path.realpath(__file__))))
-from hammer_parts.plain.journal import Bad, Reader, lines_of  # noqa: E402
-from hammer_parts.plain.judge import Reporter, run  # noqa: E402
-from hammer_parts.plain.project import Project  # noqa: E402
-from hammer_parts.plain.reader import Fault  # noqa: E402
+from lib.hammer.plain.journal import Bad, Reader, lines_of  # noqa: E402
+from lib.hammer.plain.judge import Reporter, run  # noqa: E402
+from lib.hammer.plain.project import Project  # noqa: E402
+from lib.hammer.plain.reader import Fault  # noqa: E402
 
 
 def put(lines):

@@ -6,9 +6,9 @@ import sys
 
 sys.dont_write_bytecode = True
 sys.path.insert(0, os.path.dirname(os.path.dirname(os.path.realpath(__file__))))
-from hammer_parts.plain.journal import read_journal  # noqa: E402
-from hammer_parts.plain.judge import answer, story  # noqa: E402
-from hammer_parts.plain.project import Project  # noqa: E402
+from lib.hammer.plain.journal import read_journal  # noqa: E402
+from lib.hammer.plain.judge import answer, story  # noqa: E402
+from lib.hammer.plain.project import Project  # noqa: E402
 
 
 def contents(path):

@@ -8,7 +8,7 @@ sys.dont_write_bytecode = True
 TESTS = os.path.dirname(os.path.realpath(__file__))
 TOP = os.path.dirname(os.path.dirname(TESTS))
 sys.path.insert(0, f"{TOP}/tools")
-from ladder_parts.programs import Program  # noqa: E402
+from lib.programs import Program  # noqa: E402
 
 PROJECTS = sorted(path for path in glob.glob(f"{TOP}/examples/*/*.json"))
 LOGIX = Program((sys.executable, f"{TESTS}/plain_logix.py"), True)

@@ -17,7 +17,7 @@ TOOLS = os.path.dirname(TESTS)
 TOP = os.path.dirname(TOOLS)
 sys.path.insert(0, TOOLS)
 
-from scenario_parts.main import main  # noqa: E402
+from lib.scenario.main import main  # noqa: E402
 
 PLAIN = {"logix_live": "plain_live.py", "logix": "plain_logix.py"}
 BUILT = ("logix_live", "logix", "logix_timeline", "logix_wave")

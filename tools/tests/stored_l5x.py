@@ -12,7 +12,7 @@ import unittest
 from add_on_files import add_on, given_out, taken_in, with_add_ons
 from add_on_made import INPUT
 from l5x_files import SAMPLES, TOP, convert, program, routine, tag
-from hammer_parts.plain.project import read
+from lib.hammer.plain.project import read
 from test_add_on_cases import SCANS, Both, leaves
 from test_samples import WORDS
 

@@ -11,7 +11,7 @@ from unittest import mock
 
 from online_files import CONVEYOR, Page, Walk, built
 from plain_programs import PROJECTS, TOP
-from online_parts import player
+from lib.online import player
 
 COMMANDS = 8  # of each example's walk
 

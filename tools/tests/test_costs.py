@@ -9,9 +9,9 @@ import unittest
 TOP = os.path.dirname(os.path.dirname(os.path.dirname(os.path.realpath(__file__))))
 sys.path.insert(0, f"{TOP}/tools")
 
-from costs_parts.processes import Process, Run  # noqa: E402
-from costs_parts.table import table_of  # noqa: E402
-from costs_parts.work import Kind, Work, work_of  # noqa: E402
+from lib.costs.processes import Process, Run  # noqa: E402
+from lib.costs.table import table_of  # noqa: E402
+from lib.costs.work import Kind, Work, work_of  # noqa: E402
 
 RATTLE = "/opt/rattle/bin/rattle"
 HOME = "/work/crates/lgx_num"

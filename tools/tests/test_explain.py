@@ -100,7 +100,7 @@ class Ended(Room):
         words = [*self.runner("logix", "#!/bin/sh\necho end 0 0 run lost many; echo more\n"), "replay", "p", "j"]
         status, out, said = on_terminal(words)
         self.assertEqual((status, out), (0, b"end 0 0 run lost many\nmore\n"))
-        self.assertRegex(said, "^logix: this couldn't be explained, by a fault of tools/places: ValueError")
+        self.assertRegex(said, "^logix: this couldn't be explained, by a fault of tools/lib/places: ValueError")
 
 
 class Output(Room):

@@ -11,16 +11,16 @@ import unittest
 TOP = os.path.dirname(os.path.dirname(os.path.dirname(os.path.abspath(__file__))))
 sys.path.insert(0, f"{TOP}/tools")
 
-from hammer_parts import failing, lanes, limits  # noqa: E402
-from hammer_parts.bent import Bender  # noqa: E402
-from hammer_parts.cases import file_text, journal_text  # noqa: E402
-from hammer_parts.laws import Broken  # noqa: E402
-from hammer_parts.made import Maker  # noqa: E402
-from hammer_parts.plain.journal import Script, read_journal  # noqa: E402
-from hammer_parts.plain.judge import answer  # noqa: E402
-from hammer_parts.program import Ran  # noqa: E402
-from hammer_parts.shrink import Shrinker  # noqa: E402
-from hammer_parts.sound import unsound  # noqa: E402
+from lib.hammer import failing, lanes, limits  # noqa: E402
+from lib.hammer.bent import Bender  # noqa: E402
+from lib.hammer.cases import file_text, journal_text  # noqa: E402
+from lib.hammer.laws import Broken  # noqa: E402
+from lib.hammer.made import Maker  # noqa: E402
+from lib.hammer.plain.journal import Script, read_journal  # noqa: E402
+from lib.hammer.plain.judge import answer  # noqa: E402
+from lib.hammer.program import Ran  # noqa: E402
+from lib.hammer.shrink import Shrinker  # noqa: E402
+from lib.hammer.sound import unsound  # noqa: E402
 
 
 class Made(unittest.TestCase):

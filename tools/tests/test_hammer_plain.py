@@ -9,7 +9,7 @@ import unittest
 TOP = os.path.dirname(os.path.dirname(os.path.dirname(os.path.abspath(__file__))))
 sys.path.insert(0, f"{TOP}/tools")
 
-from hammer_parts.plain.judge import answer  # noqa: E402
+from lib.hammer.plain.judge import answer  # noqa: E402
 
 FIELDS = {
     "schema": "1", "controller": '"C"', "types": "[]", "tags": "[]",

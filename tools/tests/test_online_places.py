@@ -4,8 +4,8 @@ import random
 import unittest
 
 import plain_programs  # noqa: F401 (where the tools are)
-from online_parts.journal import LONGEST_ACTION, Act, Beat, Journal, Run, action, read
-from online_parts.plan import Plan, number_of, steps_of
+from lib.online.journal import LONGEST_ACTION, Act, Beat, Journal, Run, action, read
+from lib.online.plan import Plan, number_of, steps_of
 
 KINDS = {
     "controller": "C", "types": [{"name": "Cell", "members": [{"name": "Ok", "type": "BOOL"}, {"name": "Counts", "type": "INT", "dim": 3}, {"name": "Dwell", "type": "TIMER"}]}],

@@ -12,15 +12,15 @@ from unittest import mock
 
 from online_files import PLAIN, SAID, CONVEYOR
 from plain_programs import TOP, contents
-from online_parts import guards, hub, server as servers
-from online_parts.player import Player
-from online_parts.server import Server
-from online_parts.session import Session
-from online_parts.shown import Shown
-from online_parts.uses import Uses
+from lib.online import guards, hub, server as servers
+from lib.online.player import Player
+from lib.online.server import Server
+from lib.online.session import Session
+from lib.online.shown import Shown
+from lib.online.uses import Uses
 
 PAGE, OTHER = "0" * 16, "1" * 16
-PARTS = f"{TOP}/tools/online_parts"
+PARTS = f"{TOP}/tools/lib/online"
 
 
 class Served(unittest.TestCase):
@@ -176,8 +176,8 @@ DOCTORED = {
     "check_one_writer": lambda: mock.patch.object(hub.Hub, "check_writer"),
     "check_policy": lambda: mock.patch.dict(guards.HEADERS, {"Content-Security-Policy": "default-src 'none'; script-src 'self' 'unsafe-inline'; style-src 'self'; frame-ancestors 'none'"}),
     "check_files": lambda: mock.patch.dict(servers.FILES, {"server.py": ("server.py", "text/plain")}),
-    "check_fields": lambda: mock.patch("online_parts.commands.whole", lambda value, least, most: value),
-    "check_actions": lambda: mock.patch("online_parts.session.action", lambda lane, words: "#" + words.replace("\n", " ")),
+    "check_fields": lambda: mock.patch("lib.online.commands.whole", lambda value, least, most: value),
+    "check_actions": lambda: mock.patch("lib.online.session.action", lambda lane, words: "#" + words.replace("\n", " ")),
 }
 
 

@@ -6,7 +6,7 @@ import re
 import unittest
 
 from l5x_files import SAMPLES, TOP, call
-from hammer_parts.plain.judge import answer
+from lib.hammer.plain.judge import answer
 
 # The words of each sample and its status.
 WORDS = {

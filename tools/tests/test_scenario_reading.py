@@ -6,10 +6,10 @@ import itertools
 import unittest
 
 import scenario_files  # noqa: F401 (finds tools/)
-from scenario_parts.line import Line, Wrong
-from scenario_parts.reading import read
-from scenario_parts.scenario import Fault, Pace, When
-from scenario_parts.tests import read_test, whole_test
+from lib.scenario.line import Line, Wrong
+from lib.scenario.reading import read
+from lib.scenario.scenario import Fault, Pace, When
+from lib.scenario.tests import read_test, whole_test
 
 # Texts that a question of tools/explore has: tests joined by `and`. Each with its comparisons, as left, operator and right.
 QUESTIONS = (

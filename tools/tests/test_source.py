@@ -68,7 +68,7 @@ class Source(unittest.TestCase):
     def test_large_files_need_little_memory(self) -> None:
         code = (
             f"import re, sys; sys.dont_write_bytecode = True; sys.path.insert(0, {TOOLS!r})\n"
-            "from l5x.main import main\n"
+            "from lib.l5x.main import main\n"
             "status = main(sys.argv[1:], '/nonexistent')\n"
             # (what getrusage tells begins with the most that the process had which started this one)
             "most = re.search(r'VmHWM:\\s*(\\d+)', open('/proc/self/status').read())[1]\n"

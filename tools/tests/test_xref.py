@@ -9,11 +9,11 @@ import sys
 import unittest
 
 sys.path.insert(0, os.path.dirname(os.path.dirname(os.path.realpath(__file__))))
-from hammer_parts.made import Maker  # noqa: E402
-from hammer_parts.plain.project import Project  # noqa: E402
-from hammer_parts.plain.reader import Fault  # noqa: E402
-from hammer_parts.plain.xref import xref  # noqa: E402
-from places.uses import NoTag, Uses  # noqa: E402
+from lib.hammer.made import Maker  # noqa: E402
+from lib.hammer.plain.project import Project  # noqa: E402
+from lib.hammer.plain.reader import Fault  # noqa: E402
+from lib.hammer.plain.xref import xref  # noqa: E402
+from lib.places.uses import NoTag, Uses  # noqa: E402
 from refused_projects import LINE  # noqa: E402
 
 PACKED = LINE.replace('"JSR(Count,0);"', '"JSR(Count,0);",\n "MOV(Lots[LineNo],Local:2:O);"').replace(
