@@ -3,6 +3,7 @@ ghost use Rattle.std.specs.Prelude.{◌≡◌, ◌/◌};
 ghost use Rattle.lgx_image.specs.Grains.{grain_of};
 
 use crate::number_sets::{next_bit, set_bit};
+use crate::same::same_words;
 use spec_base::limits::MAX_IMAGE_BYTES;
 use std::marker::Model;
 
@@ -96,6 +97,20 @@ impl Marks {
         ensures { NextBit self.now from result }
     {
         next_bit(&self.words, from)
+    }
+
+    /// The marks once more.
+    pub(crate) fn copied(&self) -> Marks
+        ensures { result ≡ self.now }
+    {
+        Marks { words: self.words }
+    }
+
+    /// Whether the marks are the same.
+    pub(crate) fn is_same(&self, other: &Marks) -> bool
+        ensures { result ≡ true → self.now ≡ other.now }
+    {
+        same_words(&self.words, &other.words)
     }
 
     /// Takes every mark.

@@ -3,6 +3,7 @@ ghost use Rattle.std.specs.Prelude.{◌≡◌, ◌/◌};
 ghost use Rattle.lgx_image.specs.Grains.{word_of};
 
 use crate::number_sets::{clear_words, has_bit, next_bit, set_bit};
+use crate::same::same_words;
 use spec_base::limits::MAX_IMAGE_BYTES;
 use std::marker::Model;
 
@@ -55,6 +56,25 @@ impl Hits {
             first: 0,
             end: 0,
         }
+    }
+
+    /// The words that are watched and hit once more.
+    pub(crate) fn copied(&self) -> Hits
+        ensures { result ≡ self.now }
+    {
+        Hits {
+            watched: self.watched,
+            hits: self.hits,
+            first: self.first,
+            end: self.end,
+        }
+    }
+
+    /// Whether the same words are watched and hit.
+    pub(crate) fn is_same(&self, other: &Hits) -> bool
+        ensures { result ≡ true → self.now ≡ other.now }
+    {
+        same_words(&self.watched, &other.watched) && same_words(&self.hits, &other.hits)
     }
 
     /// The words that hold bytes of a piece are watched from now on.

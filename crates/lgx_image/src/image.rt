@@ -30,9 +30,9 @@ use std::marker::Model;
 /// hit when a byte of it changes.
 #[derive(Drop)]
 pub struct Image {
-    bytes: Vec<u8>,
-    marks: Marks,
-    hits: Hits,
+    pub(crate) bytes: Vec<u8>,
+    pub(crate) marks: Marks,
+    pub(crate) hits: Hits,
 }
 
 impl Model for Image {

@@ -14,6 +14,7 @@ mod image;
 mod laws;
 pub mod number_sets;
 mod operands;
+mod same;
 
 pub use grain::{GRAIN, grain_of};
 pub use hits::{WORD_BYTES, word_of};
