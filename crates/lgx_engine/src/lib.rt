@@ -12,6 +12,7 @@ mod moves;
 mod operand;
 mod row;
 mod run;
+mod same;
 mod scan;
 mod settling;
 mod short;

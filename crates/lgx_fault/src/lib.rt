@@ -3,6 +3,7 @@
 
 mod fault_log;
 mod laws;
+mod same;
 
 pub use fault_log::FaultLog;
 pub use laws::law_of_notes;

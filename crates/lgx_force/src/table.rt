@@ -20,9 +20,9 @@ pub struct StoredForce {
 ///
 /// It has a place for each word, so that a word is forced without a look at the others.
 pub struct ForceTable {
-    words: Vec<Option<StoredForce>>,
-    installed: u32,
-    enabled: bool,
+    pub(crate) words: Vec<Option<StoredForce>>,
+    pub(crate) installed: u32,
+    pub(crate) enabled: bool,
 }
 
 impl Drop for ForceTable {

@@ -1,9 +1,8 @@
 pub mod Marks
 pub mod Words
-pub mod Summaries
 pub mod Pieces
+pub mod WatchedWords
 pub mod Changes
-pub mod Hits
 pub mod Writes
 pub mod Paths
 pub mod Bindings

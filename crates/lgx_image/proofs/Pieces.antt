@@ -15,7 +15,7 @@ piece-at image at zero i k within is = absurd (omega arith)
 piece-at image at (suc n) zero k within is = let e : at ≡ k = omega arith in ap (λ j. get_or image j 0) e
 piece-at image at (suc n) (suc i) k within is = piece-at image (at + 1) n i k (omega arith) (omega arith)
 
-splice-at : (image : List ℕ) (at : ℕ) (bs : List ℕ) (i k : ℕ) → at + length bs ≤ length image → i < length bs → k ≡ at + i → get_or (splice image at bs) k 0 ≡ get_or bs i 0
+pub splice-at : (image : List ℕ) (at : ℕ) (bs : List ℕ) (i k : ℕ) → at + length bs ≤ length image → i < length bs → k ≡ at + i → get_or (splice image at bs) k 0 ≡ get_or bs i 0
 splice-at image at [] i k room within is = absurd (omega arith)
 splice-at image at (b ∷ bs) zero k room within is =
     let e : k ≡ at = omega arith in

@@ -1,16 +1,16 @@
 -- Words that keep marks as bits.
-use Rattle.std.proofs.Common.{◌≡◌, ◌≢◌, ℕ, ◌+◌, ◌-◌, ◌*◌, ◌/◌, ◌%◌, ◌^◌, ◌<◌, ◌≤◌, ◌⊎◌, inl, inr, suc, true, false, Option, List, length, get_or, set, replicate, eqb, max, bit_or, refl, sym, ap, ◌∙◌, arith, Some, None, get_or-set_same, get_or-set_other}
+use Rattle.std.proofs.Common.{◌≡◌, ◌≢◌, ℕ, ◌+◌, ◌-◌, ◌*◌, ◌/◌, ◌%◌, ◌^◌, ◌<◌, ◌≤◌, ◌⊎◌, inl, inr, zero, suc, Bool, true, false, List, length, get_or, set, replicate, eqb, min, max, bit_or, refl, sym, ap, subst, ◌∙◌, arith, Some, None, get_or-set_same, get_or-set_other}
 use Rattle.std.specs.Int.{w64, bit_at}
-use Rattle.std.proofs.lemmas.Bool.{cases_eq, cases_lt, false≢true}
+use Rattle.std.proofs.lemmas.Bool.{cases_eq, cases_lt}
 use Rattle.std.proofs.lemmas.Nat.{shr-shr}
 use Rattle.std.proofs.lemmas.Nat.Bits.{bit_at-zero, bit_at_above, bit_at_set_same, bit_at_set_other}
 use Rattle.std.proofs.lemmas.List.{get_or_past, ext_get_or, get_or-replicate, length-replicate}
 use Rattle.std.proofs.lemmas.List.FromFn.{length-map-range_with_len, get_or-map-range_with_len}
 use Rattle.lgx_image.specs.declared.grain.TheConstants.{GRAIN}
-use Rattle.lgx_image.specs.Grains.{ImageView, grain_of, grains_in, is_marked, mark_range, NextMarked, NextHit, SomeIsHit, NoneIsHit}
-use Rattle.lgx_image.specs.Words.{bit_of_words, marks_of, NoneFrom, TellsHit, NextBit, NextCommon, LeastBit}
+use Rattle.lgx_image.specs.Grains.{ImageView, grain_of, grains_in, is_marked, mark_range, NextMarked}
+use Rattle.lgx_image.specs.Words.{bit_of_words, marks_of, NextBit, LeastBit}
 use Rattle.lgx_image.specs.Laws.{HoldsByte}
-use Rattle.lgx_image.proofs.Marks.{grain_of-is, grain_of-below, length-mark_range, piece_is_marked, other_marks_stay}
+use Rattle.lgx_image.proofs.Marks.{grain_of-is, length-mark_range, piece_is_marked, other_marks_stay}
 
 -- ---- marks of words
 
@@ -188,61 +188,38 @@ no_mark words n from none k above = elim (cases_lt k n) [
   | inr past ↦ marks_of-past words n k past
 ]
 
--- ---- grains that are hit
-
--- a grain that is watched is one of the image's
-watched_below : (words : List ℕ) (n g : ℕ) → NoneFrom words n → bit_of_words words g ≡ true → g < n
-watched_below words n g beyond on = elim (cases_lt g n) [
-  | inl within ↦ within
-  | inr past ↦ absurd (false≢true (sym (beyond g past) ∙ on))
-]
-
--- what a list of marks says of a grain says a bit of its words
-watched_bit : (words : List ℕ) (n g : ℕ) → is_marked (marks_of words n) g ≡ true → (g < n) × (bit_of_words words g ≡ true)
-watched_bit words n g on = elim (cases_lt g n) [
-  | inl within ↦ (within, sym (marks_of-at words n g within) ∙ on)
-  | inr past ↦ absurd (false≢true (sym (marks_of-past words n g past) ∙ on))
-]
-
-unhit_grain : (watched marked : List ℕ) (n g : ℕ) → is_marked (marks_of watched n) g ≡ true → (bit_of_words watched g ≡ true → bit_of_words marked g ≡ false) → is_marked (marks_of marked n) g ≡ false
-unhit_grain watched marked n g on none = let bit = watched_bit watched n g on in marks_of-at marked n g bit.0 ∙ none bit.1
-
-pub some_hit : (bytes watched marked : List ℕ) (n : ℕ) → NoneFrom watched n → TellsHit true watched marked → SomeIsHit (record { bytes = bytes; marks = marks_of marked n; watched = marks_of watched n })
-some_hit bytes watched marked n beyond tells =
-    let both = tells.some refl in
-    let within = watched_below watched n both.0 beyond both.1 in
-    (both.0, marks_of-at watched n both.0 within ∙ both.1, marks_of-at marked n both.0 within ∙ both.2)
-
-pub none_is_hit : (bytes watched marked : List ℕ) (n : ℕ) → TellsHit false watched marked → NoneIsHit (record { bytes = bytes; marks = marks_of marked n; watched = marks_of watched n })
-none_is_hit bytes watched marked n tells g on = unhit_grain watched marked n g on (tells.none refl g)
-
--- grains that hold bytes of a piece are the image's
-pub watched_piece_below : (old new : List ℕ) (at size len : ℕ) → at + size ≤ len → NoneFrom old (grains_in len)
-    → ((n : ℕ) → marks_of new n ≡ mark_range (marks_of old n) at size) → NoneFrom new (grains_in len)
-watched_piece_below old new at size len room beyond marks g past =
-    sym (marks_of-at new (g + 1) g (omega arith))
-    ∙ ap (λ m. is_marked m g) (marks (g + 1))
-    ∙ other_marks_stay (marks_of old (g + 1)) at size g (λ h. absurd (omega (arith, past, ap suc h.3, grain_of-below h.0 len (omega (arith, h.2)))))
-    ∙ marks_of-at old (g + 1) g (omega arith)
-    ∙ beyond g past
-
--- the next bit that is set in both as a grain that is hit
-pub next_hit : (bytes : List ℕ) (watched marked : List ℕ) (n from : ℕ) (o : Option ℕ) → NoneFrom watched n → NextCommon watched marked from o
-    → NextHit (record { bytes = bytes; marks = marks_of marked n; watched = marks_of watched n }) from o
-next_hit bytes watched marked n from None beyond none = λ g above on. unhit_grain watched marked n g on (none g above)
-next_hit bytes watched marked n from (Some next) beyond is =
-    let within = watched_below watched n next beyond is.1 in (
-      is.0,
-      marks_of-at watched n next within ∙ is.1,
-      marks_of-at marked n next within ∙ is.2,
-      λ g above below on. unhit_grain watched marked n g on (is.3 g above below),
-    )
-
 -- ---- an image as its callers see it
 
 -- it has a mark for each of its grains
-pub grains_of_view : (bytes words watched : List ℕ) (image : ImageView) → (record { bytes = bytes; marks = marks_of words (grains_in (length bytes)); watched = marks_of watched (grains_in (length bytes)) }) ≡ image → length image.marks ≡ grains_in (length image.bytes)
-grains_of_view bytes words watched image is =
+pub grains_of_view : (bytes words : List ℕ) (watched hits : List Bool) (image : ImageView) → (record { bytes = bytes; marks = marks_of words (grains_in (length bytes)); watched = watched; hits = hits }) ≡ image → length image.marks ≡ grains_in (length image.bytes)
+grains_of_view bytes words watched hits image is =
     let same = ap (λ (m : ImageView). length m.marks) is in
     let count = ap (λ (m : ImageView). grains_in (length m.bytes)) is in
     sym same ∙ length-marks_of words (grains_in (length bytes)) ∙ count
+
+-- its marks are taken
+pub cleared_view : (bytes old new : List ℕ) (watched hits : List Bool) (image : ImageView) → (record { bytes = bytes; marks = marks_of old (grains_in (length bytes)); watched = watched; hits = hits }) ≡ image → ((n : ℕ) → marks_of new n ≡ replicate n false)
+    → ◌≡◌ {A = ImageView} (record { bytes = bytes; marks = marks_of new (grains_in (length bytes)); watched = watched; hits = hits }) (record { bytes = image.bytes; marks = replicate (length image.marks) false; watched = image.watched; hits = image.hits })
+cleared_view bytes old new watched hits image is none =
+    let count : marks_of new (grains_in (length bytes)) ≡ replicate (length (marks_of old (grains_in (length bytes)))) false = none (grains_in (length bytes)) ∙ ap (λ n. replicate n false) (sym (length-marks_of old (grains_in (length bytes)))) in
+    ap {B = ImageView} (λ m. record { bytes = bytes; marks = m; watched = watched; hits = hits }) count
+    ∙ ap {B = ImageView} (λ (i : ImageView). record { bytes = i.bytes; marks = replicate (length i.marks) false; watched = i.watched; hits = i.hits }) is
+
+-- how many grains there are
+pub grains_in-is : (len : ℕ) → grains_in len ≡ len / GRAIN + min 1 (len % GRAIN)
+unfolding grains_in grain_of
+grains_in-is zero = refl
+grains_in-is (suc len) = omega arith
+
+-- the next mark, which may be past the last grain
+pub next_marked_none : (bytes words : List ℕ) (watched hits : List Bool) (image : ImageView) (from : ℕ) → (record { bytes = bytes; marks = marks_of words (grains_in (length bytes)); watched = watched; hits = hits }) ≡ image → NextBit words from None → NextMarked image.marks from None
+next_marked_none bytes words watched hits image from is none = subst (λ (i : ImageView). NextMarked i.marks from None) is (no_mark words (grains_in (length bytes)) from none)
+
+pub next_marked_some : (bytes words : List ℕ) (watched hits : List Bool) (image : ImageView) (from next : ℕ) → (record { bytes = bytes; marks = marks_of words (grains_in (length bytes)); watched = watched; hits = hits }) ≡ image → next < grains_in (length bytes) → NextBit words from (Some next) → NextMarked image.marks from (Some next)
+next_marked_some bytes words watched hits image from next is within found = subst (λ (i : ImageView). NextMarked i.marks from (Some next)) is (next_mark words (grains_in (length bytes)) from next within found)
+
+pub next_marked_past : (bytes words : List ℕ) (watched hits : List Bool) (image : ImageView) (from next : ℕ) → (record { bytes = bytes; marks = marks_of words (grains_in (length bytes)); watched = watched; hits = hits }) ≡ image → grains_in (length bytes) ≤ next → NextBit words from (Some next) → NextMarked image.marks from None
+next_marked_past bytes words watched hits image from next is past found = subst (λ (i : ImageView). NextMarked i.marks from None) is (λ k above. elim (cases_lt k (grains_in (length bytes))) [
+  | inl within ↦ marks_of-at words (grains_in (length bytes)) k within ∙ found.2 k above (omega arith)
+  | inr beyond ↦ marks_of-past words (grains_in (length bytes)) k beyond
+])

@@ -1,34 +1,34 @@
--- How an image keeps its marks, and which grains are watched: bit i of word k is that of grain 64k + i.
-use Rattle.std.specs.Prelude.{◌≡◌, ℕ, ◌/◌, ◌%◌, ◌^◌, ◌-◌, ◌<◌, ◌≤◌, min, Bool, true, false, List, map, slice_index, ◌==◌, Option, Some, None, option_map}
+-- How an image keeps its marks, and which words are watched and hit: bit i of row k is that of number 64k + i.
+use Rattle.std.specs.Prelude.{◌≡◌, ◌≢◌, ℕ, ◌/◌, ◌%◌, ◌^◌, ◌-◌, ◌<◌, ◌≤◌, min, Bool, true, false, ◌||◌, List, length, map, slice_index, ◌==◌, Option, Some, None, option_map}
 use Rattle.std.specs.Int.{bit_at}
 use Rattle.std.specs.List.{range_with_len}
+use Rattle.lgx_image.specs.declared.hits.TheConstants.{MAX_WORDS}
+use Rattle.lgx_image.specs.Grains.{is_marked}
 
 abbrev pub bit_of_words : List ℕ → ℕ → Bool
 bit_of_words words grain = bit_at (slice_index words (grain / 64)) (grain % 64) == 1
 
--- a summary has a bit for each word in which a bit is set, and for no other
-pub record IsSummary (words summary : List ℕ) : Type 0 where
-  pub known : (g : ℕ) → bit_of_words words g ≡ true → bit_of_words summary (g / 64) ≡ true
-  pub kept : (k : ℕ) → bit_of_words summary k ≡ true → (g : ℕ) × (g / 64 ≡ k) × (bit_of_words words g ≡ true)
+-- which words of an image are watched and which are hit
+pub record HitsView : Type 0 where
+  pub watched : List Bool
+  pub hits : List Bool
 
--- the words of the marks, and those of the watched grains
-pub record MarkWords : Type 0 where
-  pub marked : List ℕ
-  pub watched : List ℕ
+-- the least bit that is set is number first, and none from end on is set; end is 0 if none is set at all
+pub record AreBetween (words : List ℕ) (first end : ℕ) : Type 0 where
+  pub within : (g : ℕ) → bit_of_words words g ≡ true → (first ≤ g) × (g < end)
+  pub some : 0 < end → bit_of_words words first ≡ true
+  pub few : end ≤ MAX_WORDS
 
--- whether a watched grain is marked
-pub record TellsHit (hit : Bool) (watched marked : List ℕ) : Type 0 where
-  pub some : hit ≡ true → (g : ℕ) × (bit_of_words watched g ≡ true) × (bit_of_words marked g ≡ true)
-  pub none : hit ≡ false → (g : ℕ) → bit_of_words watched g ≡ true → bit_of_words marked g ≡ false
+-- a word changed: it is hit if it was before or is watched, and the others stay
+pub record IsNoted (watched old new : List Bool) (word : ℕ) : Type 0 where
+  pub its : is_marked new word ≡ (is_marked old word || is_marked watched word)
+  pub others : (other : ℕ) → other ≢ word → is_marked new other ≡ is_marked old other
 
--- what is known of marks with their summary, the watched grains and whether one of them is marked
-pub record AreKept (marked summary watched : List ℕ) (hit : Bool) : Type 0 where
-  pub has_summary : IsSummary marked summary
-  pub tells_hit : TellsHit hit watched marked
-
--- none of the grains from this one on has its bit set
-abbrev pub NoneFrom : List ℕ → ℕ → Type 0
-NoneFrom words grains = (g : ℕ) → grains ≤ g → bit_of_words words g ≡ false
+-- the words below from have no bit any more, and the others have those that they had
+pub record Cleared (old now : List ℕ) (from : ℕ) : Type 0 where
+  pub len : length now ≡ length old
+  pub none : (g : ℕ) → g / 64 < from → bit_of_words now g ≡ false
+  pub rest : (g : ℕ) → from ≤ g / 64 → bit_of_words now g ≡ bit_of_words old g
 
 -- the marks of so many grains
 unfoldable pub marks_of : List ℕ → ℕ → List Bool
@@ -38,13 +38,6 @@ marks_of words grains = map (bit_of_words words) (range_with_len 0 grains)
 abbrev pub NextBit : List ℕ → ℕ → Option ℕ → Type 0
 NextBit words from None = (k : ℕ) → from ≤ k → bit_of_words words k ≡ false
 NextBit words from (Some next) = (from ≤ next) × (bit_of_words words next ≡ true) × ((k : ℕ) → from ≤ k → k < next → bit_of_words words k ≡ false)
-
--- the least bit that is set in both and not below from, or none
-abbrev pub NextCommon : List ℕ → List ℕ → ℕ → Option ℕ → Type 0
-NextCommon watched marked from None = (g : ℕ) → from ≤ g → bit_of_words watched g ≡ true → bit_of_words marked g ≡ false
-NextCommon watched marked from (Some next) =
-    (from ≤ next) × (bit_of_words watched next ≡ true) × (bit_of_words marked next ≡ true)
-    × ((g : ℕ) → from ≤ g → g < next → bit_of_words watched g ≡ true → bit_of_words marked g ≡ false)
 
 -- the least bit of a word, or none
 abbrev pub LeastBit : ℕ → Option ℕ → Type 0

@@ -45,7 +45,7 @@ pub(crate) fn bit_at(bytes: &[u8], bit: u32) -> bool
 
 /// Puts a byte; whether that changed it.
 #[inline(always)]
-fn write_byte(bytes: &mut [u8], at: usize, byte: u8) -> bool
+pub(crate) fn write_byte(bytes: &mut [u8], at: usize, byte: u8) -> bool
     requires { at < length bytes.old }
     ensures after { bytes.new ≡ slice_set bytes.old at byte }
     ensures differs { result ≡ not (byte == slice_index bytes.old at) }
@@ -93,29 +93,6 @@ pub(crate) fn write_dint(bytes: &mut [u8], byte: u32, value: i32) -> bool
     bytes[at + 2] = low[2];
     bytes[at + 3] = low[3];
     true
-}
-
-/// Puts the low bits of a value at a place; whether that changed a byte.
-#[inline]
-pub(crate) fn write_at(bytes: &mut [u8], place: Place, value: i32) -> bool
-    requires { InBounds place (length bytes.old) }
-    ensures after { bytes.new ≡ write bytes.old place value }
-    ensures len { length bytes.new ≡ length bytes.old }
-    ensures changed { result ≡ true → bytes.new ≢ bytes.old }
-    ensures kept { result ≡ false → bytes.new ≡ bytes.old }
-{
-    let at = (place.at / 8) as usize;
-    let low = bytes_of(value);
-    match place.kind {
-        Kind::Bool => write_bit(bytes, place.at, low[0] % 2 == 1),
-        Kind::Sint => write_byte(bytes, at, low[0]),
-        Kind::Int => {
-            let first = write_byte(bytes, at, low[0]);
-            let second = write_byte(bytes, at + 1, low[1]);
-            first || second
-        }
-        Kind::Dint => write_dint(bytes, place.at / 8, value),
-    }
 }
 
 /// Copies bytes, read whole before they are written.

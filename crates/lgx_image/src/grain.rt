@@ -1,68 +1,52 @@
-// Grains of an image, and the words that keep which are marked and which are watched.
-ghost use Rattle.std.specs.Prelude.{◌≡◌, ℕ, ◌+◌, ◌/◌, ◌<◌, ◌≤◌, ◌≢◌, true, false, length, replicate};
-ghost use Rattle.spec_base.specs.declared.limits.TheConstants.{MAX_IMAGE_BYTES};
-ghost use Rattle.lgx_image.specs.Grains.{grain_of, grains_in};
-ghost use Rattle.lgx_image.specs.Words.{bit_of_words, IsSummary, NextBit, NextCommon, LeastBit};
+// Grains of an image, and the words that keep which are marked.
+ghost use Rattle.std.specs.Prelude.{◌≡◌, ◌/◌};
+ghost use Rattle.lgx_image.specs.Grains.{grain_of};
 
+use crate::number_sets::{next_bit, set_bit};
+use crate::same::same_words;
 use spec_base::limits::MAX_IMAGE_BYTES;
 use std::marker::Model;
 
 /// The bytes of a grain, by which an image marks what was written.
-pub const GRAIN: u32 = 16;
+pub const GRAIN: u32 = 64;
 
 /// The words that keep the marks of the largest image, a bit for each grain.
-pub const WORDS: usize = (MAX_IMAGE_BYTES / GRAIN / u64::BITS) as usize;
+const MARK_WORDS: usize = (MAX_IMAGE_BYTES / GRAIN / u64::BITS) as usize;
 
-/// The words of the summary, a bit for each word of marks.
-const SUMMARY_WORDS: usize = WORDS / 64;
-
-/// The marks of an image: a bit for each grain, and a summary with a bit for each word of them that isn't 0. So what isn't
-/// marked costs nothing to look for or to clear. Beside them stand a bit for each grain that is watched, and whether one
-/// of these is marked.
+/// The marks of an image, a bit for each grain.
 #[derive(Drop)]
 pub(crate) struct Marks {
-    words: [u64; WORDS],
-    summary: [u64; SUMMARY_WORDS],
-    watched: [u64; WORDS],
-    hit: bool,
+    words: [u64; MARK_WORDS],
 }
 
 impl Model for Marks {
-    ghost use Rattle.lgx_image.specs.Words.{MarkWords, AreKept};
+    ghost use Rattle.std.specs.Prelude.{ℕ, List};
 
-    ghost Value = { MarkWords };
+    ghost Value = { List ℕ };
 
-    ghost view = { λ m. record { marked = m.words; watched = m.watched } };
-
-    ghost invariant = { λ m. AreKept m.words m.summary m.watched m.hit };
+    ghost view = { λ m. m.words };
 }
 
 impl Marks {
-    ghost use Rattle.std.specs.Prelude.{◌≡◌, ℕ, ◌+◌, ◌/◌, ◌<◌, ◌≤◌, ◌≢◌, ◌⊎◌, true, false, length, replicate};
+    ghost use Rattle.std.specs.Prelude.{◌≡◌, ℕ, ◌+◌, ◌-◌, ◌/◌, ◌<◌, ◌≤◌, ◌≢◌, ◌⊎◌, true, false, replicate};
     ghost use Rattle.spec_base.specs.declared.limits.TheConstants.{MAX_IMAGE_BYTES};
-    ghost use Rattle.lgx_image.specs.Grains.{mark_range};
-    ghost use Rattle.lgx_image.specs.Words.{bit_of_words, marks_of, TellsHit, NextCommon};
+    ghost use Rattle.lgx_image.specs.Grains.{grain_of, mark_range};
+    ghost use Rattle.lgx_image.specs.Words.{bit_of_words, marks_of, NextBit};
 
-    /// No mark, and no grain watched.
+    /// No mark.
     pub(crate) fn new() -> Marks
-        ensures marked { (grains : ℕ) → marks_of result.marked grains ≡ replicate grains false }
-        ensures watched { (grains : ℕ) → marks_of result.watched grains ≡ replicate grains false }
-        ensures none { (g : ℕ) → bit_of_words result.watched g ≡ false }
+        ensures { (grains : ℕ) → marks_of result grains ≡ replicate grains false }
     {
         Marks {
-            words: [0; WORDS],
-            summary: [0; SUMMARY_WORDS],
-            watched: [0; WORDS],
-            hit: false,
+            words: [0; MARK_WORDS],
         }
     }
 
     /// Sets the marks of the grains that hold bytes of a piece.
-    #[inline(always)]
+    #[inline]
     pub(crate) fn mark_range(&mut self, at: u32, size: u32)
         requires { at + size ≤ MAX_IMAGE_BYTES }
-        ensures marked { (grains : ℕ) → marks_of self.new.marked grains ≡ mark_range (marks_of self.old.marked grains) at size }
-        ensures watched { self.new.watched ≡ self.old.watched }
+        ensures { (grains : ℕ) → marks_of self.new grains ≡ mark_range (marks_of self.old grains) at size }
     {
         if size == 0 {
             return;
@@ -75,13 +59,23 @@ impl Marks {
         }
     }
 
+    /// Sets the mark of the grain that holds all bytes of a piece.
+    #[inline(always)]
+    pub(crate) fn mark_inside(&mut self, at: u32, size: u32)
+        requires within { at + size ≤ MAX_IMAGE_BYTES }
+        requires some { 0 < size }
+        requires one { grain_of (at + size - 1) ≡ grain_of at }
+        ensures { (grains : ℕ) → marks_of self.new grains ≡ mark_range (marks_of self.old grains) at size }
+    {
+        self.mark(grain_of(at));
+    }
+
     /// Sets the marks of the grains from one to another.
     fn mark_from(&mut self, first: u32, last: u32)
         requires order { first ≤ last }
-        requires within { last / 64 < WORDS }
-        ensures marked { (g : ℕ) → first ≤ g → g ≤ last → bit_of_words self.new.marked g ≡ true }
-        ensures others { (g : ℕ) → (g < first) ⊎ (last < g) → bit_of_words self.new.marked g ≡ bit_of_words self.old.marked g }
-        ensures watched { self.new.watched ≡ self.old.watched }
+        requires within { last / 64 < MARK_WORDS }
+        ensures marked { (g : ℕ) → first ≤ g → g ≤ last → bit_of_words self.new g ≡ true }
+        ensures others { (g : ℕ) → (g < first) ⊎ (last < g) → bit_of_words self.new g ≡ bit_of_words self.old g }
     {
         for grain in first..last + 1 {
             self.mark(grain);
@@ -91,68 +85,39 @@ impl Marks {
     /// Sets the mark of a grain.
     #[inline(always)]
     fn mark(&mut self, grain: u32)
-        requires { grain / 64 < WORDS }
-        ensures set { bit_of_words self.new.marked grain ≡ true }
-        ensures others { (other : ℕ) → other ≢ grain → bit_of_words self.new.marked other ≡ bit_of_words self.old.marked other }
-        ensures watched { self.new.watched ≡ self.old.watched }
+        requires { grain / 64 < MARK_WORDS }
+        ensures set { bit_of_words self.new grain ≡ true }
+        ensures others { (other : ℕ) → other ≢ grain → bit_of_words self.new other ≡ bit_of_words self.old other }
     {
         set_bit(&mut self.words, grain);
-        set_bit(&mut self.summary, grain / u64::BITS);
-        self.hit |= has_bit(&self.watched, grain);
     }
 
-    /// The grains that hold bytes of a piece are watched from now on.
-    pub(crate) fn watch_range(&mut self, at: u32, size: u32)
-        requires { at + size ≤ MAX_IMAGE_BYTES }
-        ensures watched { (grains : ℕ) → marks_of self.new.watched grains ≡ mark_range (marks_of self.old.watched grains) at size }
-        ensures marked { self.new.marked ≡ self.old.marked }
+    /// The least marked grain that isn't below `from`.
+    pub(crate) fn next(&self, from: u32) -> Option<u32>
+        ensures { NextBit self.now from result }
     {
-        if size == 0 {
-            return;
-        }
-        let last = grain_of(at + size - 1);
-        for grain in grain_of(at)..last + 1 {
-            self.watch(grain);
-        }
+        next_bit(&self.words, from)
     }
 
-    /// A grain is watched from now on.
-    fn watch(&mut self, grain: u32)
-        requires { grain / 64 < WORDS }
-        ensures set { bit_of_words self.new.watched grain ≡ true }
-        ensures others { (other : ℕ) → other ≢ grain → bit_of_words self.new.watched other ≡ bit_of_words self.old.watched other }
-        ensures marked { self.new.marked ≡ self.old.marked }
+    /// The marks once more.
+    pub(crate) fn copied(&self) -> Marks
+        ensures { result ≡ self.now }
     {
-        set_bit(&mut self.watched, grain);
-        self.hit |= has_bit(&self.words, grain);
+        Marks { words: self.words }
     }
 
-    /// Whether a watched grain is marked.
-    #[inline(always)]
-    pub(crate) fn is_hit(&self) -> bool
-        ensures { TellsHit result self.now.watched self.now.marked }
+    /// Whether the marks are the same.
+    pub(crate) fn is_same(&self, other: &Marks) -> bool
+        ensures { result ≡ true → self.now ≡ other.now }
     {
-        self.hit
-    }
-
-    /// The least watched grain that is marked and not below `from`.
-    pub(crate) fn next_hit(&self, from: u32) -> Option<u32>
-        ensures { NextCommon self.now.watched self.now.marked from result }
-    {
-        if !self.hit {
-            return None;
-        }
-        next_common(&self.watched, &self.words, &self.summary, from)
+        same_words(&self.words, &other.words)
     }
 
     /// Takes every mark.
     pub(crate) fn clear(&mut self)
-        ensures marked { (grains : ℕ) → marks_of self.new.marked grains ≡ replicate grains false }
-        ensures watched { self.new.watched ≡ self.old.watched }
+        ensures { (grains : ℕ) → marks_of self.new grains ≡ replicate grains false }
     {
-        clear_known(&mut self.words, &self.summary);
-        self.summary = [0; SUMMARY_WORDS];
-        self.hit = false;
+        self.words = [0; MARK_WORDS];
     }
 }
 
@@ -162,97 +127,4 @@ pub fn grain_of(byte: u32) -> u32
     ensures { result ≡ grain_of byte }
 {
     byte / GRAIN
-}
-
-/// Whether a bit of words is set.
-#[inline(always)]
-fn has_bit(words: &[u64], bit: u32) -> bool
-    requires { bit / 64 < length words.now }
-    ensures { result ≡ bit_of_words words.now bit }
-{
-    (words[(bit / u64::BITS) as usize] >> (bit % u64::BITS)) & 1 == 1
-}
-
-/// Sets a bit of words.
-#[inline(always)]
-fn set_bit(words: &mut [u64], bit: u32)
-    requires { bit / 64 < length words.old }
-    ensures set { bit_of_words words.new bit ≡ true }
-    ensures others { (other : ℕ) → other ≢ bit → bit_of_words words.new other ≡ bit_of_words words.old other }
-    ensures len { length words.new ≡ length words.old }
-{
-    words[(bit / u64::BITS) as usize] |= 1 << (bit % u64::BITS);
-}
-
-/// The least bit that is set in watched words and in marked ones with a summary, and not below `from`.
-fn next_common(watched: &[u64], marked: &[u64], summary: &[u64], from: u32) -> Option<u32>
-    requires watched { length watched.now ≡ WORDS }
-    requires marked { length marked.now ≡ WORDS }
-    requires summary { length summary.now ≡ SUMMARY_WORDS }
-    requires known { IsSummary marked.now summary.now }
-    ensures { NextCommon watched.now marked.now from result }
-{
-    let first = from / u64::BITS;
-    if first as usize >= WORDS {
-        return None;
-    }
-    let word = watched[first as usize] & marked[first as usize];
-    if let Some(bit) = least_bit(word >> (from % u64::BITS)) {
-        return Some(from + bit);
-    }
-    let mut later = first + 1;
-    while let Some(at) = next_bit(summary, later) {
-        let word = watched[at as usize] & marked[at as usize];
-        if let Some(bit) = least_bit(word) {
-            return Some(at * u64::BITS + bit);
-        }
-        later = at + 1;
-    }
-    None
-}
-
-/// Clears the words that a summary knows to have a bit.
-fn clear_known(words: &mut [u64], summary: &[u64])
-    requires words { length words.old ≡ WORDS }
-    requires summary { length summary.now ≡ SUMMARY_WORDS }
-    requires known { IsSummary words.old summary.now }
-    ensures bits { (bit : ℕ) → bit_of_words words.new bit ≡ false }
-    ensures len { length words.new ≡ length words.old }
-{
-    let mut from = 0;
-    while let Some(word) = next_bit(summary, from) {
-        words[word as usize] = 0;
-        from = word + 1;
-    }
-}
-
-/// The least bit of the words that is set and not below `from`; None if there is none. Bit i of word k is number 64 k + i.
-pub fn next_bit(words: &[u64], from: u32) -> Option<u32>
-    requires { length words.now ≤ WORDS }
-    ensures { NextBit words.now from result }
-{
-    let first = (from / u64::BITS) as usize;
-    if first >= words.len() {
-        return None;
-    }
-    if let Some(bit) = least_bit(words[first] >> (from % u64::BITS)) {
-        return Some(from + bit);
-    }
-    for at in first + 1..words.len() {
-        if let Some(bit) = least_bit(words[at]) {
-            return Some(at as u32 * u64::BITS + bit);
-        }
-    }
-    None
-}
-
-/// The least bit of a word that is set.
-fn least_bit(word: u64) -> Option<u32>
-    ensures { LeastBit word result }
-{
-    if word == 0 {
-        None
-    } else {
-        Some(word.trailing_zeros())
-    }
 }

@@ -1,5 +1,5 @@
-// The image: the bytes of all tags, with the marks of what changed.
-ghost use Rattle.std.specs.Prelude.{◌≡◌, ℕ, ◌+◌, ◌*◌, ◌/◌, ◌<◌, ◌≤◌, length, replicate, true, false, IfOk, IfSome, option_map};
+// The image: the bytes of all tags, with the marks of what was written and the hits of what changed.
+ghost use Rattle.std.specs.Prelude.{◌≡◌, ℕ, ◌+◌, ◌*◌, ◌/◌, ◌%◌, ◌<◌, ◌≤◌, length, replicate, slice_set, true, false, IfOk, IfSome, option_map};
 ghost use Rattle.std.specs.List.{All};
 ghost use Rattle.spec_base.specs.declared.limits.TheConstants.{MAX_IMAGE_BYTES, MAX_BOUND_OPERANDS};
 ghost use Rattle.lgx_num.specs.Image.{number, number_of, write, write_of, piece, splice, InBounds, bit_of};
@@ -9,53 +9,58 @@ ghost use Rattle.spec_scan.specs.Executable.{EndsIn, ArgsEndIn};
 ghost use Rattle.spec_scan.specs.Fits.{OperandsFit, ArgsFit};
 ghost use Rattle.lgx_rung.specs.declared.op.Op.{Op};
 ghost use Rattle.lgx_num.specs.Number.{bytes_in};
-ghost use Rattle.lgx_image.specs.Grains.{grains_in, mark_range, MarksWritten, ChangesOnlyMarked, NoneIsHit, SomeIsHit, NextHit};
+ghost use Rattle.lgx_image.specs.Grains.{grains_in, is_marked, mark_range, watch_range, NextMarked, HitsWritten, ChangesOnlyMarked, NoneIsHit, SomeIsHit, NextHit};
 ghost use Rattle.lgx_image.specs.Args.{place_at, CellInBounds, OperandsInBounds, ArgInBounds, ArgsInBounds};
 ghost use Rattle.lgx_image.specs.Laws.{AllWatched};
 
 use crate::bytes::{
-    bit_at, copy_piece, dint_at, first_bit, number_at, write_at, write_bit, write_dint,
+    bit_at, copy_piece, dint_at, first_bit, number_at, write_bit, write_byte, write_dint,
 };
-use crate::grain::Marks;
+use crate::grain::{GRAIN, Marks};
+use crate::hits::{Hits, WORD_BYTES, word_of};
 use crate::operands::{bind_all, bind_one};
-use lgx_num::{Kind, Memory, Operand, Path, Place, bytes_in};
+use lgx_num::{Kind, Memory, Operand, Path, Place, bytes_in, bytes_of};
 use spec_scan::{Arg, Bound};
 use std::alloc::Global;
 use std::marker::Model;
 
-/// The bytes of all tags, a mark for each grain of them in which a byte changed, and the grains that are watched.
+/// The bytes of all tags, a mark for each grain of them in which a byte was written, and the words that are watched and hit.
 ///
-/// A grain is a run of `GRAIN` bytes, counted from 0; the last may be shorter. A watched grain that is marked is hit.
+/// A grain is a run of `GRAIN` bytes and a word one of `WORD_BYTES`, counted from 0; the last may be shorter. A watched word is
+/// hit when a byte of it changes.
 #[derive(Drop)]
 pub struct Image {
-    bytes: Vec<u8>,
-    marks: Marks,
+    pub(crate) bytes: Vec<u8>,
+    pub(crate) marks: Marks,
+    pub(crate) hits: Hits,
 }
 
 impl Model for Image {
     ghost use Rattle.std.specs.Prelude.{◌≤◌, length};
     ghost use Rattle.spec_base.specs.declared.limits.TheConstants.{MAX_IMAGE_BYTES};
     ghost use Rattle.lgx_image.specs.Grains.{ImageView, grains_in};
-    ghost use Rattle.lgx_image.specs.Words.{marks_of, NoneFrom};
+    ghost use Rattle.lgx_image.specs.Words.{marks_of};
 
     ghost Value = { ImageView };
 
-    ghost view = { λ i. record { bytes = i.bytes.items; marks = marks_of i.marks.marked (grains_in (length i.bytes.items)); watched = marks_of i.marks.watched (grains_in (length i.bytes.items)) } };
+    ghost view = { λ i. record { bytes = i.bytes.items; marks = marks_of i.marks (grains_in (length i.bytes.items)); watched = i.hits.watched; hits = i.hits.hits } };
 
-    ghost invariant = { λ i. (length i.bytes.items ≤ MAX_IMAGE_BYTES) × NoneFrom i.marks.watched (grains_in (length i.bytes.items)) };
+    ghost invariant = { λ i. length i.bytes.items ≤ MAX_IMAGE_BYTES };
 }
 
 impl Image {
-    /// An image of `len` bytes, all 0, with no mark, of which no grain is watched.
+    /// An image of `len` bytes, all 0, with no mark, of which no word is watched or hit.
     pub fn new(alloc: Global, len: u32) -> Result<Image, Memory>
         requires { len ≤ MAX_IMAGE_BYTES }
         ensures bytes { IfOk result (λ image. image.bytes ≡ replicate len 0) }
         ensures marks { IfOk result (λ image. image.marks ≡ replicate (grains_in len) false) }
-        ensures watched { IfOk result (λ image. image.watched ≡ replicate (grains_in len) false) }
+        ensures watched { IfOk result (λ image. (word : ℕ) → is_marked image.watched word ≡ false) }
+        ensures hits { IfOk result NoneIsHit }
     {
         Ok(Image {
             bytes: vec![in alloc; 0; len as usize]?,
             marks: Marks::new(),
+            hits: Hits::new(),
         })
     }
 
@@ -77,16 +82,57 @@ impl Image {
         number_at(&self.bytes, place)
     }
 
-    /// Stores the low bits of a value at a place, which lies in the image; if that changes a byte, its grains are marked.
+    /// Stores the low bits of a value at a place, which lies in the image. The grains of its bytes are marked, and a watched word
+    /// in which a byte changes is hit.
     #[inline]
     pub fn put(&mut self, place: Place, value: i32)
         requires { InBounds place (length self.old.bytes) }
         ensures bytes { self.new.bytes ≡ write self.old.bytes place value }
-        ensures marks { MarksWritten self.old self.new (place.at / 8) (bytes_in place.kind) }
+        ensures marks { self.new.marks ≡ mark_range self.old.marks (place.at / 8) (bytes_in place.kind) }
+        ensures hits { HitsWritten self.old self.new }
         ensures only_marked { ChangesOnlyMarked self.old self.new }
     {
-        if write_at(&mut self.bytes, place, value) {
-            self.marks.mark_range(place.at / 8, bytes_in(place.kind));
+        self.store(place, value);
+    }
+
+    /// Stores the low bits of a value at a place.
+    #[inline(always)]
+    fn store(&mut self, place: Place, value: i32)
+        requires { InBounds place (length self.old.bytes) }
+        ensures grains { length self.old.marks ≡ grains_in (length self.old.bytes) }
+        ensures bytes { self.new.bytes ≡ write self.old.bytes place value }
+        ensures marks { self.new.marks ≡ mark_range self.old.marks (place.at / 8) (bytes_in place.kind) }
+        ensures watched { self.new.watched ≡ self.old.watched }
+        ensures hits { HitsWritten self.old self.new }
+    {
+        let at = place.at / 8;
+        let low = bytes_of(value);
+        match place.kind {
+            Kind::Bool => self.store_bit(place.at, low[0] % 2 == 1),
+            Kind::Sint => {
+                self.marks.mark_inside(at, 1);
+                self.store_byte(at, low[0]);
+            }
+            Kind::Int => {
+                self.marks.mark_range(at, 2);
+                self.store_byte(at, low[0]);
+                self.store_byte(at + 1, low[1]);
+            }
+            Kind::Dint => self.store_dint(at, value),
+        }
+    }
+
+    /// Stores a byte, without a mark.
+    #[inline(always)]
+    fn store_byte(&mut self, at: u32, byte: u8)
+        requires { at < length self.old.bytes }
+        ensures bytes { self.new.bytes ≡ slice_set self.old.bytes at byte }
+        ensures marks { self.new.marks ≡ self.old.marks }
+        ensures watched { self.new.watched ≡ self.old.watched }
+        ensures hits { HitsWritten self.old self.new }
+    {
+        if write_byte(&mut self.bytes, at as usize, byte) {
+            self.hits.note(word_of(at));
         }
     }
 
@@ -102,12 +148,14 @@ impl Image {
         }
     }
 
-    /// Puts a bit at a place, which lies in the image; if that changes a byte, its grains are marked.
+    /// Puts a bit at a place, which lies in the image. The grains of its bytes are marked, and a watched word in which a byte
+    /// changes is hit.
     #[inline]
     pub fn put_bit(&mut self, place: Place, bit: bool)
         requires { InBounds place (length self.old.bytes) }
         ensures bytes { self.new.bytes ≡ write self.old.bytes place (bit_number bit) }
-        ensures marks { MarksWritten self.old self.new (place.at / 8) (bytes_in place.kind) }
+        ensures marks { self.new.marks ≡ mark_range self.old.marks (place.at / 8) (bytes_in place.kind) }
+        ensures hits { HitsWritten self.old self.new }
         ensures only_marked { ChangesOnlyMarked self.old self.new }
     {
         match place.kind {
@@ -125,16 +173,31 @@ impl Image {
         bit_at(&self.bytes, bit)
     }
 
-    /// Puts the bit of this number; if that changes its byte, the grain of it is marked.
+    /// Puts the bit of this number. The grain of its byte is marked, and its word is hit if it is watched and the byte changes.
     #[inline(always)]
     pub fn put_bit_at(&mut self, bit: u32, value: bool)
         requires { bit / 8 < length self.old.bytes }
         ensures bytes { self.new.bytes ≡ write_of Kind.Bool self.old.bytes bit (bit_number value) }
-        ensures marks { MarksWritten self.old self.new (bit / 8) 1 }
+        ensures marks { self.new.marks ≡ mark_range self.old.marks (bit / 8) 1 }
+        ensures hits { HitsWritten self.old self.new }
         ensures only_marked { ChangesOnlyMarked self.old self.new }
     {
+        self.store_bit(bit, value);
+    }
+
+    /// Stores the bit of this number.
+    #[inline(always)]
+    fn store_bit(&mut self, bit: u32, value: bool)
+        requires { bit / 8 < length self.old.bytes }
+        ensures grains { length self.old.marks ≡ grains_in (length self.old.bytes) }
+        ensures bytes { self.new.bytes ≡ write_of Kind.Bool self.old.bytes bit (bit_number value) }
+        ensures marks { self.new.marks ≡ mark_range self.old.marks (bit / 8) 1 }
+        ensures watched { self.new.watched ≡ self.old.watched }
+        ensures hits { HitsWritten self.old self.new }
+    {
+        self.marks.mark_inside(bit / 8, 1);
         if write_bit(&mut self.bytes, bit, value) {
-            self.marks.mark_range(bit / 8, 1);
+            self.hits.note(word_of(bit / 8));
         }
     }
 
@@ -147,17 +210,67 @@ impl Image {
         dint_at(&self.bytes, byte)
     }
 
-    /// Stores a DINT that begins at a byte; if that changes a byte, its grains are marked.
+    /// Stores a DINT that begins at a byte. The grains of its bytes are marked, and a watched word in which a byte changes is hit.
     #[inline(always)]
     pub fn put_dint(&mut self, byte: u32, value: i32)
         requires { byte + 4 ≤ length self.old.bytes }
         ensures bytes { self.new.bytes ≡ write_of Kind.Dint self.old.bytes (8 * byte) value }
-        ensures marks { MarksWritten self.old self.new byte 4 }
+        ensures marks { self.new.marks ≡ mark_range self.old.marks byte 4 }
+        ensures hits { HitsWritten self.old self.new }
         ensures only_marked { ChangesOnlyMarked self.old self.new }
     {
-        if write_dint(&mut self.bytes, byte, value) {
-            self.marks.mark_range(byte, 4);
+        self.store_dint(byte, value);
+    }
+
+    /// Stores a DINT that begins at a byte.
+    #[inline(always)]
+    fn store_dint(&mut self, byte: u32, value: i32)
+        requires { byte + 4 ≤ length self.old.bytes }
+        ensures grains { length self.old.marks ≡ grains_in (length self.old.bytes) }
+        ensures bytes { self.new.bytes ≡ write_of Kind.Dint self.old.bytes (8 * byte) value }
+        ensures marks { self.new.marks ≡ mark_range self.old.marks byte 4 }
+        ensures watched { self.new.watched ≡ self.old.watched }
+        ensures hits { HitsWritten self.old self.new }
+    {
+        if byte % WORD_BYTES == 0 {
+            self.store_word(byte, value);
+        } else {
+            self.store_bytes(byte, value);
         }
+    }
+
+    /// Stores a DINT that fills a word.
+    #[inline(always)]
+    fn store_word(&mut self, byte: u32, value: i32)
+        requires lies { byte + 4 ≤ length self.old.bytes }
+        requires aligned { byte % WORD_BYTES ≡ 0 }
+        ensures grains { length self.old.marks ≡ grains_in (length self.old.bytes) }
+        ensures bytes { self.new.bytes ≡ write_of Kind.Dint self.old.bytes (8 * byte) value }
+        ensures marks { self.new.marks ≡ mark_range self.old.marks byte 4 }
+        ensures watched { self.new.watched ≡ self.old.watched }
+        ensures hits { HitsWritten self.old self.new }
+    {
+        self.marks.mark_inside(byte, 4);
+        if write_dint(&mut self.bytes, byte, value) {
+            self.hits.note(word_of(byte));
+        }
+    }
+
+    /// Stores the bytes of a DINT that may stand in two words.
+    fn store_bytes(&mut self, byte: u32, value: i32)
+        requires { byte + 4 ≤ length self.old.bytes }
+        ensures grains { length self.old.marks ≡ grains_in (length self.old.bytes) }
+        ensures bytes { self.new.bytes ≡ write_of Kind.Dint self.old.bytes (8 * byte) value }
+        ensures marks { self.new.marks ≡ mark_range self.old.marks byte 4 }
+        ensures watched { self.new.watched ≡ self.old.watched }
+        ensures hits { HitsWritten self.old self.new }
+    {
+        let low = bytes_of(value);
+        self.marks.mark_range(byte, 4);
+        self.store_byte(byte, low[0]);
+        self.store_byte(byte + 1, low[1]);
+        self.store_byte(byte + 2, low[2]);
+        self.store_byte(byte + 3, low[3]);
     }
 
     /// The number that an operand is, or that stands at its place; 0 for any other operand. Its place lies in the image.
@@ -172,15 +285,17 @@ impl Image {
         }
     }
 
-    /// Copies `size` bytes from byte `source` to byte `target`, read whole before they are written, and marks the grains
-    /// of the bytes from `target` on.
+    /// Copies `size` bytes from byte `source` to byte `target`, read whole before they are written. The grains of the bytes from
+    /// `target` on are marked, and a watched word in which a byte changes is hit.
     pub fn copy_element(&mut self, source: u32, target: u32, size: u32)
         requires source { source + size ≤ length self.old.bytes }
         requires target { target + size ≤ length self.old.bytes }
         ensures bytes { self.new.bytes ≡ splice self.old.bytes target (piece self.old.bytes source size) }
         ensures marks { self.new.marks ≡ mark_range self.old.marks target size }
+        ensures hits { HitsWritten self.old self.new }
         ensures only_marked { ChangesOnlyMarked self.old self.new }
     {
+        self.hits.note_copy(&self.bytes, source, target, size);
         copy_piece(&mut self.bytes, source, target, size);
         self.marks.mark_range(target, size);
     }
@@ -220,36 +335,56 @@ impl Image {
         bind_one(&self.bytes, operand)
     }
 
-    /// The grains in which a place lies are watched from now on.
+    /// The words in which a place lies are watched from now on.
     pub fn watch(&mut self, place: Place)
         requires { InBounds place (length self.old.bytes) }
-        ensures image { self.new ≡ record self.old { watched = mark_range self.old.watched (place.at / 8) (bytes_in place.kind) } }
+        ensures image { self.new ≡ record self.old { watched = watch_range self.old.watched (place.at / 8) (bytes_in place.kind) } }
         ensures watched { AllWatched self.new.watched place }
     {
-        self.marks.watch_range(place.at / 8, bytes_in(place.kind));
+        self.hits.watch_range(place.at / 8, bytes_in(place.kind));
     }
 
-    /// Whether a grain is hit.
+    /// Whether a word is hit.
     #[inline(always)]
     pub fn is_hit(&self) -> bool
         ensures some { result ≡ true → SomeIsHit self.now }
         ensures none { result ≡ false → NoneIsHit self.now }
     {
-        self.marks.is_hit()
+        self.hits.is_hit()
     }
 
-    /// The least grain that is hit and isn't below `from`; None if there is none.
+    /// The least word that is hit and isn't below `from`; None if there is none.
     pub fn next_hit(&self, from: u32) -> Option<u32>
         ensures { NextHit self.now from result }
     {
-        self.marks.next_hit(from)
+        self.hits.next(from)
     }
 
-    /// Takes every mark.
-    pub fn clear_marks(&mut self)
+    /// No word is hit from now on; all else stays.
+    pub fn clear_hits(&mut self)
         ensures bytes { self.new.bytes ≡ self.old.bytes }
-        ensures marks { self.new.marks ≡ replicate (length self.old.marks) false }
+        ensures marks { self.new.marks ≡ self.old.marks }
         ensures watched { self.new.watched ≡ self.old.watched }
+        ensures hits { NoneIsHit self.new }
+    {
+        self.hits.clear();
+    }
+
+    /// The least marked grain that isn't below `from`; None if there is none.
+    pub fn next_marked(&self, from: u32) -> Option<u32>
+        ensures { NextMarked self.now.marks from result }
+    {
+        let next = self.marks.next(from)?;
+        if next < self.len().div_ceil(GRAIN) {
+            Some(next)
+        } else {
+            None
+        }
+    }
+
+    /// Takes every mark; all else stays.
+    pub fn clear_marks(&mut self)
+        ensures { self.new ≡ record self.old { marks = replicate (length self.old.marks) false } }
     {
         self.marks.clear();
     }

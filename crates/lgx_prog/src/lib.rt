@@ -11,6 +11,7 @@ mod prepared;
 mod program;
 mod reach;
 mod rung;
+mod same;
 mod short;
 
 pub use code::{Code, FlatRoutine};

@@ -5,6 +5,7 @@ mod expiry;
 mod queue;
 mod quiet;
 mod releases;
+mod same;
 mod table;
 
 pub use spec_tables::{Release, TaskDef, TaskKind};

@@ -1,5 +1,5 @@
 // The tasks that are up, a queue for each priority.
-ghost use Rattle.std.specs.Prelude.{◌≡◌, ◌≢◌, ◌<◌, ℕ, List, [], ◌∷◌, ◌++◌, drop, length, map, nat_eq, replicate, IfOk, slice_get, slice_set, slice_index_or};
+ghost use Rattle.std.specs.Prelude.{◌≡◌, ◌≢◌, ◌<◌, ◌≤◌, true, ℕ, List, [], ◌∷◌, ◌++◌, drop, length, map, nat_eq, replicate, IfOk, slice_get, slice_set, slice_index_or};
 ghost use Rattle.std.specs.Int.{bit_at};
 ghost use Rattle.spec_base.specs.declared.limits.TheConstants.{MAX_TASKS, LEAST_PRIORITY};
 ghost use Rattle.lgx_sched.specs.TableView.{front_of, pushed, popped};
@@ -76,6 +76,75 @@ impl Queue {
     {
         self.tasks.clear();
     }
+
+    /// The queue once more.
+    fn copied(&self) -> Queue
+        ensures { result ≡ self.now }
+    {
+        Queue {
+            tasks: tasks_again(self.tasks.as_slice()),
+        }
+    }
+
+    /// Whether the queues are the same.
+    fn is_same(&self, other: &Queue) -> bool
+        ensures { result ≡ true → self.now ≡ other.now }
+    {
+        same_tasks(self.tasks.as_slice(), other.tasks.as_slice())
+    }
+}
+
+/// These tasks once more.
+fn tasks_again(tasks: &[u32]) -> ArrayVec<u32, MAX_TASKS>
+    requires { length tasks.now ≤ MAX_TASKS }
+    ensures { result.items ≡ tasks.now }
+{
+    let mut copy = ArrayVec::new();
+    for task in tasks {
+        copy.push(*task);
+    }
+    copy
+}
+
+/// Whether the tasks are the same, in the same order.
+fn same_tasks(a: &[u32], b: &[u32]) -> bool
+    ensures { result ≡ true → a.now ≡ b.now }
+{
+    if a.len() != b.len() {
+        return false;
+    }
+    for i in 0..a.len() {
+        if a[i] != b[i] {
+            return false;
+        }
+    }
+    true
+}
+
+/// These queues once more.
+fn queues_again(alloc: Global, queues: &[Queue]) -> Result<Vec<Queue>, AllocError>
+    ensures { IfOk result (λ copy. copy.items ≡ queues.now) }
+{
+    let mut list = Vec::with_capacity(alloc, queues.len())?;
+    for queue in queues {
+        list.push(queue.copied())?;
+    }
+    Ok(list)
+}
+
+/// Whether the queues are the same, one by one.
+fn same_queues(a: &[Queue], b: &[Queue]) -> bool
+    ensures { result ≡ true → a.now ≡ b.now }
+{
+    if a.len() != b.len() {
+        return false;
+    }
+    for i in 0..a.len() {
+        if !a[i].is_same(&b[i]) {
+            return false;
+        }
+    }
+    true
 }
 
 /// The tasks that are up. Contracts see a list of queues, the first of priority 1.
@@ -107,6 +176,24 @@ impl Queues {
             queues.push(Queue::new())?;
         }
         Ok(Queues { queues, ready: 0 })
+    }
+
+    /// The queues once more.
+    pub fn copied(&self, alloc: Global) -> Result<Queues, AllocError>
+        ensures { IfOk result (λ copy. copy ≡ self.now) }
+    {
+        let queues = queues_again(alloc, &self.queues)?;
+        Ok(Queues {
+            queues,
+            ready: self.ready,
+        })
+    }
+
+    /// Whether the queues are the same.
+    pub fn is_same(&self, other: &Queues) -> bool
+        ensures { result ≡ true → self.now ≡ other.now }
+    {
+        same_queues(&self.queues, &other.queues)
     }
 
     /// The front of the first queue that has a task.

@@ -27,13 +27,13 @@ pub struct ActiveTask {
 
 /// The tasks in project order: which are up, their turns at each priority, and which has something open.
 pub struct TaskTable {
-    defs: Items<TaskDef>,
-    ups: Vec<Option<ActiveTask>>,
-    queues: Queues,
-    open_task: Option<u32>,
-    run_since: u32,
+    pub(crate) defs: Items<TaskDef>,
+    pub(crate) ups: Vec<Option<ActiveTask>>,
+    pub(crate) queues: Queues,
+    pub(crate) open_task: Option<u32>,
+    pub(crate) run_since: u32,
     /// Ticks that are known to find nothing to do.
-    quiet: Quiet,
+    pub(crate) quiet: Quiet,
 }
 
 impl Drop for TaskTable {

@@ -5,6 +5,7 @@
 //! stays in it as long as it is kept: no call moves a program or copies it.
 #![tactic(auto)]
 
+mod same;
 mod slots;
 mod versions;
 

@@ -6,9 +6,9 @@ use std::marker::Model;
 
 /// The base of a program, its merged program if edits are accepted, and the program that a scan in progress holds.
 pub struct Versions {
-    slots: [Option<Version>; SLOTS],
-    places: Places,
-    newest: u32,
+    pub(crate) slots: [Option<Version>; SLOTS],
+    pub(crate) places: Places,
+    pub(crate) newest: u32,
 }
 
 impl Drop for Versions {

@@ -22,22 +22,22 @@ overflow_add-first c =
     let last = grain_of-is (c.args.at + c.args.size - 1) in
     record { fits = omega (arith, first, last, c.grain_of-first.ensures, c.grain_of-last.ensures, c.if-first-last.true) }
 
-pub returns-then-first-last-clause-marked : goal.returns-then-first-last-clause-marked
-returns-then-first-last-clause-marked c = λ grains.
+pub returns-then-first-last : goal.returns-then-first-last
+returns-then-first-last c = λ grains.
     let first = c.grain_of-first.ensures in
     let last = c.grain_of-last.ensures in
-    marks_of-first c.args.self.now.marked c.mark.new.self.marked c.mark_from.new.self.marked c.args.at c.args.size grains (omega arith)
-    (subst (λ g. bit_of_words c.mark.new.self.marked g ≡ true) first c.mark.ensures.set)
+    marks_of-first c.args.self.now c.mark.new.self c.mark_from.new.self c.args.at c.args.size grains (omega arith)
+    (subst (λ g. bit_of_words c.mark.new.self g ≡ true) first c.mark.ensures.set)
     (λ g other. c.mark.ensures.others g (λ same. other (same ∙ first)))
     (λ g above below. c.mark_from.ensures.marked g (omega (arith, first)) (omega (arith, last)))
     (λ g apart. c.mark_from.ensures.others g (elim apart [ inl before ↦ inl (omega (arith, first)) | inr after ↦ inr (omega (arith, last)) ]))
 
-pub returns-else-first-last-clause-marked : goal.returns-else-first-last-clause-marked
-returns-else-first-last-clause-marked c = λ grains.
+pub returns-else-first-last : goal.returns-else-first-last
+returns-else-first-last c = λ grains.
     let first = c.grain_of-first.ensures in
     let last = c.grain_of-last.ensures in
-    marks_of-first c.args.self.now.marked c.mark.new.self.marked c.mark.new.self.marked c.args.at c.args.size grains (omega arith)
-    (subst (λ g. bit_of_words c.mark.new.self.marked g ≡ true) first c.mark.ensures.set)
+    marks_of-first c.args.self.now c.mark.new.self c.mark.new.self c.args.at c.args.size grains (omega arith)
+    (subst (λ g. bit_of_words c.mark.new.self g ≡ true) first c.mark.ensures.set)
     (λ g other. c.mark.ensures.others g (λ same. other (same ∙ first)))
     (λ g above below. absurd (omega (arith, first, last, c.if-first-last.false)))
     (λ g apart. refl)

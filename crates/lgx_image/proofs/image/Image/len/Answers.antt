@@ -6,4 +6,4 @@ use Rattle.lgx_image.proofs.image.Image.len.Goals as goal
 pub returns-clause-grains : goal.returns-clause-grains
 returns-clause-grains c =
     let same : length c.self.inside.bytes.items ≡ c.len.result = omega (arith, c.len.ensures, c.self.inside.bytes.ok.0) in
-    ap (λ m. length m.marks) (sym c.self.view_is) ∙ length-marks_of c.self.inside.marks.marked _ ∙ ap grains_in same
+    ap (λ m. length m.marks) (sym c.self.view_is) ∙ length-marks_of c.self.inside.marks _ ∙ ap grains_in same
