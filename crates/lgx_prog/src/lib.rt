@@ -19,4 +19,4 @@ pub use lgx_rung::Ins;
 pub use prepared::Prepared;
 pub use program::FlatProgram;
 pub use rung::{Legs, Node, Rung, Rungs};
-pub use short::Does;
+pub use short::{Does, Source};
