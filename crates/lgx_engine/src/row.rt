@@ -33,7 +33,7 @@ use spec_scan::{Arg, Bound, Copying};
 // codes of type 4: a subscript out of range, and a timer with a negative number
 pub(crate) const BAD_SUBSCRIPT: u8 = 20;
 
-const BAD_TIMER: u8 = 34;
+pub(crate) const BAD_TIMER: u8 = 34;
 
 /// What an instruction does beside the image and the flags.
 ///

@@ -85,7 +85,7 @@ fn destination(op: Op, args: &Bound) -> Place
     args.at(last).place()
 }
 
-/// The same, for an instruction that may be any.
+/// As [`run_math_of`], where nothing is known of the instruction.
 #[inline(always)]
 fn store_result(op: Op, a: i32, b: i32, place: Place, flags: &mut Flags, image: &mut Image) -> bool
     requires family { family_of op ≡ Arithmetic }
