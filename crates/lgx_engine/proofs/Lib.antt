@@ -13,3 +13,4 @@ pub mod Calls
 pub mod Handed
 pub mod Advances
 pub mod Shortly
+pub mod KnownOperands

@@ -8,6 +8,7 @@
 mod frame;
 mod frames;
 mod handing;
+mod known;
 mod moves;
 mod operand;
 mod row;

@@ -1,5 +1,5 @@
 // One instruction: what it does to the image and the flags, and what else it does.
-ghost use Rattle.std.specs.Prelude.{◌≡◌, ℕ, ◌+◌, ◌≤◌, true, false, ◌||◌, List, length, if◌then◌else◌, IfSome, IsSome, option_map, Some, None};
+ghost use Rattle.std.specs.Prelude.{◌≡◌, ℕ, ◌+◌, ◌≤◌, true, false, ◌||◌, List, length, if◌then◌else◌, IfSome, Some, None};
 ghost use Rattle.spec_base.specs.declared.limits.TheConstants.{TIMER_BYTES};
 ghost use Rattle.lgx_rung.specs.OperandTable.{family_of};
 ghost use Rattle.lgx_rung.specs.declared.operands.OperandKind.{OperandKind};
@@ -9,12 +9,11 @@ ghost use Rattle.spec_scan.specs.StatusWords.{reset};
 ghost use Rattle.spec_scan.specs.Arithmetic.{math};
 ghost use Rattle.spec_scan.specs.Copies.{start_copy};
 ghost use Rattle.spec_scan.specs.Position.{Frame};
-ghost use Rattle.spec_scan.specs.Instructions.{Nothing, row, acts_when_false, bad_timer};
+ghost use Rattle.spec_scan.specs.Instructions.{row, acts_when_false, bad_timer};
 ghost use Rattle.lgx_image.specs.Args.{ArgInBounds, ArgsInBounds};
 ghost use Rattle.lgx_image.specs.Grains.{ChangesOnlyMarked};
 ghost use Rattle.spec_scan.specs.Executable.{IsExecutable, ArgsEndIn};
 ghost use Rattle.spec_scan.specs.Fits.{OperandsFit, ArgFits, ArgsFit};
-ghost use Rattle.lgx_prog.specs.Fixed.{AreFixed};
 ghost use Rattle.lgx_prog.specs.HandsOver.{hands_over};
 ghost use Rattle.lgx_engine.specs.Rows.{row_of, ControlInRows, CanFollow, stays_in_routine, StaysInRoutine};
 
@@ -33,7 +32,7 @@ use spec_scan::{Arg, Bound, Copying};
 // codes of type 4: a subscript out of range, and a timer with a negative number
 pub(crate) const BAD_SUBSCRIPT: u8 = 20;
 
-const BAD_TIMER: u8 = 34;
+pub(crate) const BAD_TIMER: u8 = 34;
 
 /// What an instruction does beside the image and the flags.
 ///
@@ -92,38 +91,6 @@ pub(crate) fn run_row(
         Some(bound) => execute(prepared.ins(), bound, input, flags, image),
         None => work_out(prepared.ins(), input, flags, image),
     }
-}
-
-/// The operands of a bit instruction, if it is one and their places are the same in every scan.
-#[inline(always)]
-pub(crate) fn bit_operands(ins: &Prepared) -> Option<&Bound>
-    ensures fixed { IfSome result (λ bound. AreFixed ins.now.args (Some bound.now)) }
-    ensures bit { IsSome result → family_of ins.now.op ≡ Family.Bit }
-{
-    match ins.op().family() {
-        Family::Bit => ins.bound(),
-        _ => None,
-    }
-}
-
-/// Executes a bit instruction, and answers the condition that goes on. With a false condition it does what such an
-/// instruction does then, so that nothing need be asked before.
-#[inline(always)]
-pub(crate) fn run_bit(
-    ins: &Prepared,
-    bound: &Bound,
-    on: bool,
-    scan: ScanContext,
-    flags: Flags,
-    image: &mut Image,
-) -> bool
-    requires executable { IsExecutable (length image.old.bytes) ins.now }
-    requires bit { family_of ins.now.op ≡ Family.Bit }
-    requires fixed { AreFixed ins.now.args (Some bound.now) }
-    ensures row { (frames : List Frame) → row ins.now.op ins.now.args on scan.now scan.first frames flags image.old.bytes ≡ record { on = result; image = image.new.bytes; flags = flags; control = Nothing } }
-    ensures only_marked { ChangesOnlyMarked image.old image.new }
-{
-    run_bits(ins.op(), bound, on, scan.first, flags, image)
 }
 
 /// Executes an instruction that acts, of whose operands one has a variable subscript.

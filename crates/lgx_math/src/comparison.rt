@@ -27,7 +27,7 @@ pub fn compare(op: Op, args: &Bound, image: &Image) -> bool
 
 /// Whether a comparison holds of the values of its operands, in order; where there are two, the third is any number.
 #[inline(always)]
-fn holds(op: Op, a: i32, b: i32, c: i32) -> bool
+pub fn holds(op: Op, a: i32, b: i32, c: i32) -> bool
     requires { family_of op ≡ Comparison }
     ensures { result ≡ holds op a b c }
 {

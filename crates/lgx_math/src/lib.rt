@@ -11,6 +11,6 @@ mod math;
 mod operand;
 mod results;
 
-pub use comparison::compare;
+pub use comparison::{compare, holds};
 pub use laws::{law_of_masks, law_of_overflow, law_of_quotients};
-pub use math::run_math;
+pub use math::{run_math, run_math_of};

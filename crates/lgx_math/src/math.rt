@@ -34,7 +34,44 @@ pub fn run_math(op: Op, args: &Bound, flags: &mut Flags, image: &mut Image) -> b
     let place = destination(op, args);
     let a = number(args.at(0), image);
     let b = number(args.at(1), image);
-    store_result(op, a, b, place, flags, image)
+    run_math_of(op, a, b, place, flags, image)
+}
+
+/// The same of the numbers of the first and second operand (any number for one that the instruction doesn't have) and of the
+/// destination's place.
+///
+/// Each arm knows its instruction, so that it does what that one does and nothing else.
+pub fn run_math_of(
+    op: Op,
+    a: i32,
+    b: i32,
+    place: Place,
+    flags: &mut Flags,
+    image: &mut Image,
+) -> bool
+    requires family { family_of op ≡ Arithmetic }
+    requires lies { InBounds place (length image.old.bytes) }
+    ensures due { result ≡ (step_of op a b place image.old.bytes).flags.v }
+    ensures flags { flags.new ≡ (step_of op a b place image.old.bytes).flags }
+    ensures bytes { image.new.bytes ≡ (step_of op a b place image.old.bytes).image }
+    ensures only_marked { ChangesOnlyMarked image.old image.new }
+{
+    match op {
+        Op::Add => store_result(Op::Add, a, b, place, flags, image),
+        Op::Sub => store_result(Op::Sub, a, b, place, flags, image),
+        Op::Mul => store_result(Op::Mul, a, b, place, flags, image),
+        Op::Div => store_result(Op::Div, a, b, place, flags, image),
+        Op::Mod => store_result(Op::Mod, a, b, place, flags, image),
+        Op::Neg => store_result(Op::Neg, a, b, place, flags, image),
+        Op::Abs => store_result(Op::Abs, a, b, place, flags, image),
+        Op::Mov => store_result(Op::Mov, a, b, place, flags, image),
+        Op::And => store_result(Op::And, a, b, place, flags, image),
+        Op::Or => store_result(Op::Or, a, b, place, flags, image),
+        Op::Xor => store_result(Op::Xor, a, b, place, flags, image),
+        Op::Not => store_result(Op::Not, a, b, place, flags, image),
+        Op::Clr => store_result(Op::Clr, a, b, place, flags, image),
+        _ => store_result(op, a, b, place, flags, image),
+    }
 }
 
 /// The place of the last operand, to which the result goes.
@@ -48,8 +85,7 @@ fn destination(op: Op, args: &Bound) -> Place
     args.at(last).place()
 }
 
-/// Stores the low bits of an instruction's result at a place, and sets the task's flags: as [`run_math`], of the numbers of the
-/// first and second operand (any number for one that the instruction doesn't have) and of the destination's place.
+/// As [`run_math_of`], where nothing is known of the instruction.
 #[inline(always)]
 fn store_result(op: Op, a: i32, b: i32, place: Place, flags: &mut Flags, image: &mut Image) -> bool
     requires family { family_of op ≡ Arithmetic }

@@ -8,3 +8,4 @@ pub mod FlatProgram
 pub mod Executes
 pub mod Search
 pub mod Short
+pub mod Quick
