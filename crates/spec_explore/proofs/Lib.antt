@@ -1,0 +1,9 @@
+pub mod Ends
+pub mod Shrinks
+pub mod Staying
+pub mod Growth
+pub mod Partials
+pub mod Splits
+pub mod Layers
+pub mod Witnesses
+pub mod Completing

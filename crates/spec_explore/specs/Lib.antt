@@ -1,0 +1,5 @@
+pub mod Growth
+pub mod Questions
+pub mod Layers
+pub mod Witnesses
+pub mod Completion
