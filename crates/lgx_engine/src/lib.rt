@@ -10,6 +10,7 @@ mod frames;
 mod handing;
 mod moves;
 mod operand;
+mod place;
 mod row;
 mod run;
 mod scan;
@@ -17,6 +18,7 @@ mod settling;
 mod short;
 
 pub use frame::Position;
+pub use place::Execution;
 pub use run::{CodeRun, advance_on};
 pub use scan::advance;
 pub use spec_scan::Effect;
