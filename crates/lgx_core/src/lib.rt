@@ -6,8 +6,9 @@
 
 mod actions;
 mod controller;
+mod place;
 mod readers;
 
 pub use controller::Controller;
-pub use lgx_steps::Stretch;
+pub use lgx_steps::{Executed, Stretch};
 pub use spec_machine::{Mark, Moment, Outcome, TickReport, What};

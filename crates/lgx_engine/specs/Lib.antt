@@ -4,3 +4,4 @@ pub mod Settling
 pub mod Rows
 pub mod Steps
 pub mod Runs
+pub mod Executing

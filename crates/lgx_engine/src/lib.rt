@@ -11,6 +11,7 @@ mod handing;
 mod known;
 mod moves;
 mod operand;
+mod place;
 mod row;
 mod run;
 mod same;
@@ -19,6 +20,7 @@ mod settling;
 mod short;
 
 pub use frame::Position;
+pub use place::Execution;
 pub use run::{CodeRun, advance_on};
 pub use scan::advance;
 pub use spec_scan::Effect;

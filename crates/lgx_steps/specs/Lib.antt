@@ -4,3 +4,4 @@ pub mod Represents
 pub mod Gives
 pub mod Stretches
 pub mod Fresh
+pub mod Executing

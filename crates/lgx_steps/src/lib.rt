@@ -9,6 +9,7 @@
 mod act;
 mod edits;
 mod effects;
+mod executing;
 mod forces;
 mod fresh;
 mod modes;
@@ -20,5 +21,6 @@ mod stretch;
 mod tick;
 mod words;
 
+pub use executing::Executed;
 pub use parts::{Parts, Progress, Released, Scan};
 pub use stretch::Stretch;

@@ -1,0 +1,5 @@
+pub mod Covers
+pub mod Tables
+pub mod Texts
+pub mod CoverPlan
+pub mod Following
