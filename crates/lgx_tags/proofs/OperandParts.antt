@@ -9,7 +9,7 @@ use Rattle.spec_language.specs.OperandForm.{Token, word, dot, opening, closing, 
 use Rattle.lgx_tags.specs.Parts.{first_part, is_mark, begins_marked, with_word}
 use Rattle.std.proofs.lemmas.List.{take_rest}
 
--- a byte that is no mark, with_word what is marked: it goes on the word
+-- a byte that is no mark, before what begins with one: it goes on the word
 pub put_plain : (c : ℕ) (ts : List Token) → is_mark c ≡ false → put_token c ts ≡ put_byte c ts
 put_plain c ts p = go (c == 46) (c == 91) (c == 93) p
   where
@@ -54,7 +54,7 @@ plain_no_part c cs p = rw (put_plain c (tokens cs) p) (go (tokens cs))
 
 -- ---- where a text is split
 
--- no mark stands with_word that place
+-- no mark stands before that place
 abbrev pub NoMark : List ℕ → ℕ → Type 0
 NoMark text i = (k : ℕ) → k < i → is_mark (get_or text k 0) ≡ false
 

@@ -42,7 +42,7 @@ find_laid types s name at (e ∷ es) p = go (same_scope e.scope s) (same e.name 
     go true true q r same other = rw (q, r, q) refl
     go true false q r same other = rw (q, r, q, next_at at (entry_size types e) p) (other (omega arith) ∙ sym (step true (seek s name es) q))
 
--- ---- scopes one laid_after the other
+-- ---- scopes one after the other
 
 pub laid_append : (types : List TypeDecl) (at : ℕ) (xs ys : List Entry) → laid_from types at (xs ++ ys) ≡ laid_from types at xs ++ laid_from types (end_of types at xs) ys
 laid_append types at [] ys = refl
@@ -71,7 +71,7 @@ range_append a (suc m) k = rw (suc_on m k) (ap (λ (l : List ℕ). a ∷ l) (ran
     one_on : (a m : ℕ) → a + 1 + m ≡ a + suc m
     one_on a m = omega arith
 
--- what is laid laid_after a scope
+-- what is laid after a scope
 abbrev pub laid_after : List Entry → Scope → ℕ → List Entry
 laid_after es Controller programs = programs_from es 0 programs
 laid_after es (Program p) programs = programs_from es (p + 1) (programs - (p + 1))

@@ -1,4 +1,4 @@
--- Where each entry begins, worked out from the entries laid_before it.
+-- Where each entry begins, worked out from the entries before it.
 use Rattle.std.specs.Prelude.{ℕ, zero, suc, ◌+◌, cond, List, [], ◌∷◌, ◌++◌, flat_map}
 use Rattle.std.specs.List.{range_with_len}
 use Rattle.spec_language.specs.declared.types.TypeDecl.{TypeDecl}
@@ -21,7 +21,7 @@ begin_in types s at [] i = at
 begin_in types s at (e ∷ es) zero = at
 begin_in types s at (e ∷ es) (suc i) = begin_in types s (cond (same_scope e.scope s) (at + padded_size types e) at) es i
 
--- what is laid laid_before a scope
+-- what is laid before a scope
 abbrev pub programs_from : List Entry → ℕ → ℕ → List Entry
 programs_from es a n = flat_map (λ p. in_scope es (Program p)) (range_with_len a n)
 

@@ -48,8 +48,8 @@ fn is_mark(byte: u8) -> bool
     byte == b'.' || byte == b'[' || byte == b']'
 }
 
-#[tactic(auto, using(crate::proofs::OperandParts::whole_at, crate::proofs::OperandParts::ended_at, crate::proofs::OperandParts::tokens_at, crate::proofs::OperandParts::tokens_whole))]
 /// The word with which a text begins, and what stands after it. The word may be empty.
+#[tactic(auto, using(crate::proofs::OperandParts::whole_at, crate::proofs::OperandParts::ended_at, crate::proofs::OperandParts::tokens_at, crate::proofs::OperandParts::tokens_whole))]
 pub(crate) fn split_word(text: &[u8]) -> (&[u8], &[u8])
     ensures whole { text.now ≡ result.0.now ++ result.1.now }
     ensures tokens { tokens text.now ≡ with_word result.0.now (tokens result.1.now) }
@@ -78,7 +78,7 @@ pub(crate) fn first_part(text: &[u8]) -> Option<(OperandPart<'_>, &[u8])>
     }
 }
 
-/// What a dot with_word a text begins.
+/// What a dot before a text begins.
 fn dotted(text: &[u8]) -> Option<(OperandPart<'_>, &[u8])>
     ensures part { IfSome result (λ r. first_part (dot ∷ tokens text.now) ≡ Some (part_of r.0, tokens r.1.now)) }
     ensures none { IsNone result → first_part (dot ∷ tokens text.now) ≡ None }
@@ -92,7 +92,7 @@ fn dotted(text: &[u8]) -> Option<(OperandPart<'_>, &[u8])>
     Some((OperandPart::Dotted(word), after))
 }
 
-/// What an opening bracket with_word a text begins.
+/// What an opening bracket before a text begins.
 fn bracketed(text: &[u8]) -> Option<(OperandPart<'_>, &[u8])>
     ensures part { IfSome result (λ r. first_part (opening ∷ tokens text.now) ≡ Some (part_of r.0, tokens r.1.now)) }
     ensures none { IsNone result → first_part (opening ∷ tokens text.now) ≡ None }

@@ -36,8 +36,8 @@ fn with_digit(number: u32, digit: u8) -> u32
         .saturating_add(u32::from(digit - b'0'))
 }
 
-#[tactic(auto, using(crate::proofs::Digits::capped_digits, crate::proofs::Digits::capped_at, crate::proofs::Digits::digit_at))]
 /// The number that digits make, or the greatest number if that is greater: no subscript or bit is as great.
+#[tactic(auto, using(crate::proofs::Digits::capped_digits, crate::proofs::Digits::capped_at, crate::proofs::Digits::digit_at))]
 fn capped_number(digits: &[u8]) -> u32
     requires { IsTrue (are_digits 10 digits.now) }
     ensures { result ≡ min (digits_number 10 digits.now) (2 ^ 32 - 1) }

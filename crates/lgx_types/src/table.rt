@@ -5,8 +5,6 @@ ghost use Rattle.spec_language.specs.declared.types.TypeCode.{TypeCode};
 ghost use Rattle.spec_base.specs.Causes.{IsFaultOf};
 ghost use Rattle.spec_base.specs.declared.limits.TheConstants.{MAX_ELEMENTS, MAX_STRUCTURE_BYTES};
 ghost use Rattle.spec_language.specs.Layout.{find, member, size_of, sizes};
-ghost use Rattle.spec_base.specs.Causes.{IsFaultOf};
-ghost use Rattle.spec_base.specs.declared.limits.TheConstants.{MAX_ELEMENTS, MAX_STRUCTURE_BYTES};
 ghost use Rattle.spec_language.specs.LayoutLaws.{SoundTypes};
 ghost use Rattle.spec_language.specs.TypeFaults.{of_structure, type_fault};
 ghost use Rattle.lgx_types.specs.declared.error.TypeError.TheVariants.{Fault};
