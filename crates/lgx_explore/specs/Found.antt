@@ -1,0 +1,32 @@
+-- What is told of all journals of a script.
+use Rattle.std.specs.Prelude.{◌≡◌, ℕ, List, slice_index_or}
+use Rattle.spec_machine.specs.Project.{Project}
+use Rattle.spec_text.specs.Scripts.{Script}
+use Rattle.spec_explore.specs.declared.question.Question.{Question}
+use Rattle.spec_explore.specs.Questions.{IsNeverBefore}
+use Rattle.lgx_explore.specs.declared.node.Next.{Next}
+use Rattle.lgx_explore.specs.declared.node.Stop.{Stop}
+use Rattle.lgx_explore.specs.declared.node.Stop.TheVariants as stops
+use Rattle.lgx_explore.specs.declared.found.Found.{Found}
+use Rattle.lgx_explore.specs.declared.found.Found.TheVariants as found
+use Rattle.lgx_explore.specs.Shown.{IsShown}
+use Rattle.lgx_explore.specs.Nodes.{Keeps}
+
+-- No line holds at any moment; or the journal that the node keeps goes on to a witness by the event; or at a moment of
+-- fewer processor steps no line holds.
+abbrev pub Tells : {Node : Type 0} → Keeps Node → Project → Script → Question → Found Node → Type 0
+Tells keeps p script q found.Never = (k : ℕ) → IsNeverBefore p script q k
+Tells keeps p script q (found.Shown node made line) = IsShown p script q (keeps node).1 made line
+Tells keeps p script q (found.Unknown k) = IsNeverBefore p script q k
+
+-- the node with this number is told with the event and the line
+pub record IsToldAt {Node : Type 0} (nodes : List Node) (at : ℕ) (made : Next) (line : ℕ) (f : Found Node) : Type 0 where
+  pub node : Node
+  pub here : slice_index_or nodes at node ≡ node
+  pub is : f ≡ found.Shown node made line
+
+-- what a stop at the node with this number, in the layer of so many steps, tells
+abbrev pub IsToldBy : {Node : Type 0} → List Node → ℕ → ℕ → Stop → Found Node → Type 0
+IsToldBy nodes at steps (stops.Shown made line) f = IsToldAt nodes at made line f
+IsToldBy nodes at steps stops.Limit f = f ≡ found.Unknown steps
+IsToldBy nodes at steps stops.Memory f = ⊥

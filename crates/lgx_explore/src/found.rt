@@ -1,0 +1,33 @@
+// What is told of all journals of a script.
+ghost use Rattle.std.specs.Prelude.{◌<◌, length, ℕ, IfOk};
+ghost use Rattle.lgx_explore.specs.Shown.{IfShown};
+ghost use Rattle.lgx_explore.specs.Found.{IsToldBy};
+
+use crate::halt::Halt;
+use crate::node::{Next, Stop};
+use lgx_num::Memory;
+
+/// What is told of all journals of a script within the question's window.
+#[derive(Drop)]
+pub enum Found<N: Drop> {
+    /// No line of the question ever holds.
+    Never,
+    /// After the journal that the node keeps and this event, the line of the question with this number, from 0, holds as
+    /// the first. No line holds after fewer processor steps.
+    Shown(N, Next, u32),
+    /// After fewer processor steps no line holds, but of those with so many there are more nodes than a layer may have.
+    Unknown(u32),
+}
+
+/// What a halt tells in the layer of so many processor steps.
+pub(crate) fn told<N: Drop>(nodes: Vec<N>, halt: Halt, steps: u32) -> Result<Found<N>, Memory>
+    requires { IfShown halt.stop (λ _ _. halt.at < length nodes.items) }
+    ensures { IfOk result (IsToldBy nodes.items halt.at steps halt.stop) }
+{
+    let mut nodes = nodes;
+    match halt.stop {
+        Stop::Shown(made, line) => Ok(Found::Shown(nodes.swap_remove(halt.at), made, line)),
+        Stop::Limit => Ok(Found::Unknown(steps)),
+        Stop::Memory => Err(Memory),
+    }
+}
