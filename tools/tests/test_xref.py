@@ -83,7 +83,7 @@ Local:2:O.0 = Motor1 (output Out2)
                 for use in uses.uses:
                     if "[" not in use.place.replace("Local:", ""):
                         answer = answered(uses.told(use.place))
-                        self.assertLessEqual(answer, proved[uses.names[use.tag]])
+                        self.assertLessEqual(answer, proved[uses.names.full[use.tag]])
                         self.assertIn(use.line, answer)
 
 

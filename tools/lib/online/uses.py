@@ -6,21 +6,9 @@ import subprocess
 from lib.programs import Ended, run
 
 from .journal import Act
-from .plan import PROGRAM, steps_of
 
 MOST = 100
 TAIL = 4_096  # bytes of a trace
-
-
-def tag_of(plan, name):
-    """The tag that a watched place is part of, as xref names it, in lower case."""
-    found = PROGRAM.fullmatch(name)
-    base = steps_of(found[2] if found else name)[0]
-    declared, program = plan.declaration(found[1] if found else None, base)
-    while declared and "alias" in declared:
-        base = steps_of(declared["alias"])[0]
-        declared, program = plan.declaration(program, base)
-    return (f"Program:{program}." if program else "").lower() + base.lower()
 
 
 class Uses:
@@ -40,7 +28,7 @@ class Uses:
                 else:
                     tag.append(line.split())
             self.text = text
-        return self.table.get(tag_of(session.plan, name), [])[:MOST]
+        return self.table.get(session.plan.tag_of(name), [])[:MOST]
 
     def writers(self, name):
         """Of the change that the last event made: in words, and the rungs that may have made it."""

@@ -7,6 +7,7 @@ from collections.abc import Iterator
 from lib.hammer.plain.tags import BITS, INTEGERS, MEMBERS, SIZES, Found, up_to
 from lib.hammer.plain.tags import Refused as NoTag
 from lib.hammer.plain.words import FLAGS, is_name, is_tag_name, operand_form
+from lib.tags import spelled
 from lib.texts import Said, counted, meant, quoted
 
 from .refused import Refused
@@ -61,11 +62,6 @@ def members_of(refused: Refused, base: str) -> list[str]:
         if name.lower() == base:
             return refused.names("types", str(at), "members")
     return []
-
-
-def spelled(form: tuple) -> str:
-    parts = {"member": ".{}", "bit": ".{}", "at": "[{}]"}
-    return form[0] + "".join(f"[{spelled(value)}]" if part == "by" else parts[part].format(value) for part, value in form[1])
 
 
 def no_place(refused: Refused, text: str, scope: int | None, fixed: bool) -> Why:

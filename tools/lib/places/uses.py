@@ -12,10 +12,11 @@ from lib.hammer.plain.tags import BITS
 from lib.hammer.plain.tags import Refused as NotThere
 from lib.hammer.plain.words import operand_form
 from lib.hammer.plain.xref import read_too, written
+from lib.tags import Names
 from lib.texts import listed, meant, quoted, visible
 
 from .refused import Refused, refused_of
-from .tags import bytewise, no_place, scope_of, spelled, tag_names
+from .tags import bytewise, no_place, scope_of, tag_names
 
 BLOCKS = ("COP", "CPS", "FLL")
 
@@ -44,16 +45,15 @@ class Uses:
         self.half = self.project.half
         self.tags = self.half.tags
         self.numbers = {one["name"]: at for at, one in enumerate(self.half.programs)}
-        self.names = [name if scope is None else f"Program:{self.program(scope)}.{name}" for scope, name, _, _ in self.tags.spans]
-        self.aliases = self.all_aliases()
+        self.names = Names(self.half.file)
+        self.aliases: dict[str, list[str]] = {}
+        for scope, alias, place in self.names.aliases():
+            self.aliases.setdefault(place.lower(), []).append(self.names.full_name(scope, alias))
         self.uses = [use for tag, lines in self.blocks(text) for line in lines for use in self.of_line(tag, line)]
-
-    def program(self, number: int) -> str:
-        return self.half.programs[number]["name"]
 
     def blocks(self, text: str) -> Iterator[tuple[int, list[str]]]:
         """The tags of the list, by number, with their lines."""
-        numbers = {name: at for at, name in enumerate(self.names)}
+        numbers = {name: at for at, name in enumerate(self.names.full)}
         for block in re.split(r"^tag ", text, flags=re.MULTILINE)[1:]:
             name, *lines = block.splitlines()
             yield numbers[name], lines
@@ -68,7 +68,7 @@ class Uses:
         text = self.project.at(["programs", str(at), "routines", str(inside), "rungs", rung])
         number = int(number)
         places = self.written(at, inside, read, checked, number) if what == "write" else self.read(at, read[number], checked[number])
-        found = [place for place in places if place[0] == tag] or [(tag, self.names[tag], *self.whole(tag))]
+        found = [place for place in places if place[0] == tag] or [(tag, self.names.full[tag], *self.whole(tag))]
         return [Use(line, what == "write", *place, text) for place in dict.fromkeys(found)]
 
     def whole(self, tag: int) -> tuple[int, int]:
@@ -105,40 +105,14 @@ class Uses:
             length = one.args[2].value * one.args[1].size * 8 if isinstance(one.args[2], Number) else path.stop * 8
             size = max(size, min(length, path.stop * 8 - path.at))
         size += sum(step.stride * (step.length - 1) for step in path.steps)
-        return path.tag, self.expanded(program, operand_form(text)), path.at, path.at + size
+        return path.tag, self.names.expanded(program, operand_form(text)), path.at, path.at + size
 
     def subscripts(self, program: int, text: str, path: Path) -> list[tuple]:
         forms = [value for part, value in operand_form(text)[1] if part == "by"]
         found = []
         for form, step in zip(forms, path.steps):
             place = self.tags.follow(program, form, False)
-            found.append((place.tag, self.expanded(program, form), step.at, step.at + BITS[step.kind]))
-        return found
-
-    # ---- names
-
-    def entry(self, scope: int | None, name: str) -> tuple:
-        return self.tags.names[scope].get(name.lower()) or self.tags.names[None].get(name.lower())
-
-    def expanded(self, scope: int | None, form: tuple) -> str:
-        """An operand form without aliases, as tags are declared."""
-        entry, rest = self.entry(scope, form[0]), self.parts(scope, form[1])
-        if entry[0] == "alias":
-            return self.expanded(entry[1], operand_form(entry[2])) + rest
-        return self.names[entry[1].tag] + rest
-
-    def parts(self, scope: int | None, parts: list[tuple]) -> str:
-        return "".join(f"[{self.expanded(scope, value)}]" if part == "by" else spelled(("", [(part, value)])) for part, value in parts)
-
-    def all_aliases(self) -> dict[str, list[str]]:
-        """For each spelling without aliases the aliases of it."""
-        found: dict[str, list[str]] = {}
-        scopes = [(None, self.half.file["tags"]), *((at, one.get("tags", [])) for at, one in enumerate(self.half.programs))]
-        for scope, tags in scopes:
-            for one in tags:
-                if "alias" in one:
-                    name = one["name"] if scope is None else f"Program:{self.program(scope)}.{one['name']}"
-                    found.setdefault(self.expanded(scope, operand_form(one["name"])).lower(), []).append(name)
+            found.append((place.tag, self.names.expanded(program, form), step.at, step.at + BITS[step.kind]))
         return found
 
     # ---- the answer
@@ -172,20 +146,20 @@ class Uses:
         """The place that a person names."""
         scope, rest = scope_of(self.project, text)
         form = operand_form(bytewise(rest))
-        if scope is None and form and not self.entry(None, form[0]):
+        if scope is None and form and not self.names.entry(None, form[0]):
             scope = self.only_program(form[0])
         try:
             found = self.tags.resolve(scope, bytewise(rest), True)
         except NotThere:
             raise NoTag(no_place(self.project, rest, scope, True)[0]) from None
         size = (found.dim or 1) * (1 if found.base == "BOOL" else self.tags.types.size(found.base, 0) * 8)
-        return found.tag, self.expanded(scope, form), found.at, found.at + size
+        return found.tag, self.names.expanded(scope, form), found.at, found.at + size
 
     def only_program(self, name: str) -> int | None:
         """The program that has a tag of this name, if one alone has it."""
         having = [at for at in range(len(self.half.programs)) if name.lower() in self.tags.names[at]]
         if len(having) > 1:
-            raise NoTag(f"{listed(f'Program:{self.program(at)}.{name}' for at in having)} are meant")
+            raise NoTag(f"{listed(self.names.full_name(at, name) for at in having)} are meant")
         if not having:
             every = dict.fromkeys(name for scope in range(len(self.half.programs)) for name in tag_names(self.project, scope))
             raise NoTag(f"there is no tag {quoted(name)}{meant(name, every)}")

@@ -138,7 +138,7 @@ class Copier:
         if found.tag in self.inputs or not self.is_copied(found.tag, into=True):
             return
         scope, name, start, _ = self.places.tags.spans[found.tag]
-        tag = self.places.resolve(self.full(scope, name))
+        tag = self.places.resolve(self.places.full_name(scope, name))
         first = found.at - (found.at - start * 8) % 32
         leaves = self.places.leaves(tag.base, tag.dim, tag.at, name)
         if sum(bits for _, at, bits in leaves if first <= at < first + 32) < 32:
@@ -147,11 +147,8 @@ class Copier:
                 "with bits of the same word that have no name"
             )
 
-    def full(self, scope: int | None, name: str) -> str:
-        return name if scope is None else f"Program:{self.project['programs'][scope]['name']}.{name}"
-
     def note(self, scope: int | None, name: str) -> None:
-        self.noted.append(self.full(scope, name))
+        self.noted.append(self.places.full_name(scope, name))
 
     def notes(self) -> list[str]:
         """What is told of all tags that are no inputs."""

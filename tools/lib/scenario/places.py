@@ -9,32 +9,22 @@ import difflib
 from collections.abc import Iterator
 
 from lib.hammer.plain.project import FITS, read, write
-from lib.hammer.plain.tags import BITS, MEMBERS, Found, Refused, Tags, Types
+from lib.hammer.plain.tags import BITS, MEMBERS, Found, Refused
 from lib.hammer.plain.words import operand_form
-
-from .tests import SCOPE
+from lib.tags import SCOPE, Names
 
 
 class Unknown(Exception):
     """Why a text names no BOOL, bit or integer."""
 
 
-class Places:
+class Places(Names):
     def __init__(self, project: dict) -> None:
-        self.project = project
-        self.programs = {program["name"].lower(): at for at, program in enumerate(project["programs"])}
-        self.tags = Tags(Types(project.get("types", [])), len(self.programs))
-        for scope, described in self.scopes():
-            for declared in described.get("tags", []):
-                self.tags.declare(scope, declared)
+        super().__init__(project)
         self.image = bytearray(self.tags.bytes)
         for one in project.get("initial", []):
             found = self.resolve(one["tag"])
             write(self.image, found.base, found.at, one["value"])
-
-    def scopes(self) -> Iterator[tuple[int | None, dict]]:
-        yield None, self.project
-        yield from enumerate(self.project["programs"])
 
     def resolve(self, text: str) -> Found:
         scope, rest = self.scoped(text)
@@ -88,19 +78,11 @@ class Places:
                 return f"{text[:end]} has no member {member}{near(member, members)}"
         return f"{text} has no such member"
 
-    def members(self, base: str) -> list[str]:
-        if base in MEMBERS:
-            return [name.upper() for name in MEMBERS[base]]
-        declared = next((one for one in self.tags.types.declared if one["name"].lower() == base), None)
-        return [one["name"] for one in declared["members"]] if declared else []
-
     def names(self, scope: int | None) -> list[str]:
-        described = self.project if scope is None else self.project["programs"][scope]
-        own = [one["name"] for one in described.get("tags", [])]
-        others = [] if scope is not None else [
-            f"Program:{program['name']}.{one['name']}" for program in self.project["programs"] for one in program.get("tags", [])
-        ]  # fmt: skip
-        return own + others + (self.names(None) if scope is not None else [])
+        every = list(self.declared())
+        own = [one["name"] for at, one in every if at == scope]
+        others = [self.full_name(at, one["name"]) for at, one in every if at is not None] if scope is None else self.names(None)
+        return own + others
 
     def type_told(self, found: Found) -> str:
         return f"an array of {found.base}" if found.dim else f"a {found.base}"

@@ -9,6 +9,8 @@ import re
 from collections.abc import Iterator, Mapping
 from dataclasses import dataclass
 
+from lib.tags import SCOPE
+
 from .line import NUMBER, TAG, WORD, Line
 
 OPERATORS = {
@@ -16,7 +18,6 @@ OPERATORS = {
 }  # fmt: skip
 OPERATOR = re.compile(r"<>|<=|>=|=|<|>")
 DEEPEST = 50
-SCOPE = "Program:"
 
 
 @dataclass(frozen=True)
