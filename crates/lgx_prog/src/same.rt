@@ -2,7 +2,7 @@
 ghost use Rattle.std.specs.Prelude.{◌≡◌, true, List, length, IfOk};
 
 use crate::code::{Code, FlatRoutine};
-use crate::prepared::Prepared;
+use crate::quick::quick_list;
 use lgx_num::{Block, Index, Items, Memory, Operand, Path, Steps};
 use lgx_rung::Ins;
 use std::alloc::Global;
@@ -198,16 +198,16 @@ impl FlatRoutine {
     pub fn copied(&self, alloc: Global) -> Result<FlatRoutine, Memory>
         ensures { IfOk result (λ copy. copy ≡ self.now) }
     {
-        let code = pieces_again(alloc, self.pieces())?;
-        let places = numbers_again(alloc, self.rung_places())?;
-        Ok(FlatRoutine::of(code, places))
+        let code = pieces_again(alloc, self.code())?;
+        let places = numbers_again(alloc, self.places())?;
+        let quick = quick_list(alloc, &code)?;
+        Ok(FlatRoutine::of(code, places, quick))
     }
 
     /// Whether the routines are the same.
     pub fn is_same(&self, other: &FlatRoutine) -> bool
         ensures { result ≡ true → self.now ≡ other.now }
     {
-        same_pieces(self.pieces(), other.pieces())
-            && same_numbers(self.rung_places(), other.rung_places())
+        same_pieces(self.code(), other.code()) && same_numbers(self.places(), other.places())
     }
 }
