@@ -82,10 +82,10 @@ impl Controller {
         self.parts.cpu()
     }
 
-    /// Processor steps, up to one of which more is told than that it was made, or after which a watched grain of the image is
-    /// marked; at most `most`. It does what so many calls of [`Controller::cpu`] do, and counts each of them.
+    /// Processor steps, up to one of which more is told than that it was made, or after which a word of the image is hit; at
+    /// most `most`. It does what so many calls of [`Controller::cpu`] do, and counts each of them.
     ///
-    /// A mark that stood there before ends it too, so marks are to be taken first. While no task is up, all of them are made at once.
+    /// A hit that stood there before ends it too, so hits are to be cleared first. While no task is up, all of them are made at once.
     #[inline(always)]
     pub fn stretch(&mut self, most: u32) -> Stretch
         requires some { 0 < most }

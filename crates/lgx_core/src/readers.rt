@@ -5,7 +5,7 @@ ghost use Rattle.lgx_num.specs.Image.{number, InBounds};
 ghost use Rattle.spec_tables.specs.Tasks.{held};
 ghost use Rattle.spec_machine.specs.State.{State};
 ghost use Rattle.lgx_fault.specs.Kept.{last_faults};
-ghost use Rattle.lgx_image.specs.Grains.{NextHit, SomeIsHit, NoneIsHit, mark_range};
+ghost use Rattle.lgx_image.specs.Grains.{NextMarked, NextHit, SomeIsHit, NoneIsHit, watch_range};
 ghost use Rattle.lgx_image.specs.Laws.{AllWatched};
 ghost use Rattle.lgx_core.specs.Represents.{Represents};
 
@@ -59,19 +59,19 @@ impl Controller {
         self.spent
     }
 
-    /// The grains in which a place of the image lies are watched from now on. It is no event, and what the controller represents
+    /// The words in which a place of the image lies are watched from now on. It is no event, and what the controller represents
     /// is as before.
     pub fn watch(&mut self, place: Place)
         requires { InBounds place (length self.old.parts.image.bytes) }
         ensures represents { (s : State) → Represents self.old s → Represents self.new s }
         ensures spent { self.new.spent ≡ self.old.spent }
-        ensures image { self.new.parts.image ≡ record self.old.parts.image { watched = mark_range self.old.parts.image.watched (place.at / 8) (bytes_in place.kind) } }
+        ensures image { self.new.parts.image ≡ record self.old.parts.image { watched = watch_range self.old.parts.image.watched (place.at / 8) (bytes_in place.kind) } }
         ensures watched { AllWatched self.new.parts.image.watched place }
     {
         self.parts.image.watch(place);
     }
 
-    /// Whether a watched grain of the image is marked.
+    /// Whether a word of the image is hit.
     #[inline(always)]
     pub fn is_hit(&self) -> bool
         ensures some { result ≡ true → SomeIsHit self.now.parts.image }
@@ -80,19 +80,36 @@ impl Controller {
         self.parts.image.is_hit()
     }
 
-    /// The least watched grain of the image that is marked and isn't below `from`; None if there is none.
+    /// The least word of the image that is hit and isn't below `from`; None if there is none.
     pub fn next_hit(&self, from: u32) -> Option<u32>
         ensures { NextHit self.now.parts.image from result }
     {
         self.parts.image.next_hit(from)
     }
 
+    /// No word of the image is hit from now on. It is no event, and what the controller represents is as before.
+    pub fn clear_hits(&mut self)
+        ensures represents { (s : State) → Represents self.old s → Represents self.new s }
+        ensures none_hit { NoneIsHit self.new.parts.image }
+        ensures bytes { self.new.parts.image.bytes ≡ self.old.parts.image.bytes }
+        ensures marks { self.new.parts.image.marks ≡ self.old.parts.image.marks }
+        ensures watched { self.new.parts.image.watched ≡ self.old.parts.image.watched }
+        ensures spent { self.new.spent ≡ self.old.spent }
+    {
+        self.parts.image.clear_hits();
+    }
+
+    /// The least marked grain of the image that isn't below `from`; None if there is none.
+    pub fn next_marked(&self, from: u32) -> Option<u32>
+        ensures { NextMarked self.now.parts.image.marks from result }
+    {
+        self.parts.image.next_marked(from)
+    }
+
     /// Takes every mark of the image. It is no event, and what the controller represents is as before.
     pub fn clear_marks(&mut self)
         ensures represents { (s : State) → Represents self.old s → Represents self.new s }
-        ensures marks { self.new.parts.image.marks ≡ replicate (length self.old.parts.image.marks) false }
-        ensures bytes { self.new.parts.image.bytes ≡ self.old.parts.image.bytes }
-        ensures watched { self.new.parts.image.watched ≡ self.old.parts.image.watched }
+        ensures image { self.new.parts.image ≡ record self.old.parts.image { marks = replicate (length self.old.parts.image.marks) false } }
         ensures spent { self.new.spent ≡ self.old.spent }
     {
         self.parts.image.clear_marks();

@@ -12,9 +12,9 @@ use Rattle.lgx_num.specs.declared.number.Kind.{Kind}
 use Rattle.lgx_num.specs.declared.number.Kind.TheVariants.{Bool as KBool, Sint, Int, Dint}
 use Rattle.lgx_num.specs.declared.place.Place.{Place}
 use Rattle.lgx_image.specs.Grains.{ImageView, NoneIsHit, is_marked}
-use Rattle.lgx_image.proofs.Marks.{grain_of-is}
+use Rattle.lgx_image.proofs.Marks.{word_of-is}
 use Rattle.lgx_watch.specs.Kept.{Kept}
-use Rattle.lgx_watch.specs.Watches.{LiesIn, LiesInNoMarked, is_member}
+use Rattle.lgx_watch.specs.Watches.{LiesInWord, LiesInNoHit, is_member}
 use Rattle.spec_machine.specs.declared.line.Line.{Line}
 use Rattle.spec_machine.specs.declared.line.Line.TheVariants.{Set}
 use Rattle.spec_machine.specs.Project.{Watch}
@@ -172,25 +172,24 @@ pub compared-nothing : (log : Kept) (at : Stamp) (before now : List ℤ) → len
 compared-nothing log at before now many same = walk-ends log log at before before now 0 (walk-starts log at before now) (omega arith) many refl (λ k above below. same k below)
 
 -- a place that isn't in the set has not changed
-pub not_written : (places : List Place) (values : List ℤ) (image : ImageView) (set : List Bool) → AreAsCompared places values image → HasWritten places image.marks set → (w : ℕ) → w < length places → is_member set w ≡ false → get_or values w (pos 0) ≡ get_or (numbers_at image.bytes places) w (pos 0)
+pub not_written : (places : List Place) (values : List ℤ) (image : ImageView) (set : List Bool) → AreAsCompared places values image → HasWritten places image.hits set → (w : ℕ) → w < length places → is_member set w ≡ false → get_or values w (pos 0) ≡ get_or (numbers_at image.bytes places) w (pos 0)
 not_written places values image set compared written w below none = elim (slice_get_cases places w).1 [
   | inl (p, l, got, is) ↦ compared.same w p got (written.members w p got none) ∙ sym (get_or-map (number image.bytes) places w p (pos 0) below ∙ ap (number image.bytes) is)
   | inr (past, e) ↦ absurd (omega arith)
 ]
 
--- no watched grain is marked, so no watched place lies in a marked one
-pub lies-in-no-marked : (places : List Place) (image : ImageView) → AreWatched places image.watched → NoneIsHit image → (w : ℕ) (p : Place) → slice_get places w ≡ Some p → LiesInNoMarked image.marks p
-lies-in-no-marked places image watched none w p got grain marked (byte, above, below, is) =
-    false≢true (sym (none grain (ap (is_marked image.watched) (sym is) ∙ watched w p got byte above below)) ∙ marked)
+-- no word is hit, so no watched place lies in one
+lies-in-no-hit : (image : ImageView) → NoneIsHit image → (p : Place) → LiesInNoHit image.hits p
+lies-in-no-hit image none p word hit lies = false≢true (sym (none word) ∙ hit)
 
 -- so no place has changed
-pub not_written-anywhere : (places : List Place) (values : List ℤ) (image : ImageView) → AreAsCompared places values image → AreWatched places image.watched → NoneIsHit image → (w : ℕ) → w < length places → get_or values w (pos 0) ≡ get_or (numbers_at image.bytes places) w (pos 0)
-not_written-anywhere places values image compared watched none w below = elim (slice_get_cases places w).1 [
-  | inl (p, l, got, is) ↦ compared.same w p got (lies-in-no-marked places image watched none w p got) ∙ sym (get_or-map (number image.bytes) places w p (pos 0) below ∙ ap (number image.bytes) is)
+pub not_written-anywhere : (places : List Place) (values : List ℤ) (image : ImageView) → AreAsCompared places values image → NoneIsHit image → (w : ℕ) → w < length places → get_or values w (pos 0) ≡ get_or (numbers_at image.bytes places) w (pos 0)
+not_written-anywhere places values image compared none w below = elim (slice_get_cases places w).1 [
+  | inl (p, l, got, is) ↦ compared.same w p got (lies-in-no-hit image none p) ∙ sym (get_or-map (number image.bytes) places w p (pos 0) below ∙ ap (number image.bytes) is)
   | inr (past, e) ↦ absurd (omega arith)
 ]
 
--- ---- grains
+-- ---- words
 
 bits : (kind : Kind) (at byte len : ℕ) → at + bits_of kind ≤ 8 * len → byte < at / 8 + bytes_in kind → IsByteAligned kind at → byte < len
 bits KBool at byte len inside below aligned = omega arith
@@ -198,9 +197,9 @@ bits Sint at byte len inside below aligned = omega arith
 bits Int at byte len inside below aligned = omega arith
 bits Dint at byte len inside below aligned = omega arith
 
--- a grain in which a place of the image has a byte has a small number
-pub small_grain : (p : Place) (len grain : ℕ) → len ≤ MAX_IMAGE_BYTES → InBounds p len → LiesIn p grain → grain < MAX_IMAGE_BYTES
-small_grain p len grain small inside (byte, above, below, is) =
+-- a word in which a place of the image has a byte has a small number
+pub small_word : (p : Place) (len word : ℕ) → len ≤ MAX_IMAGE_BYTES → InBounds p len → LiesInWord p word → word < MAX_IMAGE_BYTES
+small_word p len word small inside (byte, above, below, is) =
     let within = bits p.kind p.at byte len inside.1 below inside.0 in
-    let at = grain_of-is byte in
+    let at = word_of-is byte in
     omega arith

@@ -40,13 +40,7 @@ made_names p project tasks programs watches a b d is =
 pub same_places : (p : Inside) → map (λ w. w.place) p.watches ≡ map (λ w. w.place) (project_of p).watches
 same_places p = sym (map-map (λ (w : MachineWatch). w.place) watch_of p.watches)
 
--- no mark is left where all were taken
-pub none_left : (many grain : ℕ) → is_marked (replicate many false) grain ≡ false
-none_left zero grain = refl
-none_left (suc many) zero = refl
-none_left (suc many) (suc grain) = none_left many grain
-
--- a controller without its marks
+-- a controller without its hits
 pub still-stands : (project : Project) (events : List Event) (old new : ControllerView) → StandsFor project events old → ((s : State) → Represents old s → Represents new s) → new.spent ≡ old.spent → StandsFor project events new
 still-stands project events old new h represents spent = record {
   valid = h.valid;

@@ -141,7 +141,7 @@ have-no-lines watches s n (suc m) none =
 
 -- ---- watched places
 
--- in two images with the same bytes in watched grains
+-- in two images with the same bytes in watched words
 pub numbers-stay : (watched : List Bool) (old new : List ℕ) (places : List Place) → SameInWatched watched old new → AreWatched places watched → numbers_at new places ≡ numbers_at old places
 numbers-stay watched old new [] same lie = refl
 numbers-stay watched old new (p ∷ ps) same lie =
@@ -149,7 +149,7 @@ numbers-stay watched old new (p ∷ ps) same lie =
     ∙ ap (λ (vs : List ℤ). number old p ∷ vs) (numbers-stay watched old new ps same (λ w. lie (suc w)))
 
 module _ (project : Project) (events : List Event) (places : List Place) (watched : List Bool) (is : places ≡ map (λ w. w.place) project.watches) (lie : AreWatched places watched) where
-  -- plain steps that leave the bytes of watched grains
+  -- plain steps that leave the bytes of watched words
   pub plain-steps : (m : ℕ) → (let s = run project events in ((k : ℕ) → k < m → is_plain (moment_after k s) ≡ true) → ((k : ℕ) → k ≤ m → SameInWatched watched s.image (after_steps k s).image) → step_lines project events m ≡ [])
   plain-steps m plain same =
       let s = run project events in

@@ -10,6 +10,7 @@ use Rattle.spec_base.proofs.Lists.{each_get}
 use Rattle.lgx_num.specs.declared.place.Place.{Place}
 use Rattle.lgx_num.specs.Image.{number, InBounds}
 use Rattle.lgx_image.specs.Grains.{ImageView, ChangesOnlyMarked, NoneIsHit}
+use Rattle.lgx_image.specs.Laws.{AllWatched}
 use Rattle.spec_tables.specs.declared.fault.Fault.{Fault}
 use Rattle.spec_machine.specs.declared.line.Line.{Line}
 use Rattle.spec_machine.specs.declared.line.Line.TheVariants.{Fault as FaultLine}
@@ -24,7 +25,7 @@ use Rattle.spec_reach.proofs.Images.{images_keep_length}
 use Rattle.spec_text.specs.ReportText.{names_of}
 use Rattle.lgx_watch.specs.Kept.{Kept, kept_of, with_lines}
 use Rattle.lgx_watch.proofs.EventLines.{one_more_event}
-use Rattle.lgx_watch.proofs.Spanned.{unmarked_watches_stay}
+use Rattle.lgx_watch.proofs.Spanned.{unhit_watches_stay}
 use Rattle.lgx_core.specs.ControllerView.{ControllerView}
 use Rattle.lgx_core.specs.Represents.{Represents}
 use Rattle.lgx_record.specs.declared.lines.TheConstants.{MAX_EVENT_LINES}
@@ -90,7 +91,7 @@ module _ (project : Project) (valid : IsValidProject project) where
         inside = λ w p got. subst (λ n. InBounds p n) (sym many) (each_get (λ q. InBounds q (length project.image)) (map (λ w. w.place) project.watches) w p (watched_inside (length project.image) project.watches valid.watches) (subst (λ (ps : List Place). slice_get ps w ≡ Some p) is got));
       }
 
--- a place of which no byte was written has the number last compared
+-- a place that lies in no word that is hit has the number last compared
 pub as_compared : (v : FollowerView) (project : Project) (events : List Event) (now : ImageView) → FollowsRun v project events → ChangesOnlyMarked v.controller.parts.image now → AreAsCompared v.places v.values now
 as_compared v project events now r changes = record {
   many = ap length r.values ∙ length-map v.places (number (run project events).image);
@@ -101,7 +102,7 @@ as_compared v project events now r changes = record {
       ∙ get_or-map (number (run project events).image) v.places w p (pos 0) below
       ∙ ap (number (run project events).image) (get_or_from_slice_get v.places w p p got)
       ∙ ap (λ (image : List ℕ). number image p) (sym r.controller.represents.parts.image)
-      ∙ sym (unmarked_watches_stay v.controller.parts.image now p changes none)
+      ∙ sym (unhit_watches_stay v.controller.parts.image now p changes (subst (λ watched. AllWatched watched p) (sym changes.same_watched) (r.watched w p got)) none)
       );
 }
 

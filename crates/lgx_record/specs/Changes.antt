@@ -6,7 +6,7 @@ use Rattle.lgx_num.specs.Image.{number, InBounds}
 use Rattle.lgx_num.specs.declared.place.Place.{Place}
 use Rattle.lgx_image.specs.Grains.{ImageView}
 use Rattle.lgx_image.specs.Laws.{AllWatched}
-use Rattle.lgx_watch.specs.Watches.{LiesInNoMarked, is_member}
+use Rattle.lgx_watch.specs.Watches.{LiesInNoHit, is_member}
 use Rattle.spec_machine.specs.declared.line.Line.{Line}
 use Rattle.spec_machine.specs.declared.line.Line.TheVariants.{Set}
 
@@ -31,16 +31,16 @@ pub record AreInside (places : List Place) (image : List ℕ) : Type 0 where
   pub small : length image ≤ MAX_IMAGE_BYTES
   pub inside : (w : ℕ) (p : Place) → slice_get places w ≡ Some p → InBounds p (length image)
 
--- every grain that holds a byte of one of these places is watched
+-- every word that holds a byte of one of these places is watched
 abbrev pub AreWatched : List Place → List Bool → Type 0
 AreWatched places watched = (w : ℕ) (p : Place) → slice_get places w ≡ Some p → AllWatched watched p
 
--- one that lies in no marked grain has the number that it had when it was last compared
+-- one that lies in no word that is hit has the number that it had when it was last compared
 pub record AreAsCompared (places : List Place) (values : List ℤ) (image : ImageView) : Type 0 where
   pub many : length values ≡ length places
-  pub same : (w : ℕ) (p : Place) → slice_get places w ≡ Some p → LiesInNoMarked image.marks p → slice_index_or values w (pos 0) ≡ number image.bytes p
+  pub same : (w : ℕ) (p : Place) → slice_get places w ≡ Some p → LiesInNoHit image.hits p → slice_index_or values w (pos 0) ≡ number image.bytes p
 
--- a set has each that has a byte in a marked grain, and none but watched places
-pub record HasWritten (places : List Place) (marks set : List Bool) : Type 0 where
-  pub members : (w : ℕ) (p : Place) → slice_get places w ≡ Some p → is_member set w ≡ false → LiesInNoMarked marks p
+-- a set has each that has a byte in a word that is hit, and none but watched places
+pub record HasWritten (places : List Place) (hits set : List Bool) : Type 0 where
+  pub members : (w : ℕ) (p : Place) → slice_get places w ≡ Some p → is_member set w ≡ false → LiesInNoHit hits p
   pub known : (w : ℕ) → is_member set w ≡ true → w < length places

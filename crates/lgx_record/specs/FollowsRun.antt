@@ -15,7 +15,7 @@ use Rattle.lgx_record.specs.FollowerView.{FollowerView}
 use Rattle.lgx_record.specs.Changes.{numbers_at, AreWatched}
 
 -- Its controller stands for the run of these events. The watched places have been compared with the image that they lead to,
--- and since then no grain of theirs was marked.
+-- and since then no word of theirs was hit.
 pub record FollowsRun (v : FollowerView) (project : Project) (events : List Event) : Type 0 where
   pub controller : StandsFor project events v.controller
   pub names : v.names ≡ names_of project

@@ -30,7 +30,7 @@ pub(crate) fn numbers_at(
 }
 
 /// Puts a line into the log for each watched place whose number has changed since it was last compared, in watch order, and
-/// takes the marks if a watched grain is hit. Only places that have a byte in such a grain are looked at.
+/// clears the hits if there are any. Only places that have a byte in a word that is hit are looked at.
 #[inline]
 pub(crate) fn log_changes(
     log: &mut Log,
@@ -54,20 +54,19 @@ pub(crate) fn log_changes(
     }
     let written = written_watches(controller, watches);
     compare_all(log, values, at, controller, watches.places(), &written);
-    controller.clear_marks();
+    controller.clear_hits();
 }
 
-/// The watched places that have a byte in a marked grain.
+/// The watched places that have a byte in a word that is hit.
 fn written_watches(controller: &Controller, watches: &WatchIndex) -> WatchSet
     requires inside { AreInside watches.now controller.now.parts.image.bytes }
-    requires are_watched { AreWatched watches.now controller.now.parts.image.watched }
-    ensures { HasWritten watches.now controller.now.parts.image.marks result }
+    ensures { HasWritten watches.now controller.now.parts.image.hits result }
 {
     let mut written = WatchSet::new();
     let mut from = 0;
-    while let Some(grain) = controller.next_hit(from) {
-        written.join(&watches.of(grain));
-        let Some(next) = grain.checked_add(1) else {
+    while let Some(word) = controller.next_hit(from) {
+        written.join(&watches.of_word(word));
+        let Some(next) = word.checked_add(1) else {
             return written;
         };
         from = next;
@@ -87,7 +86,7 @@ fn compare_all(
     requires inside { AreInside places.now controller.now.parts.image.bytes }
     requires few { length places.now ≤ MAX_WATCHES }
     requires compared { AreAsCompared places.now values.old controller.now.parts.image }
-    requires written { HasWritten places.now controller.now.parts.image.marks written.now }
+    requires written { HasWritten places.now controller.now.parts.image.hits written.now }
     requires room { log.old.lost + MAX_WATCHES < 2 ^ 63 }
     ensures { (s : State) → Represents controller.now s → Compared log.old log.new at values.old values.new (numbers_at s.image places.now) }
 {
@@ -119,7 +118,7 @@ fn compare(log: &mut Log, value: &mut i32, at: Stamp, watch: u32, number: i32)
     }
 }
 
-/// Watches the grains of places, which lie in the image. What the controller represents is as before.
+/// Watches the words of places, which lie in the image. What the controller represents is as before.
 pub(crate) fn watch_all(controller: &mut Controller, places: &[Place])
     requires { AreInside places.now controller.old.parts.image.bytes }
     ensures represents { (s : State) → Represents controller.old s → Represents controller.new s }

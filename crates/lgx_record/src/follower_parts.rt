@@ -58,7 +58,7 @@ impl FollowerParts {
         ensures { (project : Project) → StandsFor project [] controller → names ≡ names_of project → watches ≡ map (λ w. w.place) project.watches → IfOk result (λ parts. FollowsRun (view_of parts) project []) }
     {
         watch_all(&mut controller, watches.places());
-        controller.clear_marks();
+        controller.clear_hits();
         let values = numbers_at(alloc, &controller, watches.places())?;
         Ok(FollowerParts {
             controller,
@@ -169,7 +169,7 @@ impl FollowerParts {
         }
     }
 
-    /// Puts the lines of the watched places that changed into the log, and takes the marks if a watched grain is hit.
+    /// Puts the lines of the watched places that changed into the log, and clears the hits if there are any.
     #[inline(always)]
     fn log_changes(&mut self, log: &mut Log, at: Stamp)
         requires inside { AreInside self.old.watches self.old.controller.parts.image.bytes }

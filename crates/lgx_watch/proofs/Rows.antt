@@ -7,70 +7,70 @@ use Rattle.std.proofs.Math.Seq.{take-append_seam}
 use Rattle.std.specs.Prelude.{slice_get}
 use Rattle.lgx_num.specs.declared.number.Kind.TheVariants.{Bool as KBool}
 use Rattle.lgx_num.specs.declared.place.Place.{Place}
-use Rattle.lgx_image.specs.Grains.{grain_of}
+use Rattle.lgx_image.specs.Grains.{word_of}
 use Rattle.lgx_image.specs.Words.{bit_of_words}
 use Rattle.lgx_image.proofs.Words.{bit_past}
 use Rattle.lgx_watch.specs.declared.bits.TheConstants.{MAX_WATCHES}
-use Rattle.lgx_watch.specs.Watches.{LiesIn, last_grain, spans}
+use Rattle.lgx_watch.specs.Watches.{LiesInWord, last_word, spans}
 use Rattle.lgx_watch.specs.Index.{row, IsIndex, NumberAdded}
 use Rattle.lgx_watch.proofs.Spanned.{spans-parts, spans-not, spans-from_lies, lies-from_spans}
 
 -- ---- what an index tells
 
--- a watched place has its bit in the row of each grain that it has a byte in
-pub index_has : (places now : List Place) (rows : List (List ℕ)) (grain w : ℕ) (p : Place) → places ≡ now → IsIndex places rows → slice_get now w ≡ Some p → LiesIn p grain → (w < MAX_WATCHES) × (bit_of_words (row rows grain) w ≡ true)
-index_has places now rows grain w p same index at lies =
+-- a watched place has its bit in the row of each word that it has a byte in
+pub index_has : (places now : List Place) (rows : List (List ℕ)) (word w : ℕ) (p : Place) → places ≡ now → IsIndex places rows → slice_get now w ≡ Some p → LiesInWord p word → (w < MAX_WATCHES) × (bit_of_words (row rows word) w ≡ true)
+index_has places now rows word w p same index at lies =
     let here : slice_get places w ≡ Some p = ap (λ ps. slice_get ps w) same ∙ at in
     let within : w < length places = slice_get_within places w p here in
     let few : length places ≤ MAX_WATCHES = index.few in
-    (omega arith, index.watched grain w p here ∙ spans-from_lies p grain lies)
+    (omega arith, index.watched word w p here ∙ spans-from_lies p word lies)
 
 -- and no other has
-pub index_only : (places now : List Place) (rows : List (List ℕ)) (grain w : ℕ) → places ≡ now → IsIndex places rows → bit_of_words (row rows grain) w ≡ true → (p : Place) × (slice_get now w ≡ Some p) × LiesIn p grain
-index_only places now rows grain w same index is = elim (cases_lt w (length places)) [
+pub index_only : (places now : List Place) (rows : List (List ℕ)) (word w : ℕ) → places ≡ now → IsIndex places rows → bit_of_words (row rows word) w ≡ true → (p : Place) × (slice_get now w ≡ Some p) × LiesInWord p word
+index_only places now rows word w same index is = elim (cases_lt w (length places)) [
   | inl within ↦
       let none : Place = record { kind = KBool; at = 0 } in
       let p = get_or places w none in
       let here : slice_get places w ≡ Some p = slice_get-get_or places w none within in
-      (p, ap (λ ps. slice_get ps w) (sym same) ∙ here, lies-from_spans p grain (sym (index.watched grain w p here) ∙ is))
-  | inr past ↦ absurd (false≢true (sym (index.others grain w past) ∙ is))
+      (p, ap (λ ps. slice_get ps w) (sym same) ∙ here, lies-from_spans p word (sym (index.watched word w p here) ∙ is))
+  | inr past ↦ absurd (false≢true (sym (index.others word w past) ∙ is))
 ]
 
--- a grain past the last row has none
-pub no_row : (rows : List (List ℕ)) (grain w : ℕ) → length rows ≤ grain → bit_of_words (row rows grain) w ≡ false
-no_row rows grain w past = ap (λ words. bit_of_words words w) (get_or_past rows grain [] past) ∙ bit_past [] w (omega arith)
+-- a word past the last row has none
+pub no_row : (rows : List (List ℕ)) (word w : ℕ) → length rows ≤ word → bit_of_words (row rows word) w ≡ false
+no_row rows word w past = ap (λ words. bit_of_words words w) (get_or_past rows word [] past) ∙ bit_past [] w (omega arith)
 
 -- ---- places are added in turn
 
 -- the rows of the first n watched places, with room for all of them
 pub record IsPartIndex (places : List Place) (n : ℕ) (rows : List (List ℕ)) : Type 0 where
-  pub watched : (grain w : ℕ) (p : Place) → w < n → slice_get places w ≡ Some p → bit_of_words (row rows grain) w ≡ spans p grain
-  pub others : (grain w : ℕ) → n ≤ w → bit_of_words (row rows grain) w ≡ false
-  pub room : (w : ℕ) (p : Place) → slice_get places w ≡ Some p → last_grain p < length rows
+  pub watched : (word w : ℕ) (p : Place) → w < n → slice_get places w ≡ Some p → bit_of_words (row rows word) w ≡ spans p word
+  pub others : (word w : ℕ) → n ≤ w → bit_of_words (row rows word) w ≡ false
+  pub room : (w : ℕ) (p : Place) → slice_get places w ≡ Some p → last_word p < length rows
 
 -- a place more
-more_place : (places : List Place) (n : ℕ) (place : Place) (old new : List (List ℕ)) → slice_get places n ≡ Some place → NumberAdded n (grain_of (place.at / 8)) (last_grain place + 1) old new → IsPartIndex places n old → IsPartIndex places (n + 1) new
+more_place : (places : List Place) (n : ℕ) (place : Place) (old new : List (List ℕ)) → slice_get places n ≡ Some place → NumberAdded n (word_of (place.at / 8)) (last_word place + 1) old new → IsPartIndex places n old → IsPartIndex places (n + 1) new
 more_place places n place old new here add is = record {
-  watched = λ grain w p below at. elim (cases_eq w n) [
+  watched = λ word w p below at. elim (cases_eq w n) [
     | inl same ↦
         let p_is : p ≡ place = cc in
-        ap (λ k. bit_of_words (row new grain) k) same ∙ its_bit grain (spans place grain) refl ∙ ap (λ q. spans q grain) (sym p_is)
-    | inr other ↦ add.others grain w (inl other) ∙ is.watched grain w p (omega arith) at
+        ap (λ k. bit_of_words (row new word) k) same ∙ its_bit word (spans place word) refl ∙ ap (λ q. spans q word) (sym p_is)
+    | inr other ↦ add.others word w (inl other) ∙ is.watched word w p (omega arith) at
   ];
-  others = λ grain w above. add.others grain w (inl (omega arith)) ∙ is.others grain w (omega arith);
+  others = λ word w above. add.others word w (inl (omega arith)) ∙ is.others word w (omega arith);
   room = λ w p at. omega (arith, is.room w p at, add.len);
 }
   where
-    outside : (grain : ℕ) → (grain < grain_of (place.at / 8)) ⊎ (last_grain place < grain) → (n ≢ n) ⊎ ((grain < grain_of (place.at / 8)) ⊎ (last_grain place + 1 ≤ grain))
-    outside grain (inl before) = inr (inl before)
-    outside grain (inr after) = inr (inr (omega arith))
+    outside : (word : ℕ) → (word < word_of (place.at / 8)) ⊎ (last_word place < word) → (n ≢ n) ⊎ ((word < word_of (place.at / 8)) ⊎ (last_word place + 1 ≤ word))
+    outside word (inl before) = inr (inl before)
+    outside word (inr after) = inr (inr (omega arith))
 
-    its_bit : (grain : ℕ) (b : Bool) → spans place grain ≡ b → bit_of_words (row new grain) n ≡ spans place grain
-    its_bit grain true has = let parts = spans-parts place grain has in add.added grain parts.0 (omega (arith, parts.1)) ∙ sym has
-    its_bit grain false lacks = add.others grain n (outside grain (spans-not place grain lacks)) ∙ is.others grain n (omega arith) ∙ sym lacks
+    its_bit : (word : ℕ) (b : Bool) → spans place word ≡ b → bit_of_words (row new word) n ≡ spans place word
+    its_bit word true has = let parts = spans-parts place word has in add.added word parts.0 (omega (arith, parts.1)) ∙ sym has
+    its_bit word false lacks = add.others word n (outside word (spans-not place word lacks)) ∙ is.others word n (omega arith) ∙ sym lacks
 
 -- as a loop adds it, to all rows of a vector
-pub one_more_place : (places : List Place) (n : ℕ) (d : Place) (len : ℕ) (rows old new : List (List ℕ)) → n < length places → old ≡ rows → (let place = get_or places n d in NumberAdded n (grain_of (place.at / 8)) (last_grain place + 1) old new) → len ≡ length new → IsPartIndex places n rows → IsPartIndex places (n + 1) (take len (new ++ drop (length new) rows))
+pub one_more_place : (places : List Place) (n : ℕ) (d : Place) (len : ℕ) (rows old new : List (List ℕ)) → n < length places → old ≡ rows → (let place = get_or places n d in NumberAdded n (word_of (place.at / 8)) (last_word place + 1) old new) → len ≡ length new → IsPartIndex places n rows → IsPartIndex places (n + 1) (take len (new ++ drop (length new) rows))
 one_more_place places n d len rows old new below same add whole is =
     let place = get_or places n d in
     let written : take len (new ++ drop (length new) rows) ≡ new = ap (λ m. take m (new ++ drop (length new) rows)) whole ∙ take-append_seam new (drop (length new) rows) in
@@ -81,6 +81,6 @@ one_more_place places n d len rows old new below same add whole is =
 pub whole_index : (places kept : List Place) (rows : List (List ℕ)) (n : ℕ) → kept ≡ places → n ≡ length places → length places ≤ MAX_WATCHES → IsPartIndex places n rows → IsIndex kept rows
 whole_index places kept rows n same all few is = rw (same) (record {
   few = few;
-  watched = λ grain w p at. is.watched grain w p (omega (arith, slice_get_within places w p at)) at;
-  others = λ grain w past. is.others grain w (omega arith);
+  watched = λ word w p at. is.watched word w p (omega (arith, slice_get_within places w p at)) at;
+  others = λ word w past. is.others word w (omega arith);
 })

@@ -1,21 +1,21 @@
--- The rows of an index: a word of bits for each grain, and in it a bit for each watched place.
+-- The rows of an index: a row of bits for each word, and in it a bit for each watched place.
 use Rattle.std.specs.Prelude.{◌≡◌, ◌≢◌, ℕ, ◌<◌, ◌≤◌, ◌⊎◌, true, false, List, [], length, slice_get, slice_index_or, Some}
 use Rattle.lgx_num.specs.declared.place.Place.{Place}
 use Rattle.lgx_image.specs.Words.{bit_of_words}
 use Rattle.lgx_watch.specs.declared.bits.TheConstants.{MAX_WATCHES}
 use Rattle.lgx_watch.specs.Watches.{spans}
 
--- the row of a grain; one past the last has no bit
+-- the row of a word; one past the last has no bit
 abbrev pub row : List (List ℕ) → ℕ → List ℕ
-row rows grain = slice_index_or rows grain []
+row rows word = slice_index_or rows word []
 
--- the row of each grain has the bits of the watched places that have a byte in it, and no other
+-- the row of each word has the bits of the watched places that have a byte in it, and no other
 pub record IsIndex (places : List Place) (rows : List (List ℕ)) : Type 0 where
   pub few : length places ≤ MAX_WATCHES
-  pub watched : (grain w : ℕ) (p : Place) → slice_get places w ≡ Some p → bit_of_words (row rows grain) w ≡ spans p grain
-  pub others : (grain w : ℕ) → length places ≤ w → bit_of_words (row rows grain) w ≡ false
+  pub watched : (word w : ℕ) (p : Place) → slice_get places w ≡ Some p → bit_of_words (row rows word) w ≡ spans p word
+  pub others : (word w : ℕ) → length places ≤ w → bit_of_words (row rows word) w ≡ false
 
--- the rows of the grains from first on, up to next, have the bit of a number, and all else is as before
+-- the rows of the words from first on, up to next, have the bit of a number, and all else is as before
 pub record NumberAdded (number first next : ℕ) (old new : List (List ℕ)) : Type 0 where
   pub added : (g : ℕ) → first ≤ g → g < next → bit_of_words (row new g) number ≡ true
   pub others : (g w : ℕ) → (w ≢ number) ⊎ ((g < first) ⊎ (next ≤ g)) → bit_of_words (row new g) w ≡ bit_of_words (row old g) w

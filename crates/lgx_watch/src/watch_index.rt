@@ -1,20 +1,23 @@
-// The watched places of each grain of the image.
+// The watched places of each word of the image, and of each grain.
 ghost use Rattle.std.specs.Prelude.{◌≡◌, ℕ, ◌+◌, ◌/◌, ◌^◌, ◌<◌, ◌≤◌, true, length, slice_get, Some, IfOk};
 ghost use Rattle.lgx_num.specs.declared.place.Place.{Place};
 ghost use Rattle.lgx_num.specs.Number.{bytes_in};
-ghost use Rattle.lgx_image.specs.Grains.{grain_of};
+ghost use Rattle.lgx_image.specs.Grains.{word_of};
 ghost use Rattle.lgx_watch.specs.declared.bits.TheConstants.{MAX_WATCHES};
-ghost use Rattle.lgx_watch.specs.Watches.{is_member, LiesIn, last_grain};
+ghost use Rattle.lgx_watch.specs.Watches.{is_member, LiesIn, LiesInWord, last_word};
 ghost use Rattle.lgx_watch.specs.Index.{NumberAdded};
 
 use crate::bits::{WORDS, no_bits, set_bit};
 use crate::watch_set::WatchSet;
-use lgx_image::grain_of;
+use lgx_image::{GRAIN, WORD_BYTES, word_of};
 use lgx_num::{Memory, Place, bytes_in};
 use std::alloc::Global;
 use std::marker::Model;
 
-/// Watched places, and for each grain of the image the set of those that have a byte in it.
+/// The words of a grain.
+const GRAIN_WORDS: usize = (GRAIN / WORD_BYTES) as usize;
+
+/// Watched places, and for each word of the image the set of those that have a byte in it.
 pub struct WatchIndex {
     places: Vec<Place>,
     rows: Vec<[u64; WORDS]>,
@@ -46,7 +49,7 @@ impl WatchIndex {
     {
         let mut kept = Vec::with_capacity(alloc, places.len())?;
         kept.extend_from_slice(places)?;
-        let mut rows = vec![in alloc; no_bits(); grains_of(places)]?;
+        let mut rows = vec![in alloc; no_bits(); words_of(places)]?;
         for (number, place) in places.iter().enumerate() {
             add_place(&mut rows, *place, number as u32);
         }
@@ -66,39 +69,61 @@ impl WatchIndex {
         ensures members { (w : ℕ) (p : Place) → slice_get self.now w ≡ Some p → LiesIn p grain → is_member result w ≡ true }
         ensures no_other { (w : ℕ) → is_member result w ≡ true → (p : Place) × (slice_get self.now w ≡ Some p) × LiesIn p grain }
     {
-        match self.rows.get(grain as usize) {
+        let first = grain as usize * GRAIN_WORDS;
+        let mut set = WatchSet::new();
+        for word in 0..GRAIN_WORDS {
+            set.join(&self.of_row(first + word));
+        }
+        set
+    }
+
+    /// The watched places that have a byte in a word.
+    #[inline]
+    pub fn of_word(&self, word: u32) -> WatchSet
+        ensures members { (w : ℕ) (p : Place) → slice_get self.now w ≡ Some p → LiesInWord p word → is_member result w ≡ true }
+        ensures no_other { (w : ℕ) → is_member result w ≡ true → (p : Place) × (slice_get self.now w ≡ Some p) × LiesInWord p word }
+    {
+        self.of_row(word as usize)
+    }
+
+    /// The same by the row of a word.
+    fn of_row(&self, word: usize) -> WatchSet
+        ensures members { (w : ℕ) (p : Place) → slice_get self.now w ≡ Some p → LiesInWord p word → is_member result w ≡ true }
+        ensures no_other { (w : ℕ) → is_member result w ≡ true → (p : Place) × (slice_get self.now w ≡ Some p) × LiesInWord p word }
+    {
+        match self.rows.get(word) {
             Some(words) => WatchSet::of_words(*words),
             None => WatchSet::new(),
         }
     }
 }
 
-/// How many grains reach to the last byte of all places.
-fn grains_of(places: &[Place]) -> usize
-    ensures { (w : ℕ) (p : Place) → slice_get places.now w ≡ Some p → last_grain p < result }
+/// How many words reach to the last byte of all places.
+fn words_of(places: &[Place]) -> usize
+    ensures { (w : ℕ) (p : Place) → slice_get places.now w ≡ Some p → last_word p < result }
 {
-    let mut grains = 0;
+    let mut words = 0;
     for place in places {
-        grains = grains.max(last_grain(*place) as usize + 1);
+        words = words.max(last_word(*place) as usize + 1);
     }
-    grains
+    words
 }
 
-/// Adds a place with its number to the row of each grain that it has a byte in.
+/// Adds a place with its number to the row of each word that it has a byte in.
 fn add_place(rows: &mut [[u64; WORDS]], place: Place, number: u32)
-    requires room { last_grain place < length rows.old }
+    requires room { last_word place < length rows.old }
     requires number { number < MAX_WATCHES }
-    ensures { NumberAdded number (grain_of (place.at / 8)) (last_grain place + 1) rows.old rows.new }
+    ensures { NumberAdded number (word_of (place.at / 8)) (last_word place + 1) rows.old rows.new }
 {
-    for grain in grain_of(place.at / 8)..last_grain(place) + 1 {
-        set_bit(&mut rows[grain as usize], number);
+    for word in word_of(place.at / 8)..last_word(place) + 1 {
+        set_bit(&mut rows[word as usize], number);
     }
 }
 
-/// The grain of the last byte of a place.
-fn last_grain(place: Place) -> u32
-    ensures value { result ≡ last_grain place }
+/// The word of the last byte of a place.
+fn last_word(place: Place) -> u32
+    ensures value { result ≡ last_word place }
     ensures small { result < 2 ^ 29 }
 {
-    grain_of(place.at / 8 + bytes_in(place.kind) - 1)
+    word_of(place.at / 8 + bytes_in(place.kind) - 1)
 }

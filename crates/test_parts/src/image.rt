@@ -13,8 +13,9 @@ use std::alloc::Global;
 /// `image | LENGTH ? COMMAND; .. | ..`: what the commands answer in an image of so many bytes.
 ///
 /// `put KIND AT VALUE`, `get KIND AT`, `set AT BIT` and `bit AT` write and read at a bit; `copy FROM TO SIZE` copies
-/// bytes; `watch KIND AT` watches the grains of a place, `hit` answers whether one is hit, `next GRAIN` the least grain
-/// from there on that is, and `clear` takes the marks.
+/// bytes; `marked GRAIN` answers the least marked grain from there on, and `clear` takes the marks. `watch KIND AT` watches
+/// the words of a place, `hit` answers whether one is hit, `next WORD` the least word from there on that is, and `unhit`
+/// clears the hits.
 pub fn say_image(
     alloc: Global,
     said: &mut Told,
@@ -39,18 +40,25 @@ fn run(said: &mut Told, image: &mut Image, command: &str) {
         "set" => put_bit(said, image, command),
         "bit" => say_bit(said, image, command),
         "copy" => copy(said, image, command),
+        "marked" => say_marked(said, image, command),
         "clear" => image.clear_marks(),
         "watch" => watch(said, image, command),
         "hit" => said.truth(image.is_hit()),
         "next" => say_next(said, image, command),
+        "unhit" => image.clear_hits(),
         "len" => said.number(i64::from(image.len())),
         _ => said.malformed(),
     }
 }
 
-fn say_next(said: &mut Told, image: &Image, command: &str) {
+fn say_marked(said: &mut Told, image: &Image, command: &str) {
     let grain = number_at(said, command, 1);
-    said.or_none(image.next_hit(grain));
+    said.or_none(image.next_marked(grain));
+}
+
+fn say_next(said: &mut Told, image: &Image, command: &str) {
+    let word = number_at(said, command, 1);
+    said.or_none(image.next_hit(word));
 }
 
 fn watch(said: &mut Told, image: &mut Image, command: &str) {

@@ -27,23 +27,36 @@ fn say_full(log: &mut Log, count: u32, told: &mut Told) {
 
 /// Says which of the watched places have a byte in one of these grains.
 pub(crate) fn say_watches(alloc: Global, grains: &str, told: &mut Told) {
-    let places = [
-        place(Kind::Bool, 0),
-        place(Kind::Dint, 8 * 14),
-        place(Kind::Sint, 8 * 32),
-    ];
-    told.word("watches");
-    match WatchIndex::new(alloc, &places) {
-        Ok(index) => say_members(&members(&index, grains), told),
+    match index(alloc) {
+        Ok(index) => say_members(&in_grains(&index, grains), told),
         Err(Memory) => told.lack(),
     }
+}
+
+/// The same of words.
+pub(crate) fn say_words(alloc: Global, words: &str, told: &mut Told) {
+    match index(alloc) {
+        Ok(index) => say_members(&in_words(&index, words), told),
+        Err(Memory) => told.lack(),
+    }
+}
+
+fn index(alloc: Global) -> Result<WatchIndex, Memory> {
+    let places = [
+        place(Kind::Bool, 0),
+        place(Kind::Dint, 8 * 60),
+        place(Kind::Sint, 8 * 64),
+        place(Kind::Int, 8 * 60),
+        place(Kind::Dint, 8 * 190),
+    ];
+    WatchIndex::new(alloc, &places)
 }
 
 fn place(kind: Kind, at: u32) -> Place {
     Place { kind, at }
 }
 
-fn members(index: &WatchIndex, grains: &str) -> WatchSet {
+fn in_grains(index: &WatchIndex, grains: &str) -> WatchSet {
     let mut members = WatchSet::new();
     for grain in grains.split_whitespace() {
         members.join(&index.of(number_at(grain, 0)));
@@ -51,9 +64,18 @@ fn members(index: &WatchIndex, grains: &str) -> WatchSet {
     members
 }
 
-/// Says the members of a set below 4.
+fn in_words(index: &WatchIndex, words: &str) -> WatchSet {
+    let mut members = WatchSet::new();
+    for word in words.split_whitespace() {
+        members.join(&index.of_word(number_at(word, 0)));
+    }
+    members
+}
+
+/// Says the members of a set below 5.
 fn say_members(set: &WatchSet, told: &mut Told) {
-    for watch in 0..4 {
+    told.word("watches");
+    for watch in 0..5 {
         if set.next(watch) == Some(watch) {
             told.number(i64::from(watch));
         }

@@ -9,8 +9,9 @@
 //! - `reply | TICK STEP LANE WORD NUMBERS | LINE`: WORD is `done`, `word`, `version`, `held`, or a code.
 //! - `end | TICK STEP MODE | LINE`.
 //! - `log | COUNT | KEPT kept, LOST lost`: how many of so many lines a log keeps.
-//! - `watches | GRAIN GRAIN .. | WATCHES`: which of three watched places have a byte in one of these grains of 16 bytes: one at bit
-//!   0, one over the first two grains, one at the start of the third.
+//! - `watches | GRAIN GRAIN .. | WATCHES`: which of five watched places have a byte in one of these grains of 64 bytes. They
+//!   stand at the bytes 0, 60, 64 and 60, and over the bytes 190 to 193.
+//! - `words | WORD WORD .. | WATCHES`: the same of words of 4 bytes.
 //!
 //! What differs is printed, and at the end how many rows there were.
 #![tactic(auto)]
@@ -20,7 +21,7 @@ mod lines;
 mod replies;
 mod words;
 
-use kept::{say_log, say_watches};
+use kept::{say_log, say_watches, say_words};
 use lines::{say_end, say_line};
 use std::io;
 use test_rows::{Row, Texts, Told, judge_table};
@@ -35,6 +36,7 @@ fn say(texts: &Texts, row: &Row<'_>, told: &mut Told) {
         "end" => say_end(texts.alloc, row.given, told),
         "log" => say_log(texts.alloc, row.given, told),
         "watches" => say_watches(texts.alloc, row.given, told),
+        "words" => say_words(texts.alloc, row.given, told),
         _ => say_line(texts.alloc, row, told),
     }
 }

@@ -1,7 +1,5 @@
-use Rattle.std.proofs.Common.{◌≡◌, ℕ, List, Bool, get_or, pos, false, sym, ap, ◌∙◌, subst, arith}
-use Rattle.lgx_image.specs.Grains.{is_marked}
+use Rattle.std.proofs.Common.{ℕ, List, get_or, pos, sym, ap, ◌∙◌, arith}
 use Rattle.lgx_record.specs.Changes.{numbers_at}
-use Rattle.lgx_record.proofs.Making.{none_left}
 use Rattle.lgx_record.proofs.Changed.{length-numbers, compared-nothing, not_written-anywhere}
 use Rattle.lgx_record.proofs.changes.log_changes.Goals as goal
 
@@ -11,7 +9,4 @@ returns-then-not-is_hit-clause-compared c = λ s h.
     let image = c.args.controller.now.parts.image in
     let few = c.requires.compared.many in
     compared-nothing c.args.log.now c.args.at c.args.values.now (numbers_at s.image places) (few ∙ sym (length-numbers s.image places))
-    (λ k below. not_written-anywhere places c.args.values.now image c.requires.compared c.requires.are_watched (c.is_hit.ensures.none c.if-not-is_hit.true) k (omega arith) ∙ ap (λ (bytes : List ℕ). get_or (numbers_at bytes places) k (pos 0)) h.parts.image)
-
-pub returns-clause-none_hit : goal.returns-clause-none_hit
-returns-clause-none_hit c = λ grain seen. subst (λ (marks : List Bool). is_marked marks grain ≡ false) (sym c.clear_marks.ensures.marks) (none_left _ grain)
+    (λ k below. not_written-anywhere places c.args.values.now image c.requires.compared (c.is_hit.ensures.none c.if-not-is_hit.true) k (omega arith) ∙ ap (λ (bytes : List ℕ). get_or (numbers_at bytes places) k (pos 0)) h.parts.image)

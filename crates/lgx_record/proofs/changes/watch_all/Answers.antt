@@ -4,7 +4,7 @@ use Rattle.lgx_num.specs.Image.{InBounds}
 use Rattle.lgx_num.specs.Number.{bytes_in}
 use Rattle.lgx_num.specs.declared.place.Place.{Place}
 use Rattle.lgx_image.specs.Grains.{ImageView, is_marked}
-use Rattle.lgx_image.proofs.Marks.{mark_range-stays}
+use Rattle.lgx_image.proofs.Marks.{watch_range-stays}
 use Rattle.lgx_record.specs.Changes.{AreWatched}
 use Rattle.lgx_record.proofs.Watching.{blank, none-watched, one-more-watched}
 use Rattle.lgx_record.proofs.changes.watch_all.Goals as goal
@@ -40,7 +40,7 @@ loop-place-preserved c =
       watched =
           subst (λ n. AreWatched (take n places) new) (sym (add-one i))
           (one-more-watched old new
-          (λ grain seen. subst (λ (marks : List Bool). is_marked marks grain ≡ true) (sym (ap (λ (v : ImageView). v.watched) image)) (mark_range-stays old (place.at / 8) (bytes_in place.kind) grain seen))
+          (λ word seen. subst (λ (watched : List Bool). is_marked watched word ≡ true) (sym (ap (λ (v : ImageView). v.watched) image)) (watch_range-stays old (place.at / 8) (bytes_in place.kind) word seen))
           places i below before.watched c.watch.ensures.watched);
     }
 

@@ -1,6 +1,5 @@
 use Rattle.std.proofs.Common.{◌≡◌, ℕ, List, length, take}
 use Rattle.spec_machine.specs.State.{State}
-use Rattle.lgx_image.specs.Grains.{grains_in}
 use Rattle.lgx_core.specs.Represents.{Represents}
 use Rattle.lgx_record.specs.Changes.{AreWatched}
 use Rattle.lgx_record.proofs.changes.watch_all.Given as goal

@@ -1,26 +1,30 @@
-use Rattle.std.proofs.Common.{ℕ, List, [], inl, inr, sym, ap, ◌∙◌, le_refl}
-use Rattle.std.proofs.lemmas.Bool.{cases_lt, false≢true}
-use Rattle.lgx_image.specs.Words.{bit_of_words}
-use Rattle.lgx_watch.specs.declared.bits.TheConstants.{MAX_WATCHES}
-use Rattle.lgx_watch.specs.Index.{row}
-use Rattle.lgx_watch.proofs.Rows.{index_has, index_only, no_row}
+use Rattle.std.proofs.Common.{◌≡◌, ◌+◌, ◌*◌, inl, inr, true, false, ◌||◌, sym, ap, ◌∙◌, subst, arith}
+use Rattle.std.proofs.lemmas.Bool.{cases_lt}
+use Rattle.lgx_watch.specs.Watches.{is_member, LiesInWord}
+use Rattle.lgx_watch.proofs.Spanned.{word_in_grain, grain_has_word, in_first, in_second, in_either}
 use Rattle.lgx_watch.proofs.watch_index.WatchIndex.of.Goals as goal
 
-pub returns-in-Some-clause-members : goal.returns-in-Some-clause-members
-returns-in-Some-clause-members c = λ w p at lies.
-    let found = ap (λ (rows : List (List ℕ)). row rows c.args.grain) (sym c.deref.ensures.value) ∙ sym (c.in-Some.ensures.lookup.4 (le_refl c.args.grain) []) in
-    let has = index_has c.self.inside.places.items c.args.self.now c.self.inside.rows.items c.args.grain w p c.self.view_is c.self.invariant at lies in
-    c.of_words.ensures.within w has.0 ∙ ap (λ words. bit_of_words words w) (sym found) ∙ has.1
+pub loop-word-preserved : goal.loop-word-preserved
+loop-word-preserved c =
+    let set = c.loop-word.set in
+    let row = c.of_row.result in
+    let n = c.loop-word.word in
+    record {
+      members = λ k w p below at lies. elim (cases_lt k n) [
+        | inl early ↦ c.join.ensures w ∙ in_first (is_member set w) (is_member row w) (c.loop-word.invariant.members k w p early at lies)
+        | inr late ↦
+            let here : c.args.grain * 16 + k ≡ c.args.grain * 16 + n = omega arith in
+            c.join.ensures w ∙ in_second (is_member set w) (is_member row w) (c.of_row.ensures.members w p at (subst (LiesInWord p) here lies))
+      ];
+      known = λ w is. elim (in_either (is_member set w) (is_member row w) (sym (c.join.ensures w) ∙ is)) [
+        | inl old ↦ c.loop-word.invariant.known w old
+        | inr new ↦
+            let other = c.of_row.ensures.no_other w new in
+            (other.0, other.1, word_in_grain other.0 c.args.grain (c.args.grain * 16 + n) (omega arith) (omega arith) other.2)
+      ];
+    }
 
-pub returns-in-Some-clause-no_other : goal.returns-in-Some-clause-no_other
-returns-in-Some-clause-no_other c = λ w is.
-    let found = ap (λ (rows : List (List ℕ)). row rows c.args.grain) (sym c.deref.ensures.value) ∙ sym (c.in-Some.ensures.lookup.4 (le_refl c.args.grain) []) in
-    elim (cases_lt w MAX_WATCHES) [
-      | inl within ↦ index_only c.self.inside.places.items c.args.self.now c.self.inside.rows.items c.args.grain w c.self.view_is c.self.invariant (ap (λ words. bit_of_words words w) found ∙ sym (c.of_words.ensures.within w within) ∙ is)
-      | inr past ↦ absurd (false≢true (sym (c.of_words.ensures.past w past) ∙ is))
-    ]
-
-pub returns-in-None-clause-members : goal.returns-in-None-clause-members
-returns-in-None-clause-members c = λ w p at lies.
-    let has = index_has c.self.inside.places.items c.args.self.now c.self.inside.rows.items c.args.grain w p c.self.view_is c.self.invariant at lies in
-    absurd (false≢true (sym (no_row c.self.inside.rows.items c.args.grain w (rw (← c.deref.ensures.value) c.in-None.ensures.lookup.3)) ∙ has.1))
+pub returns-clause-members : goal.returns-clause-members
+returns-clause-members c = λ w p at lies.
+    let found = grain_has_word p c.args.grain lies in
+    c.loop-word.invariant.members found.0 w p (omega (arith, found.1)) at found.2
