@@ -1,7 +1,6 @@
 -- What nodes keep, and that what one shows is a witness.
 use Rattle.std.proofs.Common.{◌≡◌, ℕ, ◌+◌, ◌<◌, inl, inr, List, [], ◌∷◌, ◌++◌, length, replicate, get_or, Option, Some, refl, sym, ◌∙◌, ap, subst, arith}
 use Rattle.std.specs.Prelude.{IfSome, IsTrue}
-use Rattle.std.specs.List.{Contains}
 use Rattle.spec_machine.specs.declared.event.Event.{Event}
 use Rattle.spec_machine.specs.declared.event.Event.TheVariants.{Act, Cpu}
 use Rattle.spec_machine.specs.Events.{steps_of}
@@ -25,7 +24,7 @@ use Rattle.spec_explore.proofs.Witnesses.{openings_are_in_time, actions_witness,
 use Rattle.lgx_explore.specs.declared.node.Next.{Next}
 use Rattle.lgx_explore.specs.declared.node.Next.TheVariants as next
 use Rattle.lgx_explore.specs.Shown.{MayBeMade, AnAction, AStep, ATick, IsShown, IsAction}
-use Rattle.lgx_explore.specs.Nodes.{Stands, Keeps, AddsOnly, NodeShows, ShowsAt, IsActed, IsStepped, IsOpened, KeepsOne, AllKeep, StillKeep, StepKeeps, NextKeep}
+use Rattle.lgx_explore.specs.Nodes.{Stands, Keeps, AddsOnly, NodeShows, IsActed, IsStepped, IsOpened, KeepsOne, AllKeep, StillKeep, StepKeeps, NextKeep}
 
 module _ {Node : Type 0} (stands : Stands Node) (keeps : Keeps Node) (script : Script) (q : Question) where
   -- the pair is a journal of the layer that the node stands for

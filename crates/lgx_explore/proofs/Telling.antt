@@ -1,6 +1,6 @@
 -- What a halt tells.
-use Rattle.std.proofs.Common.{◌≡◌, ℕ, ◌+◌, ◌<◌, inl, inr, List, [], ◌∷◌, ◌++◌, length, sym, ◌∙◌, ap, subst, arith}
-use Rattle.std.specs.Prelude.{Result, Ok, Err, IfOk, IsTrue, slice_index_or}
+use Rattle.std.proofs.Common.{◌≡◌, ℕ, ◌+◌, inl, inr, List, [], ◌∷◌, ◌++◌, sym, ◌∙◌, ap, subst, arith}
+use Rattle.std.specs.Prelude.{Result, Ok, Err, IfOk, IsTrue}
 use Rattle.std.specs.List.{Contains}
 use Rattle.std.proofs.lemmas.List.Elements.{Contains-append_left, Contains-push, Contains-push_cases}
 use Rattle.spec_machine.specs.Project.{Project}
@@ -12,7 +12,7 @@ use Rattle.lgx_explore.specs.declared.node.Stop.{Stop}
 use Rattle.lgx_explore.specs.declared.node.Stop.TheVariants as stops
 use Rattle.lgx_explore.specs.declared.found.Found.{Found}
 use Rattle.lgx_explore.specs.Shown.{IfShown, IsAction}
-use Rattle.lgx_explore.specs.Nodes.{Stands, Keeps, AddsTo, NodeShows, ShowsAt, IsOpened, KeepsOne, AllKeep}
+use Rattle.lgx_explore.specs.Nodes.{Stands, Keeps, AddsTo, ShowsAt, IsOpened, KeepsOne, AllKeep}
 use Rattle.lgx_explore.specs.Found.{Tells, IsToldBy}
 use Rattle.lgx_explore.proofs.Keeping.{keeps_at, opened_keeps, action_shown, step_shown}
 

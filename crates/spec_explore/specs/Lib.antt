@@ -3,3 +3,4 @@ pub mod Questions
 pub mod Layers
 pub mod Witnesses
 pub mod Completion
+pub mod QuestionText

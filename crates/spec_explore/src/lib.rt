@@ -2,7 +2,8 @@
 #![tactic(auto)]
 
 mod laws;
+pub mod limits;
 mod question;
 
 pub use laws::{journals_complete, journals_grow, layers_tell, witnesses_tell};
-pub use question::{Comparison, Never, Operand, Question, Test};
+pub use question::{Comparison, Never, Operand, Question, QuestionCode, QuestionFault, Test};

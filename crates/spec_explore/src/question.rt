@@ -40,3 +40,20 @@ pub struct Question {
     pub within: Option<u32>,
     pub lines: Items<Never>,
 }
+
+/// Why a line is none of a question: Q1 it has none of the forms, Q2 no watched place has a name of it, Q3 no program has the
+/// name, Q4 a limit is passed, `within` isn't first, or nothing is asked.
+#[derive(Clone, Copy, PartialEq, Eq, Debug)]
+pub enum QuestionCode {
+    Q1,
+    Q2,
+    Q3,
+    Q4,
+}
+
+/// The first line that is refused, counted from 1, and its first cause.
+#[derive(Clone, Copy, PartialEq, Eq, Debug)]
+pub struct QuestionFault {
+    pub code: QuestionCode,
+    pub line: u64,
+}

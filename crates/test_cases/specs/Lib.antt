@@ -22,3 +22,4 @@ pub mod ConveyorRun
 pub mod LawRuns
 pub mod ProjectCases
 pub mod LinkRuns
+pub mod QuestionCases

@@ -9,6 +9,7 @@ mod law_runs;
 mod legal_cases;
 mod link_cases;
 mod project_cases;
+mod question_cases;
 mod runs;
 mod text_cases;
 
@@ -27,6 +28,9 @@ pub use law_runs::{
 pub use legal_cases::{laws_are_broken, laws_hold};
 pub use link_cases::{links_are_refused, links_are_run};
 pub use project_cases::{project_is_valid, projects_are_invalid};
+pub use question_cases::{
+    lines_are_shown, questions_are_read, questions_are_refused, windows_and_moments,
+};
 pub use runs::{
     arithmetic_runs, conveyor_run, copy_runs, edit_runs, inhibited_runs, ladder_runs,
     parameter_runs, routine_runs, task_runs, timer_runs, word_runs,
