@@ -1,7 +1,6 @@
 """A session of tools/online in this process, and what a new process of the controller says of the same journal."""
 
 import json
-import os
 import random
 import subprocess
 import tempfile
