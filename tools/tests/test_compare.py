@@ -6,7 +6,7 @@ import subprocess
 import tempfile
 import unittest
 
-from scenario_files import TOOLS
+from common import TOOLS
 from lib.scenario.comparing import differences, first_difference, read_report
 
 REPORT = """0 0 reply 31 ok

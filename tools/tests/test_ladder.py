@@ -7,7 +7,8 @@ import unittest
 import xml.etree.ElementTree as trees
 from unittest import mock
 
-from plain_programs import LOGIX, PROJECTS, contents
+from common import read_text
+from plain_programs import LOGIX, PROJECTS
 from lib.hammer.plain.judge import answer
 from lib import neutral
 from lib.ladder import drawing, forms, main
@@ -57,7 +58,7 @@ class Neutral(unittest.TestCase):
     def test_each_rung_of_each_example_is_read_and_spelled(self):
         count = 0
         for path in PROJECTS:
-            for _, _, texts in neutral.routines(answer(["text"], [contents(path).encode()])[1]):
+            for _, _, texts in neutral.routines(answer(["text"], [read_text(path).encode()])[1]):
                 for text in texts:
                     self.assertEqual(neutral.canonical(neutral.elements(text)), text)
                     count += 1
@@ -97,7 +98,7 @@ class Drawing(unittest.TestCase):
 
     def test_examples(self):
         for path in PROJECTS:
-            for _, _, texts in neutral.routines(answer(["text"], [contents(path).encode()])[1]):
+            for _, _, texts in neutral.routines(answer(["text"], [read_text(path).encode()])[1]):
                 self.check(texts, 900)
 
     def test_long_rungs_are_wrapped(self):

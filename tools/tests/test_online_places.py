@@ -3,7 +3,7 @@
 import random
 import unittest
 
-import plain_programs  # noqa: F401 (where the tools are)
+import common  # noqa: F401 (where the tools are)
 from lib.online.journal import LONGEST_ACTION, Act, Beat, Journal, Run, action, read
 from lib.online.plan import Plan, number_of
 

@@ -11,7 +11,7 @@ import unittest
 from unittest import mock
 
 from online_files import PLAIN, SAID, CONVEYOR
-from plain_programs import TOP, contents
+from common import TOP, read_text
 from lib.online import guards, hub, server as servers
 from lib.online.player import Player
 from lib.online.server import Server
@@ -26,7 +26,7 @@ PARTS = f"{TOP}/tools/lib/online"
 class Served(unittest.TestCase):
     @classmethod
     def setUpClass(cls):
-        cls.session = Session(PLAIN, json.loads(contents(CONVEYOR)), SAID)
+        cls.session = Session(PLAIN, json.loads(read_text(CONVEYOR)), SAID)
         player = Player(cls.session, lambda fresh: shown.frame(fresh))
         shown = Shown(cls.session, player, {"title": "test"})
         cls.session.on_snap = shown.snapshot
@@ -243,7 +243,7 @@ class Files(unittest.TestCase):
     FORBIDDEN = re.compile(r"innerHTML|outerHTML|insertAdjacentHTML|document\.write|\beval\b|new Function|setTimeout\(\s*[\"'`]|javascript:")
 
     def text(self, name):
-        return contents(f"{PARTS}/{name}")
+        return read_text(f"{PARTS}/{name}")
 
     def test_no_text_becomes_html(self):
         for name in ("page.js", "ladder.js", "panels.js"):

@@ -4,14 +4,13 @@ import os
 import re
 import unittest
 
-from l5x_files import TOP
+from common import TOP, read_text
 from lib import neutral
 from lib.l5x import profile
 
 
 def text(*path: str) -> str:
-    with open(os.path.join(TOP, *path), encoding="utf-8") as file:
-        return file.read()
+    return read_text(os.path.join(TOP, *path))
 
 
 class Profile(unittest.TestCase):

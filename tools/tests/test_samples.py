@@ -5,7 +5,8 @@ import os
 import re
 import unittest
 
-from l5x_files import SAMPLES, TOP, call
+from common import TOP
+from l5x_files import SAMPLES, call
 from lib.hammer.plain.judge import answer
 
 # The words of each sample and its status.

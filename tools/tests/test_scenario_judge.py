@@ -5,7 +5,7 @@ from __future__ import annotations
 import random
 import unittest
 
-import scenario_files  # noqa: F401 (finds tools/)
+import common  # noqa: F401 (where the tools are)
 from lib.scenario.judge import Judge
 from lib.scenario.reading import read
 from lib.scenario.story import read_reports

@@ -5,7 +5,7 @@ from __future__ import annotations
 import itertools
 import unittest
 
-import scenario_files  # noqa: F401 (finds tools/)
+import common  # noqa: F401 (where the tools are)
 from lib.scenario.line import Line, Wrong
 from lib.scenario.reading import read
 from lib.scenario.scenario import Fault, Pace, When

@@ -7,7 +7,7 @@ import json
 import random
 import unittest
 
-from scenario_files import TOP
+from common import TOP
 from lib.hammer.plain.judge import answer
 from lib.scenario.tracing import Trace
 

@@ -7,7 +7,8 @@ import sys
 import tempfile
 import unittest
 
-from l5x_files import TOOLS, call, convert, file
+from common import TOOLS
+from l5x_files import call, convert, file
 
 BOMB = (
     '<?xml version="1.0"?><!DOCTYPE b [<!ENTITY a "' + "x" * 50 + '">'
