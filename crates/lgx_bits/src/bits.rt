@@ -4,7 +4,7 @@ ghost use Rattle.lgx_num.specs.Image.{number, write, InBounds};
 ghost use Rattle.spec_scan.specs.Arguments.{is_one, bit_number};
 ghost use Rattle.spec_scan.specs.Bits.{bits};
 ghost use Rattle.spec_scan.specs.Fits.{ArgsFit};
-ghost use Rattle.lgx_image.specs.Args.{ArgsInBounds};
+ghost use Rattle.spec_scan.specs.ArgBounds.{ArgsInBounds};
 ghost use Rattle.lgx_image.specs.Grains.{ChangesOnlyMarked};
 
 use crate::operand::is_on;

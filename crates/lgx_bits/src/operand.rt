@@ -1,7 +1,7 @@
 // An operand as a bit.
 ghost use Rattle.std.specs.Prelude.{◌≡◌, length};
 ghost use Rattle.spec_scan.specs.Arguments.{bit_value};
-ghost use Rattle.lgx_image.specs.Args.{ArgInBounds};
+ghost use Rattle.spec_scan.specs.ArgBounds.{ArgInBounds};
 
 use lgx_image::Image;
 use lgx_num::{Flag, Flags};

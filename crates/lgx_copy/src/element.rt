@@ -7,7 +7,7 @@ ghost use Rattle.lgx_num.specs.Image.{splice};
 ghost use Rattle.spec_scan.specs.Copies.{copy_element, after_element};
 ghost use Rattle.spec_scan.specs.Fits.{IsFillSize};
 ghost use Rattle.lgx_image.specs.Grains.{ChangesOnlyMarked};
-ghost use Rattle.lgx_copy.specs.CopyBounds.{CopyInBounds};
+ghost use Rattle.spec_scan.specs.CopyBounds.{CopyInBounds};
 
 use lgx_image::Image;
 use lgx_num::{Kind, Place};

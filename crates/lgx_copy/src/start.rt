@@ -2,8 +2,8 @@
 ghost use Rattle.std.specs.Prelude.{◌≡◌, ◌<◌, ◌≤◌, length, IfSome};
 ghost use Rattle.spec_scan.specs.Arguments.{arg as operand, size_of};
 ghost use Rattle.spec_scan.specs.Copies.{positive, asked, elements, fill_of, is_sync, start_copy, elements_in};
-ghost use Rattle.lgx_image.specs.Args.{ArgsInBounds};
-ghost use Rattle.lgx_copy.specs.CopyBounds.{CopyInBounds, BlocksInBounds};
+ghost use Rattle.spec_scan.specs.ArgBounds.{ArgsInBounds};
+ghost use Rattle.spec_scan.specs.CopyBounds.{CopyInBounds, BlocksInBounds};
 
 use lgx_image::Image;
 use lgx_rung::Op;

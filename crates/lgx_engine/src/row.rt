@@ -10,7 +10,7 @@ ghost use Rattle.spec_scan.specs.Arithmetic.{math};
 ghost use Rattle.spec_scan.specs.Copies.{start_copy};
 ghost use Rattle.spec_scan.specs.Position.{Frame};
 ghost use Rattle.spec_scan.specs.Instructions.{row, acts_when_false, bad_timer};
-ghost use Rattle.lgx_image.specs.Args.{ArgInBounds, ArgsInBounds};
+ghost use Rattle.spec_scan.specs.ArgBounds.{ArgInBounds, ArgsInBounds};
 ghost use Rattle.lgx_image.specs.Grains.{ChangesOnlyMarked};
 ghost use Rattle.spec_scan.specs.Executable.{IsExecutable, ArgsEndIn};
 ghost use Rattle.spec_scan.specs.Fits.{OperandsFit, ArgFits, ArgsFit};

@@ -7,13 +7,12 @@ use Rattle.lgx_num.specs.declared.number.Kind.TheVariants.{Bool as KBool, Sint, 
 use Rattle.lgx_num.specs.declared.place.Place.{Place}
 use Rattle.lgx_num.specs.Number.{signed_bytes, signed_of, bytes_in}
 use Rattle.lgx_num.specs.Image.{number_of, write, write_of, piece, splice, InBoundsAt, InBounds}
-use Rattle.lgx_num.proofs.Images.{splice_before, splice_behind, length-splice, piece-same, write_keeps_length}
+use Rattle.lgx_num.proofs.Images.{splice_before, splice_behind, length-splice, piece-same, write_keeps_length, length-piece}
 use Rattle.lgx_image.specs.Grains.{ImageView, grain_of, grains_in, word_of, is_marked, mark_range, HitsAfter, HitsWritten, ChangesOnlyMarked}
 use Rattle.lgx_image.specs.Laws.{NoChangeNeedsMarks, ChangesFollowOneAnother, UnmarkedPlacesStay, NoHitKeepsWatched, NoChangeKeepsWatched, TwoChangesKeepWatched, WatchedPlacesStay, UnhitPlacesStay, AllWatched}
 use Rattle.lgx_image.specs.Words.{IsNoted}
 use Rattle.lgx_image.proofs.Marks.{grain_of-below, word_of-is, mark_range-stays, piece_is_marked}
 use Rattle.lgx_image.proofs.WatchedWords.{SameBeside, hits_noted, hits_same, some_differs, byte_changed, byte_same}
-use Rattle.lgx_image.proofs.Pieces.{length-piece}
 
 -- ---- how they compose
 

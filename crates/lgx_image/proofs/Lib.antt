@@ -6,4 +6,3 @@ pub mod Changes
 pub mod Writes
 pub mod Paths
 pub mod Bindings
-pub mod BoundKinds

@@ -4,11 +4,7 @@ use Rattle.std.specs.List.{CopiedTo, SameBelow, SameFrom}
 use Rattle.std.proofs.lemmas.Bool.{cases_lt}
 use Rattle.std.proofs.lemmas.List.{ext_get_or}
 use Rattle.lgx_num.specs.Image.{piece, splice}
-use Rattle.lgx_num.proofs.Images.{length-splice, splice_before, splice_behind}
-
-pub length-piece : (image : List ℕ) (at n : ℕ) → length (piece image at n) ≡ n
-length-piece image at zero = refl
-length-piece image at (suc n) = ap suc (length-piece image (at + 1) n)
+use Rattle.lgx_num.proofs.Images.{length-piece, length-splice, splice_before, splice_behind}
 
 pub piece-at : (image : List ℕ) (at n i k : ℕ) → i < n → k ≡ at + i → get_or (piece image at n) i 0 ≡ get_or image k 0
 piece-at image at zero i k within is = absurd (omega arith)

@@ -4,14 +4,14 @@ use Rattle.std.specs.Int.{bit_at}
 use Rattle.std.proofs.lemmas.Bool.{cases_eq, cases_lt, false≢true}
 use Rattle.std.proofs.lemmas.List.{get_or_past, ext_get_or, get_or-replicate, length-replicate}
 use Rattle.lgx_num.specs.Image.{piece, splice}
-use Rattle.lgx_num.proofs.Images.{splice_before, splice_behind}
+use Rattle.lgx_num.proofs.Images.{splice_before, splice_behind, length-piece}
 use Rattle.spec_base.specs.declared.limits.TheConstants.{MAX_IMAGE_BYTES}
 use Rattle.lgx_image.specs.declared.hits.TheConstants.{MAX_WORDS}
 use Rattle.lgx_image.specs.Grains.{ImageView, word_of, is_marked, HitsAfter, HitsWritten, NextMarked}
 use Rattle.lgx_image.specs.Words.{bit_of_words, marks_of, AreBetween, IsNoted, Cleared, NextBit}
 use Rattle.lgx_image.proofs.Marks.{word_of-is}
 use Rattle.lgx_image.proofs.Words.{length-marks_of, marks_of-at, marks_of-past, no_bit}
-use Rattle.lgx_image.proofs.Pieces.{length-piece, piece-at, splice-at}
+use Rattle.lgx_image.proofs.Pieces.{piece-at, splice-at}
 
 -- ---- lists of truth values that have a place for each bit
 

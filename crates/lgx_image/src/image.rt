@@ -10,7 +10,8 @@ ghost use Rattle.spec_scan.specs.Fits.{OperandsFit, ArgsFit};
 ghost use Rattle.lgx_rung.specs.declared.op.Op.{Op};
 ghost use Rattle.lgx_num.specs.Number.{bytes_in};
 ghost use Rattle.lgx_image.specs.Grains.{grains_in, is_marked, mark_range, watch_range, NextMarked, HitsWritten, ChangesOnlyMarked, NoneIsHit, SomeIsHit, NextHit};
-ghost use Rattle.lgx_image.specs.Args.{place_at, CellInBounds, OperandsInBounds, ArgInBounds, ArgsInBounds};
+ghost use Rattle.lgx_image.specs.Args.{place_at, CellInBounds, OperandsInBounds};
+ghost use Rattle.spec_scan.specs.ArgBounds.{ArgInBounds, ArgsInBounds};
 ghost use Rattle.lgx_image.specs.Laws.{AllWatched};
 
 use crate::bytes::{

@@ -3,7 +3,7 @@ ghost use Rattle.std.specs.Prelude.{◌≡◌, length};
 ghost use Rattle.lgx_rung.specs.declared.operands.Family.TheVariants.{Comparison};
 ghost use Rattle.lgx_rung.specs.OperandTable.{family_of};
 ghost use Rattle.spec_scan.specs.Comparisons.{compare, holds, is_within, is_equal_under};
-ghost use Rattle.lgx_image.specs.Args.{ArgsInBounds};
+ghost use Rattle.spec_scan.specs.ArgBounds.{ArgsInBounds};
 
 use crate::operand::number;
 use lgx_image::Image;

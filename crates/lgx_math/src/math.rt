@@ -7,7 +7,7 @@ ghost use Rattle.lgx_rung.specs.OperandTable.{family_of};
 ghost use Rattle.spec_scan.specs.Arguments.{arg, place_of};
 ghost use Rattle.spec_scan.specs.Arithmetic.{math, dest, is_zero, overflows};
 ghost use Rattle.spec_scan.specs.Fits.{ArgsFit};
-ghost use Rattle.lgx_image.specs.Args.{ArgsInBounds};
+ghost use Rattle.spec_scan.specs.ArgBounds.{ArgsInBounds};
 ghost use Rattle.lgx_image.specs.Grains.{ChangesOnlyMarked};
 ghost use Rattle.lgx_math.specs.Steps.{step_of, stored};
 

@@ -1,7 +1,7 @@
 // What an operand holds.
 ghost use Rattle.std.specs.Prelude.{◌≡◌, length};
 ghost use Rattle.spec_scan.specs.Arguments.{value_of};
-ghost use Rattle.lgx_image.specs.Args.{ArgInBounds};
+ghost use Rattle.spec_scan.specs.ArgBounds.{ArgInBounds};
 
 use lgx_image::Image;
 use lgx_num::Kind;

@@ -147,3 +147,9 @@ stays k Dint image at to v lies well apart =
 
 pub other_places_stay : OtherPlacesStay
 other_places_stay image p q v lies inside apart = stays p.kind q.kind image p.at q.at v lies inside.0 apart
+
+-- ---- pieces
+
+pub length-piece : (image : List ℕ) (at n : ℕ) → length (piece image at n) ≡ n
+length-piece image at zero = refl
+length-piece image at (suc n) = ap suc (length-piece image (at + 1) n)

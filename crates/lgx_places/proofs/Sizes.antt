@@ -14,7 +14,7 @@ use Rattle.spec_language.specs.Resolution.{integer_bits, kind_of}
 use Rattle.spec_language.specs.ResolutionLaws.{EndsBy, LiesIn}
 use Rattle.spec_project.specs.Places.{is_one_value, is_short, may_connect, place_of, same_base}
 use Rattle.lgx_types.specs.Tables.{HasSize}
-use Rattle.lgx_tags.specs.Sealing.{spans_of}
+use Rattle.spec_language.specs.TagSpans.{spans_of}
 use Rattle.lgx_places.specs.WholeTags.{is_connected, is_one_of}
 
 impossible : false ≡ true → ⊥

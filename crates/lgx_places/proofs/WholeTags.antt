@@ -22,8 +22,8 @@ use Rattle.spec_project.specs.declared.fault.ProjectCode.TheVariants.{P5}
 use Rattle.spec_project.specs.Faults.{here, refused_if}
 use Rattle.spec_project.specs.Places.{connected_such, found_such, is_controller_tag, is_short, is_whole_tag, may_connect}
 use Rattle.spec_project.specs.Tags.{ScopedTag, data_type, declarations, entry_of, tags_in}
-use Rattle.lgx_tags.specs.declared.span.TagSpan.{TagSpan}
-use Rattle.lgx_tags.specs.Sealing.{is_laid_tag, span_of, spans_of}
+use Rattle.spec_language.specs.declared.span.TagSpan.{TagSpan}
+use Rattle.spec_language.specs.TagSpans.{is_laid_tag, span_of, spans_of}
 use Rattle.lgx_places.specs.WholeTags.{connected_among, is_one_of, is_tag_at, meaning_type, tag_types}
 
 -- ---- the controller's entries come first

@@ -12,8 +12,8 @@ use Rattle.spec_project.specs.declared.fault.ProjectCode.TheVariants.{P5}
 use Rattle.spec_project.specs.Faults.{here, refused_if}
 use Rattle.spec_project.specs.Places.{is_short, may_connect, same_type}
 use Rattle.spec_project.specs.Tags.{data_type}
-use Rattle.lgx_tags.specs.Sealing.{spans_of}
-use Rattle.lgx_tags.specs.declared.span.TagSpan.{TagSpan}
+use Rattle.spec_language.specs.TagSpans.{spans_of}
+use Rattle.spec_language.specs.declared.span.TagSpan.{TagSpan}
 
 -- the types of tags, in order; an alias has none
 abbrev pub meaning_type : List TypeDecl → DescribedMeaning → Option DataType

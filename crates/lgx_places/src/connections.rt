@@ -10,7 +10,7 @@ ghost use Rattle.spec_project.specs.Limits.{IsWithinLimits};
 ghost use Rattle.spec_project.specs.Places.{connection_fault, connection_of, connections_fault, event_named, found_such, is_short, may_connect, trigger_such};
 ghost use Rattle.spec_project.specs.Tags.{declarations};
 ghost use Rattle.lgx_types.specs.Tables.{HasSize};
-ghost use Rattle.lgx_tags.specs.Sealing.{spans_of};
+ghost use Rattle.spec_language.specs.TagSpans.{spans_of};
 ghost use Rattle.lgx_json.specs.Answers.{Passes, Reads};
 ghost use Rattle.lgx_places.specs.WholeTags.{connected_among, is_connected, tag_types};
 

@@ -2,7 +2,7 @@
 ghost use Rattle.std.specs.Prelude.{◌≡◌, ◌≤◌, ◌++◌, ◌∷◌, [], true, length, IfOk, OnOk};
 ghost use Rattle.spec_machine.specs.declared.limits.TheConstants.{MAX_SCOPE_TAGS};
 ghost use Rattle.spec_project.specs.Places.{same_base, same_type};
-ghost use Rattle.lgx_tags.specs.Sealing.{spans_of};
+ghost use Rattle.spec_language.specs.TagSpans.{spans_of};
 ghost use Rattle.lgx_places.specs.WholeTags.{is_one_of, is_tag_at, meaning_type, tag_types};
 
 use lgx_num::Memory;

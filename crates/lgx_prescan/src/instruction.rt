@@ -7,7 +7,7 @@ ghost use Rattle.spec_scan.specs.Executable.{IsExecutable};
 ghost use Rattle.spec_scan.specs.Fits.{ArgsFit};
 ghost use Rattle.spec_scan.specs.Prescan.{prescan_ins, prescan_one, timer_bits_off};
 ghost use Rattle.spec_scan.specs.StatusWords.{pre, put_acc};
-ghost use Rattle.lgx_image.specs.Args.{ArgsInBounds};
+ghost use Rattle.spec_scan.specs.ArgBounds.{ArgsInBounds};
 ghost use Rattle.lgx_image.specs.Grains.{ChangesOnlyMarked};
 
 use lgx_image::Image;

@@ -13,7 +13,7 @@ use Rattle.spec_language.specs.declared.tag.Scope.TheVariants.{Controller, Progr
 use Rattle.spec_language.specs.Layout.{round_up, size_of}
 use Rattle.spec_language.specs.Declarations.{Meaning, tag, alias, Entry, Declarations, same_scope, in_scope, entry_size, in_order, laid_from, end_of, bytes}
 use Rattle.spec_base.proofs.Lists.{each_append, each_flat}
-use Rattle.lgx_tags.specs.Sealing.{is_laid_tag}
+use Rattle.spec_language.specs.TagSpans.{is_laid_tag}
 use Rattle.lgx_tags.specs.Layouts.{scopes, numbered, tags_in, rows_of, order_of, place_tags, place_tags_end, placed_tags}
 use Rattle.lgx_tags.specs.Starts.{padded_size, padded_total, begin_in, programs_from, laid_before, start_of}
 use Rattle.lgx_tags.specs.declared.layout.NumberedTag.{NumberedTag}

@@ -3,7 +3,7 @@ use Rattle.std.specs.Prelude.{◌≡◌, ℕ, zero, suc, ◌+◌, ◌<◌, ◌�
 use Rattle.std.specs.List.{AllByRecursion as Each}
 use Rattle.std.proofs.Common.{sym, ap, ◌∙◌, arith, subst}
 use Rattle.std.proofs.lemmas.List.{length-map}
-use Rattle.std.proofs.lemmas.Option.{slice_get-map, slice_get_within}
+use Rattle.std.proofs.lemmas.Option.{slice_get-map, slice_get_within, same_Some}
 use Rattle.spec_language.specs.declared.types.TypeDecl.{TypeDecl}
 use Rattle.spec_language.specs.declared.tag.Scope.{Scope}
 use Rattle.spec_language.specs.declared.tag.TagCode.TheVariants.{G5, G10}
@@ -15,11 +15,10 @@ use Rattle.spec_language.specs.Resolution.{is_array, find_member, find_element, 
 use Rattle.spec_base.proofs.Lists.{each_get}
 use Rattle.lgx_tags.specs.Layouts.{order_of, placed_tags, IsOfEntries}
 use Rattle.lgx_tags.specs.Chains.{Answer}
-use Rattle.lgx_tags.specs.Sealing.{tags_of, span_of, spans_of, tag_names}
+use Rattle.spec_language.specs.TagSpans.{tags_of, span_of, spans_of, tag_names}
 use Rattle.lgx_tags.specs.declared.layout.PlacedTag.{PlacedTag}
-use Rattle.lgx_tags.specs.declared.span.TagSpan.{TagSpan}
+use Rattle.spec_language.specs.declared.span.TagSpan.{TagSpan}
 use Rattle.lgx_tags.proofs.Segments.{LaidIs, Pairs, all_segment, laid_tags, ends_at, starts_within}
-use Rattle.std.proofs.lemmas.Option.{same_Some}
 use Rattle.spec_base.specs.declared.limits.TheConstants.{MAX_IMAGE_BYTES}
 
 -- ---- the tags

@@ -1,5 +1,5 @@
 -- What names are declared as.
-use Rattle.std.specs.Prelude.{Bool, true, false, Option, Some, None}
+use Rattle.std.specs.Prelude.{Option, Some, None}
 use Rattle.spec_language.specs.declared.types.DataType.{DataType}
 use Rattle.spec_language.specs.Declarations.{Meaning, tag, alias}
 use Rattle.lgx_tags.specs.declared.entry.Meaning.{Meaning as Kept}
@@ -13,7 +13,3 @@ meaning_of (Alias target) = alias target
 abbrev pub type_in : Meaning → Option DataType
 type_in (tag of) = Some of
 type_in (alias target) = None
-
-abbrev pub is_tag : Meaning → Bool
-is_tag (tag of) = true
-is_tag (alias target) = false

@@ -15,12 +15,10 @@ mod layout;
 mod part;
 mod resolve;
 mod seal;
-mod span;
 mod subscript;
 mod table;
 mod tag_name;
 
 pub use error::{SealError, TagError};
-pub use span::TagSpan;
-pub use spec_language::{Found, Scope, TagCode};
+pub use spec_language::{Found, Scope, TagCode, TagSpan};
 pub use table::TagTable;

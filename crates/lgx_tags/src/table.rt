@@ -11,7 +11,8 @@ ghost use Rattle.lgx_tags.specs.Chains.{AllResolved};
 ghost use Rattle.lgx_tags.specs.Layouts.{placed_tags};
 ghost use Rattle.lgx_tags.specs.Scopes.{IsScopeOf};
 ghost use Rattle.lgx_tags.specs.Errors.{bad_alias, fault_of};
-ghost use Rattle.lgx_tags.specs.Sealing.{IsSealOf, spans_of, tag_names};
+ghost use Rattle.lgx_tags.specs.Sealing.{IsSealOf};
+ghost use Rattle.spec_language.specs.TagSpans.{spans_of, tag_names};
 ghost use Rattle.lgx_tags.specs.TextReading.{Answers, subscripts_of};
 
 use crate::declared::Declared;
@@ -19,10 +20,9 @@ use crate::error::{SealError, TagError};
 use crate::layout::{PlacedTag, Resolved, known_from};
 use crate::resolve::{Subscripts, resolve_text};
 use crate::seal::{ScopeView, first_bad, resolve_all};
-use crate::span::TagSpan;
 use lgx_num::Memory;
 use lgx_types::TypeTable;
-use spec_language::{DataType, Found, Scope};
+use spec_language::{DataType, Found, Scope, TagSpan};
 use std::alloc::Global;
 use std::marker::Model;
 

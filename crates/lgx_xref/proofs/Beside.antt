@@ -3,7 +3,7 @@ use Rattle.std.proofs.Common.{◌≡◌, ℕ, ◌<◌, List, [], length, get_or,
 use Rattle.std.proofs.lemmas.List.{get_or_read}
 use Rattle.lgx_rung.specs.declared.ins.Ins.{Ins}
 use Rattle.lgx_rung.specs.declared.op.Op.TheVariants.{Ret}
-use Rattle.lgx_tags.specs.declared.span.TagSpan.{TagSpan}
+use Rattle.spec_language.specs.declared.span.TagSpan.{TagSpan}
 use Rattle.spec_machine.specs.Project.{ProgramText}
 use Rattle.spec_uses.specs.Uses.{Site, program_instructions, returns_to, with_returns}
 use Rattle.lgx_xref.specs.Returns.{AreReturnsIn}

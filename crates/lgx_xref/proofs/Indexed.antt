@@ -6,8 +6,8 @@ use Rattle.std.proofs.lemmas.List.{get_or-replicate, length-replicate, map-appen
 use Rattle.std.proofs.lemmas.List.FromFn.{fill_by_all, get_or-map-range_with_len, length-map-range_with_len}
 use Rattle.lgx_edit.specs.Texts.{program_of}
 use Rattle.lgx_edit.specs.declared.texts.ProgramText.{ProgramText as Program}
-use Rattle.lgx_tags.specs.Sealing.{spans_of}
-use Rattle.lgx_tags.specs.declared.span.TagSpan.{TagSpan}
+use Rattle.spec_language.specs.TagSpans.{spans_of}
+use Rattle.spec_language.specs.declared.span.TagSpan.{TagSpan}
 use Rattle.spec_machine.specs.Project.{Project, ProgramText}
 use Rattle.spec_uses.specs.Uses.{Site, readers, reads_tag, sites_by, sites_of_program, span_at, writers, writes_tag}
 use Rattle.spec_uses.specs.declared.uses.Use.{Use}

@@ -2,7 +2,7 @@
 use Rattle.std.proofs.Common.{◌≡◌, ℕ, ◌+◌, ◌<◌, List, [], ◌∷◌, ◌++◌, length, map, get_or, take, replicate, nat_eq, sym, ap, ◌∙◌, subst}
 use Rattle.std.specs.List.{list_any}
 use Rattle.std.proofs.lemmas.List.{get_or-replicate, length-replicate, map-append, take_more}
-use Rattle.lgx_tags.specs.declared.span.TagSpan.{TagSpan}
+use Rattle.spec_language.specs.declared.span.TagSpan.{TagSpan}
 use Rattle.spec_uses.specs.Uses.{Site}
 use Rattle.lgx_xref.specs.Returns.{AreReturnsIn}
 

@@ -9,7 +9,7 @@ use Rattle.std.proofs.lemmas.List.Folds.{list_any-append}
 use Rattle.std.proofs.lemmas.Map.Keys.{IsDistinct-push}
 use Rattle.lgx_rung.specs.declared.op.Op.{Op}
 use Rattle.lgx_rung.specs.declared.op.Op.TheVariants.{Ret}
-use Rattle.lgx_tags.specs.declared.span.TagSpan.{TagSpan}
+use Rattle.spec_language.specs.declared.span.TagSpan.{TagSpan}
 use Rattle.spec_uses.specs.Uses.{holds_bit, with_returns}
 use Rattle.lgx_xref.specs.Apart.{IsTagWith, span_in}
 use Rattle.lgx_xref.specs.TagSets.{AreTagsOf, with_tag}

@@ -4,8 +4,8 @@ use Rattle.std.proofs.Common.{ℕ, zero, suc, ◌+◌, ◌<◌, ◌≤◌, Bool,
 use Rattle.spec_language.specs.declared.types.TypeDecl.{TypeDecl}
 use Rattle.spec_language.specs.Declarations.{Declarations, Entry, entry_size, in_order, laid_from}
 use Rattle.spec_language.specs.Layout.{round_up}
-use Rattle.lgx_tags.specs.declared.span.TagSpan.{TagSpan}
-use Rattle.lgx_tags.specs.Sealing.{is_laid_tag, span_of, spans_of}
+use Rattle.spec_language.specs.declared.span.TagSpan.{TagSpan}
+use Rattle.spec_language.specs.TagSpans.{is_laid_tag, span_of, spans_of}
 use Rattle.lgx_xref.specs.Apart.{AreApart, span_in}
 
 abbrev spans_from : List TypeDecl → ℕ → List Entry → List TagSpan

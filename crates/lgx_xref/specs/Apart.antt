@@ -1,6 +1,6 @@
 -- Tags that lie apart, and the tag that has a bit.
 use Rattle.std.specs.Prelude.{◌≡◌, ℕ, ◌<◌, ◌≤◌, Bool, false, List, length, nat_eq, slice_index_or, Option, Some, None}
-use Rattle.lgx_tags.specs.declared.span.TagSpan.{TagSpan}
+use Rattle.spec_language.specs.declared.span.TagSpan.{TagSpan}
 use Rattle.spec_uses.specs.Uses.{no_span, holds_bit}
 
 abbrev pub span_in : List TagSpan → ℕ → TagSpan

@@ -2,7 +2,7 @@
 use Rattle.std.specs.Prelude.{ℕ, List, length, map}
 use Rattle.std.specs.List.{range_with_len}
 use Rattle.spec_machine.specs.Project.{Project}
-use Rattle.lgx_tags.specs.Sealing.{spans_of}
+use Rattle.spec_language.specs.TagSpans.{spans_of}
 use Rattle.spec_uses.specs.Uses.{writers, readers}
 use Rattle.lgx_xref.specs.Indexed.{Index}
 

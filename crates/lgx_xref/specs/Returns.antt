@@ -1,7 +1,7 @@
 -- The tags to which the calls of each routine return values.
 use Rattle.std.specs.Prelude.{ℕ, ◌<◌, List, [], length, filter, flat_map, slice_index_or}
 use Rattle.lgx_rung.specs.declared.ins.Ins.{Ins}
-use Rattle.lgx_tags.specs.declared.span.TagSpan.{TagSpan}
+use Rattle.spec_language.specs.declared.span.TagSpan.{TagSpan}
 use Rattle.spec_uses.specs.Uses.{is_call_of}
 use Rattle.spec_uses.specs.Written.{bits_written}
 use Rattle.lgx_xref.specs.TagSets.{AreTagsOf}

@@ -1,7 +1,7 @@
 -- The tags that have some of these bits.
 use Rattle.std.specs.Prelude.{◌≡◌, ℕ, ◌<◌, List, [], ◌∷◌, ◌++◌, if◌then◌else◌, length, nat_eq}
 use Rattle.std.specs.List.{list_any}
-use Rattle.lgx_tags.specs.declared.span.TagSpan.{TagSpan}
+use Rattle.spec_language.specs.declared.span.TagSpan.{TagSpan}
 use Rattle.spec_uses.specs.Uses.{holds_bit}
 use Rattle.lgx_xref.specs.Apart.{span_in}
 

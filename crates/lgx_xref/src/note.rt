@@ -2,7 +2,7 @@
 ghost use Rattle.std.specs.Prelude.{◌≡◌, ◌<◌, ◌++◌, ◌∷◌, List, [], if◌then◌else◌, length, replicate, slice_set, nat_eq, IfOk, OnOk};
 ghost use Rattle.std.specs.List.{AllByRecursion as Each, IsDistinct, list_any};
 ghost use Rattle.lgx_edit.specs.Texts.{program_of};
-ghost use Rattle.lgx_tags.specs.declared.span.TagSpan.{TagSpan};
+ghost use Rattle.spec_language.specs.declared.span.TagSpan.{TagSpan};
 ghost use Rattle.spec_machine.specs.Project.{ProgramText as Program};
 ghost use Rattle.spec_uses.specs.Uses.{site_writes, with_returns, returns_to, program_instructions, writes_tag, reads_tag};
 ghost use Rattle.spec_uses.specs.Written.{bits_read};

@@ -1,6 +1,6 @@
 // Where the tags lie, and which of them has a bit.
 ghost use Rattle.std.specs.Prelude.{◌≡◌, ◌<◌, true, length, IfOk};
-ghost use Rattle.lgx_tags.specs.Sealing.{spans_of};
+ghost use Rattle.spec_language.specs.TagSpans.{spans_of};
 ghost use Rattle.lgx_xref.specs.Apart.{AreApart, IsTagWith};
 
 use lgx_num::Memory;

@@ -2,7 +2,7 @@
 ghost use Rattle.std.specs.Prelude.{◌≡◌, ◌<◌, [], length, flat_map, map, slice_index_or, IfOk, OnOk};
 ghost use Rattle.std.specs.List.{enumerate_from};
 ghost use Rattle.lgx_edit.specs.Texts.{program_of};
-ghost use Rattle.lgx_tags.specs.Sealing.{spans_of};
+ghost use Rattle.spec_language.specs.TagSpans.{spans_of};
 ghost use Rattle.spec_uses.specs.Uses.{writes_tag, reads_tag, writers, readers};
 ghost use Rattle.lgx_xref.specs.Apart.{AreApart, span_in};
 ghost use Rattle.lgx_xref.specs.Gains.{Gains, program_uses};

@@ -13,11 +13,10 @@ use Rattle.spec_language.specs.declared.tag.TagCode.TheVariants.{G3, G4, G5, G6,
 use Rattle.spec_language.specs.declared.tag.Found.{Found}
 use Rattle.spec_language.specs.Layout.{member as member_of}
 use Rattle.spec_language.specs.OperandForm.{Form, tag, member, element, indexed, bit, form as form_in}
-use Rattle.spec_language.specs.Declarations.{Meaning, Entry, Declarations, is_named, laid, entry_of}
-use Rattle.spec_language.specs.Declarations.{tag as is_tag, alias as is_alias}
+use Rattle.spec_language.specs.Declarations.{Meaning, Entry, Declarations, is_named, laid, entry_of, tag as is_tag, alias as is_alias}
 use Rattle.spec_language.specs.Resolution.{is_array, integer_bits, is_integer, find_member, find_element, find_bit, may_index, find_indexed, Subscripts, operands, numbers_alone, subscript_by, resolved, seen_from, tag_found, meant, in_form, named_within, named, aliases}
-use Rattle.lgx_tags.specs.declared.span.TagSpan.{TagSpan}
-use Rattle.lgx_tags.specs.Sealing.{is_laid_tag, span_of, spans_of}
+use Rattle.spec_language.specs.declared.span.TagSpan.{TagSpan}
+use Rattle.spec_language.specs.TagSpans.{is_laid_tag, span_of, spans_of}
 use Rattle.spec_uses.specs.Uses.{no_span, span_at}
 use Rattle.spec_beside.specs.InTags.{IsInTag, FoundInTag}
 

@@ -12,8 +12,8 @@ use Rattle.spec_language.specs.declared.types.TypeDecl.{TypeDecl}
 use Rattle.spec_language.specs.Declarations.{Declarations, Entry, entry_size, in_order, laid_from}
 use Rattle.spec_language.specs.Layout.{round_up}
 use Rattle.spec_machine.specs.Project.{Project}
-use Rattle.lgx_tags.specs.declared.span.TagSpan.{TagSpan}
-use Rattle.lgx_tags.specs.Sealing.{is_laid_tag, span_of, spans_of}
+use Rattle.spec_language.specs.declared.span.TagSpan.{TagSpan}
+use Rattle.spec_language.specs.TagSpans.{is_laid_tag, span_of, spans_of}
 use Rattle.spec_uses.specs.Changes.{IsByteOf}
 use Rattle.spec_uses.specs.Uses.{holds_bit, no_span, span_at}
 use Rattle.spec_uses.specs.Written.{first_bits}

@@ -12,7 +12,7 @@ use Rattle.spec_language.specs.Checked.{CheckScope, checked}
 use Rattle.spec_language.specs.Declarations.{Declarations}
 use Rattle.spec_language.specs.Resolution.{found}
 use Rattle.spec_language.specs.ResolutionLaws.{Sound}
-use Rattle.lgx_tags.specs.Sealing.{spans_of}
+use Rattle.spec_language.specs.TagSpans.{spans_of}
 use Rattle.spec_uses.specs.Uses.{span_at}
 use Rattle.spec_beside.specs.Misses.{OfPlace}
 

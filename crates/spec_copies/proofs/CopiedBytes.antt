@@ -6,8 +6,7 @@ use Rattle.std.proofs.lemmas.List.{ext_get_or, get_or-take, get_or-drop, length-
 use Rattle.std.proofs.lemmas.Slice.Eq.{bytes_eq-Decides}
 use Rattle.std.proofs.Math.Nat.{mul-le-mul_left}
 use Rattle.lgx_num.specs.Image.{piece, splice}
-use Rattle.lgx_num.proofs.Images.{length-splice, splice_before, splice_behind, piece-splice}
-use Rattle.lgx_image.proofs.Pieces.{length-piece}
+use Rattle.lgx_num.proofs.Images.{length-splice, splice_before, splice_behind, piece-splice, length-piece}
 use Rattle.spec_scan.specs.declared.bound.Copying.{Copying}
 use Rattle.spec_scan.specs.Copies.{element_bytes, copy_element}
 use Rattle.spec_schedule.specs.Stages.{length_of, is_apart, is_copied}

@@ -10,10 +10,10 @@ use Rattle.lgx_num.specs.declared.place.Operand.{Operand}
 use Rattle.lgx_rung.specs.declared.ins.Ins.{Ins}
 use Rattle.lgx_rung.specs.declared.op.Op.{Op}
 use Rattle.lgx_rung.specs.declared.op.Op.TheVariants.{Ton, Rto, Tof, Add, Sub, Mul, Div, Mod, Neg, Abs, Mov, And, Or, Xor, Not, Mvm, Clr, Cop, Cps, Fll, Jsr, Sbr, Ret}
-use Rattle.lgx_image.specs.Args.{ArgsInBounds}
-use Rattle.lgx_image.proofs.BoundKinds.{bound_lie}
-use Rattle.lgx_copy.specs.CopyBounds.{SourceInBounds, CopyInBounds, BlocksInBounds}
-use Rattle.lgx_copy.proofs.InBounds.{copy_lies}
+use Rattle.spec_scan.specs.ArgBounds.{ArgsInBounds}
+use Rattle.spec_scan.proofs.BoundKinds.{bound_lie}
+use Rattle.spec_scan.specs.CopyBounds.{SourceInBounds, CopyInBounds, BlocksInBounds}
+use Rattle.spec_scan.proofs.CopyBounds.{copy_lies}
 use Rattle.spec_scan.specs.declared.bound.Arg.{Arg}
 use Rattle.spec_scan.specs.declared.bound.Arg.TheVariants.{Block}
 use Rattle.spec_scan.specs.declared.bound.Copying.{Copying}

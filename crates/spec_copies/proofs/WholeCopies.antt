@@ -14,7 +14,7 @@ use Rattle.spec_scan.specs.declared.bound.Effect.TheVariants.{Copied}
 use Rattle.spec_scan.specs.Copies.{copy_element, after_element}
 use Rattle.spec_scan.specs.Scan.{Advanced, in_progress}
 use Rattle.spec_base.proofs.Lists.{value_of_some}
-use Rattle.lgx_copy.specs.CopyBounds.{SourceInBounds}
+use Rattle.spec_scan.specs.CopyBounds.{SourceInBounds}
 use Rattle.spec_machine.specs.declared.answer.Mark.{Mark}
 use Rattle.spec_machine.specs.declared.answer.Mark.TheVariants as marks
 use Rattle.spec_machine.specs.declared.answer.Moment.{Moment}

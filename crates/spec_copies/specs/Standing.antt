@@ -1,6 +1,6 @@
 -- Where a scan stands, in every state that a journal leads to: in its own rungs, with what it copies in the image.
 use Rattle.std.specs.Prelude.{◌≡◌, ℕ, ◌<◌, ◌≤◌, true, List, length, Option, Some, None}
-use Rattle.lgx_copy.specs.CopyBounds.{CopyInBounds}
+use Rattle.spec_scan.specs.CopyBounds.{CopyInBounds}
 use Rattle.spec_scan.specs.declared.bound.Copying.{Copying}
 use Rattle.spec_scan.specs.Executable.{IsExecutable}
 use Rattle.spec_scan.specs.Position.{Position}

@@ -9,3 +9,4 @@ pub mod FormLaws
 pub mod LayoutLaws
 pub mod ResolutionLaws
 pub mod CheckedLaws
+pub mod TagSpans

@@ -4,6 +4,7 @@
 
 mod language_laws;
 mod names;
+mod span;
 mod tag;
 mod types;
 
@@ -12,5 +13,6 @@ pub use language_laws::{
     ordered_types_have_no_rings, sizes_are_settled,
 };
 pub use names::TaskName;
+pub use span::TagSpan;
 pub use tag::{Found, Scope, TagCode};
 pub use types::{Base, DataType, Member, MemberDecl, TypeCode, TypeDecl, TypeFault};

@@ -13,9 +13,8 @@ use Rattle.spec_tables.specs.Connections.{no_conn, conn_named}
 use Rattle.spec_tables.proofs.StateLists.{found}
 use Rattle.spec_machine.specs.Project.{Project}
 use Rattle.spec_machine.specs.ValidProject.{IsValidProject, is_tag_of, is_of_one_tag}
-use Rattle.lgx_tags.specs.Meanings.{is_tag}
-use Rattle.lgx_tags.specs.declared.span.TagSpan.{TagSpan}
-use Rattle.lgx_tags.specs.Sealing.{is_laid_tag, span_of}
+use Rattle.spec_language.specs.TagSpans.{is_tag, is_laid_tag, span_of}
+use Rattle.spec_language.specs.declared.span.TagSpan.{TagSpan}
 use Rattle.spec_uses.specs.Uses.{no_span}
 use Rattle.spec_link.specs.LinkText.{in_direction, conn_at}
 use Rattle.spec_link.specs.Consumed.{ConnectionsHaveTags}

@@ -10,7 +10,7 @@ use Rattle.spec_machine.specs.declared.event.Event.{Event}
 use Rattle.spec_machine.specs.Machine.{run}
 use Rattle.spec_machine.specs.Project.{Project}
 use Rattle.spec_machine.specs.ValidProject.{IsValidProject}
-use Rattle.lgx_tags.specs.Sealing.{spans_of}
+use Rattle.spec_language.specs.TagSpans.{spans_of}
 use Rattle.spec_uses.specs.Uses.{span_at, writers}
 use Rattle.spec_uses.specs.Changes.{NoneAccepted, puts_into, ChangesHaveWritersOf}
 use Rattle.spec_link.specs.declared.script.LinkScript.{LinkScript}

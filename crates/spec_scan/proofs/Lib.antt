@@ -3,3 +3,5 @@ pub mod CallOperands
 pub mod RowControls
 pub mod KeptReturns
 pub mod TriggeredTasks
+pub mod BoundKinds
+pub mod CopyBounds

@@ -16,3 +16,5 @@ pub mod KnownTasks
 pub mod Returns
 pub mod Scan
 pub mod Prescan
+pub mod ArgBounds
+pub mod CopyBounds

@@ -17,7 +17,7 @@ use Rattle.spec_machine.specs.Project.{Project}
 use Rattle.spec_machine.specs.State.{State, progress_of}
 use Rattle.spec_machine.specs.ValidProject.{IsValidProject}
 use Rattle.spec_schedule.specs.Stages.{Stage, stages}
-use Rattle.lgx_tags.specs.Sealing.{spans_of}
+use Rattle.spec_language.specs.TagSpans.{spans_of}
 use Rattle.spec_uses.specs.Uses.{Site, span_at, writers, writer_sites}
 
 -- ---- no accepted edit

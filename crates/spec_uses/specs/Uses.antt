@@ -9,8 +9,8 @@ use Rattle.spec_language.specs.declared.tag.Scope.TheVariants.{Controller}
 use Rattle.spec_language.specs.Declarations.{Declarations}
 use Rattle.spec_scan.specs.Prescan.{called_by}
 use Rattle.spec_machine.specs.Project.{Project, ProgramText, RoutineText}
-use Rattle.lgx_tags.specs.declared.span.TagSpan.{TagSpan}
-use Rattle.lgx_tags.specs.Sealing.{spans_of}
+use Rattle.spec_language.specs.declared.span.TagSpan.{TagSpan}
+use Rattle.spec_language.specs.TagSpans.{spans_of}
 use Rattle.spec_uses.specs.declared.uses.Use.{Use}
 use Rattle.spec_uses.specs.Written.{bits_written, bits_read}
 

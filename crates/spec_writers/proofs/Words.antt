@@ -8,9 +8,8 @@ use Rattle.lgx_num.specs.Image.{write_signed}
 use Rattle.lgx_num.specs.Name.{same}
 use Rattle.lgx_num.specs.Number.{signed_bytes}
 use Rattle.lgx_num.proofs.Images.{splice_before, splice_behind}
-use Rattle.lgx_tags.specs.declared.span.TagSpan.{TagSpan}
-use Rattle.lgx_tags.specs.Meanings.{is_tag}
-use Rattle.lgx_tags.specs.Sealing.{is_laid_tag, span_of}
+use Rattle.spec_language.specs.declared.span.TagSpan.{TagSpan}
+use Rattle.spec_language.specs.TagSpans.{is_tag, is_laid_tag, span_of}
 use Rattle.spec_language.specs.declared.tag.Scope.TheVariants.{Controller}
 use Rattle.spec_language.specs.declared.types.TypeDecl.{TypeDecl}
 use Rattle.spec_language.specs.Declarations.{Meaning, tag, alias, Entry, same_scope, size_for, entry_size, laid}

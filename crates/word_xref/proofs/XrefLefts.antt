@@ -7,7 +7,7 @@ use Rattle.std.proofs.lemmas.List.Folds.{flat_map-map}
 use Rattle.std.proofs.lemmas.List.FromFn.{length-map-range_with_len, get_or-map-range_with_len}
 use Rattle.std.proofs.lemmas.Option.{slice_get_within, get_or_from_slice_get}
 use Rattle.spec_machine.specs.Project.{Project}
-use Rattle.lgx_tags.specs.Sealing.{spans_of}
+use Rattle.spec_language.specs.TagSpans.{spans_of}
 use Rattle.lgx_xref.specs.Indexes.{tag_numbers}
 use Rattle.word_xref.specs.XrefText.{tag_lines, xref_text}
 use Rattle.word_xref.specs.XrefLeft.{left_of, lines_left}

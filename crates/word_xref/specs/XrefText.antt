@@ -7,7 +7,7 @@ use Rattle.spec_language.specs.declared.tag.Scope.TheVariants.{Controller, Progr
 use Rattle.spec_machine.specs.Project.{Project, ProgramText}
 use Rattle.spec_text.specs.TextLines.{line_of}
 use Rattle.spec_text.specs.ReportText.{name}
-use Rattle.lgx_tags.specs.Sealing.{tag_names}
+use Rattle.spec_language.specs.TagSpans.{tag_names}
 use Rattle.spec_uses.specs.declared.uses.Use.{Use}
 use Rattle.spec_uses.specs.Uses.{span_at, writers, readers}
 use Rattle.lgx_xref.specs.Indexes.{tag_numbers}

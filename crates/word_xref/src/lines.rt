@@ -1,6 +1,6 @@
 // The lines of a tag.
 ghost use Rattle.std.specs.Prelude.{◌≡◌, ◌+◌, ◌<◌, ◌≤◌, ◌++◌, map, length, slice_get, Ok, Some, true, false, OnOk};
-ghost use Rattle.lgx_tags.specs.Sealing.{spans_of};
+ghost use Rattle.spec_language.specs.TagSpans.{spans_of};
 ghost use Rattle.lgx_edit.specs.Texts.{program_of};
 ghost use Rattle.spec_uses.specs.Uses.{span_at};
 ghost use Rattle.word_xref.specs.XrefText.{scope_prefix, full_name, name_line, use_line, use_lines};

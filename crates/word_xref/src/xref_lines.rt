@@ -1,7 +1,7 @@
 // The lines of a cross reference, one after another.
 ghost use Rattle.std.specs.Prelude.{◌≡◌, ◌+◌, ◌^◌, ◌<◌, ◌≤◌, [], ◌∷◌, length, slice_get, Ok, Some, true, false, IfOk};
 ghost use Rattle.std.specs.List.{concat};
-ghost use Rattle.lgx_tags.specs.Sealing.{spans_of};
+ghost use Rattle.spec_language.specs.TagSpans.{spans_of};
 ghost use Rattle.lgx_xref.specs.Indexes.{index_of};
 ghost use Rattle.word_xref.specs.XrefText.{tag_lines, xref_text};
 ghost use Rattle.word_xref.specs.XrefLeft.{lines_left};

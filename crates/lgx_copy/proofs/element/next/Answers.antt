@@ -1,5 +1,5 @@
 use Rattle.std.proofs.Common.{length, arith}
-use Rattle.lgx_copy.proofs.InBounds.{source_fits}
+use Rattle.spec_scan.proofs.CopyBounds.{source_fits}
 use Rattle.lgx_copy.proofs.element.next.Goals as goal
 
 pub advance-requires-clause-source : goal.advance-requires-clause-source

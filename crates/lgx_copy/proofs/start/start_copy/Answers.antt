@@ -1,6 +1,6 @@
 use Rattle.std.proofs.Common.{arith}
 use Rattle.std.proofs.lemmas.Grind.{common_steps}
-use Rattle.lgx_copy.proofs.InBounds.{copy_lies}
+use Rattle.spec_scan.proofs.CopyBounds.{copy_lies}
 use Rattle.lgx_copy.proofs.start.start_copy.Goals as goal
 
 pub returns-clause-lies : goal.returns-clause-lies

@@ -1,5 +1,5 @@
 use Rattle.std.proofs.Common.{length}
-use Rattle.lgx_image.proofs.BoundKinds.{bound_lie}
+use Rattle.spec_scan.proofs.BoundKinds.{bound_lie}
 use Rattle.spec_scan.proofs.KeptKinds.{args_fit, args_end}
 use Rattle.lgx_engine.proofs.row.run_row.Goals as goal
 

@@ -1,5 +1,5 @@
 use Rattle.std.proofs.Common.{arith, sym, ◌∙◌}
-use Rattle.lgx_tags.specs.Sealing.{spans_of}
+use Rattle.spec_language.specs.TagSpans.{spans_of}
 use Rattle.lgx_places.proofs.WholeTags.{later_tag, no_more_tags, no_tag_left, this_tag}
 use Rattle.lgx_places.proofs.whole.is_one_of.Goals as goal
 

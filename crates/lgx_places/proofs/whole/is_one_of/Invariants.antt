@@ -1,5 +1,5 @@
 use Rattle.std.proofs.Common.{◌≡◌, drop}
-use Rattle.lgx_tags.specs.Sealing.{spans_of}
+use Rattle.spec_language.specs.TagSpans.{spans_of}
 use Rattle.lgx_places.specs.WholeTags.{is_one_of}
 use Rattle.lgx_places.proofs.whole.is_one_of.Given as goal
 

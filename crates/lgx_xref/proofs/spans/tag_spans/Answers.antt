@@ -1,8 +1,8 @@
 -- One tag more.
 use Rattle.std.proofs.Common.{◌<◌, List, ◌++◌, ◌∷◌, [], length, ap, sym, ◌∙◌, arith}
 use Rattle.std.proofs.lemmas.Option.{slice_get-get_or}
-use Rattle.lgx_tags.specs.Sealing.{spans_of}
-use Rattle.lgx_tags.specs.declared.span.TagSpan.{TagSpan}
+use Rattle.spec_language.specs.TagSpans.{spans_of}
+use Rattle.spec_language.specs.declared.span.TagSpan.{TagSpan}
 use Rattle.spec_uses.specs.Uses.{no_span}
 use Rattle.lgx_xref.proofs.Chosen.{take_there}
 use Rattle.lgx_xref.proofs.spans.tag_spans.Goals as goal

@@ -1,6 +1,6 @@
 -- The spans of as many tags as were asked for.
 use Rattle.std.proofs.Common.{◌≡◌, take}
-use Rattle.lgx_tags.specs.Sealing.{spans_of}
+use Rattle.spec_language.specs.TagSpans.{spans_of}
 use Rattle.lgx_xref.proofs.spans.tag_spans.Given as goal
 
 abbrev pub invariant-loop-number : goal.invariant-loop-number

@@ -2,7 +2,7 @@
 use Rattle.std.proofs.Common.{rules, ◌≡◌, [], length, map, replicate, sym, ap, ◌∙◌, subst}
 use Rattle.lgx_edit.specs.Plants.{project_of}
 use Rattle.lgx_edit.specs.Texts.{program_of}
-use Rattle.lgx_tags.specs.Sealing.{spans_of}
+use Rattle.spec_language.specs.TagSpans.{spans_of}
 use Rattle.spec_machine.specs.Project.{Project}
 use Rattle.lgx_xref.specs.Apart.{AreApart}
 use Rattle.lgx_xref.proofs.Indexed.{index_is, readers_indexed, writers_indexed}

@@ -1,5 +1,5 @@
 use Rattle.std.proofs.Common.{◌≡◌, ◌<◌, ◌≤◌, length, Ok, ap, ◌∙◌, arith}
-use Rattle.lgx_tags.specs.Sealing.{spans_of}
+use Rattle.spec_language.specs.TagSpans.{spans_of}
 use Rattle.spec_machine.specs.Project.{Project}
 use Rattle.word_xref.proofs.XrefLefts.{one_line, no_line, no_tag}
 use Rattle.word_xref.proofs.xref_lines.next_line.Goals as goal

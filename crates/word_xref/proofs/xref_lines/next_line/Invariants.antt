@@ -1,5 +1,5 @@
 use Rattle.std.proofs.Common.{◌≡◌, ◌-◌, length}
-use Rattle.lgx_tags.specs.Sealing.{spans_of}
+use Rattle.spec_language.specs.TagSpans.{spans_of}
 use Rattle.word_xref.specs.XrefLeft.{lines_left}
 use Rattle.word_xref.proofs.xref_lines.next_line.Given as goal
 

@@ -1,4 +1,4 @@
-use Rattle.lgx_image.proofs.BoundKinds.{bound_fit, bound_end}
+use Rattle.spec_scan.proofs.BoundKinds.{bound_fit, bound_end}
 use Rattle.lgx_image.proofs.image.Image.bind.Goals as goal
 
 pub returns-clause-fit : goal.returns-clause-fit

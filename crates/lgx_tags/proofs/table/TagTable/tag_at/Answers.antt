@@ -5,7 +5,7 @@ use Rattle.spec_language.specs.declared.types.Base.TheVariants.{Bool as OneBit}
 use Rattle.spec_language.specs.declared.tag.Scope.{Scope}
 use Rattle.spec_language.specs.Declarations.{Declarations}
 use Rattle.lgx_tags.specs.Layouts.{placed_tags}
-use Rattle.lgx_tags.specs.Sealing.{spans_of}
+use Rattle.spec_language.specs.TagSpans.{spans_of}
 use Rattle.lgx_tags.specs.declared.layout.PlacedTag.{PlacedTag}
 use Rattle.lgx_tags.proofs.TagSpans.{told_count, told_entry, told_span}
 use Rattle.lgx_tags.proofs.table.TagTable.tag_at.Goals as goal

@@ -4,7 +4,7 @@ use Rattle.std.proofs.lemmas.Option.{slice_get-get_or}
 use Rattle.spec_language.specs.declared.types.Base.TheVariants.{Bool as OneBit}
 use Rattle.spec_language.specs.Declarations.{Declarations}
 use Rattle.lgx_tags.specs.Layouts.{placed_tags}
-use Rattle.lgx_tags.specs.Sealing.{spans_of, tag_names}
+use Rattle.spec_language.specs.TagSpans.{spans_of, tag_names}
 use Rattle.lgx_tags.specs.declared.layout.PlacedTag.{PlacedTag}
 use Rattle.lgx_tags.proofs.TagSpans.{told_count, told_entry, told_name}
 use Rattle.lgx_tags.proofs.table.TagTable.tag_name.Goals as goal

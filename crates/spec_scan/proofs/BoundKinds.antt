@@ -18,7 +18,7 @@ use Rattle.spec_scan.specs.Arguments.{bind, bind_one, cell_at, timer_at, counter
 use Rattle.spec_scan.specs.Executable.{EndsIn, ArgsEndIn}
 use Rattle.spec_scan.specs.Fits.{operand_at, OperandsFit, IsPlace, IsTimerPlace, IsCounterPlace, ArgsFit}
 use Rattle.spec_scan.proofs.KeptKinds.{args_fit, args_end, bound_at}
-use Rattle.lgx_image.specs.Args.{ArgInBounds, ArgsInBounds}
+use Rattle.spec_scan.specs.ArgBounds.{ArgInBounds, ArgsInBounds}
 
 -- ---- one operand
 

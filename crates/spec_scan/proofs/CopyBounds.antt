@@ -11,8 +11,8 @@ use Rattle.spec_scan.specs.Arguments.{arg, byte_of, size_of, room_of}
 use Rattle.spec_scan.specs.Copies.{elements, elements_in, copy_of}
 use Rattle.spec_scan.specs.Executable.{ArgEndsIn}
 use Rattle.spec_scan.specs.Fits.{IsFillSize, AreIntegers}
-use Rattle.lgx_image.specs.Args.{ArgInBounds, ArgsInBounds}
-use Rattle.lgx_copy.specs.CopyBounds.{SourceInBounds, CopyInBounds, BlocksInBounds}
+use Rattle.spec_scan.specs.ArgBounds.{ArgInBounds, ArgsInBounds}
+use Rattle.spec_scan.specs.CopyBounds.{SourceInBounds, CopyInBounds, BlocksInBounds}
 
 -- ---- one element of those that are left
 

@@ -1,5 +1,5 @@
 // Where a tag lies.
-use spec_language::Scope;
+use crate::tag::Scope;
 
 /// A tag's scope, and its bytes in the image: from `start` on, up to `end`.
 #[derive(Clone, Copy, PartialEq, Eq, Debug)]
