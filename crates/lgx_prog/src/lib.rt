@@ -14,6 +14,7 @@ mod reach;
 mod rung;
 mod same;
 mod short;
+mod trees;
 
 pub use code::{Code, FlatRoutine};
 pub use emit::flatten;
@@ -23,3 +24,4 @@ pub use program::FlatProgram;
 pub use quick::{After, Quick};
 pub use rung::{Legs, Node, Rung, Rungs};
 pub use short::{Does, Source};
+pub use trees::{rungs_again, same_rungs};
