@@ -23,6 +23,14 @@ def part_text(part: str, inside: str) -> str:
     return f"[{inside}]" if part in ("at", "by") else f".{inside}"
 
 
+def members_of(types: Types, base: str) -> list[str]:
+    """The members of a type, as they are spelled."""
+    if base in MEMBERS:
+        return [name.upper() for name in MEMBERS[base]]
+    declared = next((one for one in types.declared if one["name"].lower() == base), None)
+    return [one["name"] for one in declared["members"]] if declared else []
+
+
 class Names:
     def __init__(self, project: dict) -> None:
         self.project = project
@@ -42,11 +50,7 @@ class Names:
         return name if scope is None else f"{SCOPE}{self.project['programs'][scope]['name']}.{name}"
 
     def members(self, base: str) -> list[str]:
-        """The members of a type, as they are spelled."""
-        if base in MEMBERS:
-            return [name.upper() for name in MEMBERS[base]]
-        declared = next((one for one in self.tags.types.declared if one["name"].lower() == base), None)
-        return [one["name"] for one in declared["members"]] if declared else []
+        return members_of(self.tags.types, base)
 
     def entry(self, scope: int | None, name: str) -> tuple | None:
         """What a name is in a scope: a program's own tags come first."""

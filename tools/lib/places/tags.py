@@ -4,10 +4,10 @@ from __future__ import annotations
 
 from collections.abc import Iterator
 
-from lib.hammer.plain.tags import BITS, INTEGERS, MEMBERS, SIZES, Found, up_to
+from lib.hammer.plain.tags import BITS, INTEGERS, SIZES, Found, up_to
 from lib.hammer.plain.tags import Refused as NoTag
 from lib.hammer.plain.words import FLAGS, is_name, is_tag_name, operand_form
-from lib.tags import spelled
+from lib.tags import members_of, spelled
 from lib.texts import Said, counted, meant, quoted
 
 from .refused import Refused
@@ -52,16 +52,6 @@ def tag_names(refused: Refused, scope: int | None) -> list[str]:
     """The tags that a program sees, its own first; of the controller alone without a program."""
     own = refused.names("programs", str(scope), "tags") if scope is not None else []
     return own + refused.names("tags")
-
-
-def members_of(refused: Refused, base: str) -> list[str]:
-    """The members of a type, as they are spelled."""
-    if base in MEMBERS:
-        return [one.upper() for one in MEMBERS[base]]
-    for at, name in enumerate(refused.names("types")):
-        if name.lower() == base:
-            return refused.names("types", str(at), "members")
-    return []
 
 
 def no_place(refused: Refused, text: str, scope: int | None, fixed: bool) -> Why:
@@ -130,7 +120,7 @@ def part_fault(refused: Refused, before: str, found: Found, part: tuple, code: s
     if kind == "member":
         if found.dim:
             return f"{what}: name an element first", "whole array"
-        names = members_of(refused, found.base)
+        names = members_of(refused.half.tags.types, found.base)
         return f"{what} and has no member {quoted(value)}" + (meant(value, names) if names else ""), "such member"
     if kind == "bit":
         bits = BITS[found.base] if found.base in INTEGERS and not found.dim else 0
