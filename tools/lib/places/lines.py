@@ -162,7 +162,9 @@ def judge_action(words: list[Word], line: str, timed: bool) -> None:
         return
     form = FORCE if verb.text == "force" and len(rest) > 1 else FORMS[verb.text]
     if len(rest) != len(form):
-        raise Wrong(f"the {what} must be '{' '.join([verb.text, *form])}'", rest[len(form)].at if len(rest) > len(form) else len(line))
+        also = f" or 'force {' '.join(FORCE)}'" if form is FORMS["force"] else ""
+        at = rest[len(form)].at if len(rest) > len(form) else len(line)
+        raise Wrong(f"the {what} must be '{' '.join([verb.text, *form])}'{also}", at)
     for word, what in zip(rest, form):
         judge_word(verb.text, word, what)
 

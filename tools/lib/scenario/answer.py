@@ -30,8 +30,8 @@ def told(played: Played, changes: list[str] | None = None) -> list[str]:
 
 
 def changes_told(own: str, changes: list[str]) -> list[str]:
-    head = f"changed against {os.path.basename(own)}"
-    return [head, *(f"  {change}" for change in changes)] if changes else [f"{head}: nothing"]
+    head = f"compared with {os.path.basename(own)}"
+    return [head, *(f"  {change}" for change in changes)] if changes else [f"{head}: nothing changed"]
 
 
 def summary(played: Played) -> str:

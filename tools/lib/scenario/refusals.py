@@ -26,7 +26,7 @@ class Stopped(Exception):
 
 @dataclass(frozen=True)
 class Refusal:
-    """Why a command was refused; and the text that is meant, with a mark under the place."""
+    """Why a command was refused; and if it is for a rung, its text with a mark under the place."""
 
     why: str
     quote: tuple[str, ...] = ()
@@ -77,8 +77,8 @@ def of_command(follower, action: str, cause: list[str]) -> Refusal:
     try:
         said = follower.refused(action, cause)
         if said.why != NO_PLACE:
-            # (of a rung the text is told alone, not the command before it)
-            return Refusal(said.why, tuple(said.quote[-2:]))
+            # (the command is told anyway: what is quoted after it is a rung)
+            return Refusal(said.why, tuple(said.quote[1:]) if len(said.quote) > 2 else ())
     except Exception:  # what can't be explained is refused all the same
         pass
     return Refusal("; or ".join(row.meaning for row in table().get(cause[0], [])))
