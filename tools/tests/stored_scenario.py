@@ -8,9 +8,11 @@ each after it four.
 from __future__ import annotations
 
 import json
+import re
 import unittest
 
 from scenario_files import LAMP, ScenarioTest
+from lib.scenario.refusals import refusal_of
 
 PACE = "pace 1 ms, 4 steps"
 
@@ -141,7 +143,7 @@ class Written(ScenarioTest):
             "end: T.PRE = 90 and s[2] = 4 and s[4] = -3", "always: n.31 = 0 or n < 0",
         )  # fmt: skip
         self.assertEqual((called.status, called.err), (0, ""), called.out)
-        self.assertIn("note: Speed, Program:Main.Own, M, T, f, s, n: no inputs, so the copy of the project has a connection of", called.out)
+        self.assertIn("note: Speed, Program:Main.Own, M, T, f, s, n are no inputs: to set them, the tool runs a copy of the project with connections for them\n", called.out)
 
     def test_the_rest_of_a_word_is_the_program_s(self):
         """The program counts in one half of the word, and the operator writes the other."""
@@ -208,8 +210,53 @@ class Written(ScenarioTest):
         self.assertIn(f"{why}\n    at 20: Button = 0\n           ^", called.err)
 
 
+class Explained(ScenarioTest):
+    """What is told beside an answer, so that it is understood."""
+
+    def notes(self, *lines: str) -> list[str]:
+        return re.findall(r"^  note: (.*)$", self.play(*lines).out, re.MULTILINE)
+
+    def test_a_pulse_between_two_paces(self):
+        told = "line 2: no rung sees the pulse of Button from 12 to 17 ms: it lies between the paces at 10 and 20 ms"
+        self.assertEqual(self.notes("at 12: Button = 1 for 5", "run 40"), [told])
+        told = "line 3: no rung sees the pulse of Button from 3 to 5 ms: it lies between the paces at 0 and 5 ms; nor 2 more pulses"
+        self.assertEqual(self.notes("pace 5 ms, 3 steps", "every 10 from 3 to 23: Button = 1 for 2", "run 40"), [told])
+        for seen in ("at 12: Button = 1 for 9", "at 10: Button = 1 for 1", "at 12: Button = 1"):
+            self.assertEqual(self.notes(seen, "run 40"), [], seen)
+
+    def test_a_test_that_a_scan_breaks_within(self):
+        """The first rung clears n and the second one sets it: what holds at the end of each scan doesn't between the rungs."""
+        self.project(rungs=["MOV(0,n);", "MOV(5,n);"], initial=[{"tag": "n", "value": 5}])
+        for text, instead in (("always: n = 5", "always at Main: n = 5"), ("never : n = 0", "never at Main: n = 0")):
+            told = self.play("run 20", "require", text).out.splitlines()[1:4]
+            cure = f"that is within a scan; at the end of each scan it holds, so require: {instead}"
+            self.assertEqual(told, [f"FAIL  {text}", "        at 0 ms, step 2: n 0; by a step of Main in task Cont", f"        {cure}"])
+            self.assertEqual(self.play("run 20", "require", instead).status, 0)
+        self.assertNotIn("within a scan", self.play("run 20", "require", "always: n = 4").out)
+        self.project(rungs=["MOV(0,n);", "NOP();"], initial=[{"tag": "n", "value": 5}])
+        self.assertNotIn("within a scan", self.play("run 20", "require", "always: n = 5").out)
+
+    def test_a_value_that_comes_later(self):
+        told = self.play("at 20: Button = 1", "run 40", "require", "at 15: Lamp = 1 or Other = 1").out.splitlines()
+        self.assertEqual(told[2:4], ["        Lamp 0, not changed till then", "        Other 0, never changed"])
+
+    def test_a_refused_command(self):
+        """Its rung is that of the routine as it was edited before."""
+        called = self.play(
+            "at 10 engineer 1: accept Main Go i 0 NOP();", "at 10 engineer 1: test Main", "at 30 engineer 1: assemble Main",
+            "at 40 engineer 2: accept Main Go r 1 XIC(Button)OTE(Lam);", "at 40 engineer 2: accept Main Go r 0 NOP()",
+            "at 50 operator: force In2 0 1 1", "run 60", "require", "at 40 engineer 2: ok",
+        )  # fmt: skip
+        text, rung = called.out, "rung 1 of the edited routine: there is no tag 'Lam'; is Lamp meant?"
+        self.assertIn(f"FAIL  at 40 engineer 2: ok\n        the answer was refused E8 C4 1 1: {rung}\n", text)
+        self.assertIn("FAIL  line 6 was refused E7 0 T4 5, which nothing requires: accept Main Go r 0 NOP()\n        the rung has no ; at its end\n", text)
+        self.assertIn(f"accept Main Go r 1 XIC(Button)OTE(Lam);\n    {rung}\n        XIC(Button)OTE(Lam);\n                       ^\n  at 40 ms", text)
+        self.assertIn("force In2 0 1 1\n    there is no connection 'In2'; is In1 meant?\nfaults: none", text)
+
+
 class Refused(ScenarioTest):
     def refusal(self, *lines: str) -> str:
+        refusal_of.cache_clear()  # (the file may be another one since)
         called = self.play(*lines)
         self.assertEqual((called.status, called.out), (2, ""))
         return called.err.replace(self.room + "/", "")
@@ -230,7 +277,17 @@ class Refused(ScenarioTest):
 
     def test_projects(self):
         self.put("lamp.json", "{}")
-        self.assertIn("is refused: project P2 schema\n    P2: a field is missing", self.refusal("run 5"))
+        self.assertEqual(
+            self.refusal("run 5"),
+            "day.scenario, line 1: the project lamp.json is refused: P2 schema\nlamp.json, line 1: the key 'schema' is missing\n    {}\n    ^\n"
+            "P2: a field is missing; the path has its key. To do: add it.\n",
+        )  # fmt: skip
+        self.project(rungs=["NOP();", "XIC(Buton)OTE(Lamp);"])
+        place = "lamp.json, line 1: program Main, routine Go, rung 1: there is no tag 'Buton'; is Button meant?\n    XIC(Buton)OTE(Lamp);\n        ^\nC4: "
+        self.assertIn(f"the project lamp.json is refused: P10 programs.0.routines.0 C4 1 0\n{place}", self.refusal("run 5"))
+        self.put("lamp.json", '{"schema": 2\n "controller": "x"}')
+        place = 'lamp.json, line 2, column 2: a comma is missing before this\n     "controller": "x"}\n     ^\nP1: '
+        self.assertIn(f"the project lamp.json is refused: P1\n{place}", self.refusal("run 5"))
         called = self.call(self.scenario("run 5", project="none.json"))
         self.assertIn("none.json can't be read: No such file or directory\n    project none.json\n            ^", called.err)
         self.assertEqual(called.status, 2)

@@ -19,7 +19,8 @@ from lib.hammer.plain.project import FITS, Project, write
 from lib.scenario.line import Wrong
 from lib.scenario.pacing import Pacer
 from lib.scenario.places import Places
-from lib.scenario.playing import play, refusal_of
+from lib.scenario.playing import play
+from lib.scenario.refusals import refusal_of
 from lib.scenario.programs import Programs
 from lib.scenario.running import Runner
 

@@ -118,13 +118,38 @@ class Suites(ScenarioTest):
         found = [
             (
                 *(os.path.basename(suite.get(key)) for key in ("name", "tests", "failures")),
-                [(case.get("name"), [one.get("message") for one in case]) for case in suite],
+                [(case.get("name"), [one.get("message") for one in case]) for case in suite.iter("testcase")],
             )
             for suite in root
         ]
+        self.assertEqual([suite.findtext("system-out") for suite in root], ["2 held", None, "1 of 2 fell short"])
         self.assertEqual(found[0], ("a.scenario", "2", "0", [("end: Lamp = 1", []), ("at 0: Lamp = 0", [])]))
         self.assertEqual(found[1][0], "c <d>.scenario")
         self.assertEqual(found[2][3], [("end: Lamp = 1", ["Lamp 0, never changed"]), ("end: n <> 1", [])])
+
+    def test_what_held_without_being_tried_is_counted(self):
+        lines = (
+            "at 10: Button = 1", "at 20: Other = 1", "run 25", "require", "end: Lamp = 1", "within 10 of n = 1: Lamp = 0", "within 10 of Other = 1: n = 1",
+            "within 10 of Button = 1: Lamp = 1", "always: n = 1 -> Lamp = 0", "always at Main: Lamp = 1 -> Button = 1",
+        )  # fmt: skip
+        self.scenario(*lines, name="suite/a.scenario", project="../lamp.json")
+        self.scenario("run 20", name="suite/b.scenario", project="../lamp.json")
+        self.scenario("run 20", "require", "end: Lamp = 1", "always at Main: n = 1 -> n = 2", name="suite/c.scenario", project="../lamp.json")
+        called = self.call(f"{self.room}/suite", "--junit", f"{self.room}/junit.xml")
+        self.assertEqual((called.status, called.out.replace(self.room, "").splitlines()[:3]), (1, [
+            "ok    /suite/a.scenario: 3 held, 2 never came to that, 1 not yet due", "ok    /suite/b.scenario: nothing required",
+            "FAIL  /suite/c.scenario: 1 of 2 fell short, 1 never came to that: end: Lamp = 1",
+        ]))  # fmt: skip
+        root = tree.parse(f"{self.room}/junit.xml").getroot()
+        told = [suite.findtext("system-out") for suite in root]
+        self.assertEqual(told, ["3 held, 2 never came to that, 1 not yet due", "nothing required", "1 of 2 fell short, 1 never came to that"])
+        self.assertEqual([case.findtext("system-out") for case in root[0].iter("testcase")], [
+            None, "it never came to that", "1 not yet due at the end", "1 time, after 0 ms at most", "it never came to that", None,
+        ])  # fmt: skip
+        endings = [self.call(f"{self.room}/suite/{name}.scenario").out.splitlines()[-1] for name in "abc"]
+        self.assertEqual(endings, [
+            "ok: 6 required, 3 held, 2 never came to that, 1 not yet due", "ok: nothing is required", "FAIL: 1 of 2 fell short, 1 never came to that",
+        ])  # fmt: skip
 
     def test_another_project(self):
         self.three()
@@ -144,7 +169,24 @@ class Suites(ScenarioTest):
             "      at the end Lamp 0 -> 1",
         ])  # fmt: skip
         called = self.call(f"{self.room}/suite/a.scenario", "--project", f"{self.room}/lamp.json")
-        self.assertEqual((called.status, called.out.count("; nothing changed")), (0, 1), called.out)
+        self.assertEqual((called.status, called.out.count("compared with lamp.json: nothing changed\n")), (0, 1), called.out)
+
+    def test_another_project_of_one_scenario(self):
+        """It is told in full, of the run on the other project, with what that changes; and so are the files behind it."""
+        self.three()
+        self.project(rungs=["XIO(Button)OTE(Lamp);"])
+        os.rename(f"{self.room}/lamp.json", f"{self.room}/other.json")
+        self.project()
+        words = ("--project", f"{self.room}/other.json", "--journal", f"{self.room}/j.txt")
+        called = self.call(f"{self.room}/suite/b/b.scenario", *words)
+        self.assertEqual((called.status, called.err), (0, ""))
+        lines = called.out.replace(self.room, "").splitlines()
+        self.assertEqual(lines[:3], [
+            "/suite/b/b.scenario: other.json, each 10 ms, 1 scan, up to 20 ms", "ok    end: Lamp = 1", "ok    end: n <> 1",
+        ])  # fmt: skip
+        changed = ["compared with lamp.json", "  FAIL -> ok  end: Lamp = 1", "  at the end Lamp 0 -> 1", "", "ok: 2 required, all held"]
+        self.assertEqual(lines[-6:-1], changed)
+        self.assertIn("XIO(Button)", self.text("j.project.json"))
 
     def test_the_list_is_of_commands(self):
         self.three()
@@ -159,7 +201,7 @@ class Suites(ScenarioTest):
     def test_files_of_many_are_refused(self):
         called = self.call(f"{TOP}/examples", "--report", f"{self.room}/r.txt")
         self.assertEqual((called.status, called.out, os.path.exists(f"{self.room}/r.txt")), (2, "", False))
-        self.assertIn("are of one scenario on its own project", called.err)
+        self.assertIn("are of one scenario, without --junit", called.err)
 
     def test_no_scenario(self):
         os.mkdir(f"{self.room}/empty")
@@ -203,7 +245,8 @@ class Documents(ScenarioTest):
 
     def test_the_page(self):
         scenario, answer = self.blocks("docs/SCENARIOS.md", "scenario"), self.blocks("docs/SCENARIOS.md", "answer")
-        self.assertEqual((len(scenario), self.answer("conveyor", scenario[0])), (1, answer[0]))
+        # (what is below the requirements isn't shown)
+        self.assertEqual((len(scenario), self.answer("conveyor", scenario[0]).partition("\n\n")[0] + "\n"), (1, answer[0]))
 
     def test_the_page_is_short(self):
         with open(f"{TOP}/docs/SCENARIOS.md", encoding="utf-8") as file:

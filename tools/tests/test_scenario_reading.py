@@ -154,9 +154,27 @@ class Scenarios(unittest.TestCase):
         self.refused(FRONT + "require\nfaults: 6-2\n", 4, 8, "expected 'none' or a fault as 6/2 or 'major 4/20 TASK PROGRAM', found '6-2'")
 
     def test_no_action_of_a_journal(self):
-        for action in ("end", "cpu 5", "tick 1", "tets Main", "accept Main Go x 0 NOP();", "@1 test Main", ""):
-            with self.assertRaisesRegex(Wrong, "expected an action: accept, "):
-                read(FRONT + f"at 5 engineer 1: {action}\n", "x")
+        every = "; it is in, out, accept, test, untest, assemble, cancel, mode, clear or force"
+        edits = "an edit being r INDEX TEXT, i INDEX TEXT or d INDEX"
+        for action, at, why in (
+            ("end", 0, f"no action begins with 'end'{every}"),
+            ("cpu 5", 0, f"no action begins with 'cpu'{every}"),
+            ("@1 test Main", 0, f"no action begins with '@1'{every}"),
+            ("tets Main", 0, "no action begins with 'tets'; is test meant?"),
+            ("test", 4, "the action must be 'test PROGRAM'"),
+            ("force LS_High 1", 15, "the action must be 'force CONN WORD MASK VALUE'"),
+            ("force", 5, "the action must be 'force enable, disable or remove' or 'force CONN WORD MASK VALUE'"),
+            ("force Out 0 16#F 1", 12, "'16#F': numbers of a journal are decimal"),
+            ("in In1 5", 8, "the action must be 'in CONN WORD VALUE'"),
+            ("mode rum", 5, "mode 'rum' isn't there; is run meant?"),
+            ("clear now", 6, "the action must be 'clear'"),
+            ("accept Main Go", 14, f"the action must be 'accept PROGRAM ROUTINE EDITS', {edits}"),
+            ("accept Main Go x 0 NOP();", 15, "no edit begins with 'x'; it is r INDEX TEXT, i INDEX TEXT or d INDEX"),
+        ):
+            head = "at 5 engineer 1: "
+            self.refused(FRONT + head + action + "\n", 3, len(head) + at, why)
+        with self.assertRaisesRegex(Wrong, "expected an action: accept, test, .*, found the end of the line"):
+            read(FRONT + "at 5 engineer 1:\n", "x")
         with self.assertRaisesRegex(Wrong, "an action has at most 65500 bytes"):
             read(FRONT + f"at 5 engineer 1: accept Main Go i 0 {'NOP()' * 14_000};\n", "x")
 

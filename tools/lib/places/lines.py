@@ -152,17 +152,19 @@ def judge_link(words: list[Word], line: str) -> None:
 
 def judge_action(words: list[Word], line: str, timed: bool) -> None:
     verb, rest = words[0], words[1:]
-    known = [one for one in FORMS if not (timed and one in ("cpu", "tick", "end"))]
+    known, what = [one for one in FORMS if not (timed and one in ("cpu", "tick", "end"))], "action" if timed else "line"
     if verb.text not in known:
         like = near(verb.text, known)
         more = f"; is {like[0]} meant?" if like else f"; it is {', '.join(known[:-1])} or {known[-1]}"
-        raise Wrong(f"no {'action' if timed else 'line'} begins with {quoted(verb.text)}{more}", verb.at)
+        raise Wrong(f"no {what} begins with {quoted(verb.text)}{more}", verb.at)
     if verb.text == "accept":
-        judge_accept(rest, line)
+        judge_accept(rest, line, what)
         return
     form = FORCE if verb.text == "force" and len(rest) > 1 else FORMS[verb.text]
     if len(rest) != len(form):
-        raise Wrong(f"the line must be '{' '.join([verb.text, *form])}'", rest[len(form)].at if len(rest) > len(form) else len(line))
+        also = f" or 'force {' '.join(FORCE)}'" if form is FORMS["force"] else ""
+        at = rest[len(form)].at if len(rest) > len(form) else len(line)
+        raise Wrong(f"the {what} must be '{' '.join([verb.text, *form])}'{also}", at)
     for word, what in zip(rest, form):
         judge_word(verb.text, word, what)
 
@@ -193,9 +195,9 @@ def judge_number(word: Word, what: str, form: re.Pattern[str]) -> None:
         raise Wrong(f"{word.text} is out of range: {what} is {least:,} to {most:,}", word.at, "32 bits")
 
 
-def judge_accept(rest: list[Word], line: str) -> None:
+def judge_accept(rest: list[Word], line: str, what: str) -> None:
     if len(rest) < 3:
-        raise Wrong("the line must be 'accept PROGRAM ROUTINE EDITS'", len(line))
+        raise Wrong(f"the {what} must be 'accept PROGRAM ROUTINE EDITS', an edit being r INDEX TEXT, i INDEX TEXT or d INDEX", len(line))
     judge_name(rest[0])
     judge_name(rest[1])
     at, parts = rest[2].at, line[rest[2].at :].split("|")

@@ -15,6 +15,8 @@ from .rungs import check_fault, text_fault
 
 EDITS = ("accept", "test", "untest", "assemble", "cancel")
 NOT_OF_AN_EDIT = ("N", "F", "M")
+# What is said of a command as a whole.
+NO_PLACE = "this command"
 
 
 def action_in(line: str, is_of_script: bool = False) -> str | None:
@@ -91,7 +93,7 @@ class Follower:
         """What is said of a command that was answered `refused CAUSE`."""
         action = self.action(line)
         if action is None:
-            return Said("this command", marked(line, 0))
+            return Said(NO_PLACE, marked(line, 0))
         code = cause[0]
         if code[0] in NOT_OF_AN_EDIT:
             return self.of_module(line, action, code)
@@ -117,7 +119,7 @@ class Follower:
             return self.mark(line, 2, f"{connections[one]['name']} has {counted(words, 'word')}, {numbers(words)}", "word that")
         if code == "N3" and one is not None:
             return self.mark(line, 0, f"{connections[one]['name']} is an {connections[one]['direction']}put")
-        return self.mark(line, 0, "this command")
+        return self.mark(line, 0, NO_PLACE)
 
     # ---- edits
 
@@ -142,7 +144,7 @@ class Follower:
             rungs = program.merged(action.names[1].lower(), edits)
             said = check_fault(self.project, at, rungs, places[0], int(places[1]), int(places[2]))
             return Said(f"rung {places[1]} of the edited routine: {said.why}", [*marked(line, 0)[:1], *said.quote], [], said.applies)
-        return self.mark(line, 0, "this command")
+        return self.mark(line, 0, NO_PLACE)
 
     def of_index(self, line: str, action: Action, program: Program, code: str, place: int) -> Said:
         edit = action.edits[place]

@@ -49,6 +49,24 @@ def agenda(scenario: Scenario, places: Places) -> list[Item]:
     return made
 
 
+def unseen(items: list[Item], pace: int) -> list[str]:
+    """A note of the pulses that begin and end between two paces: no step is made while they last."""
+    found = [
+        item for item in items
+        if isinstance(item.what, Set) and item.what.value is not None and item.what.setting.lasts is not None
+        and item.at % pace and item.at % pace + item.what.setting.lasts <= pace
+    ]  # fmt: skip
+    if not found:
+        return []
+    first, setting = found[0].at, found[0].what.setting
+    before = first - first % pace
+    more = f"; nor {len(found) - 1} more pulse{'' if len(found) == 2 else 's'}" if found[1:] else ""
+    return [
+        f"line {setting.name.line.number}: no rung sees the pulse of {setting.name.text} from {first} to {first + setting.lasts} ms: "
+        f"it lies between the paces at {before} and {before + pace} ms{more}"
+    ]
+
+
 def judge_pulses(items: list[Item], places: Places) -> None:
     """No tag is set while a pulse of it lasts."""
     lasting: dict[int, tuple[int, int]] = {}

@@ -4,15 +4,17 @@ from __future__ import annotations
 
 import os
 
+from .judge import empty_told, held_told
 from .playing import Played
 from .scenario import OPERATOR
 
 WIDTH = 100
 
 
-def told(played: Played) -> list[str]:
+def told(played: Played, changes: list[str] | None = None) -> list[str]:
+    """`changes`: what is otherwise than on the scenario's own project, of a run on another one."""
     one = played.scenario
-    head = f"{one.path}: {os.path.basename(one.project)}, each {one.pace.told()}, up to {played.run.now} ms"
+    head = f"{one.path}: {os.path.basename(played.path)}, each {one.pace.told()}, up to {played.run.now} ms"
     lines = [head, *(f"  note: {note}" for note in played.notes)]
     for verdict in played.judged.verdicts:
         note = f"  ({verdict.note})" if verdict.note else ""
@@ -20,19 +22,29 @@ def told(played: Played) -> list[str]:
         lines += [f"        {why}" for why in verdict.why]
     for done in played.judged.refused:
         lines.append(f"FAIL  line {done.line.number} was {done.answer}, which nothing requires: {done.action}")
+        lines += [f"        {done.refusal.why}"] if done.refusal else []
     for fault in played.judged.faulted:
         lines.append(f"FAIL  {fault.told()}, at {fault.place.told()}, which nothing requires")
-    return [*lines, "", *tags_told(played), *refused_told(played), *faults_told(played), *scans_told(played), "", summary(played)]
+    lines += ["", *tags_told(played), *refused_told(played), *faults_told(played), *scans_told(played)]
+    return [*lines, *([] if changes is None else changes_told(one.project, changes)), "", summary(played)]
+
+
+def changes_told(own: str, changes: list[str]) -> list[str]:
+    head = f"compared with {os.path.basename(own)}"
+    return [head, *(f"  {change}" for change in changes)] if changes else [f"{head}: nothing changed"]
 
 
 def summary(played: Played) -> str:
     short, count = played.judged.short(), len(played.judged.verdicts)
+    empties = [one.empty for one in played.judged.verdicts if one.holds]
     end = " (ended by --seconds)" if played.run.stopped else ""
+    if status(played) == 0 and any(empties):
+        return f"ok: {count} required, {held_told(empties)}"
     if status(played) == 0:
         return f"ok: {count} required, all held" if count else "ok: nothing is required"
     unasked = played.judged.unasked()
     more = f"; {unasked} refused or faulted, which nothing requires" if unasked else ""
-    return f"FAIL: {short} of {count} fell short{more}{end}"
+    return f"FAIL: {', '.join([f'{short} of {count} fell short', *empty_told(empties)])}{more}{end}"
 
 
 def status(played: Played) -> int:
@@ -55,8 +67,10 @@ def tags_told(played: Played) -> list[str]:
 
 
 def refused_told(played: Played) -> list[str]:
-    refused = [one for one in played.run.done if one.answer.startswith("refused")]
-    rows = [f"  at {one.time} ms, {lane_told(one.lane)}, {one.answer}: {one.action}" for one in refused]
+    rows = []
+    for one in (one for one in played.run.done if one.is_refused()):
+        rows.append(f"  at {one.time} ms, {lane_told(one.lane)}, {one.answer}: {one.action}")
+        rows += [f"    {line}" for line in (one.refusal.why, *one.refusal.quote)] if one.refusal else []
     return ["refused commands", *rows] if rows else ["refused commands: none"]
 
 

@@ -156,8 +156,9 @@ class Copier:
         if not count:
             return []
         names = ", ".join(self.noted[:MOST_NAMED]) + (f" and {count - MOST_NAMED} more" if count > MOST_NAMED else "")
-        what, them = ("no input", "it") if count == 1 else ("no inputs", "them")
-        return [f"{names}: {what}, so the copy of the project has a connection of the tool's for {them}"]
+        if count == 1:
+            return [f"{names} is no input: to set it, the tool runs a copy of the project with a connection for it"]
+        return [f"{names} are no inputs: to set them, the tool runs a copy of the project with connections for them"]
 
     def declared(self, scope: int | None, name: str) -> dict:
         described = self.project if scope is None else self.project["programs"][scope]

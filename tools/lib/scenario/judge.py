@@ -3,7 +3,8 @@
 from __future__ import annotations
 
 import os
-from collections.abc import Callable, Iterator
+import re
+from collections.abc import Callable, Iterable, Iterator
 from dataclasses import dataclass, field
 
 from lib.paths import read_bytes
@@ -12,17 +13,32 @@ from .comparing import Unreadable, first_difference
 from .running import Done
 from .scenario import Fault, Requirement, Scenario, When
 from .story import FaultSeen, Moment, Place, Story
-from .tests import Test
+from .tests import Joined, Test
+
+# Why a requirement that holds says nothing of the machine.
+NEVER, NOT_DUE, NO_SCAN = "never came to that", "not yet due", "without a scan"
 
 
 @dataclass
 class Verdict:
-    """`why` is told under a requirement that fell short, `note` after one that holds."""
+    """`why` is told under a requirement that fell short, `note` after one that holds; `empty`: why it held without being tried."""
 
     requirement: Requirement
     holds: bool
     why: list[str] = field(default_factory=list)
     note: str = ""
+    empty: str = ""
+
+
+def held_told(empties: Iterable[str]) -> str:
+    """Of requirements that hold how many were tried and how many weren't: `3 held, 1 never came to that, 1 not yet due`."""
+    every = list(empties)
+    return ", ".join([f"{every.count('')} held", *empty_told(every)])
+
+
+def empty_told(empties: Iterable[str]) -> list[str]:
+    every = list(empties)
+    return [f"{every.count(why)} {why}" for why in (NEVER, NOT_DUE, NO_SCAN) if why in every]
 
 
 @dataclass
@@ -49,7 +65,7 @@ class Judge:
 
     def judge(self) -> Judged:
         verdicts = [JUDGES[one.when](self, one) for one in self.scenario.requirements]
-        refused = [one for at, one in enumerate(self.commands) if one.answer.startswith("refused") and at not in self.answered]
+        refused = [one for at, one in enumerate(self.commands) if one.is_refused() and at not in self.answered]
         asks_faults = any(one.when == When.FAULTS for one in self.scenario.requirements)
         majors = [] if asks_faults else [one for one in self.story.faults if one.severity == "major"]
         return Judged(verdicts, refused, majors)
@@ -97,31 +113,54 @@ class Judge:
         why = []
         for name in {name.key: name for name in one.test.names()}.values():
             place = self.story.since(name.key, count)
-            since = f"since {place.told()}: {self.describe(place.event)}" if place else "never changed"
+            since = f"since {place.told()}: {self.describe(place.event)}" if place else self.unchanged(name.key, count)
             why.append(f"{name.text} {values[name.key]}, {since}")
         return Verdict(one, False, why)
 
+    def unchanged(self, key: str, count: int) -> str:
+        """Of a tag that none of so many moments changes: whether a later one does."""
+        later = any(name == key for moment in self.story.moments[count:] for name, _ in moment.sets)
+        return "not changed till then" if later else "never changed"
+
     def always(self, one: Requirement) -> Verdict:
+        tried = False
         for place, values in self.states(one.test):
             if not one.test.holds(values):
-                return Verdict(one, False, [self.broke(one.test, place, values)])
-        return Verdict(one, True)
+                return Verdict(one, False, [self.broke(one.test, place, values), *self.cure(one, place)])
+            tried = tried or is_tried(one.test, values)
+        return held(one, tried)
 
     def broke(self, test: Test, place: Place, values: dict[str, int]) -> str:
         return f"at {place.told()}: {self.values_told(test, values)}; by {self.describe(place.event)}"
 
+    def cure(self, one: Requirement, place: Place) -> list[str]:
+        """What to require in place of a test that a step within a scan breaks, if it holds at the ends of all scans of the program."""
+        program = self.story.program_within(place.event)
+        if program is None or not all(one.test.holds(values) for _, values in self.states_at_ends(program.lower())):
+            return []
+        instead = re.sub(r" *:", f" at {program}:", one.text, count=1)
+        return [f"that is within a scan; at the end of each scan it holds, so require: {instead}"]
+
     def always_at(self, one: Requirement) -> Verdict:
         if self.story.trace is None:
             return Verdict(one, False, ["the run is too long for a trace, which tells the ends of scans"])
-        ends = self.story.ends[one.program.key]
+        tried = False
+        for place, values in self.states_at_ends(one.program.key):
+            if not one.test.holds(values):
+                return Verdict(one, False, [f"at the end of a scan, {place.told()}: {self.values_told(one.test, values)}"])
+            tried = tried or is_tried(one.test, values)
+        if not self.story.ends[one.program.key]:
+            return Verdict(one, True, note=f"{one.program.text} ended no scan", empty=NO_SCAN)
+        return held(one, tried)
+
+    def states_at_ends(self, program: str) -> Iterator[tuple[Place, dict[str, int]]]:
+        """The values at the end of each scan of a program, whose name is in small letters."""
         values, moments, at = dict(self.story.opening), self.story.moments, 0
-        for place in ends:
+        for place in self.story.ends[program]:
             while at < len(moments) and moments[at].place.event <= place.event:
                 values.update(moments[at].sets)
                 at += 1
-            if not one.test.holds(values):
-                return Verdict(one, False, [f"at the end of a scan, {place.told()}: {self.values_told(one.test, values)}"])
-        return Verdict(one, True, note="" if ends else f"{one.program.text} ended no scan")
+            yield place, values
 
     def within(self, one: Requirement) -> Verdict:
         """Each time that the first test comes to hold, the second holds then or within the time."""
@@ -137,10 +176,12 @@ class Judge:
                 longest, due = max(longest, place.tick - due[0].tick), []
         if due and self.story.last.tick >= due[0].tick + one.time:
             return self.late(one, due[0])
+        if not count:
+            return held(one, False)
         note = f"{count} time{'' if count == 1 else 's'}, after {longest} ms at most" if count > len(due) else ""
         if due:
-            note += f"{'; ' if note else ''}{len(due)} not yet due at the end"
-        return Verdict(one, True, note=note or "it never came to that")
+            note += f"{'; ' if note else ''}{len(due)} {NOT_DUE} at the end"
+        return Verdict(one, True, note=note, empty="" if count > len(due) else NOT_DUE)
 
     def late(self, one: Requirement, since: Place) -> Verdict:
         values = self.story.values_after(self.story.moments_to_tick(since.tick + one.time))
@@ -156,7 +197,7 @@ class Judge:
                 self.answered.add(at)
                 wanted, words = one.answer.split(), command.answer.split()
                 holds = words[: len(wanted)] == wanted
-                return Verdict(one, holds, [] if holds else [f"the answer was {command.answer}"])
+                return Verdict(one, holds, [] if holds else [f"the answer was {command.told_answer()}"])
         return Verdict(one, False, ["there is no such command, or fewer than are required"])
 
     def time_of(self, command: Done) -> int:
@@ -178,6 +219,15 @@ class Judge:
         except Unreadable as unreadable:
             return Verdict(one, False, [f"{path}: {unreadable}"])
         return Verdict(one, difference is None, [] if difference is None else [difference])
+
+
+def held(one: Requirement, tried: bool) -> Verdict:
+    return Verdict(one, True) if tried else Verdict(one, True, note=f"it {NEVER}", empty=NEVER)
+
+
+def is_tried(test: Test, values: dict[str, int]) -> bool:
+    """Whether these values try the test: of `A -> B` those with which A holds."""
+    return not (isinstance(test, Joined) and test.word == "->") or test.left.holds(values)
 
 
 def matches(seen: FaultSeen) -> Callable[[Fault], bool]:

@@ -17,16 +17,17 @@ LONGEST_TIME = 4_000_000
 
 
 class Wrong(Exception):
-    """What is wrong with a scenario: the file and the line, the place in it (None: of no place) and what was expected or missed."""
+    """What is wrong with a scenario: the file and the line, the place in it (None: of no place) and what was expected or missed.
+    `more`: lines of a place in another file."""
 
-    def __init__(self, why: str, text: str = "", at: int | None = None, number: int = 0, path: str = "") -> None:
+    def __init__(self, why: str, text: str = "", at: int | None = None, number: int = 0, path: str = "", more: tuple[str, ...] = ()) -> None:
         super().__init__(why)
-        self.why, self.text, self.at, self.number, self.path = why, text, at, number, path
+        self.why, self.text, self.at, self.number, self.path, self.more = why, text, at, number, path, more
 
     def told(self) -> str:
         head = self.path + (f", line {self.number}" if self.number else "")
         if self.at is None:
-            return f"{head}: {self.why}"
+            return "\n".join([f"{head}: {self.why}", *self.more])
         before = re.sub(r"[^\t]", " ", self.text[: self.at])
         return f"{head}: {self.why}\n    {self.text}\n    {before}^"
 

@@ -82,13 +82,16 @@ def run(said: argparse.Namespace, programs: Programs) -> int:
     alone = len(said.paths) == 1 and not os.path.isdir(said.paths[0])
     if said.list:
         return suite.listed(said)
-    if not alone or said.project or said.junit:
+    if not alone or said.junit:
         if said.journal or said.report or said.timeline or said.wave:
-            return refuse("--journal, --report, --timeline and --wave are of one scenario on its own project, without --junit", 2)
+            return refuse("--journal, --report, --timeline and --wave are of one scenario, without --junit", 2)
         return suite.run(said, programs)
     progress = Progress()
     try:
-        played = play(said.paths[0], None, programs, said.seconds, progress)
+        played, changes = play(said.paths[0], None, programs, said.seconds, progress), None
+        if said.project:
+            own, played = played, play(said.paths[0], said.project, programs, said.seconds, progress)
+            changes = suite.changes(suite.outcome_of(own), suite.outcome_of(played))
     except Wrong as wrong:
         programs.sure()
         return told_wrong(wrong, progress)
@@ -96,7 +99,7 @@ def run(said: argparse.Namespace, programs: Programs) -> int:
         return refuse(stopped.why, stopped.status)
     programs.sure()
     progress.clear()
-    print("\n".join(answer.told(played)))
+    print("\n".join(answer.told(played, changes)))
     outputs.write(said, played, programs)
     return answer.status(played)
 

@@ -2,7 +2,6 @@
 
 from __future__ import annotations
 
-import functools
 import json
 import os
 import subprocess
@@ -11,16 +10,17 @@ import time
 from collections.abc import Callable
 from dataclasses import dataclass, field
 
-from lib.paths import TOOLS, read_bytes
+from lib.paths import read_bytes
 from lib.programs import Ended
 
-from .agenda import Set, agenda
+from .agenda import Set, agenda, unseen
 from .copying import MOST_WATCHES, Copy, make_copy
 from .judge import Judge, Judged
 from .line import Wrong
 from .places import Places, Unknown, fits, near
 from .programs import Programs
 from .reading import read_file
+from .refusals import Stopped, explained, refusal_of
 from .running import Run, Runner
 from .scenario import Scenario, When
 from .session import Session
@@ -31,17 +31,11 @@ LEAST_IDLE, MOST_IDLE = 64, 65_536
 MOST_TRACED, MOST_LINES = 4_000_000, 100_000
 
 
-class Stopped(Exception):
-    """The controller's process ended before its time: why, and the status to end with."""
-
-    def __init__(self, why: str, status: int) -> None:
-        super().__init__(why)
-        self.why, self.status = why, status
-
-
 @dataclass
 class Played:
     scenario: Scenario
+    # The file of the project, its own or another one.
+    path: str
     project: dict
     copy: dict
     run: Run
@@ -89,6 +83,7 @@ class Player:
         self.judge_names(places)
         self.made = self.copied(places)
         self.items = agenda(self.scenario, self.made.places)
+        self.notes += unseen(self.items, self.scenario.pace.ms)
         watches = self.watches()
         with tempfile.TemporaryDirectory(prefix="scenario-") as room:
             copies = [self.put(room, f"copy{at}.json", self.made.text(watch)) for at, watch in enumerate(watches)]
@@ -102,27 +97,27 @@ class Player:
         if lines > MOST_LINES:
             self.notes.append(f"the report has {lines} lines: a replay of the journal keeps the first {MOST_LINES}")
         story = self.story(reports, watches, trace)
+        run.done = explained(self.contents, run.done)
         judge = Judge(self.scenario, story, run.done, self.describer(story, run), reports[0])
         judged = judge.judge()
         notes = [*self.made.notes, *self.notes, *run.notes]
         copy = self.made.text(watches[0])
-        return Played(self.scenario, self.project, copy, run, story, judged, journal, reports[0], notes)
+        return Played(self.scenario, self.path, self.project, copy, run, story, judged, journal, reports[0], notes)
 
     # ---- the project
 
     def load(self) -> dict:
+        line = self.scenario.project_line
         try:
-            project = read_bytes(self.path)
+            self.contents = read_bytes(self.path)
         except OSError as fault:
-            raise self.wrong_project(f"the project {self.path} can't be read: {fault.strerror}") from None
+            why = f"the project {self.path} can't be read: {fault.strerror}"
+            raise Wrong(why) if self.is_other else line.wrong(why, line.text.find(" ") + 1) from None
         refusal = refusal_of(self.live, self.path)
         if refusal:
-            raise self.wrong_project(f"the project {self.path} is refused: {refusal}")
-        return json.loads(project)
-
-    def wrong_project(self, why: str) -> Wrong:
-        line = self.scenario.project_line
-        return Wrong(why) if self.is_other else line.wrong(why, line.text.find(" ") + 1)
+            why = f"the project {self.path} is refused: {refusal[0].removeprefix('project ')}"
+            raise Wrong(why, number=0 if self.is_other else line.number, more=refusal[1:])
+        return json.loads(self.contents)
 
     def judge_names(self, places: Places) -> None:
         for name in self.scenario.names():
@@ -243,14 +238,17 @@ class Player:
     def describer(self, story: Story, run: Run) -> Callable[[int], str]:
         """Says of an event what it was."""
         done = {one.event: one for one in run.done}
+        commands = {one.line.number for one in self.scenario.commands}
         tasks = [task["name"] for task in self.project["tasks"]]
         programs = [program["name"] for program in self.project["programs"]]
 
         def describe(event: int) -> str:
             one = done.get(event)
+            if one and one.line:
+                is_command = one.line.number in commands
+                return f"line {one.line.number}" + (f": {one.action}" if is_command else f" (in the journal: {one.action})")
             if one:
-                where = f"line {one.line.number}" if one.line else "the change to Run"
-                return f"{where}: {one.action}" if one.line else where
+                return "the change to Run"
             words = story.trace.lines[event].decode().split(" ") if story.trace else [""]
             if words[0] == "tick":
                 return "a tick"
@@ -259,17 +257,3 @@ class Player:
             return "a processor step"
 
         return describe
-
-
-@functools.lru_cache(maxsize=64)
-def refusal_of(live: str, path: str) -> str:
-    """What the controller says of a project that it refuses; nothing of one that it takes."""
-    ran = subprocess.run([live, path], stdin=subprocess.DEVNULL, stdout=subprocess.PIPE, check=False)
-    if ran.returncode == 0:
-        return ""
-    if ran.returncode != 2:
-        raise Stopped(f"the controller ended with status {ran.returncode} at the project {path}", ran.returncode)
-    line = ran.stdout.decode(errors="replace").partition("\n")[0]
-    codes = [word for word in line.split()[1:] if word[:1].isalpha() and word[1:].isdigit()]
-    said = subprocess.run([f"{TOOLS}/explain", *codes], stdin=subprocess.DEVNULL, stdout=subprocess.PIPE, text=True, check=False)
-    return "\n    ".join([line, *said.stdout.splitlines()])

@@ -5,6 +5,7 @@ from __future__ import annotations
 import re
 
 from lib.hammer.plain.journal import Bad, action_of
+from lib.places import lines as journals
 
 from .line import LONGEST_TIME, WORD, Line, Wrong
 from .scenario import OPERATOR, Command, Fault, Pace, Requirement, Scenario, Setters, Setting, When
@@ -14,7 +15,7 @@ MOST_BYTES, MOST_STEPS, MOST_SCANS, LAST_LANE = 4_000_000, 1_000_000, 1_000, 30
 LONGEST_ACTION = 65_500  # with its lane it is a line of a journal
 STATEMENTS = "'project', 'pace', 'at', 'every', 'run' or 'require'"
 REQUIREMENTS = "'at', 'always', 'never', 'within', 'end', 'faults' or 'report'"
-ACTIONS = "an action: accept, test, untest, assemble, cancel, in, out, force, mode or clear (docs/FORMATS.md, section 5)"
+ACTIONS = "an action: accept, test, untest, assemble, cancel, in, out, force, mode or clear (docs/SCENARIOS.md)"
 FAULT_CODE = re.compile(r"[0-9]/[0-9]{1,2}(?![A-Za-z0-9_])")
 ANSWER = re.compile(r"ok(?: -?[0-9]+)?|refused(?: [A-Z][0-9]{1,2}(?: [A-Z0-9]+)*)?")
 
@@ -227,8 +228,18 @@ def action(line: Line) -> str:
     try:
         action_of(text)
     except Bad:
-        raise line.expected(ACTIONS, start) from None
+        raise no_action(line, text, start) from None
     return text
+
+
+def no_action(line: Line, text: str, start: int) -> Wrong:
+    """What is wrong with the action at this place: of one that has another form, the form."""
+    try:
+        if text:
+            journals.judge_action(journals.words_of(text), text, True)
+    except journals.Wrong as wrong:
+        return line.wrong(wrong.why, start + wrong.at)
+    return line.expected(ACTIONS, start)
 
 
 def fault(line: Line) -> Fault:

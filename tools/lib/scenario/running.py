@@ -14,6 +14,7 @@ from .agenda import Item, Set
 from .copying import Copy, Word
 from .line import Line
 from .pacing import Pacer, first_begin
+from .refusals import Refusal
 from .scenario import OPERATOR, Command, Scenario
 from .session import Session
 
@@ -26,7 +27,8 @@ AT_ONCE = 400  # so many lines are told before the answers are read, where nothi
 
 @dataclass(frozen=True)
 class Done:
-    """An action that was told: its event's number from 1, the time, the answer, and the line of the scenario that asked for it."""
+    """An action that was told: its event's number from 1, the time, the answer, and the line of the scenario that asked for it.
+    `refusal` is told of one that was refused, where it is known."""
 
     event: int
     time: int
@@ -34,6 +36,13 @@ class Done:
     action: str
     answer: str
     line: Line | None
+    refusal: Refusal | None = None
+
+    def is_refused(self) -> bool:
+        return self.answer.startswith("refused")
+
+    def told_answer(self) -> str:
+        return f"{self.answer}: {self.refusal.why}" if self.refusal else self.answer
 
 
 @dataclass

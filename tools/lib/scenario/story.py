@@ -45,13 +45,22 @@ class Story:
     trace: Trace | None = None
     scans: dict[str, Scans] = field(default_factory=dict)
     ends: dict[str, list[Place]] = field(default_factory=dict)
+    # As the project spells them, once there is a trace.
+    programs: list[str] = field(default_factory=list)
 
     def add_trace(self, trace: Trace, project: dict) -> None:
         self.trace = trace
         self.scans, self.ends = trace.counted(project)
+        self.programs = [program["name"] for program in project["programs"]]
         for fault in self.faults:
             if fault.code == "6/3":
                 self.scans[fault.task].overlaps += 1
+
+    def program_within(self, event: int) -> str | None:
+        """The program of whose scan an event is a step, but not the last one; None of any other event, or without a trace."""
+        words = self.trace.lines[event].decode().split(" ") if self.trace else []
+        is_step = words[:1] == ["step"] or (words[:1] == ["left"] and words[3:] == ["on"])
+        return self.programs[int(words[2])] if is_step else None
 
     def values_at_end(self) -> dict[str, int]:
         return self.values_after(len(self.moments))

@@ -13,6 +13,7 @@ from dataclasses import dataclass, field
 from lib.paths import TOOLS
 
 from . import answer, junit, outputs
+from .judge import empty_told, held_told
 from .line import Wrong
 from .playing import Played, Stopped, play
 from .programs import Programs
@@ -21,15 +22,27 @@ ENDING = ".scenario"
 OK, FAIL, WRONG = 0, 1, 2
 
 
+@dataclass(frozen=True)
+class Case:
+    """A requirement, or what wasn't asked for: whether it holds, why not, what is noted of it, and why it held without being tried."""
+
+    text: str
+    holds: bool
+    why: list[str] = field(default_factory=list)
+    note: str = ""
+    empty: str = ""
+
+
 @dataclass
 class Outcome:
-    """What came of a scenario: a status, a line, and of each requirement whether it holds and why not."""
+    """What came of a scenario: a status, a line, and its cases; `tally`: how many of them held."""
 
     path: str
     status: int
     line: str
     seconds: float = 0.0
-    verdicts: list[tuple[str, bool, list[str]]] = field(default_factory=list)
+    cases: list[Case] = field(default_factory=list)
+    tally: str = ""
     values: dict[str, int] = field(default_factory=dict)
     changes: list[str] = field(default_factory=list)
 
@@ -115,9 +128,9 @@ def one(work: tuple) -> Outcome:
             other.line += f"; {len(other.changes)} changed" if other.changes else "; nothing changed"
             outcome = other
     except Wrong as wrong:
-        outcome = Outcome(path, WRONG, f"WRONG {wrong.told()}", verdicts=[("the scenario", False, [wrong.told()])])
+        outcome = Outcome(path, WRONG, f"WRONG {wrong.told()}", cases=[Case("the scenario", False, [wrong.told()])])
     except Stopped as stopped:
-        outcome = Outcome(path, stopped.status, f"STOP  {path}: {stopped.why}", verdicts=[("the run", False, [stopped.why])])
+        outcome = Outcome(path, stopped.status, f"STOP  {path}: {stopped.why}", cases=[Case("the run", False, [stopped.why])])
     outcome.seconds = time.monotonic() - began
     return outcome
 
@@ -135,27 +148,31 @@ class Done:
 
 
 def outcome_of(played: Played) -> Outcome:
-    verdicts = [(one.requirement.text, one.holds, one.why) for one in played.judged.verdicts]
-    verdicts += [
-        (f"line {one.line.number}: {one.action}", False, [f"{one.answer}, which nothing requires"]) for one in played.judged.refused
+    cases = [Case(one.requirement.text, one.holds, one.why, one.note, one.empty) for one in played.judged.verdicts]
+    cases += [
+        Case(f"line {one.line.number}: {one.action}", False, [f"{one.told_answer()}, which nothing requires"])
+        for one in played.judged.refused
     ]
-    verdicts += [(one.told(), False, [f"at {one.place.told()}, which nothing requires"]) for one in played.judged.faulted]
+    cases += [Case(one.told(), False, [f"at {one.place.told()}, which nothing requires"]) for one in played.judged.faulted]
     status, path = answer.status(played), played.scenario.path
-    short = [text for text, holds, _ in verdicts if not holds]
-    if status == OK:
-        line = f"ok    {path}: {len(verdicts)} held"
+    short, empties = [one.text for one in cases if not one.holds], [one.empty for one in cases if one.holds]
+    if short or played.run.stopped:
+        tally = ", ".join([f"{len(short)} of {len(cases)} fell short", *empty_told(empties)])
     else:
-        line = f"FAIL  {path}: {len(short)} of {len(verdicts)} fell short: {'; '.join(short[:2])}{'; ..' if short[2:] else ''}"
+        tally = held_told(empties) if cases else "nothing required"
+    line = f"ok    {path}: {tally}"
+    if status != OK:
+        line = f"FAIL  {path}: {tally}: {'; '.join(short[:2])}{'; ..' if short[2:] else ''}"
     if played.run.stopped:
         line += f" (ended by --seconds at {played.run.now} ms)"
-    return Outcome(path, status, line, verdicts=verdicts, values=played.values())
+    return Outcome(path, status, line, cases=cases, tally=tally, values=played.values())
 
 
 def changes(own: Outcome, other: Outcome) -> list[str]:
     """Which requirements and which values at the end another project changes."""
     told = []
-    before = {text: holds for text, holds, _ in own.verdicts}
-    after = {text: (holds, why) for text, holds, why in other.verdicts}
+    before = {one.text: one.holds for one in own.cases}
+    after = {one.text: (one.holds, one.why) for one in other.cases}
     for text in dict.fromkeys([*before, *after]):
         was, (holds, why) = before.get(text, True), after.get(text, (True, []))
         if was != holds:

@@ -1,0 +1,84 @@
+"""What the controller refuses, a project or a command, as tools/explain tells it: the names on the way, the text with a mark, near names."""
+
+from __future__ import annotations
+
+import dataclasses
+import functools
+import subprocess
+from dataclasses import dataclass
+from typing import TYPE_CHECKING
+
+from lib.paths import read_bytes
+
+if TYPE_CHECKING:
+    from .running import Done
+
+# (the modules that know the rules are loaded only when something is refused)
+
+
+class Stopped(Exception):
+    """The controller's process ended before its time: why, and the status to end with."""
+
+    def __init__(self, why: str, status: int) -> None:
+        super().__init__(why)
+        self.why, self.status = why, status
+
+
+@dataclass(frozen=True)
+class Refusal:
+    """Why a command was refused; and if it is for a rung, its text with a mark under the place."""
+
+    why: str
+    quote: tuple[str, ...] = ()
+
+
+@functools.lru_cache(maxsize=64)
+def refusal_of(live: str, path: str) -> tuple[str, ...]:
+    """The controller's line of a project that it refuses, and what that says of the file; nothing of a project that it takes."""
+    ran = subprocess.run([live, path], stdin=subprocess.DEVNULL, stdout=subprocess.PIPE, check=False)
+    if ran.returncode == 0:
+        return ()
+    if ran.returncode != 2:
+        raise Stopped(f"the controller ended with status {ran.returncode} at the project {path}", ran.returncode)
+    line = ran.stdout.decode(errors="replace").partition("\n")[0]
+    return (line, *of_project(path, line.split()[1:]))
+
+
+def of_project(path: str, words: list[str]) -> list[str]:
+    from lib.places import project
+
+    try:
+        return project.told(path, read_bytes(path), words)
+    except Exception:  # what can't be explained is refused all the same
+        return project.codes_said(words)
+
+
+def explained(project: bytes, done: list[Done]) -> list[Done]:
+    """The same commands, each that was refused with its refusal. They are followed, as the rungs come from the edits before."""
+    if not any(one.is_refused() for one in done):
+        return done
+    from lib.places.replies import Follower
+    from lib.places.telling import readable
+
+    follower, made = Follower(readable(project)), []
+    for one in done:
+        if one.is_refused():
+            one = dataclasses.replace(one, refusal=of_command(follower, one.action, one.answer.split()[1:]))
+        elif one.answer.startswith("ok"):
+            follower.done(one.action)
+        made.append(one)
+    return made
+
+
+def of_command(follower, action: str, cause: list[str]) -> Refusal:
+    from lib.places.codes import table
+    from lib.places.replies import NO_PLACE
+
+    try:
+        said = follower.refused(action, cause)
+        if said.why != NO_PLACE:
+            # (the command is told anyway: what is quoted after it is a rung)
+            return Refusal(said.why, tuple(said.quote[1:]) if len(said.quote) > 2 else ())
+    except Exception:  # what can't be explained is refused all the same
+        pass
+    return Refusal("; or ".join(row.meaning for row in table().get(cause[0], [])))
