@@ -7,7 +7,7 @@ import resource
 import sys
 import time
 
-from . import cases, faults, lanes, laws, limits, texts, turns
+from . import cases, faults, lanes, laws, limits, more, texts, turns
 from .program import PAGE, Program
 from .shrink import Shrinker
 
@@ -25,7 +25,7 @@ KINDS = {
     "failed calls": (turns.failed_calls, 5, "trace"),
     "full devices": (faults.full_devices, 1, "check"), "little memory": (faults.little_memory, 4, "check"),
     "lost files": (faults.lost_files, 1, "check"), "live": (laws.live_laws, 3, None),
-    "limits": (limits.limits, 0.2, "run"), "numbers": (laws.numbers, 0.02, "gen"),
+    "limits": (limits.limits, 0.2, "run"), "numbers": (laws.numbers, 0.02, "gen"), **more.KINDS,
 }
 
 # Those whose cases are counted, and come in turn: how many there are.
