@@ -7,7 +7,9 @@ import resource
 import sys
 import time
 
-from . import cases, faults, lanes, laws, limits, more, texts, turns
+from . import cases, corpus, faults, lanes, laws, limits, more, texts, turns
+from . import coverage as met
+from .coverage import Coverage, stored, watching
 from .program import PAGE, Program
 from .shrink import Shrinker
 
@@ -37,11 +39,12 @@ IN_TURN = {
     "failed calls": lambda program: len(turns.turns_of(program).system),
 }
 WHOLE_ANYWAY = (*IN_TURN, "little memory")
+FEW = 1_000  # cases: what was met by fewer is told as rare
 
 
 class Hammer:
-    def __init__(self, program, seed, found):
-        self.program, self.seed, self.found = program, seed, found
+    def __init__(self, program, seed, found, coverage=None):
+        self.program, self.seed, self.found, self.coverage = program, seed, found, coverage
         self.counts = dict.fromkeys(KINDS, 0)
         self.differences = []
 
@@ -62,6 +65,8 @@ class Hammer:
         judge, contents = self.case(kind, number)
         self.counts[kind] += 1
         wrong = judge(self.program, contents)
+        if self.coverage:
+            self.coverage.case()
         if wrong:
             self.store(kind, number, judge, contents, wrong)
 
@@ -102,6 +107,8 @@ class Hammer:
                 self.try_case(kind, number)
 
     def tell(self):
+        if self.coverage:
+            print("\n".join(met.told(self.coverage.counts, FEW)))
         for fault, told in sorted(self.program.told.items()):
             print(f"{fault}: " + ", ".join(f"{count} {what}" for what, count in sorted(told.items())))
         for kind, count in self.counts.items():
@@ -125,6 +132,9 @@ def words_of_command(arguments):
     parser.add_argument("--first", type=int, default=0, metavar="N", help="with --cases: the first one's number (0)")
     parser.add_argument("--again", default=None, metavar="KIND:NUMBER", help="one case of the seed again")
     parser.add_argument("--found", default=None, help="where differences are stored (hammer-SEED in the folder for temporary files)")
+    parser.add_argument("--coverage", action="store_true", help="tell at the end which instructions, causes, statuses and effects the cases met, and how many cases")
+    parser.add_argument("--counts", default=None, metavar="FILE", help="with --coverage: write the counts there too")
+    parser.add_argument("--find", type=float, default=None, metavar="SECONDS", help="look so long for cases that meet what few do, by the plain interpreter, and keep them")
     words = parser.parse_args(arguments)
     words.kinds = list(IN_TURN) if words.in_turn else [kind.strip() for kind in words.kinds.split(",") if kind]
     unknown = [kind for kind in words.kinds if kind not in KINDS]
@@ -137,23 +147,34 @@ def main(arguments=None):
     """Status 0: nothing differs; 1: something does; 2: there is no program."""
     sys.setrecursionlimit(20_000)
     words = words_of_command(arguments)
+    if words.find is not None:
+        return corpus.main(words.find, words.seed or "find")
     if not os.access(words.program, os.X_OK):
         print(f"hammer: {words.program} isn't built; tools/prove builds it", file=sys.stderr)
         return 2
     seed = words.seed or str(random.SystemRandom().randrange(1 << 32))
     program = Program(words.program)
-    hammer = Hammer(program, seed, words.found or f"{os.environ.get('TMPDIR', '/tmp')}/hammer-{seed}")
+    coverage = Coverage() if words.coverage or words.counts else None
+    hammer = Hammer(program, seed, words.found or f"{os.environ.get('TMPDIR', '/tmp')}/hammer-{seed}", coverage)
     print(f"seed {seed}", flush=True)
     kinds = hammer.known_kinds(words.kinds)
     try:
-        if words.again:
-            kind, number = words.again.rsplit(":", 1)
-            hammer.try_case(kind, int(number))
-        elif words.in_turn or words.cases:
-            hammer.run_cases(kinds, words.first, words.cases or sys.maxsize)
-        else:
-            hammer.run(words.seconds, kinds)
+        with watching(coverage, program):
+            tried(hammer, kinds, words)
     finally:
         program.close()
         hammer.tell()
+        if words.counts:
+            stored(coverage, words.counts)
     return 1 if hammer.differences else 0
+
+
+def tried(hammer, kinds, words):
+    """What the words ask for: one case again, so many of each kind, or rounds for some seconds."""
+    if words.again:
+        kind, number = words.again.rsplit(":", 1)
+        hammer.try_case(kind, int(number))
+    elif words.in_turn or words.cases:
+        hammer.run_cases(kinds, words.first, words.cases or sys.maxsize)
+    else:
+        hammer.run(words.seconds, kinds)
