@@ -36,7 +36,7 @@ IN_TURN = {
     "full devices": lambda program: len(faults.named_calls(program)), "lost files": lambda program: len(faults.turns_of_lost_files(program)),
     "failed allocations": lambda program: len(turns.turns_of(program).alone),
     "failed in threads": lambda program: len(turns.turns_of(program).threaded),
-    "failed calls": lambda program: len(turns.turns_of(program).system),
+    "failed calls": lambda program: len(turns.turns_of(program).system), **more.IN_TURN,
 }
 WHOLE_ANYWAY = (*IN_TURN, "little memory")
 FEW = 1_000  # cases: what was met by fewer is told as rare

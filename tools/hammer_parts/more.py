@@ -1,10 +1,13 @@
 """The kinds of cases beside those of main.py, as KINDS there; and how many of each the gate tries."""
 
-from . import begins, books, corpus, marks, scenarios, sessions, splits
+from . import begins, books, controllers, corpus, marks, pages, scenarios, sessions, splits
 
 KINDS = {
     "marks": (marks.marks, 20, "replay"), "begins": (begins.begins, 15, "replay"), "splits": (splits.splits, 0.5, "replay"),
     "books": (books.books, 2, "replay"), "sessions": (sessions.sessions, 4, None), "kept": (corpus.kept, 30, "replay"),
-    "scenarios": (scenarios.scenarios, 2, None),
+    "scenarios": (scenarios.scenarios, 2, None), "online": (pages.online, 1, None),
+    "bad controllers": (controllers.bad_controllers, 0.1, None),
 }
-GATE = {"marks": 600, "begins": 500, "splits": 12, "books": 40, "sessions": 80, "kept": 1_000, "scenarios": 60}
+GATE = {"marks": 600, "begins": 500, "splits": 12, "books": 40, "sessions": 80, "kept": 1_000, "scenarios": 60, "online": 15, "bad controllers": 14}
+# Those whose cases are counted, as in IN_TURN of main.py.
+IN_TURN = {"bad controllers": lambda _: len(controllers.TURNS)}
