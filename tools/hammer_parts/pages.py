@@ -3,14 +3,11 @@
 The walk is that of tools/tests/online_files.py; here its projects are made, and a case is a project and the number of its commands' drawer.
 """
 
-import os
-import sys
-
+from . import outside
 from .cases import file_text
 from .laws import Broken, law
 from .made import Maker
 
-TESTS = os.path.join(os.path.dirname(os.path.dirname(os.path.abspath(__file__))), "tests")
 COMMANDS, MOST_BEATS = 8, 60
 
 
@@ -31,14 +28,10 @@ class Wanted:
 
 
 def parts():
-    """The walk and what it takes; found where the tests are."""
-    if TESTS not in sys.path:
-        sys.path.insert(0, TESTS)
-    import online_files
-    from ladder_parts.programs import Program
-    from online_parts import player
+    """The walk and how a program is called; a run up to something makes few beats."""
+    files, known, player = outside.online()
     player.MOST_BEATS = MOST_BEATS
-    return online_files, Program
+    return files, known
 
 
 @law

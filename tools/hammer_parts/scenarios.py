@@ -6,11 +6,10 @@ import io
 import os
 import shutil
 
-from scenario_parts.main import main
-
 from .cases import contents_of, file_text, first_difference
 from .laws import Broken, law
 from .made import Maker
+from .outside import scenario
 from .plain.journal import read_journal
 from .plain.judge import MOST_EVENTS, Reporter
 from .plain.project import Project, read
@@ -73,7 +72,7 @@ class Called:
         words = [f"{self.folder}/day.scenario", "--journal", f"{self.folder}/j.txt", "--report", f"{self.folder}/r.txt", "--seconds", SECONDS,
                  "--programs", f"{self.folder}/programs"]
         with contextlib.redirect_stdout(out), contextlib.redirect_stderr(err):
-            self.status = main(words)
+            self.status = scenario(words)
         self.out, self.err = out.getvalue(), err.getvalue()
 
     def file(self, name):
