@@ -60,7 +60,7 @@ def is_known(fault):
     """What is known to end with a traceback, and isn't tried: these have no word of their own yet for an output that can't be written."""
     if fault.what in LOST:
         return False
-    return fault.call.split()[0] in ("xref", "ladder", "explain") or (fault.call.split()[0], fault.what) == ("scenario", "closed output")
+    return fault.call.split()[0] in ("xref", "ladder", "explain", "compare") or (fault.call.split()[0], fault.what) == ("scenario", "closed output")
 
 
 @law
