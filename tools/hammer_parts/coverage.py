@@ -202,10 +202,10 @@ def watching(coverage, program):
         program.run = real
 
 
-def stored(coverage, path):
-    """Writes the counts, for those of several runs to be added."""
+def stored(coverage, path, **more):
+    """Writes the counts, for those of several runs to be added, with more that is told of the run."""
     with open(path, "w", encoding="utf-8") as file:
-        json.dump(dict(sorted(coverage.counts.items())), file, indent=0)
+        json.dump({**more, "met": dict(sorted(coverage.counts.items()))}, file)
 
 
 def told(counts, least):

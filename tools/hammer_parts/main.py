@@ -7,7 +7,7 @@ import resource
 import sys
 import time
 
-from . import cases, corpus, faults, lanes, laws, limits, more, texts, turns
+from . import cases, corpus, faults, lanes, laws, limits, more, pieces, texts, turns
 from . import coverage as met
 from .coverage import Coverage, stored, watching
 from .program import PAGE, Program
@@ -114,11 +114,20 @@ class Hammer:
         for kind, count in self.counts.items():
             if count:
                 print(f"{kind}: {count} cases")
-        used = [resource.getrusage(who) for who in (resource.RUSAGE_SELF, resource.RUSAGE_CHILDREN)]
-        spent = sum(one.ru_utime + one.ru_stime for one in used)
+        spent = self.spent()
         print(f"slowest run {self.program.slowest:.1f} s, most memory {self.program.largest // 1_000_000} MB")
         print(f"seed {self.seed}: {sum(self.counts.values())} cases, {self.program.runs} runs of the program,"
               f" {spent:.0f} s of processor time, {len(self.differences)} differences")
+
+    @staticmethod
+    def spent():
+        """Seconds of processor time, of this process and of all that it ran."""
+        used = [resource.getrusage(who) for who in (resource.RUSAGE_SELF, resource.RUSAGE_CHILDREN)]
+        return sum(one.ru_utime + one.ru_stime for one in used)
+
+    def store_counts(self, path):
+        cases_of = {kind: count for kind, count in self.counts.items() if count}
+        stored(self.coverage, path, cases=cases_of, differences=len(self.differences), runs=self.program.runs, spent=self.spent(), told=self.program.told)
 
 
 def words_of_command(arguments):
@@ -135,6 +144,8 @@ def words_of_command(arguments):
     parser.add_argument("--coverage", action="store_true", help="tell at the end which instructions, causes, statuses and effects the cases met, and how many cases")
     parser.add_argument("--counts", default=None, metavar="FILE", help="with --coverage: write the counts there too")
     parser.add_argument("--find", type=float, default=None, metavar="SECONDS", help="look so long for cases that meet what few do, by the plain interpreter, and keep them")
+    parser.add_argument("--in-all", type=int, default=None, metavar="N", help="so many cases in pieces of SECONDS, each a process; goes on where it ended before")
+    parser.add_argument("--folder", default=None, help="with --in-all: what the pieces came to (hammer-pieces-SEED in the folder for temporary files)")
     words = parser.parse_args(arguments)
     words.kinds = list(IN_TURN) if words.in_turn else [kind.strip() for kind in words.kinds.split(",") if kind]
     unknown = [kind for kind in words.kinds if kind not in KINDS]
@@ -153,6 +164,8 @@ def main(arguments=None):
         print(f"hammer: {words.program} isn't built; tools/prove builds it", file=sys.stderr)
         return 2
     seed = words.seed or str(random.SystemRandom().randrange(1 << 32))
+    if words.in_all:
+        return pieces.main(words, seed, FEW)
     program = Program(words.program)
     coverage = Coverage() if words.coverage or words.counts else None
     hammer = Hammer(program, seed, words.found or f"{os.environ.get('TMPDIR', '/tmp')}/hammer-{seed}", coverage)
@@ -165,7 +178,7 @@ def main(arguments=None):
         program.close()
         hammer.tell()
         if words.counts:
-            stored(coverage, words.counts)
+            hammer.store_counts(words.counts)
     return 1 if hammer.differences else 0
 
 
