@@ -47,7 +47,7 @@ def goes_wrong(how, line):
 
 def main(how, count, live, project):
     given = subprocess.PIPE if how == "deaf" else sys.stdin.buffer
-    real = subprocess.Popen([live, project], stdin=given, stdout=subprocess.PIPE)
+    real = subprocess.Popen([live, project], stdin=given, stdout=subprocess.PIPE, stderr=subprocess.DEVNULL)
     for number, line in enumerate(real.stdout):
         if number < int(count):
             sys.stdout.buffer.write(line)
