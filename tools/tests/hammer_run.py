@@ -12,6 +12,7 @@ sys.path.insert(0, f"{TOP}/tools")
 
 from hammer_parts.limits import LIMITS  # noqa: E402
 from hammer_parts.main import Hammer  # noqa: E402
+from hammer_parts.more import GATE  # noqa: E402
 from hammer_parts.program import Program  # noqa: E402
 
 ALL = sys.maxsize
@@ -20,7 +21,7 @@ COUNTS = {
     "project laws": 40, "journal laws": 40, "stations": 60, "scripts": 150, "lanes": 20, "threads": 150, "closed pipes": ALL,
     "failed allocations": ALL, "failed in threads": ALL, "failed calls": ALL, "full devices": ALL, "little memory": 60, "lost files": ALL,
     "live": 60,
-    "limits": len(LIMITS), "numbers": 1,
+    "limits": len(LIMITS), "numbers": 1, **GATE,
 }
 
 
