@@ -1,4 +1,4 @@
-"""Cases that met what is rare: kept in the repository (corpus/kept.txt), tried as they are and changed, and found by the plain interpreter."""
+"""Cases that met what is rare: kept in the repository (kept.txt), tried as they are and changed, and found by the plain interpreter."""
 
 import json
 import os
@@ -13,7 +13,7 @@ from .bent import Bender
 from .coverage import Coverage, Watching
 from .plain.judge import answer
 
-PATH = os.path.join(os.path.dirname(os.path.abspath(__file__)), "corpus", "kept.txt")
+PATH = os.path.join(os.path.dirname(os.path.abspath(__file__)), "kept.txt")
 HEAD, BETWEEN, END = b"== ", b"\n-- next file\n", b"\n-- end of files"
 MOST_TOLD = 3
 MOST_BYTES, MOST_FILE = 190_000, 6_000
