@@ -1,5 +1,6 @@
 """Cases that met what is rare: kept in the repository (kept.txt), tried as they are and changed, and found by the plain interpreter."""
 
+import functools
 import json
 import os
 import random
@@ -11,6 +12,7 @@ from typing import NamedTuple
 from . import begins, cases, marks, shrink, texts
 from .bent import Bender
 from .coverage import Coverage, Watching
+from .laws import of_live, of_stations
 from .plain.judge import answer
 
 PATH = os.path.join(os.path.dirname(os.path.abspath(__file__)), "kept.txt")
@@ -75,10 +77,10 @@ class Changes:
 
     def files(self, one):
         files = list(one.files)
-        for _ in range(self.draw.choice((1, 1, 2, 3))):
+        of_project, of_text = (*[self.rung] * 8, self.value, self.bent), (*[self.line] * 4, *[self.number] * 4, self.bent)
+        for _ in range(self.draw.choice((1, 1, 1, 2, 3))):
             at = self.draw.randrange(len(files))
-            is_project = at < PROJECTS.get(one.word, 1)
-            way = self.draw.choice((self.rung, self.rung, self.value, self.bent) if is_project else (self.line, self.line, self.number, self.bent))
+            way = self.draw.choice(of_project if at < PROJECTS.get(one.word, 1) else of_text)
             files[at] = way(files[at])
         return files
 
@@ -133,21 +135,26 @@ class Changes:
         return [rung for program in project["programs"] for routine in program["routines"] for rung in routine["rungs"]]
 
 
-KEPT = []
-
-
-def every():
-    if not KEPT:
-        KEPT.extend(read())
-    return KEPT
+@functools.cache
+def by_row():
+    """The kept cases, and by each row of the table those that were kept for it."""
+    known, rows = read(), {}
+    for one in known:
+        for what in one.meets:
+            if not what.startswith("shown "):
+                rows.setdefault(what, []).append(one)
+    return known, [rows[what] for what in sorted(rows)]
 
 
 def kept(draw, program):
-    """A kept case, mostly changed."""
-    known = [one for one in every() if one.word in program.words]
-    one = draw.choice(known)
+    """A kept case, mostly changed: one of a row of the table, each as often as the others, or any; a run now and then in a session, or with stations."""
+    known, rows = by_row()
+    one = draw.choice(draw.choice(rows) if draw.random() < 0.6 else known)
     files = one.files if draw.random() < 0.1 else Changes(draw, known).files(one)
-    return cases.judged(one.word), files
+    how = draw.choice(("live", "stations")) if one.word == "replay" and draw.random() < 0.1 else one.word
+    if how == "stations":
+        return of_stations, [*files, b"2"]
+    return (of_live, files) if how == "live" and program.beside("logix_live") else (cases.judged(one.word), files)
 
 
 # ---- finding more, by the plain interpreter alone

@@ -10,6 +10,7 @@ import json
 import os
 import re
 
+from . import turns
 from .plain import instructions, machine
 from .plain.check import KINDS
 
@@ -25,7 +26,7 @@ EFFECTS = (
 )
 CODES = {
     "M": range(1, 4), "N": range(1, 4), "F": range(1, 4), "E": (1, 2, 3, 5, 6, 7, 8, 9, 10, 11, 12), "T": range(1, 6), "C": range(1, 18),
-    "P": range(1, 12), "Y": range(1, 7), "G": range(1, 11), "J": range(1, 6), "K": (1, 2), "L": (1, 2, 3), "U": (1,), "V": range(1, 6),
+    "P": range(1, 12), "Y": range(1, 7), "G": (1, 2, 3, 4, 5, 6, 7, 8, 10), "J": range(1, 6), "K": (1, 2), "L": (1, 2, 3), "U": (1,), "V": range(1, 6),
 }
 FAULTS = ("minor 4/4", "major 4/20", "major 4/31", "major 4/34", "major 4/84", "major 6/1", "minor 6/2", "minor 6/3")
 CODE = re.compile(r"\b([MNFETCPYGJKLUV])([0-9]{1,2})\b")
@@ -37,7 +38,10 @@ WORDS_WITH_STATUSES = {
 
 
 def rows():
-    """Each thing that the table has a row for, met or not. (A routine's first rung, where alone an SBR may stand, begins true.)"""
+    """Each thing that the table has a row for, met or not.
+
+    (A routine's first rung, where alone an SBR may stand, begins true. G9 shows as C8: outside rungs G6 comes before it.)
+    """
     made = [f"instruction {op} {on}" for op in INSTRUCTIONS for on in ("true", "false") if (op, on) != ("SBR", "false")]
     made += [f"prescan {op}" for op in PRESCANNED] + [f"effect {effect}" for effect in EFFECTS]
     made += [f"cause {letter}{number}" for letter, numbers in CODES.items() for number in numbers] + ["cause held"]
@@ -188,18 +192,23 @@ def watching(coverage, program):
     if coverage is None:
         yield
         return
-    real = program.run
+    real, judge = program.run, turns.Turns.judge
+
+    def judged(self, tried, turn, ran, came):
+        call = self.calls[turn.call]
+        coverage.ran(call.words, call.path, ran)
+        judge(self, tried, turn, ran, came)
 
     def run(words, **more):
         ran = real(words, **more)
         coverage.ran(words, more.get("path"), ran)
         return ran
-    program.run = run
+    program.run, turns.Turns.judge = run, judged
     try:
         with Watching(coverage):
             yield
     finally:
-        program.run = real
+        program.run, turns.Turns.judge = real, judge
 
 
 def stored(coverage, path, **more):

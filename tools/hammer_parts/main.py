@@ -51,9 +51,12 @@ class Hammer:
     def known_kinds(self, wanted):
         """The kinds that are wanted and that the program has the words for."""
         kinds = [kind for kind in KINDS if not wanted or kind in wanted]
-        has_live = self.program.beside("logix_live")
-        kinds = [kind for kind in kinds if (KINDS[kind][2] in self.program.words if KINDS[kind][2] else has_live)]
+        kinds = [kind for kind in kinds if self.has(KINDS[kind][2] or "logix_live")]
         return [kind for kind in kinds if kind not in IN_TURN or IN_TURN[kind](self.program)]
+
+    def has(self, word):
+        """Whether the program has a word, or there is a program of this name."""
+        return self.program.beside(word) if word.startswith("logix_") else word in self.program.words
 
     def case(self, kind, number):
         """The judge and the files of a case, by its number alone."""
