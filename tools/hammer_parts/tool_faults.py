@@ -18,12 +18,14 @@ OTHER = f"{EXAMPLES}/blink/report.txt"
 
 
 class Call(NamedTuple):
-    """A call of a tool; `given` is a file on its standard input, `reads` tells whether it can't do without its files."""
+    """A call of a tool; `given` is a file on its standard input, `reads` tells whether it can't do without its files, `serves` that it doesn't
+    end by itself where it has them."""
 
     name: str
     words: tuple
     given: str = os.devnull
     reads: bool = True
+    serves: bool = False
 
 
 CALLS = (
@@ -33,6 +35,7 @@ CALLS = (
     Call("explain", ("explain", "--project", PROJECT, "--journal", JOURNAL, "journal J1 line 3"), reads=False), Call("from_l5x", ("from_l5x", f"{L5X}/line.L5X")),
     Call("from_l5x --check", ("from_l5x", "--check", f"{L5X}/line.L5X")), Call("scenario", ("scenario", f"{L5X}/cells.scenario")),
     Call("scenario of a folder", ("scenario", "--list", L5X), reads=False), Call("help", ("help", "logix", "--help")), Call("live", ("live", PROJECT), JOURNAL),
+    Call("online", ("online", PROJECT, JOURNAL), serves=True),
 )
 LOST = ("nothing", "a folder", "no file to be read", "an empty name")
 
@@ -51,8 +54,8 @@ class Fault(NamedTuple):
 def faults():
     """Each file of each call lost in each way; each call into a full device and into a pipe whose reader has gone, at once or after some bytes."""
     made = [Fault(call.name, what, at) for call in CALLS for at, word in enumerate(call.words) if call.reads and "/" in word for what in LOST]
-    made += [Fault(call.name, what, 0) for call in CALLS for what in ("full device", "closed pipe", "closed output")]
-    made += [Fault(call.name, "closed pipe", 100) for call in CALLS]
+    ending = [call.name for call in CALLS if not call.serves]
+    made += [Fault(name, what, 0) for name in ending for what in ("full device", "closed pipe", "closed output")] + [Fault(name, "closed pipe", 100) for name in ending]
     return [fault for fault in made if not is_known(fault)]
 
 
