@@ -22,7 +22,10 @@ def of_cuts(program, contents):
     """The stretch of this number, cut after each of its steps; then all stretches into single steps, joined, and cut by chance."""
     project, journal, number = contents
     lines = journal.decode("latin-1").split("\n")
-    whole = got(program, {0}, "replay", project, journal).out
+    ran = got(program, {0, 2, 3}, "replay", project, journal)
+    if ran.status:
+        return None
+    whole = ran.out
     places = [at for at, line in enumerate(lines) if STRETCH.fullmatch(line)]
     if not places:
         return None
