@@ -9,6 +9,7 @@ import tempfile
 from common import built
 from lib.hammer.limits import LIMITS
 from lib.hammer.main import Hammer
+from lib.hammer.more import GATE
 from lib.hammer.program import Program
 
 ALL = sys.maxsize
@@ -17,7 +18,7 @@ COUNTS = {
     "project laws": 40, "journal laws": 40, "stations": 60, "scripts": 150, "lanes": 20, "threads": 150, "closed pipes": ALL,
     "failed allocations": ALL, "failed in threads": ALL, "failed calls": ALL, "full devices": ALL, "little memory": 60, "lost files": ALL,
     "live": 60,
-    "limits": len(LIMITS), "numbers": 1,
+    "limits": len(LIMITS), "numbers": 1, **GATE,
 }
 
 

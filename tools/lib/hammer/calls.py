@@ -96,4 +96,8 @@ def calls_of(program):
     taker, linked = program.put("turn-taker", TAKER), program.put("turn-link", LINK_SCRIPT)
     made.append(Call("link conveyor", ["link", f"{CONVEYOR}/project.json", taker, linked]))
     made.append(Call("gen 1", ["gen", "1"]))
+    for name in ("logix_timeline", "logix_wave"):
+        if program.beside(name):
+            made += [Call(f"{name} {example}", ["tick"], contents_of(f"{folder}/report.txt"), program.beside(name))
+                     for example, folder in (("first", FIRST), ("conveyor", CONVEYOR))]
     return [call for call in made if call.path or call.words[0] in program.words]

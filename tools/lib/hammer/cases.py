@@ -48,6 +48,7 @@ def judged(verb):
     def judge(program, contents):
         ran, wanted = program.answer(verb, *contents), answer([verb], contents)
         return told(ran, wanted[0], wanted[1].encode("latin-1")) if wanted else unsound(ran, {0})
+    judge.word = verb
     return judge
 
 
