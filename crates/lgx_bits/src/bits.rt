@@ -17,7 +17,7 @@ use spec_scan::Bound;
 ///
 /// `on` is the condition before it, `first` the flag `S:FS`, and `flags` are the task's. Any other instruction does
 /// nothing here, and the condition goes on as it is.
-#[tactic(auto, using(lgx_image::proofs::BoundKinds::place_lies))]
+#[tactic(auto, using(spec_scan::proofs::BoundKinds::place_lies))]
 pub fn run_bits(
     op: Op,
     args: &Bound,

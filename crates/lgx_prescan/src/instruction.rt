@@ -32,7 +32,7 @@ pub(crate) fn prescan_ins(ins: &Prepared, image: &mut Image)
 }
 
 /// The prescan of an instruction whose operands have their places.
-#[tactic(auto, using(lgx_image::proofs::BoundKinds::place_lies, lgx_image::proofs::BoundKinds::timer_lies, lgx_image::proofs::BoundKinds::counter_lies))]
+#[tactic(auto, using(spec_scan::proofs::BoundKinds::place_lies, spec_scan::proofs::BoundKinds::timer_lies, spec_scan::proofs::BoundKinds::counter_lies))]
 fn prescan_one(op: Op, args: &Bound, image: &mut Image)
     requires fit { ArgsFit op args.now }
     requires lie { ArgsInBounds args.now (length image.old.bytes) }
