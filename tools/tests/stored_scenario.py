@@ -236,6 +236,14 @@ class Explained(ScenarioTest):
         self.project(rungs=["MOV(0,n);", "NOP();"], initial=[{"tag": "n", "value": 5}])
         self.assertNotIn("within a scan", self.play("run 20", "require", "always: n = 5").out)
 
+    def test_a_test_that_an_input_breaks_within_a_scan(self):
+        """The scan that follows an input has begun, and its first rung comes after it."""
+        told = self.play("at 20: Button = 1", "run 40", "require", "always: Button = 1 -> Lamp = 1").out.splitlines()[2:4]
+        self.assertEqual(told, [
+            "        at 20 ms, step 9: Button 1, Lamp 0; by line 2 (in the journal: in In1 0 1)",
+            "        that is within a scan; at the end of each scan it holds, so require: always at Main: Button = 1 -> Lamp = 1",
+        ])  # fmt: skip
+
     def test_a_value_that_comes_later(self):
         told = self.play("at 20: Button = 1", "run 40", "require", "at 15: Lamp = 1 or Other = 1").out.splitlines()
         self.assertEqual(told[2:4], ["        Lamp 0, not changed till then", "        Other 0, never changed"])

@@ -9,6 +9,7 @@ import unittest
 
 from common import TOP
 from lib.hammer.plain.judge import answer
+from lib.scenario.story import Story
 from lib.scenario.tracing import Trace
 
 PROJECTS = [path for path in sorted(glob.glob(f"{TOP}/examples/*/project.json")) if "/plant/" not in path]
@@ -72,6 +73,22 @@ class Counted(unittest.TestCase):
                     ends += one.count
                 self.assertEqual({name: [(one.event, one.tick, one.step) for one in each] for name, each in found.items()}, places)
         self.assertGreater(ends, 1_000)
+
+
+# Events, and of which program's scan some has been done after each and some not yet: the task of Q comes before that of P.
+WITHIN = (
+    ("act 31 run - ok 0", None), ("began 0 0 0", "P"), ("step 0 0 - -", "P"), ("tick 2 0 -", "P"), ("began 1 1 0", "Q"),
+    ("step 1 1 - -", "Q"), ("left 1 1 on", "Q"), ("left 1 1 ended", None), ("act 31 other - ok 0", "P"), ("step 0 0 - -", "P"),
+    ("left 0 0 ended", None), ("idle", None), ("began 0 0 0", "P"), ("act 31 program - ok 0", None), ("tick 0 0 -", None),
+)  # fmt: skip
+
+
+class Within(unittest.TestCase):
+    def test_the_program_whose_scan_is_under_way(self):
+        trace = Trace("".join(line + "\n" for line, _ in (*WITHIN, ("end", None))).encode())
+        story = Story({}, trace=trace, programs=["P", "Q"])
+        self.assertEqual([story.program_within(at) for at in range(1, len(WITHIN) + 1)], [wanted for _, wanted in WITHIN])
+        self.assertIsNone(Story({}).program_within(3))
 
 
 if __name__ == "__main__":

@@ -134,7 +134,7 @@ class Judge:
         return f"at {place.told()}: {self.values_told(test, values)}; by {self.describe(place.event)}"
 
     def cure(self, one: Requirement, place: Place) -> list[str]:
-        """What to require in place of a test that a step within a scan breaks, if it holds at the ends of all scans of the program."""
+        """What to require in place of a test that is broken within a scan, if it holds at the ends of all scans of the program."""
         program = self.story.program_within(place.event)
         if program is None or not all(one.test.holds(values) for _, values in self.states_at_ends(program.lower())):
             return []

@@ -20,7 +20,9 @@ class Wrong(Exception):
     """What is wrong with a scenario: the file and the line, the place in it (None: of no place) and what was expected or missed.
     `more`: lines of a place in another file."""
 
-    def __init__(self, why: str, text: str = "", at: int | None = None, number: int = 0, path: str = "", more: tuple[str, ...] = ()) -> None:
+    def __init__(
+        self, why: str, text: str = "", at: int | None = None, number: int = 0, path: str = "", more: tuple[str, ...] = ()
+    ) -> None:
         super().__init__(why)
         self.why, self.text, self.at, self.number, self.path, self.more = why, text, at, number, path, more
 

@@ -1,4 +1,4 @@
-"""What the controller refuses, a project or a command, as tools/explain tells it: the names on the way, the text with a mark, near names."""
+"""What the controller refuses, a project or a command, as tools/explain tells it: where, the text with a mark, the names that are near."""
 
 from __future__ import annotations
 
@@ -9,6 +9,7 @@ from dataclasses import dataclass
 from typing import TYPE_CHECKING
 
 from lib.paths import read_bytes
+from lib.places.running import unexplained
 
 if TYPE_CHECKING:
     from .running import Done
@@ -49,8 +50,8 @@ def of_project(path: str, words: list[str]) -> list[str]:
 
     try:
         return project.told(path, read_bytes(path), words)
-    except Exception:  # what can't be explained is refused all the same
-        return project.codes_said(words)
+    except Exception as fault:  # what can't be explained is refused all the same
+        return [unexplained(fault), *project.codes_said(words)]
 
 
 def explained(project: bytes, done: list[Done]) -> list[Done]:
@@ -60,7 +61,10 @@ def explained(project: bytes, done: list[Done]) -> list[Done]:
     from lib.places.replies import Follower
     from lib.places.telling import readable
 
-    follower, made = Follower(readable(project)), []
+    about, made = readable(project), []
+    if about is None:
+        return done
+    follower = Follower(about)
     for one in done:
         if one.is_refused():
             one = dataclasses.replace(one, refusal=of_command(follower, one.action, one.answer.split()[1:]))
@@ -79,6 +83,6 @@ def of_command(follower, action: str, cause: list[str]) -> Refusal:
         if said.why != NO_PLACE:
             # (the command is told anyway: what is quoted after it is a rung)
             return Refusal(said.why, tuple(said.quote[1:]) if len(said.quote) > 2 else ())
-    except Exception:  # what can't be explained is refused all the same
-        pass
+    except Exception as fault:  # what can't be explained is refused all the same
+        return Refusal(unexplained(fault))
     return Refusal("; or ".join(row.meaning for row in table().get(cause[0], [])))

@@ -11,6 +11,7 @@ from dataclasses import dataclass, field
 
 from .tracing import Place, Scans, Trace
 
+MOST_BACK = 10_000  # so many events are looked at to find a scan's begin
 LINE = re.compile(rb"^(\d+) (\d+) (set|reply|fault) (.*)$", re.MULTILINE)
 
 
@@ -57,10 +58,20 @@ class Story:
                 self.scans[fault.task].overlaps += 1
 
     def program_within(self, event: int) -> str | None:
-        """The program of whose scan an event is a step, but not the last one; None of any other event, or without a trace."""
-        words = self.trace.lines[event].decode().split(" ") if self.trace else []
-        is_step = words[:1] == ["step"] or (words[:1] == ["left"] and words[3:] == ["on"])
-        return self.programs[int(words[2])] if is_step else None
+        """The program of whose scan some has been done at an event, and some not yet; None at a scan's end, or without a trace."""
+        ended: set[str] = set()
+        for at in range(event, max(0, event - MOST_BACK), -1) if self.trace else ():
+            words = self.trace.lines[at].decode().split(" ")
+            if words[0] == "act" and words[2] in ("run", "program"):
+                return None
+            if words[0] not in ("began", "step", "left") or words[1] in ended:
+                continue
+            if words[3:] != ["ended"]:
+                return self.programs[int(words[2])]
+            if at == event:
+                return None
+            ended.add(words[1])
+        return None
 
     def values_at_end(self) -> dict[str, int]:
         return self.values_after(len(self.moments))
