@@ -32,16 +32,16 @@ module _ {Node : Type 0} (stands : Stands Node) (keeps : Keeps Node) (script : S
   IsOne p k node x = IsOfLayer p script q k x.0 x.1 × stands node p x.0 x.1
 
   -- so the node keeps one, if it keeps the pair
-  keeps_it : (p : Project) (k : ℕ) (node : Node) (x : List ℕ × List Event) → keeps node ≡ x → IsOne p k node x → KeepsOne stands keeps p script q k node
+  keeps_it : (p : Project) (k : ℕ) (node : Node) (x : List ℕ × List Event) → keeps node script ≡ x → IsOne p k node x → KeepsOne stands keeps p script q k node
   keeps_it p k node x same one =
-      let here : IsOne p k node (keeps node) = subst (λ y. IsOne p k node y) (sym same) one in
+      let here : IsOne p k node (keeps node script) = subst (λ y. IsOne p k node y) (sym same) one in
       record { layer = here.0; stands_for = here.1 }
 
   module _ (p : Project) (valid : IsValidProject p) (proper : IsTrue (is_script script)) where
     pub acted_keeps : (k : ℕ) (before node : Node) (lane : ℕ) → IsActed stands keeps script q node before lane → KeepsOne stands keeps p script q k before → KeepsOne stands keeps p script q k node
     acted_keeps k before node lane acted one =
-        let counts : List ℕ = (keeps before).0 in
-        let journal : List Event = (keeps before).1 in
+        let counts : List ℕ = (keeps before script).0 in
+        let journal : List Event = (keeps before script).1 in
         let h = acted p k counts journal one.layer one.stands_for in
         let m = h.made in
         let served = partial_journals_are_served p script counts journal valid proper one.layer.partial in
@@ -51,8 +51,8 @@ module _ {Node : Type 0} (stands : Stands Node) (keeps : Keeps Node) (script : S
 
     pub stepped_keeps : (k : ℕ) (before node : Node) → IsStepped stands keeps script q node before → KeepsOne stands keeps p script q k before → KeepsOne stands keeps p script q (k + 1) node
     stepped_keeps k before node stepped one =
-        let counts : List ℕ = (keeps before).0 in
-        let journal : List Event = (keeps before).1 in
+        let counts : List ℕ = (keeps before script).0 in
+        let journal : List Event = (keeps before script).1 in
         let h = stepped p k counts journal one.layer one.stands_for in
         let m = h.made in
         let made : List Event = paced_step script.pace (steps_of journal + 1) in
@@ -120,19 +120,19 @@ module _ {Node : Type 0} (stands : Stands Node) (keeps : Keeps Node) (script : S
     first_any journal next.Tick k at never = never_less (steps_of journal + 1) (k + 1) (omega arith) never
 
     -- an action of the layer before whose end no line holds
-    pub action_shown : (k : ℕ) (node : Node) (made : Next) (line : ℕ) → IsNeverBefore p script q k → KeepsOne stands keeps p script q k node → IsAction made → NodeShows stands script q node made line → IsShown p script q (keeps node).1 made line
+    pub action_shown : (k : ℕ) (node : Node) (made : Next) (line : ℕ) → IsNeverBefore p script q k → KeepsOne stands keeps p script q k node → IsAction made → NodeShows stands script q node made line → IsShown p script q (keeps node script).1 made line
     action_shown k node made line never one is shows =
-        let counts : List ℕ = (keeps node).0 in
-        let journal : List Event = (keeps node).1 in
+        let counts : List ℕ = (keeps node script).0 in
+        let journal : List Event = (keeps node script).1 in
         let s = shows p k counts journal one.layer one.stands_for in
         shown_by counts journal made s.before s.event line (partial_journals_are_served p script counts journal valid proper one.layer.partial)
         (first_action journal made k is one.layer.steps never) s.may s.first
 
     -- a step of the layer at which no line holds, or its tick
-    pub step_shown : (k : ℕ) (node : Node) (made : Next) (line : ℕ) → IsNeverBefore p script q (k + 1) → KeepsOne stands keeps p script q k node → NodeShows stands script q node made line → IsShown p script q (keeps node).1 made line
+    pub step_shown : (k : ℕ) (node : Node) (made : Next) (line : ℕ) → IsNeverBefore p script q (k + 1) → KeepsOne stands keeps p script q k node → NodeShows stands script q node made line → IsShown p script q (keeps node script).1 made line
     step_shown k node made line never one shows =
-        let counts : List ℕ = (keeps node).0 in
-        let journal : List Event = (keeps node).1 in
+        let counts : List ℕ = (keeps node script).0 in
+        let journal : List Event = (keeps node script).1 in
         let s = shows p k counts journal one.layer one.stands_for in
         shown_by counts journal made s.before s.event line (partial_journals_are_served p script counts journal valid proper one.layer.partial)
         (first_any journal made k one.layer.steps never) s.may s.first

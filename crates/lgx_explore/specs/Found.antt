@@ -16,7 +16,7 @@ use Rattle.lgx_explore.specs.Nodes.{Keeps}
 -- fewer processor steps no line holds.
 abbrev pub Tells : {Node : Type 0} → Keeps Node → Project → Script → Question → Found Node → Type 0
 Tells keeps p script q found.Never = (k : ℕ) → IsNeverBefore p script q k
-Tells keeps p script q (found.Shown node made line) = IsShown p script q (keeps node).1 made line
+Tells keeps p script q (found.Shown node made line) = IsShown p script q (keeps node script).1 made line
 Tells keeps p script q (found.Unknown k) = IsNeverBefore p script q k
 
 -- the node with this number is told with the event and the line

@@ -21,9 +21,9 @@ use Rattle.lgx_explore.specs.Shown.{Shows}
 abbrev pub Stands : Type 0 → Type 1
 Stands Node = Node → Project → List ℕ → List Event → Type 0
 
--- the counts and the journal that a node keeps, one pair of all that it stands for
+-- the counts and the journal of a script that a node keeps, one pair of all that it stands for
 abbrev pub Keeps : Type 0 → Type 0
-Keeps Node = Node → List ℕ × List Event
+Keeps Node = Node → Script → List ℕ × List Event
 
 -- ---- nodes
 
@@ -96,7 +96,7 @@ module _ {Node : Type 0} (stands : Stands Node) where
       pub window : InWindow q.within script (journal ++ made)
       pub clear : AreClear p q (run p journal) made
       pub stands_for : stands node p now (journal ++ made)
-      pub kept : keeps before ≡ (counts, journal) → keeps node ≡ (now, journal ++ made)
+      pub kept : keeps before script ≡ (counts, journal) → keeps node script ≡ (now, journal ++ made)
 
     -- the lane has a due action, and it was made
     pub record HasActed (p : Project) (script : Script) (q : Question) (node before : Node) (lane : ℕ) (counts : List ℕ) (journal : List Event) : Type 0 where
@@ -121,12 +121,12 @@ module _ {Node : Type 0} (stands : Stands Node) where
     pub record IsOpened (script : Script) (q : Question) (p : Project) (node : Node) : Type 0 where
       pub clear : AreClear p q (run p []) opening
       pub stands_for : stands node p (replicate (length script.lanes) 0) opening
-      pub kept : keeps node ≡ (replicate (length script.lanes) 0, opening)
+      pub kept : keeps node script ≡ (replicate (length script.lanes) 0, opening)
 
     -- what it keeps is a journal of the layer that it stands for
     pub record KeepsOne (p : Project) (script : Script) (q : Question) (k : ℕ) (node : Node) : Type 0 where
-      pub layer : IsOfLayer p script q k (keeps node).0 (keeps node).1
-      pub stands_for : stands node p (keeps node).0 (keeps node).1
+      pub layer : IsOfLayer p script q k (keeps node script).0 (keeps node script).1
+      pub stands_for : stands node p (keeps node script).0 (keeps node script).1
 
     -- each of the nodes keeps one
     abbrev pub AllKeep : Script → Question → Project → ℕ → List Node → Type 0

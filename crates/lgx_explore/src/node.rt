@@ -2,6 +2,7 @@
 ghost use Rattle.std.specs.Prelude.{◌≡◌, true, ℕ, List, IfOk, IfErr, IfSome, IfNone};
 ghost use Rattle.spec_machine.specs.declared.event.Event.{Event as Events};
 ghost use Rattle.spec_machine.specs.Project.{Project};
+ghost use Rattle.spec_text.specs.Scripts.{Script as Scripts};
 ghost use Rattle.lgx_explore.specs.Nodes.{StandsAlso, IsActed, NoneIsDue, IsStepped, NoneIsStepped, NodeShows};
 ghost use Rattle.lgx_explore.specs.Shown.{IfShown, IsAction};
 
@@ -66,8 +67,8 @@ pub trait Node: Drop + Sized {
     /// It stands for this journal of the project, with these counts of the lanes' actions.
     ghost stands: { Self → Project → List ℕ → List Events → Type 0 };
 
-    /// The counts and the journal that it keeps.
-    ghost keeps: { Self → List ℕ × List Events };
+    /// The counts and the journal of the script that it keeps.
+    ghost keeps: { Self → Scripts → List ℕ × List Events };
 
     /// Whether it stands for all that the other one stands for.
     fn is_same(&self, other: &Self) -> bool
