@@ -4,7 +4,9 @@ ghost use Rattle.lgx_image.specs.Grains.{word_of};
 
 use crate::number_sets::{clear_words, has_bit, next_bit, set_bit};
 use crate::same::same_words;
+use lgx_num::Memory;
 use spec_base::limits::MAX_IMAGE_BYTES;
+use std::alloc::Global;
 use std::marker::Model;
 
 /// The bytes of a word, by which an image tells that a watched place changed.
@@ -20,8 +22,8 @@ const ROWS: usize = (MAX_WORDS / u64::BITS) as usize;
 /// hit `end` is 0. So what isn't hit costs nothing to look for or to clear.
 #[derive(Drop)]
 pub(crate) struct Hits {
-    watched: [u64; ROWS],
-    hits: [u64; ROWS],
+    watched: Box<[u64; ROWS]>,
+    hits: Box<[u64; ROWS]>,
     first: u32,
     end: u32,
 }
@@ -32,13 +34,13 @@ impl Model for Hits {
 
     ghost Value = { HitsView };
 
-    ghost view = { λ h. record { watched = marks_of h.watched MAX_WORDS; hits = marks_of h.hits MAX_WORDS } };
+    ghost view = { λ h. record { watched = marks_of h.watched.value MAX_WORDS; hits = marks_of h.hits.value MAX_WORDS } };
 
-    ghost invariant = { λ h. AreBetween h.hits h.first h.end };
+    ghost invariant = { λ h. AreBetween h.hits.value h.first h.end };
 }
 
 impl Hits {
-    ghost use Rattle.std.specs.Prelude.{◌≡◌, ◌≢◌, ℕ, ◌+◌, ◌<◌, ◌≤◌, true, false, length, slice_set};
+    ghost use Rattle.std.specs.Prelude.{◌≡◌, ◌≢◌, ℕ, ◌+◌, ◌<◌, ◌≤◌, true, false, length, slice_set, IfOk};
     ghost use Rattle.spec_base.specs.declared.limits.TheConstants.{MAX_IMAGE_BYTES};
     ghost use Rattle.lgx_num.specs.Image.{piece, splice};
     ghost use Rattle.lgx_image.specs.declared.hits.TheConstants.{MAX_WORDS};
@@ -46,35 +48,39 @@ impl Hits {
     ghost use Rattle.lgx_image.specs.Words.{IsNoted};
 
     /// No word is watched, and none is hit.
-    pub(crate) fn new() -> Hits
-        ensures watched { (word : ℕ) → is_marked result.watched word ≡ false }
-        ensures hits { (word : ℕ) → is_marked result.hits word ≡ false }
+    pub(crate) fn new(alloc: Global) -> Result<Hits, Memory>
+        ensures watched { IfOk result (λ kept. (word : ℕ) → is_marked kept.watched word ≡ false) }
+        ensures hits { IfOk result (λ kept. (word : ℕ) → is_marked kept.hits word ≡ false) }
     {
-        Hits {
-            watched: [0; ROWS],
-            hits: [0; ROWS],
+        let watched = Box::new(alloc, [0; ROWS])?;
+        let hits = Box::new(alloc, [0; ROWS])?;
+        Ok(Hits {
+            watched,
+            hits,
             first: 0,
             end: 0,
-        }
+        })
     }
 
     /// The words that are watched and hit once more.
-    pub(crate) fn copied(&self) -> Hits
-        ensures { result ≡ self.now }
+    pub(crate) fn copied(&self, alloc: Global) -> Result<Hits, Memory>
+        ensures { IfOk result (λ copy. copy ≡ self.now) }
     {
-        Hits {
-            watched: self.watched,
-            hits: self.hits,
+        let watched = Box::new(alloc, *self.watched)?;
+        let hits = Box::new(alloc, *self.hits)?;
+        Ok(Hits {
+            watched,
+            hits,
             first: self.first,
             end: self.end,
-        }
+        })
     }
 
     /// Whether the same words are watched and hit.
     pub(crate) fn is_same(&self, other: &Hits) -> bool
         ensures { result ≡ true → self.now ≡ other.now }
     {
-        same_words(&self.watched, &other.watched) && same_words(&self.hits, &other.hits)
+        same_words(&*self.watched, &*other.watched) && same_words(&*self.hits, &*other.hits)
     }
 
     /// The words that hold bytes of a piece are watched from now on.
@@ -96,7 +102,7 @@ impl Hits {
         ensures its { is_marked self.new.watched word ≡ true }
         ensures hits { self.new.hits ≡ self.old.hits }
     {
-        set_bit(&mut self.watched, word);
+        set_bit(&mut *self.watched, word);
     }
 
     /// A byte of a word changed, so the word is hit if it is watched.
@@ -106,7 +112,7 @@ impl Hits {
         ensures watched { self.new.watched ≡ self.old.watched }
         ensures hits { IsNoted self.old.watched self.old.hits self.new.hits word }
     {
-        if has_bit(&self.watched, word) {
+        if has_bit(&*self.watched, word) {
             self.hit(word);
         }
     }
@@ -118,7 +124,7 @@ impl Hits {
         ensures its { is_marked self.new.hits word ≡ true }
         ensures others { (other : ℕ) → other ≢ word → is_marked self.new.hits other ≡ is_marked self.old.hits other }
     {
-        set_bit(&mut self.hits, word);
+        set_bit(&mut *self.hits, word);
         self.first = if self.end == 0 {
             word
         } else {
@@ -159,7 +165,7 @@ impl Hits {
         if from >= self.end {
             return None;
         }
-        next_bit(&self.hits, from.max(self.first))
+        next_bit(&*self.hits, from.max(self.first))
     }
 
     /// No word is hit from now on.
@@ -171,7 +177,7 @@ impl Hits {
             return;
         }
         clear_words(
-            &mut self.hits,
+            &mut *self.hits,
             self.first / u64::BITS,
             (self.end - 1) / u64::BITS + 1,
         );

@@ -58,10 +58,12 @@ impl Image {
         ensures watched { IfOk result (λ image. (word : ℕ) → is_marked image.watched word ≡ false) }
         ensures hits { IfOk result NoneIsHit }
     {
+        let bytes = vec![in alloc; 0; len as usize]?;
+        let hits = Hits::new(alloc)?;
         Ok(Image {
-            bytes: vec![in alloc; 0; len as usize]?,
+            bytes,
             marks: Marks::new(),
-            hits: Hits::new(),
+            hits,
         })
     }
 

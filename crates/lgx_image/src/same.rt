@@ -40,10 +40,12 @@ impl Image {
     pub fn copied(&self, alloc: Global) -> Result<Image, Memory>
         ensures { IfOk result (λ copy. copy ≡ self.now) }
     {
+        let bytes = Vec::from_slice(alloc, &self.bytes)?;
+        let hits = self.hits.copied(alloc)?;
         Ok(Image {
-            bytes: Vec::from_slice(alloc, &self.bytes)?,
+            bytes,
             marks: self.marks.copied(),
-            hits: self.hits.copied(),
+            hits,
         })
     }
 

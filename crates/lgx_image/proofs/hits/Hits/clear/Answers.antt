@@ -7,13 +7,13 @@ use Rattle.lgx_image.proofs.hits.Hits.clear.Goals as goal
 
 pub returns-then-self-eq0-clause-hits : goal.returns-then-self-eq0-clause-hits
 returns-then-self-eq0-clause-hits c = λ word.
-    ap (λ (v : HitsView). is_marked v.hits word) (sym c.self.view_is) ∙ none_from c.self.inside.hits c.self.inside.first c.self.inside.end word c.self.invariant (omega arith)
+    ap (λ (v : HitsView). is_marked v.hits word) (sym c.self.view_is) ∙ none_from c.self.inside.hits.value c.self.inside.first c.self.inside.end word c.self.invariant (omega arith)
 
 pub clear_words-requires-clause-before : goal.clear_words-requires-clause-before
-clear_words-requires-clause-before c = cleared_before c.self.inside.hits c.self.inside.first c.self.inside.end c.self.invariant
+clear_words-requires-clause-before c = rw c.deref_mut.ensures.value (cleared_before c.self.inside.hits.value c.self.inside.first c.self.inside.end c.self.invariant)
 
 pub invariant_of-self : goal.invariant_of-self
-invariant_of-self c = none_between _ _ (cleared_all c.self.inside.hits c.clear_words.new.words c.self.inside.first c.self.inside.end c.self.invariant (omega arith) c.clear_words.ensures)
+invariant_of-self c = none_between _ _ (cleared_all c.self.inside.hits.value c.clear_words.new.words c.self.inside.first c.self.inside.end c.self.invariant (omega arith) (rw c.deref_mut.ensures.value at c.clear_words.ensures))
 
 pub returns-clause-hits : goal.returns-clause-hits
-returns-clause-hits c = λ word. marks_of-off c.clear_words.new.words MAX_WORDS word (cleared_all c.self.inside.hits c.clear_words.new.words c.self.inside.first c.self.inside.end c.self.invariant (omega arith) c.clear_words.ensures word)
+returns-clause-hits c = λ word. marks_of-off c.clear_words.new.words MAX_WORDS word (cleared_all c.self.inside.hits.value c.clear_words.new.words c.self.inside.first c.self.inside.end c.self.invariant (omega arith) (rw c.deref_mut.ensures.value at c.clear_words.ensures) word)

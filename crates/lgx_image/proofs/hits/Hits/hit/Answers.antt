@@ -9,7 +9,7 @@ use Rattle.lgx_image.proofs.hits.Hits.hit.Goals as goal
 
 pub invariant_of-self : goal.invariant_of-self
 invariant_of-self c =
-    one_more_between c.self.inside.hits c.set_bit.new.words c.self.inside.first c.self.inside.end _ _ c.args.word c.self.invariant c.requires c.set_bit.ensures.set c.set_bit.ensures.others
+    one_more_between c.self.inside.hits.value c.set_bit.new.words c.self.inside.first c.self.inside.end _ _ c.args.word c.self.invariant c.requires c.set_bit.ensures.set (rw c.deref_mut.ensures.value at c.set_bit.ensures.others)
     (elim c.if-self-eq0.branch [
       | then-self-eq0 w ↦ inl (omega arith, w.self-is)
       | else-self-eq0 w ↦ inr (omega arith, w.self-is ∙ w.min-self-inside.ensures)
@@ -21,5 +21,5 @@ returns-clause-its c = marks_of-at c.set_bit.new.words MAX_WORDS c.args.word c.r
 
 pub returns-clause-others : goal.returns-clause-others
 returns-clause-others c = λ other apart.
-    marks_of-same c.self.inside.hits c.set_bit.new.words MAX_WORDS other (c.set_bit.ensures.others other apart)
+    marks_of-same c.self.inside.hits.value c.set_bit.new.words MAX_WORDS other ((rw c.deref_mut.ensures.value at c.set_bit.ensures.others) other apart)
     ∙ ap (λ (v : HitsView). is_marked v.hits other) c.self.view_is

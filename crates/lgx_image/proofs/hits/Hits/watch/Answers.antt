@@ -7,7 +7,7 @@ use Rattle.lgx_image.proofs.hits.Hits.watch.Goals as goal
 
 pub returns-clause-watched : goal.returns-clause-watched
 returns-clause-watched c =
-    marks_of-set c.self.inside.watched c.set_bit.new.words MAX_WORDS c.args.word c.requires c.set_bit.ensures.set c.set_bit.ensures.others
+    marks_of-set c.self.inside.watched.value c.set_bit.new.words MAX_WORDS c.args.word c.requires c.set_bit.ensures.set (rw c.deref_mut.ensures.value at c.set_bit.ensures.others)
     ∙ ap (λ (v : HitsView). set v.watched c.args.word true) c.self.view_is
 
 pub returns-clause-its : goal.returns-clause-its
