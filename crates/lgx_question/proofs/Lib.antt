@@ -1,1 +1,2 @@
 pub mod ReadTests
+pub mod SeenLines

@@ -2,7 +2,7 @@
 use Rattle.std.proofs.Common.{◌≡◌, ◌+◌, ◌%◌, ℕ, zero, suc, Bool, true, false, cond, List, [], ◌∷◌, ◌++◌, length, replicate, Option, Some, None, refl, sym, ◌∙◌, ap, subst, arith}
 use Rattle.std.specs.Prelude.{nat_eq, slice_get, IsSomeAnd, IsTrue}
 use Rattle.std.specs.List.{list_any}
-use Rattle.std.proofs.lemmas.Bool.{le-ltb, or_left, or_right}
+use Rattle.std.proofs.lemmas.Bool.{le-ltb, ltb-false, or_left, or_right}
 use Rattle.std.proofs.lemmas.List.{append_assoc}
 use Rattle.spec_base.specs.declared.limits.TheConstants.{OWN_LANE}
 use Rattle.spec_machine.specs.declared.event.Action.TheVariants.{ModeRun}
@@ -20,7 +20,7 @@ use Rattle.spec_lanes.proofs.Serving.{opening_is_served}
 use Rattle.spec_lanes.proofs.Stepping.{steps_serve}
 use Rattle.spec_explore.specs.declared.question.Never.{Never}
 use Rattle.spec_explore.specs.Questions.{holds, is_late, is_late_at, InWindow, IsNeverBefore, IsWitness}
-use Rattle.spec_explore.specs.Witnesses.{WindowsGrow, StepsAreInTime, OpeningsAreInTime, FirstLinesHold, OpeningsWitness, ActionsWitness, StepsWitness, TicksWitness}
+use Rattle.spec_explore.specs.Witnesses.{WindowsGrow, StepsAreInTime, ActionsAreInTime, OpeningsAreInTime, FirstLinesHold, OpeningsWitness, ActionsWitness, StepsWitness, TicksWitness}
 
 -- ---- windows
 
@@ -56,6 +56,10 @@ steps_are_in_time script (Some most) es lane =
     let made : done_by lane (es ++ Cpu ∷ []) ≡ done_by lane es = ap (λ (ms : List _). length ms) (made_same lane es (Cpu ∷ []) refl) in
     ap (λ n. is_late_at most n (slice_get (lane_of script lane) (done_by lane (es ++ Cpu ∷ [])))) ticks
     ∙ ap (λ k. is_late_at most (ticks_of es) (slice_get (lane_of script lane) k)) made
+
+pub actions_are_in_time : ActionsAreInTime
+actions_are_in_time script most before after lane action t window next =
+    ltb-false (t.at + most) (ticks_of before) (sym (ap (is_late_at most (ticks_of before)) next) ∙ window before (Act lane action ∷ after) lane refl)
 
 -- before a tick nothing is late
 pub not_yet : (script : Script) (within : Option ℕ) (es : List Event) (lane : ℕ) → ticks_of es ≡ 0 → is_late within script es lane ≡ false

@@ -1,5 +1,5 @@
 -- When an event that may be made shows a line.
-use Rattle.std.specs.Prelude.{◌≡◌, ℕ, ◌+◌, List, [], ◌∷◌, ◌++◌, true, false, Option, Some, IsTrue}
+use Rattle.std.specs.Prelude.{◌≡◌, ℕ, ◌+◌, ◌≤◌, List, [], ◌∷◌, ◌++◌, true, false, Option, Some, IsTrue}
 use Rattle.spec_base.specs.declared.limits.TheConstants.{OWN_LANE}
 use Rattle.spec_machine.specs.declared.event.Action.{Action}
 use Rattle.spec_machine.specs.declared.event.Action.TheVariants.{ModeRun}
@@ -9,8 +9,9 @@ use Rattle.spec_machine.specs.Events.{steps_of}
 use Rattle.spec_machine.specs.Machine.{Answered, step, run}
 use Rattle.spec_machine.specs.Project.{Project}
 use Rattle.spec_machine.specs.ValidProject.{IsValidProject}
+use Rattle.spec_text.specs.declared.script.Timed.{Timed}
 use Rattle.spec_text.specs.Scripts.{Script, is_script}
-use Rattle.spec_lanes.specs.Turns.{due_action, is_spent, paced_step}
+use Rattle.spec_lanes.specs.Turns.{ticks_of, next_of, due_action, is_spent, paced_step}
 use Rattle.spec_lanes.specs.Served.{IsServed}
 use Rattle.spec_lanes.specs.Laws.{opening}
 use Rattle.spec_explore.specs.declared.question.Question.{Question}
@@ -24,6 +25,11 @@ WindowsGrow =
 -- after a processor step none is late that wasn't before
 abbrev pub StepsAreInTime : Type 0
 StepsAreInTime = (script : Script) (within : Option ℕ) (journal : List Event) (lane : ℕ) → is_late within script (journal ++ Cpu ∷ []) lane ≡ is_late within script journal lane
+
+-- so an action is made at most so many ticks after its time
+abbrev pub ActionsAreInTime : Type 0
+ActionsAreInTime =
+    (script : Script) (most : ℕ) (before after : List Event) (lane : ℕ) (action : Action) (t : Timed) → InWindow (Some most) script (before ++ Act lane action ∷ after) → next_of script before lane ≡ Some t → ticks_of before ≤ t.at + most
 
 -- at the opening no action is late
 abbrev pub OpeningsAreInTime : Type 0

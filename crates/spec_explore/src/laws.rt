@@ -1,7 +1,7 @@
 // Laws of the partial journals of a script. Each function is a law: it does nothing, and its contract is what is shown.
 ghost use Rattle.spec_explore.specs.Completion.{PartialJournalsComplete, NeverIsExact};
 ghost use Rattle.spec_explore.specs.Growth.{PartialJournalsGrow, PartialJournalsAreServed};
-ghost use Rattle.spec_explore.specs.Witnesses.{WindowsGrow, StepsAreInTime, OpeningsAreInTime, FirstLinesHold, OpeningsWitness, ActionsWitness, StepsWitness, TicksWitness};
+ghost use Rattle.spec_explore.specs.Witnesses.{WindowsGrow, StepsAreInTime, ActionsAreInTime, OpeningsAreInTime, FirstLinesHold, OpeningsWitness, ActionsWitness, StepsWitness, TicksWitness};
 ghost use Rattle.spec_explore.specs.Layers.{LayersBegin, LayersGoOn, LayersEnd, LayersAreFew, NoMomentIsNever};
 
 /// A partial journal is the opening, or a partial one and a due action, or a partial one and a processor step that wasn't spent.
@@ -24,6 +24,7 @@ pub fn layers_tell()
 pub fn witnesses_tell()
     ensures windows { WindowsGrow }
     ensures in_time { StepsAreInTime }
+    ensures made { ActionsAreInTime }
     ensures at_first { OpeningsAreInTime }
     ensures lines { FirstLinesHold }
     ensures openings { OpeningsWitness }

@@ -1,5 +1,5 @@
 -- By what may be done next.
-use Rattle.spec_explore.proofs.Witnesses.{windows_grow, steps_are_in_time, openings_are_in_time, first_lines_hold, openings_witness, actions_witness, steps_witness, ticks_witness}
+use Rattle.spec_explore.proofs.Witnesses.{windows_grow, steps_are_in_time, actions_are_in_time, openings_are_in_time, first_lines_hold, openings_witness, actions_witness, steps_witness, ticks_witness}
 use Rattle.spec_explore.proofs.laws.witnesses_tell.Goals as goal
 
 pub returns-clause-windows : goal.returns-clause-windows
@@ -7,6 +7,9 @@ returns-clause-windows c = windows_grow
 
 pub returns-clause-in_time : goal.returns-clause-in_time
 returns-clause-in_time c = steps_are_in_time
+
+pub returns-clause-made : goal.returns-clause-made
+returns-clause-made c = actions_are_in_time
 
 pub returns-clause-at_first : goal.returns-clause-at_first
 returns-clause-at_first c = openings_are_in_time
