@@ -39,6 +39,7 @@ class Stopped(Exception):
 @dataclass
 class Played:
     scenario: Scenario
+    path: str
     project: dict
     copy: dict
     run: Run
@@ -103,7 +104,7 @@ class Player:
         judged = judge.judge()
         notes = [*self.made.notes, *self.notes, *run.notes]
         copy = self.made.text(watches[0])
-        return Played(self.scenario, self.project, copy, run, story, judged, journal, reports[0], notes)
+        return Played(self.scenario, self.path, self.project, copy, run, story, judged, journal, reports[0], notes)
 
     # ---- the project
 
