@@ -1,5 +1,6 @@
 -- A run goes on with an event.
 use Rattle.std.proofs.Common.{◌≡◌, ℕ, zero, suc, ◌+◌, ◌<◌, ◌≤◌, List, [], ◌∷◌, ◌++◌, length, map, replicate, Option, Some, None, fold, refl, sym, ap, ◌∙◌, subst, append-nil, arith}
+use Rattle.std.specs.Prelude.{slice_index_or}
 use Rattle.std.proofs.lemmas.List.{length-append}
 use Rattle.std.proofs.lemmas.List.Sums.{fold-append}
 use Rattle.spec_base.specs.declared.limits.TheConstants.{MAX_EVENTS}
@@ -12,15 +13,16 @@ use Rattle.spec_machine.specs.declared.event.Event.TheVariants.{Cpu, Tick, Act}
 use Rattle.spec_machine.specs.Machine.{step}
 use Rattle.spec_machine.specs.ProcessorStep.{Stepped, processor_step}
 use Rattle.spec_machine.specs.Project.{Project}
-use Rattle.spec_machine.specs.State.{State}
+use Rattle.spec_machine.specs.State.{State, Scan}
 use Rattle.lgx_steps.specs.declared.executing.Executed.{Executed}
-use Rattle.lgx_steps.specs.Executing.{executed}
+use Rattle.lgx_steps.specs.Executing.{executed, IsCodeOf}
+use Rattle.lgx_prog.specs.FlatProgram.{Program, IsFlatProgram}
 use Rattle.lgx_core.specs.ControllerView.{ControllerView}
 use Rattle.lgx_core.specs.Represents.{Represents}
 use Rattle.lgx_core.specs.Gives.{StepGives}
 use Rattle.lgx_engine.specs.declared.place.Execution.{Execution}
 use Rattle.lgx_cover.specs.declared.follow.Follow.{Follow}
-use Rattle.lgx_cover.specs.Covers.{Cover, Done, done_of, done_by, executes, told, stepped, after, nothing, covered}
+use Rattle.lgx_cover.specs.Covers.{Cover, Done, done_of, done_by, executes, told, rungs_of, stepped, after, nothing, covered}
 use Rattle.lgx_cover.specs.Tables.{TableView, counted_table, Tells}
 use Rattle.lgx_cover.specs.Following.{Follows}
 use Rattle.lgx_cover.proofs.Counting.{tells_counted}
@@ -29,7 +31,7 @@ use Rattle.lgx_cover.proofs.Counting.{tells_counted}
 
 done_short : (latest : List (Option ℕ)) (o : Option Executed) → length (done_by latest o) ≤ 1
 done_short latest None = omega arith
-done_short latest (Some x) = go (Rattle.std.specs.Prelude.slice_index_or latest x.program None)
+done_short latest (Some x) = go (slice_index_or latest x.program None)
   where
     go : (o : Option ℕ) → length (done_of o x.execution) ≤ 1
     go None = omega arith
@@ -78,6 +80,11 @@ counts_none v c o e h = subst (λ (x : Option Executed). Tells v (executes c x))
 
 pub counts_some : (v : TableView) (c : Cover) (o : Option Executed) (x : Executed) → o ≡ Some x → length c.done < MAX_EVENTS → Tells v c → Tells (counted_table x v) (executes c o)
 counts_some v c o x e few h = subst (λ (y : Option Executed). Tells (counted_table x v) (executes c y)) (sym e) (tells_counted v c x h few)
+
+-- a scan's code is that of its rungs
+pub code_is : (flat : Program) (o : Option Scan) → IsCodeOf (Some flat) o → IsFlatProgram flat (rungs_of o)
+code_is flat None h = absurd h
+code_is flat (Some scan) h = h
 
 -- ---- a controller with its table
 

@@ -1,5 +1,5 @@
 -- Where the instructions of rungs stand in flat code.
-use Rattle.std.proofs.Common.{◌≡◌, ℕ, zero, suc, ◌+◌, ◌-◌, ◌<◌, ◌≤◌, Bool, true, false, cond, not, ◌&&◌, ◌||◌, List, [], ◌∷◌, ◌++◌, length, take, drop, get_or, Option, Some, None, inl, inr, refl, sym, ap, ◌∙◌, subst, arith}
+use Rattle.std.proofs.Common.{◌≡◌, ℕ, zero, suc, ◌+◌, ◌-◌, ◌<◌, ◌≤◌, Bool, true, false, cond, not, ◌&&◌, ◌||◌, List, [], ◌∷◌, ◌++◌, length, take, drop, get_or, Option, Some, None, inl, inr, refl, sym, ap, ◌∙◌, subst, add-one, arith}
 use Rattle.std.specs.Prelude.{slice_get, slice_index, slice_index_or, flat_map}
 use Rattle.std.proofs.lemmas.Bool.{cases_lt}
 use Rattle.std.proofs.lemmas.List.{length-append, length-drop, drop-drop, drop_all, get_or_default}
@@ -30,7 +30,7 @@ with_piece (Some (Execute i)) n ls = n ∷ ls
 with_piece _ n ls = ls
 
 pub lefts_step : (code : List Code) (pc : ℕ) (o : Option Code) → slice_get code pc ≡ o → lefts (drop pc code) ≡ with_piece o (length code - pc) (lefts (drop (pc + 1) code))
-lefts_step code pc o e = subst (λ (x : Option Code). lefts (drop pc code) ≡ with_piece x (length code - pc) (lefts (drop (pc + 1) code))) e (go code pc)
+lefts_step code pc o e = subst (λ (x : Option Code). lefts (drop pc code) ≡ with_piece x (length code - pc) (lefts (drop (pc + 1) code))) e (go code pc ∙ ap (λ n. with_piece (slice_get code pc) (length code - pc) (lefts (drop n code))) (sym (add-one pc)))
   where
     first : (c : Code) (cs : List Code) → lefts (c ∷ cs) ≡ with_piece (Some c) (suc (length cs)) (lefts cs)
     first (Execute i) cs = ap (λ n. n ∷ lefts cs) (omega arith)
@@ -39,13 +39,20 @@ lefts_step code pc o e = subst (λ (x : Option Code). lefts (drop pc code) ≡ w
     first LegEnd cs = refl
     first BranchEnd cs = refl
 
-    go : (code : List Code) (pc : ℕ) → lefts (drop pc code) ≡ with_piece (slice_get code pc) (length code - pc) (lefts (drop (pc + 1) code))
+    go : (code : List Code) (pc : ℕ) → lefts (drop pc code) ≡ with_piece (slice_get code pc) (length code - pc) (lefts (drop (suc pc) code))
     go [] zero = refl
     go [] (suc pc) = refl
-    go (c ∷ cs) zero = first c cs
-    go (c ∷ cs) (suc pc) = go cs pc
+    go (c ∷ cs) zero = let e : suc (length cs) ≡ suc (length cs) - 0 = omega arith in first c cs ∙ ap (λ n. with_piece (Some c) n (lefts cs)) e
+    go (c ∷ cs) (suc pc) = let e : length cs - pc ≡ suc (length cs) - suc pc = omega arith in go cs pc ∙ ap (λ n. with_piece (slice_get cs pc) n (lefts (drop (suc pc) cs))) e
 
 -- ---- rungs
+
+unless_longer : (t : Tree Ins) (inside after : List Code) → length after ≤ length inside → length inside ≤ length (tree_then t inside) → length after ≤ length (unless_empty t (tree_then t inside) after)
+unless_longer t inside after l p = go (has_no_instruction t)
+  where
+    go : (b : Bool) → length after ≤ length (cond b after (tree_then t inside))
+    go true = omega arith
+    go false = omega (arith, p, l)
 
 mutual
   tree_longer : (t : Tree Ins) (after : List Code) → length after ≤ length (tree_then t after)
@@ -54,7 +61,7 @@ mutual
   tree_longer (fork t legs rest) after =
       let a = tree_longer rest after in
       let b = legs_longer legs (BranchEnd ∷ tree_then rest after) in
-      let c = unless_longer t (LegEnd ∷ legs_then legs (BranchEnd ∷ tree_then rest after)) (legs_then legs (BranchEnd ∷ tree_then rest after)) (omega arith) in
+      let c = unless_longer t (LegEnd ∷ legs_then legs (BranchEnd ∷ tree_then rest after)) (legs_then legs (BranchEnd ∷ tree_then rest after)) (omega arith) (tree_longer t (LegEnd ∷ legs_then legs (BranchEnd ∷ tree_then rest after))) in
       go (has_no_instruction t && have_no_instruction legs) a (omega (arith, a, b, c))
     where
       go : (b : Bool) → length after ≤ length (tree_then rest after) → length after ≤ length (unless_empty t (tree_then t (LegEnd ∷ legs_then legs (BranchEnd ∷ tree_then rest after))) (legs_then legs (BranchEnd ∷ tree_then rest after)))
@@ -66,15 +73,8 @@ mutual
   legs_longer last after = omega arith
   legs_longer (leg t legs) after =
       let a = legs_longer legs after in
-      let b = unless_longer t (LegEnd ∷ legs_then legs after) (legs_then legs after) (omega arith) in
+      let b = unless_longer t (LegEnd ∷ legs_then legs after) (legs_then legs after) (omega arith) (tree_longer t (LegEnd ∷ legs_then legs after)) in
       omega (arith, a, b)
-
-  unless_longer : (t : Tree Ins) (inside after : List Code) → length after ≤ length inside → length after ≤ length (unless_empty t (tree_then t inside) after)
-  unless_longer t inside after l = go (has_no_instruction t) (tree_longer t inside)
-    where
-      go : (b : Bool) → length inside ≤ length (tree_then t inside) → length after ≤ length (cond b after (tree_then t inside))
-      go true p = omega arith
-      go false p = omega (arith, p, l)
 
 pub flat_longer : (r : Tree Ins) (rs : Rungs) → length (flat rs) ≤ length (flat (r ∷ rs))
 flat_longer r rs = go (has_no_instruction r && not (is_last rs)) (tree_longer r (flat rs))
@@ -151,7 +151,8 @@ module _ (f : Flat) (rungs : Rungs) (h : IsFlat f rungs) where
       go [] e long a code = absurd (let x = ap length a in omega (arith, x, code, before))
       go (r ∷ rs) e long a code =
           let more : n + 1 ≤ length rungs = omega (arith, long) in
-          let rest : drop (n + 1) rungs ≡ rs = sym (drop-drop n 1 rungs) ∙ ap (drop 1) e in
+          let s : n + 1 ≡ 1 + n = omega arith in
+          let rest : drop (n + 1) rungs ≡ rs = ap (λ k. drop k rungs) s ∙ sym (drop-drop 1 n rungs) ∙ ap (λ xs. drop 1 xs) e in
           let b : drop to f.code ≡ flat rs = ap (λ p. drop p f.code) then ∙ place_at (n + 1) more ∙ ap flat rest in
           let order : from ≤ to = (let x = ap length a in let y = ap length b in let z = length-drop to f.code in let w = flat_longer r rs in omega (arith, x, y, z, w, code, before)) in
           let whole : lefts (flat (r ∷ rs)) ≡ items ++ lefts (flat rs) = ap lefts (sym a) ∙ between order ∙ ap (λ cs. items ++ lefts cs) b in

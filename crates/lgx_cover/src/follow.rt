@@ -1,20 +1,21 @@
 // A run, followed event by event.
-ghost use Rattle.std.specs.Prelude.{◌≡◌, ℕ, ◌+◌, ◌≤◌, ◌<◌, List, [], ◌∷◌, ◌++◌, length, replicate, Option, Some, option_map, slice_set, IfOk, OnOk};
+ghost use Rattle.std.specs.Prelude.{◌≡◌, ℕ, ◌+◌, ◌≤◌, ◌<◌, List, [], ◌∷◌, ◌++◌, length, replicate, Some, slice_set, IfOk, OnOk};
 ghost use Rattle.spec_base.specs.declared.limits.TheConstants.{MAX_EVENTS};
 ghost use Rattle.spec_scan.specs.Position.{ProgramRungs};
 ghost use Rattle.spec_machine.specs.declared.event.Event.{Event as Events};
 ghost use Rattle.spec_machine.specs.declared.event.Event.TheVariants.{Cpu, Tick, Act};
 ghost use Rattle.spec_machine.specs.Project.{Project as Projects};
-ghost use Rattle.spec_machine.specs.State.{Scan, State};
-ghost use Rattle.lgx_steps.specs.Executing.{executed, IsCodeOf};
+ghost use Rattle.spec_machine.specs.State.{State};
+ghost use Rattle.lgx_steps.specs.Executing.{executed};
+ghost use Rattle.lgx_prog.specs.FlatProgram.{IsFlatProgram};
 ghost use Rattle.lgx_core.specs.Represents.{Represents};
-ghost use Rattle.lgx_cover.specs.Covers.{Cover, begins, executes, told, rungs_of};
-ghost use Rattle.lgx_cover.specs.Tables.{Tells, IsNew};
+ghost use Rattle.lgx_cover.specs.Covers.{Cover, begins, executes, told};
+ghost use Rattle.lgx_cover.specs.Tables.{Tells};
 ghost use Rattle.lgx_cover.specs.Following.{Follows};
 
 use crate::find::number_in;
 use crate::made::section_of;
-use crate::table::{Section, Table};
+use crate::table::Table;
 use lgx_core::{Controller, What};
 use lgx_journal::{Action, Event, Journal};
 use lgx_num::Memory;
@@ -36,13 +37,13 @@ impl Table {
         alloc: Global,
         program: u32,
         version: u32,
-        flat: Option<&FlatProgram>,
+        flat: &FlatProgram,
     ) -> Result<(), Memory>
-        ensures { (c : Cover) (scan : Option Scan) → Tells self.old c → IsCodeOf (option_map (λ f. f.now) flat) scan → OnOk result (Tells self.new (begins c program version (rungs_of scan))) }
+        ensures { (c : Cover) (rungs : ProgramRungs) → Tells self.old c → IsFlatProgram flat.now rungs → OnOk result (Tells self.new (begins c program version rungs)) }
     {
         let k = number_in(&self.sections, program, version);
         if k >= self.sections.len() {
-            self.sections.push(begun(alloc, program, version, flat)?)?;
+            self.sections.push(section_of(alloc, program, version, flat)?)?;
         }
         self.set_latest(program, k);
         Ok(())
@@ -100,10 +101,10 @@ impl Follow {
                 task,
                 program,
                 version,
-            } => {
-                let flat = self.controller.scanned(task);
-                self.table.begin(alloc, program, version, flat)
-            }
+            } => match self.controller.scanned(task) {
+                Some(flat) => self.table.begin(alloc, program, version, flat),
+                None => Err(Memory),
+            },
             _ => Ok(()),
         }
     }
@@ -167,21 +168,6 @@ impl Follow {
             self.apply(alloc, event)?;
         }
         Ok(())
-    }
-}
-
-/// The section of a version that begins with this code; one without routines, if there is none.
-fn begun(
-    alloc: Global,
-    program: u32,
-    version: u32,
-    flat: Option<&FlatProgram>,
-) -> Result<Section, Memory>
-    ensures { (scan : Option Scan) → IsCodeOf (option_map (λ f. f.now) flat) scan → IfOk result (λ s. IsNew program version (rungs_of scan) s) }
-{
-    match flat {
-        Some(flat) => section_of(alloc, program, version, flat),
-        None => Err(Memory),
     }
 }
 
