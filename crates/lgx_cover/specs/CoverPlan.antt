@@ -1,9 +1,10 @@
 -- What the program `logix_cover` does.
-use Rattle.std.specs.Prelude.{ℕ, List, [], ◌∷◌, codes}
+use Rattle.std.specs.Prelude.{ℕ, List, [], ◌∷◌, codes, if◌then◌else◌}
 use Rattle.spec_machine.specs.Project.{Project}
 use Rattle.lgx_answer.specs.declared.status.Verdict.TheVariants as verdict
 use Rattle.lgx_answer.specs.Plan.{Plan, Say, Read, only}
 use Rattle.lgx_judge.specs.Plans.{on_project, on_journal}
+use Rattle.lgx_cover.specs.declared.word.Whole.{Whole}
 use Rattle.lgx_cover.specs.declared.word.CoverWord.{CoverWord}
 use Rattle.lgx_cover.specs.declared.word.CoverWord.TheVariants.{Both, OnProject}
 use Rattle.lgx_cover.specs.Texts.{cover_report}
@@ -40,3 +41,7 @@ cover_next (OnProject project journal) bytes = journal_read project bytes
 abbrev pub cover_left : CoverWord → ℕ
 cover_left (Both project journal) = 1
 cover_left (OnProject project journal) = 0
+
+-- a text that is handed out in one piece is left until it was
+abbrev pub whole_rest : Whole → List ℕ
+whole_rest w = if w.given then [] else w.text

@@ -101,7 +101,7 @@ covered p events = fold after (nothing p) events
 -- for each instruction of code how much code is left, from it on
 abbrev pub lefts : List Code → List ℕ
 lefts [] = []
-lefts (Execute i ∷ cs) = length cs + 1 ∷ lefts cs
+lefts (Execute i ∷ cs) = (length cs + 1) ∷ lefts cs
 lefts (RungStart ∷ cs) = lefts cs
 lefts (BranchStart empty_leg ∷ cs) = lefts cs
 lefts (LegEnd ∷ cs) = lefts cs

@@ -1,23 +1,17 @@
 -- The lines that tell how often each instruction was executed.
-use Rattle.std.specs.Prelude.{ℕ, ◌+◌, true, false, List, [], ◌∷◌, ◌++◌, length, sum_by, codes, decimal, slice_index_or}
+use Rattle.std.specs.Prelude.{ℕ, zero, suc, ◌+◌, true, false, List, [], ◌∷◌, ◌++◌, count_by, nat_eq, codes, decimal, slice_index_or}
 use Rattle.spec_scan.specs.Position.{Rungs, ProgramRungs, routine_rungs}
 use Rattle.spec_machine.specs.declared.event.Event.{Event}
 use Rattle.spec_machine.specs.Project.{Project}
 use Rattle.spec_text.specs.TextLines.{line_of}
+use Rattle.lgx_cover.specs.declared.lines.Head.{Head}
 use Rattle.lgx_cover.specs.declared.table.Count.{Count}
 use Rattle.lgx_cover.specs.Covers.{Begun, Done, Cover, places, times, covered}
 use Rattle.lgx_cover.specs.Tables.{RoutineView, SectionView, TableView, never, many, no_routine}
-use Rattle.std.specs.Prelude.{zero, suc}
 
 -- ---- a line
 
--- the program, the version and the routine, by their numbers
-pub record Head : Type 0 where
-  pub program : ℕ
-  pub version : ℕ
-  pub routine : ℕ
-
--- `cover PROGRAM VERSION ROUTINE RUNG INSTRUCTION TRUE FALSE`
+-- `cover PROGRAM VERSION ROUTINE RUNG INSTRUCTION TRUE FALSE`, all by their numbers
 unfoldable pub cover_line : Head → ℕ → ℕ → Count → List ℕ
 cover_line head rung ins count =
     line_of (codes "cover" ∷ decimal head.program ∷ decimal head.version ∷ decimal head.routine ∷ decimal rung ∷ decimal ins ∷ decimal count.on ∷ decimal count.off ∷ [])
@@ -54,16 +48,16 @@ abbrev pub versions_lines : List Done → ℕ → List Begun → List ℕ
 versions_lines done k [] = []
 versions_lines done k (b ∷ bs) = version_lines done k b 0 (many b.rungs) ++ versions_lines done (k + 1) bs
 
--- how many lines these are
-abbrev pub version_count : Begun → ℕ → ℕ → ℕ
-version_count b n zero = 0
-version_count b n (suc more) = sum_by length (places (routine_rungs b.rungs n)) + version_count b (n + 1) more
+-- as many lines as line feeds
+abbrev pub lines_in : List ℕ → ℕ
+lines_in text = count_by (λ c. nat_eq c 10) text
 
-abbrev pub cover_count : List Begun → ℕ
-cover_count begun = sum_by (λ b. version_count b 0 (many b.rungs)) begun
+-- the last line tells how many there are before it
+abbrev pub with_end : List ℕ → List ℕ
+with_end text = text ++ end_line (lines_in text)
 
 abbrev pub cover_text : Cover → List ℕ
-cover_text c = versions_lines c.done 0 c.begun ++ end_line (cover_count c.begun)
+cover_text c = with_end (versions_lines c.done 0 c.begun)
 
 -- of a journal's run on a project
 abbrev pub cover_report : Project → List Event → List ℕ
@@ -83,8 +77,5 @@ abbrev pub table_lines : List SectionView → List ℕ
 table_lines [] = []
 table_lines (s ∷ ss) = table_section s.program s.version 0 s.routines ++ table_lines ss
 
-abbrev pub table_count : List SectionView → ℕ
-table_count sections = sum_by (λ s. sum_by (λ r. sum_by length r.places) s.routines) sections
-
 abbrev pub table_text : TableView → List ℕ
-table_text v = table_lines v.sections ++ end_line (table_count v.sections)
+table_text v = with_end (table_lines v.sections)

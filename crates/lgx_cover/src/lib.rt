@@ -11,9 +11,9 @@ mod follow;
 mod lines;
 mod made;
 mod places;
-mod program;
+mod entry;
 mod table;
 mod word;
 
 pub use lgx_answer::Status;
-pub use program::{USAGE, cover, process, program};
+pub use entry::{USAGE, cover, process, program};
