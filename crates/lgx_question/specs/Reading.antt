@@ -7,7 +7,7 @@ use Rattle.spec_explore.specs.declared.question.QuestionCode.{QuestionCode}
 use Rattle.spec_explore.specs.declared.question.QuestionFault.{QuestionFault}
 use Rattle.spec_explore.specs.QuestionText.{SaidNever, test_of_names, program_of_names, all_found, never_said, test_said, is_untouched}
 use Rattle.spec_text.specs.ReportText.{Names}
-use Rattle.spec_explore.specs.declared.limits.TheConstants.{MAX_QUESTION_LINES, MAX_QUESTION_TESTS}
+use Rattle.spec_base.specs.declared.limits.TheConstants.{MAX_QUESTION_LINES, MAX_QUESTION_TESTS}
 use Rattle.spec_explore.specs.declared.question.QuestionCode.TheVariants.{Q2, Q3, Q4}
 use Rattle.spec_base.specs.FirstCause.{◌>>=◌, unless, some_or}
 use Rattle.lgx_question.specs.declared.tests.FoundNever.{FoundNever}

@@ -92,3 +92,12 @@ pub const MAX_REPORT_LINES: usize = 100000;
 
 /// The bytes of a file (profile).
 pub const MAX_FILE_BYTES: usize = 16777216;
+
+/// The states of a layer of an exploration (profile).
+pub const MAX_LAYER_STATES: usize = 4096;
+
+/// The lines of a question (profile).
+pub const MAX_QUESTION_LINES: usize = 64;
+
+/// The tests of a line of a question (profile).
+pub const MAX_QUESTION_TESTS: usize = 16;

@@ -3,7 +3,7 @@ use Rattle.std.specs.Prelude.{ℕ, ◌+◌, ℤ, List, [], ◌∷◌, ◌++◌, 
 use Rattle.std.specs.Char.{is_ascii_digit}
 use Rattle.std.specs.Str.{bytes_eq}
 use Rattle.lgx_num.specs.Name.{same}
-use Rattle.spec_explore.specs.declared.limits.TheConstants.{MAX_QUESTION_LINES, MAX_QUESTION_TESTS}
+use Rattle.spec_base.specs.declared.limits.TheConstants.{MAX_QUESTION_LINES, MAX_QUESTION_TESTS}
 use Rattle.spec_base.specs.FirstCause.{◌>>=◌, unless, some_or}
 use Rattle.spec_text.specs.TextLines.{lines, is_skipped, words, unsigned_of, signed_of}
 use Rattle.spec_text.specs.JournalText.{is_end, is_line}

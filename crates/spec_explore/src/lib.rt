@@ -2,7 +2,6 @@
 #![tactic(auto)]
 
 mod laws;
-pub mod limits;
 mod question;
 
 pub use laws::{journals_complete, journals_grow, layers_tell, witnesses_tell};
