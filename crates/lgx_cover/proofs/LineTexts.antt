@@ -69,9 +69,9 @@ sections_text done k (s ∷ ss) (b ∷ bs) e h =
     let key : key_in s ≡ key_of b = ap (λ ks. get_or ks 0 zeros) e in
     let here : TellsSection k b done s = subst (λ m. TellsSection m b done s) (omega arith) (h 0 (omega arith)) in
     let first : table_section s.program s.version 0 s.routines ≡ version_lines done k b 0 (many b.rungs) =
-        ap (λ (q : Key). table_section q.0 q.1 0 s.routines) key
-        ∙ section_text done k b 0 s.routines here.routines_are
-        ∙ ap (λ n. version_lines done k b 0 n) here.many_are in
+    ap (λ (q : Key). table_section q.0 q.1 0 s.routines) key
+    ∙ section_text done k b 0 s.routines here.routines_are
+    ∙ ap (λ n. version_lines done k b 0 n) here.many_are in
     ap (λ t. t ++ table_lines ss) first
     ∙ ap (λ t. version_lines done k b 0 (many b.rungs) ++ t)
     (sections_text done (k + 1) ss bs (ap (λ ks. drop 1 ks) e) (λ j l. subst (λ m. TellsSection m (begun_at bs j) done (section_at ss j)) (omega arith) (h (suc j) (omega (arith, l)))))

@@ -43,7 +43,8 @@ impl Table {
     {
         let k = number_in(&self.sections, program, version);
         if k >= self.sections.len() {
-            self.sections.push(section_of(alloc, program, version, flat)?)?;
+            self.sections
+                .push(section_of(alloc, program, version, flat)?)?;
         }
         self.set_latest(program, k);
         Ok(())
@@ -172,11 +173,7 @@ impl Follow {
 }
 
 /// A journal's run on a project.
-pub(crate) fn followed(
-    alloc: Global,
-    project: Project,
-    journal: &Journal,
-) -> Result<Follow, Memory>
+pub(crate) fn followed(alloc: Global, project: Project, journal: &Journal) -> Result<Follow, Memory>
     requires { length journal.now.events ≤ MAX_EVENTS }
     ensures { IfOk result (λ follow. Follows follow project journal.now.events) }
 {

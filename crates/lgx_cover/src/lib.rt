@@ -6,14 +6,14 @@
 //! found when the table is written.
 #![tactic(auto)]
 
+mod entry;
 mod find;
 mod follow;
 mod lines;
 mod made;
 mod places;
-mod entry;
 mod table;
 mod word;
 
-pub use lgx_answer::Status;
 pub use entry::{USAGE, cover, process, program};
+pub use lgx_answer::Status;

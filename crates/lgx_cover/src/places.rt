@@ -41,12 +41,7 @@ pub(crate) fn places_of(
         if from >= code.len() {
             return Ok(all);
         }
-        all.push(lefts_between(
-            alloc,
-            code,
-            from,
-            flat.place(routine, rung + 1),
-        )?)?;
+        all.push(lefts_between(alloc, code, from, flat.place(routine, rung + 1))?)?;
     }
     Err(Memory)
 }

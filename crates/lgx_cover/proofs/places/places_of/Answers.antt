@@ -27,7 +27,7 @@ loop-rung-preserved c = λ rungs is.
     let long : length c.code-code.result.now ≡ length f.code = ap (λ (cs : List Code). length cs) c.code-code.ensures.value in
     let before : c.place-from.result < length f.code = omega (arith, long) in
     let between : c.place-from.result ≤ c.place.result → lefts (drop c.place-from.result f.code) ≡ x ++ lefts (drop c.place.result f.code) =
-        subst (λ (cs : List Code). c.place-from.result ≤ c.place.result → lefts (drop c.place-from.result cs) ≡ x ++ lefts (drop c.place.result cs)) c.code-code.ensures.value c.in_ok-lefts_between.ensures in
+    subst (λ (cs : List Code). c.place-from.result ≤ c.place.result → lefts (drop c.place-from.result cs) ≡ x ++ lefts (drop c.place.result cs)) c.code-code.ensures.value c.in_ok-lefts_between.ensures in
     let next = next_rung_left f rs (is.routines c.args.routine) c.loop-rung.rung c.place-from.result c.place.result x inv.0 c.place-from.ensures before c.place.ensures between in
     let rest = places (drop (c.loop-rung.rung + 1) rs) in
     (next.0, inv.1 ∙ ap (λ (t : List (List ℕ)). all ++ t) next.1 ∙ sym (append_assoc all (x ∷ []) rest) ∙ ap (λ (t : List (List ℕ)). t ++ rest) (sym c.in_ok-push.ensures.items))
