@@ -32,20 +32,6 @@ no_bit words g none = ap (λ x. eqb (bit_at x (g % 64)) 1) none ∙ ap (λ x. eq
 pub bit_past : (words : List ℕ) (g : ℕ) → length words ≤ g / 64 → bit_of_words words g ≡ false
 bit_past words g past = no_bit words g (get_or_past words (g / 64) 0 past)
 
-pub marks_of-none : (n grains : ℕ) → marks_of (replicate n 0) grains ≡ replicate grains false
-marks_of-none n grains =
-    ext_get_or false (marks_of (replicate n 0) grains) (replicate grains false)
-    (length-marks_of (replicate n 0) grains ∙ sym (length-replicate grains false))
-    (λ g below.
-    let within : g < grains = omega (arith, length-marks_of (replicate n 0) grains) in
-    marks_of-at (replicate n 0) grains g within ∙ no_bit (replicate n 0) g (zeros (g / 64)) ∙ sym (get_or-replicate grains g false false within))
-  where
-    zeros : (i : ℕ) → get_or {A = ℕ} (replicate n 0) i 0 ≡ 0
-    zeros i = elim (cases_lt i n) [
-      | inl within ↦ get_or-replicate n i 0 0 within
-      | inr past ↦ get_or_past (replicate n 0) i 0 (omega (arith, length-replicate {A = ℕ} n 0))
-    ]
-
 -- ---- lists of truth values
 
 pub length-flags_of : (flags : List Bool) (n : ℕ) → length (flags_of flags n) ≡ n
