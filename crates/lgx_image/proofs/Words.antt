@@ -8,7 +8,7 @@ use Rattle.std.proofs.lemmas.List.{get_or_past, ext_get_or, get_or-replicate, le
 use Rattle.std.proofs.lemmas.List.FromFn.{length-map-range_with_len, get_or-map-range_with_len}
 use Rattle.lgx_image.specs.declared.grain.TheConstants.{GRAIN}
 use Rattle.lgx_image.specs.Grains.{ImageView, grain_of, grains_in, is_marked, mark_range, NextMarked}
-use Rattle.lgx_image.specs.Words.{bit_of_words, marks_of, NextBit, LeastBit}
+use Rattle.lgx_image.specs.Words.{bit_of_words, marks_of, flags_of, NextBit, LeastBit}
 use Rattle.lgx_image.specs.Laws.{HoldsByte}
 use Rattle.lgx_image.proofs.Marks.{grain_of-is, length-mark_range, piece_is_marked, other_marks_stay}
 
@@ -32,21 +32,34 @@ no_bit words g none = ap (λ x. eqb (bit_at x (g % 64)) 1) none ∙ ap (λ x. eq
 pub bit_past : (words : List ℕ) (g : ℕ) → length words ≤ g / 64 → bit_of_words words g ≡ false
 bit_past words g past = no_bit words g (get_or_past words (g / 64) 0 past)
 
-pub marks_of-none : (n grains : ℕ) → marks_of (replicate n 0) grains ≡ replicate grains false
-marks_of-none n grains =
-    ext_get_or false (marks_of (replicate n 0) grains) (replicate grains false)
-    (length-marks_of (replicate n 0) grains ∙ sym (length-replicate grains false))
+-- ---- lists of truth values
+
+pub length-flags_of : (flags : List Bool) (n : ℕ) → length (flags_of flags n) ≡ n
+unfolding flags_of
+length-flags_of flags n = length-map-range_with_len (is_marked flags) 0 n
+
+pub flags_of-at : (flags : List Bool) (n g : ℕ) → g < n → is_marked (flags_of flags n) g ≡ is_marked flags g
+unfolding flags_of
+flags_of-at flags n g within = get_or-map-range_with_len (is_marked flags) 0 n g g false within (omega arith)
+
+pub flags_of-past : (flags : List Bool) (n g : ℕ) → n ≤ g → is_marked (flags_of flags n) g ≡ false
+flags_of-past flags n g past = get_or_past (flags_of flags n) g false (omega (arith, length-flags_of flags n))
+
+pub flags_of-none : (n grains : ℕ) → flags_of (replicate n false) grains ≡ replicate grains false
+flags_of-none n grains =
+    ext_get_or false (flags_of (replicate n false) grains) (replicate grains false)
+    (length-flags_of (replicate n false) grains ∙ sym (length-replicate grains false))
     (λ g below.
-    let within : g < grains = omega (arith, length-marks_of (replicate n 0) grains) in
-    marks_of-at (replicate n 0) grains g within ∙ no_bit (replicate n 0) g (zeros (g / 64)) ∙ sym (get_or-replicate grains g false false within))
+    let within : g < grains = omega (arith, length-flags_of (replicate n false) grains) in
+    flags_of-at (replicate n false) grains g within ∙ off g ∙ sym (get_or-replicate grains g false false within))
   where
-    zeros : (i : ℕ) → get_or {A = ℕ} (replicate n 0) i 0 ≡ 0
-    zeros i = elim (cases_lt i n) [
-      | inl within ↦ get_or-replicate n i 0 0 within
-      | inr past ↦ get_or_past (replicate n 0) i 0 (omega (arith, length-replicate {A = ℕ} n 0))
+    off : (g : ℕ) → is_marked (replicate n false) g ≡ false
+    off g = elim (cases_lt g n) [
+      | inl within ↦ get_or-replicate n g false false within
+      | inr past ↦ get_or_past (replicate n false) g false (omega (arith, length-replicate n false))
     ]
 
--- ---- one mark
+-- ---- one bit
 
 pub bit_set : (words : List ℕ) (g : ℕ) → g / 64 < length words → bit_of_words (set words (g / 64) (bit_or (get_or words (g / 64) 0) (1 * 2 ^ (g % 64) % 2 ^ 64))) g ≡ true
 bit_set words g within =
@@ -68,18 +81,18 @@ bit_set_other words g k within other = elim (cases_eq (k / 64) (g / 64)) [
 holds_byte : (at size g : ℕ) → 0 < size → at / GRAIN ≤ g → g ≤ (at + size - 1) / GRAIN → HoldsByte g at size
 holds_byte at size g some above below = (max at (GRAIN * g), omega arith, omega arith, grain_of-is (max at (GRAIN * g)) ∙ omega arith)
 
-pub marks_of-piece : (old new : List ℕ) (at size n : ℕ) → 0 < size → ((g : ℕ) → grain_of at ≤ g → g ≤ grain_of (at + size - 1) → bit_of_words new g ≡ true) → ((g : ℕ) → (g < grain_of at) ⊎ (grain_of (at + size - 1) < g) → bit_of_words new g ≡ bit_of_words old g) → marks_of new n ≡ mark_range (marks_of old n) at size
-marks_of-piece old new at size n some covered others =
-    ext_get_or false (marks_of new n) (mark_range (marks_of old n) at size)
-    (length-marks_of new n ∙ sym (length-mark_range (marks_of old n) at size ∙ length-marks_of old n))
+pub flags_of-piece : (old new : List Bool) (at size n : ℕ) → 0 < size → ((g : ℕ) → grain_of at ≤ g → g ≤ grain_of (at + size - 1) → is_marked new g ≡ true) → ((g : ℕ) → (g < grain_of at) ⊎ (grain_of (at + size - 1) < g) → is_marked new g ≡ is_marked old g) → flags_of new n ≡ mark_range (flags_of old n) at size
+flags_of-piece old new at size n some covered others =
+    ext_get_or false (flags_of new n) (mark_range (flags_of old n) at size)
+    (length-flags_of new n ∙ sym (length-mark_range (flags_of old n) at size ∙ length-flags_of old n))
     (λ g below.
-    let within : g < n = omega (arith, length-marks_of new n) in
-    marks_of-at new n g within ∙ each g within)
+    let within : g < n = omega (arith, length-flags_of new n) in
+    flags_of-at new n g within ∙ each g within)
   where
-    outside : (g : ℕ) → g < n → (g < grain_of at) ⊎ (grain_of (at + size - 1) < g) → (HoldsByte g at size → ⊥) → bit_of_words new g ≡ is_marked (mark_range (marks_of old n) at size) g
-    outside g within apart none = others g apart ∙ sym (other_marks_stay (marks_of old n) at size g none ∙ marks_of-at old n g within)
+    outside : (g : ℕ) → g < n → (g < grain_of at) ⊎ (grain_of (at + size - 1) < g) → (HoldsByte g at size → ⊥) → is_marked new g ≡ is_marked (mark_range (flags_of old n) at size) g
+    outside g within apart none = others g apart ∙ sym (other_marks_stay (flags_of old n) at size g none ∙ flags_of-at old n g within)
 
-    each : (g : ℕ) → g < n → bit_of_words new g ≡ is_marked (mark_range (marks_of old n) at size) g
+    each : (g : ℕ) → g < n → is_marked new g ≡ is_marked (mark_range (flags_of old n) at size) g
     each g within =
         let first = grain_of-is at in
         let last = grain_of-is (at + size - 1) in
@@ -89,27 +102,27 @@ marks_of-piece old new at size n some covered others =
             | inl after ↦ outside g within (inr after) (λ h. absurd (omega (arith, h.1, h.2, h.3, grain_of-is h.0)))
             | inr below ↦
                 covered g above below
-                ∙ sym (piece_is_marked (marks_of old n) at size g (omega (arith, length-marks_of old n)) (holds_byte at size g some (omega arith) (omega arith)))
+                ∙ sym (piece_is_marked (flags_of old n) at size g (omega (arith, length-flags_of old n)) (holds_byte at size g some (omega arith) (omega arith)))
           ]
         ]
 
 -- the first grain is marked, and then those after it
-pub marks_of-first : (old one new : List ℕ) (at size n : ℕ) → 0 < size
-    → bit_of_words one (grain_of at) ≡ true → ((g : ℕ) → g ≢ grain_of at → bit_of_words one g ≡ bit_of_words old g)
-    → ((g : ℕ) → grain_of at + 1 ≤ g → g ≤ grain_of (at + size - 1) → bit_of_words new g ≡ true) → ((g : ℕ) → (g < grain_of at + 1) ⊎ (grain_of (at + size - 1) < g) → bit_of_words new g ≡ bit_of_words one g)
-    → marks_of new n ≡ mark_range (marks_of old n) at size
-marks_of-first old one new at size n some first others later others' = marks_of-piece old new at size n some covered beside
+pub flags_of-first : (old one new : List Bool) (at size n : ℕ) → 0 < size
+    → is_marked one (grain_of at) ≡ true → ((g : ℕ) → g ≢ grain_of at → is_marked one g ≡ is_marked old g)
+    → ((g : ℕ) → grain_of at + 1 ≤ g → g ≤ grain_of (at + size - 1) → is_marked new g ≡ true) → ((g : ℕ) → (g < grain_of at + 1) ⊎ (grain_of (at + size - 1) < g) → is_marked new g ≡ is_marked one g)
+    → flags_of new n ≡ mark_range (flags_of old n) at size
+flags_of-first old one new at size n some first others later others' = flags_of-piece old new at size n some covered beside
   where
     order : grain_of at ≤ grain_of (at + size - 1)
     order = omega (arith, grain_of-is at, grain_of-is (at + size - 1), some)
 
-    covered : (g : ℕ) → grain_of at ≤ g → g ≤ grain_of (at + size - 1) → bit_of_words new g ≡ true
+    covered : (g : ℕ) → grain_of at ≤ g → g ≤ grain_of (at + size - 1) → is_marked new g ≡ true
     covered g above below = elim (cases_eq g (grain_of at)) [
-      | inl same ↦ others' g (inl (omega arith)) ∙ ap (bit_of_words one) same ∙ first
+      | inl same ↦ others' g (inl (omega arith)) ∙ ap (is_marked one) same ∙ first
       | inr apart ↦ later g (omega arith) below
     ]
 
-    beside : (g : ℕ) → (g < grain_of at) ⊎ (grain_of (at + size - 1) < g) → bit_of_words new g ≡ bit_of_words old g
+    beside : (g : ℕ) → (g < grain_of at) ⊎ (grain_of (at + size - 1) < g) → is_marked new g ≡ is_marked old g
     beside g (inl before) = others' g (inl (omega arith)) ∙ others g (omega arith)
     beside g (inr after) = others' g (inr after) ∙ others g (omega (arith, order))
 
@@ -191,17 +204,17 @@ no_mark words n from none k above = elim (cases_lt k n) [
 -- ---- an image as its callers see it
 
 -- it has a mark for each of its grains
-pub grains_of_view : (bytes words : List ℕ) (watched hits : List Bool) (image : ImageView) → (record { bytes = bytes; marks = marks_of words (grains_in (length bytes)); watched = watched; hits = hits }) ≡ image → length image.marks ≡ grains_in (length image.bytes)
-grains_of_view bytes words watched hits image is =
+pub grains_of_view : (bytes : List ℕ) (marks : List Bool) (watched hits : List Bool) (image : ImageView) → (record { bytes = bytes; marks = flags_of marks (grains_in (length bytes)); watched = watched; hits = hits }) ≡ image → length image.marks ≡ grains_in (length image.bytes)
+grains_of_view bytes marks watched hits image is =
     let same = ap (λ (m : ImageView). length m.marks) is in
     let count = ap (λ (m : ImageView). grains_in (length m.bytes)) is in
-    sym same ∙ length-marks_of words (grains_in (length bytes)) ∙ count
+    sym same ∙ length-flags_of marks (grains_in (length bytes)) ∙ count
 
 -- its marks are taken
-pub cleared_view : (bytes old new : List ℕ) (watched hits : List Bool) (image : ImageView) → (record { bytes = bytes; marks = marks_of old (grains_in (length bytes)); watched = watched; hits = hits }) ≡ image → ((n : ℕ) → marks_of new n ≡ replicate n false)
-    → ◌≡◌ {A = ImageView} (record { bytes = bytes; marks = marks_of new (grains_in (length bytes)); watched = watched; hits = hits }) (record { bytes = image.bytes; marks = replicate (length image.marks) false; watched = image.watched; hits = image.hits })
+pub cleared_view : (bytes : List ℕ) (old new : List Bool) (watched hits : List Bool) (image : ImageView) → (record { bytes = bytes; marks = flags_of old (grains_in (length bytes)); watched = watched; hits = hits }) ≡ image → ((n : ℕ) → flags_of new n ≡ replicate n false)
+    → ◌≡◌ {A = ImageView} (record { bytes = bytes; marks = flags_of new (grains_in (length bytes)); watched = watched; hits = hits }) (record { bytes = image.bytes; marks = replicate (length image.marks) false; watched = image.watched; hits = image.hits })
 cleared_view bytes old new watched hits image is none =
-    let count : marks_of new (grains_in (length bytes)) ≡ replicate (length (marks_of old (grains_in (length bytes)))) false = none (grains_in (length bytes)) ∙ ap (λ n. replicate n false) (sym (length-marks_of old (grains_in (length bytes)))) in
+    let count : flags_of new (grains_in (length bytes)) ≡ replicate (length (flags_of old (grains_in (length bytes)))) false = none (grains_in (length bytes)) ∙ ap (λ n. replicate n false) (sym (length-flags_of old (grains_in (length bytes)))) in
     ap {B = ImageView} (λ m. record { bytes = bytes; marks = m; watched = watched; hits = hits }) count
     ∙ ap {B = ImageView} (λ (i : ImageView). record { bytes = i.bytes; marks = replicate (length i.marks) false; watched = i.watched; hits = i.hits }) is
 
@@ -211,15 +224,25 @@ unfolding grains_in grain_of
 grains_in-is zero = refl
 grains_in-is (suc len) = omega arith
 
--- the next mark, which may be past the last grain
-pub next_marked_none : (bytes words : List ℕ) (watched hits : List Bool) (image : ImageView) (from : ℕ) → (record { bytes = bytes; marks = marks_of words (grains_in (length bytes)); watched = watched; hits = hits }) ≡ image → NextBit words from None → NextMarked image.marks from None
-next_marked_none bytes words watched hits image from is none = subst (λ (i : ImageView). NextMarked i.marks from None) is (no_mark words (grains_in (length bytes)) from none)
+-- the next mark of the first so many
+next_flag : (flags : List Bool) (n from next : ℕ) → next < n → NextMarked flags from (Some next) → NextMarked (flags_of flags n) from (Some next)
+next_flag flags n from next within is = (is.0, flags_of-at flags n next within ∙ is.1, λ k on below. flags_of-at flags n k (omega arith) ∙ is.2 k on below)
 
-pub next_marked_some : (bytes words : List ℕ) (watched hits : List Bool) (image : ImageView) (from next : ℕ) → (record { bytes = bytes; marks = marks_of words (grains_in (length bytes)); watched = watched; hits = hits }) ≡ image → next < grains_in (length bytes) → NextBit words from (Some next) → NextMarked image.marks from (Some next)
-next_marked_some bytes words watched hits image from next is within found = subst (λ (i : ImageView). NextMarked i.marks from (Some next)) is (next_mark words (grains_in (length bytes)) from next within found)
+no_flag : (flags : List Bool) (n from : ℕ) → NextMarked flags from None → NextMarked (flags_of flags n) from None
+no_flag flags n from none k above = elim (cases_lt k n) [
+  | inl within ↦ flags_of-at flags n k within ∙ none k above
+  | inr past ↦ flags_of-past flags n k past
+]
 
-pub next_marked_past : (bytes words : List ℕ) (watched hits : List Bool) (image : ImageView) (from next : ℕ) → (record { bytes = bytes; marks = marks_of words (grains_in (length bytes)); watched = watched; hits = hits }) ≡ image → grains_in (length bytes) ≤ next → NextBit words from (Some next) → NextMarked image.marks from None
-next_marked_past bytes words watched hits image from next is past found = subst (λ (i : ImageView). NextMarked i.marks from None) is (λ k above. elim (cases_lt k (grains_in (length bytes))) [
-  | inl within ↦ marks_of-at words (grains_in (length bytes)) k within ∙ found.2 k above (omega arith)
-  | inr beyond ↦ marks_of-past words (grains_in (length bytes)) k beyond
+-- the next mark of an image, which may be past the last grain
+pub next_marked_none : (bytes : List ℕ) (marks : List Bool) (watched hits : List Bool) (image : ImageView) (from : ℕ) → (record { bytes = bytes; marks = flags_of marks (grains_in (length bytes)); watched = watched; hits = hits }) ≡ image → NextMarked marks from None → NextMarked image.marks from None
+next_marked_none bytes marks watched hits image from is none = subst (λ (i : ImageView). NextMarked i.marks from None) is (no_flag marks (grains_in (length bytes)) from none)
+
+pub next_marked_some : (bytes : List ℕ) (marks : List Bool) (watched hits : List Bool) (image : ImageView) (from next : ℕ) → (record { bytes = bytes; marks = flags_of marks (grains_in (length bytes)); watched = watched; hits = hits }) ≡ image → next < grains_in (length bytes) → NextMarked marks from (Some next) → NextMarked image.marks from (Some next)
+next_marked_some bytes marks watched hits image from next is within found = subst (λ (i : ImageView). NextMarked i.marks from (Some next)) is (next_flag marks (grains_in (length bytes)) from next within found)
+
+pub next_marked_past : (bytes : List ℕ) (marks : List Bool) (watched hits : List Bool) (image : ImageView) (from next : ℕ) → (record { bytes = bytes; marks = flags_of marks (grains_in (length bytes)); watched = watched; hits = hits }) ≡ image → grains_in (length bytes) ≤ next → NextMarked marks from (Some next) → NextMarked image.marks from None
+next_marked_past bytes marks watched hits image from next is past found = subst (λ (i : ImageView). NextMarked i.marks from None) is (λ k above. elim (cases_lt k (grains_in (length bytes))) [
+  | inl within ↦ flags_of-at marks (grains_in (length bytes)) k within ∙ found.2 k above (omega arith)
+  | inr beyond ↦ flags_of-past marks (grains_in (length bytes)) k beyond
 ])

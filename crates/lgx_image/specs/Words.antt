@@ -1,4 +1,4 @@
--- How an image keeps its marks, and which words are watched and hit: bit i of row k is that of number 64k + i.
+-- How an image keeps its marks, and which words are watched and hit: of these bit i of row k is that of number 64k + i.
 use Rattle.std.specs.Prelude.{◌≡◌, ◌≢◌, ℕ, ◌/◌, ◌%◌, ◌^◌, ◌-◌, ◌<◌, ◌≤◌, min, Bool, true, false, ◌||◌, List, length, map, slice_index, ◌==◌, Option, Some, None, option_map}
 use Rattle.std.specs.Int.{bit_at}
 use Rattle.std.specs.List.{range_with_len}
@@ -33,6 +33,10 @@ pub record Cleared (old now : List ℕ) (from : ℕ) : Type 0 where
 -- the marks of so many grains
 unfoldable pub marks_of : List ℕ → ℕ → List Bool
 marks_of words grains = map (bit_of_words words) (range_with_len 0 grains)
+
+-- the first so many of a list of truth values; what it hasn't is false
+unfoldable pub flags_of : List Bool → ℕ → List Bool
+flags_of flags n = map (is_marked flags) (range_with_len 0 n)
 
 -- the least bit that is set and not below from, or none
 abbrev pub NextBit : List ℕ → ℕ → Option ℕ → Type 0

@@ -40,11 +40,11 @@ impl Model for Image {
     ghost use Rattle.std.specs.Prelude.{◌≤◌, length};
     ghost use Rattle.spec_base.specs.declared.limits.TheConstants.{MAX_IMAGE_BYTES};
     ghost use Rattle.lgx_image.specs.Grains.{ImageView, grains_in};
-    ghost use Rattle.lgx_image.specs.Words.{marks_of};
+    ghost use Rattle.lgx_image.specs.Words.{flags_of};
 
     ghost Value = { ImageView };
 
-    ghost view = { λ i. record { bytes = i.bytes.items; marks = marks_of i.marks (grains_in (length i.bytes.items)); watched = i.hits.watched; hits = i.hits.hits } };
+    ghost view = { λ i. record { bytes = i.bytes.items; marks = flags_of i.marks (grains_in (length i.bytes.items)); watched = i.hits.watched; hits = i.hits.hits } };
 
     ghost invariant = { λ i. length i.bytes.items ≤ MAX_IMAGE_BYTES };
 }
@@ -297,6 +297,53 @@ impl Image {
         ensures marks { self.new.marks ≡ mark_range self.old.marks target size }
         ensures hits { HitsWritten self.old self.new }
         ensures only_marked { ChangesOnlyMarked self.old self.new }
+    {
+        self.copy(source, target, size);
+    }
+
+    /// Copies bytes. An element that fills a word is stored as one.
+    #[inline(always)]
+    fn copy(&mut self, source: u32, target: u32, size: u32)
+        requires source { source + size ≤ length self.old.bytes }
+        requires target { target + size ≤ length self.old.bytes }
+        ensures grains { length self.old.marks ≡ grains_in (length self.old.bytes) }
+        ensures bytes { self.new.bytes ≡ splice self.old.bytes target (piece self.old.bytes source size) }
+        ensures marks { self.new.marks ≡ mark_range self.old.marks target size }
+        ensures watched { self.new.watched ≡ self.old.watched }
+        ensures hits { HitsWritten self.old self.new }
+    {
+        if size == WORD_BYTES && target % WORD_BYTES == 0 {
+            self.copy_word(source, target);
+        } else {
+            self.copy_bytes(source, target, size);
+        }
+    }
+
+    /// Copies four bytes that fill a word.
+    #[inline(always)]
+    fn copy_word(&mut self, source: u32, target: u32)
+        requires source { source + 4 ≤ length self.old.bytes }
+        requires target { target + 4 ≤ length self.old.bytes }
+        requires aligned { target % WORD_BYTES ≡ 0 }
+        ensures grains { length self.old.marks ≡ grains_in (length self.old.bytes) }
+        ensures bytes { self.new.bytes ≡ splice self.old.bytes target (piece self.old.bytes source 4) }
+        ensures marks { self.new.marks ≡ mark_range self.old.marks target 4 }
+        ensures watched { self.new.watched ≡ self.old.watched }
+        ensures hits { HitsWritten self.old self.new }
+    {
+        let value = dint_at(&self.bytes, source);
+        self.store_word(target, value);
+    }
+
+    /// Copies bytes that may stand in any words.
+    fn copy_bytes(&mut self, source: u32, target: u32, size: u32)
+        requires source { source + size ≤ length self.old.bytes }
+        requires target { target + size ≤ length self.old.bytes }
+        ensures grains { length self.old.marks ≡ grains_in (length self.old.bytes) }
+        ensures bytes { self.new.bytes ≡ splice self.old.bytes target (piece self.old.bytes source size) }
+        ensures marks { self.new.marks ≡ mark_range self.old.marks target size }
+        ensures watched { self.new.watched ≡ self.old.watched }
+        ensures hits { HitsWritten self.old self.new }
     {
         self.hits.note_copy(&self.bytes, source, target, size);
         copy_piece(&mut self.bytes, source, target, size);

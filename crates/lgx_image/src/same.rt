@@ -35,6 +35,21 @@ pub(crate) fn same_words(a: &[u64], b: &[u64]) -> bool
     true
 }
 
+/// Whether the marks are the same.
+pub(crate) fn same_flags(a: &[bool], b: &[bool]) -> bool
+    ensures { result ≡ true → a.now ≡ b.now }
+{
+    if a.len() != b.len() {
+        return false;
+    }
+    for i in 0..a.len() {
+        if a[i] != b[i] {
+            return false;
+        }
+    }
+    true
+}
+
 impl Image {
     /// The image once more, with its marks and hits.
     pub fn copied(&self, alloc: Global) -> Result<Image, Memory>

@@ -8,7 +8,7 @@ returns-in_default-checked_add c =
     let image = c.args.controller.now.parts.image in
     let more = join-goes-on c.args.watches.now image c.loop-word.written c.of_word.result c.join.new.self c.loop-word.from c.in-Some.word c.loop-word.invariant c.in-Some.ensures c.of_word.ensures.members c.of_word.ensures.no_other c.join.ensures in
     let past : MAX_IMAGE_BYTES ≤ suc c.in-Some.word = omega (arith, c.in_default-checked_add.ensures) in
-    join-ends-past c.args.watches.now image c.join.new.self (suc c.in-Some.word) c.requires more past
+    join-ends-past c.args.watches.now image c.join.new.self (suc c.in-Some.word) c.requires.inside more past
 
 pub returns : goal.returns
 returns c = join-ends c.args.watches.now c.args.controller.now.parts.image c.loop-word.written c.loop-word.from c.loop-word.invariant c.in_default.ensures

@@ -1,12 +1,6 @@
-use Rattle.std.proofs.Common.{arith}
-use Rattle.std.proofs.lemmas.Grind.{common_steps}
-use Rattle.lgx_num.specs.Image.{piece, splice}
-use Rattle.lgx_image.proofs.WatchedWords.{written_hits}
-use Rattle.lgx_image.proofs.Words.{grains_of_view}
 use Rattle.lgx_image.proofs.Changes.{copy_changes_only_marked}
 use Rattle.lgx_image.proofs.image.Image.copy_element.Goals as goal
 
 pub returns-clause-only_marked : goal.returns-clause-only_marked
 returns-clause-only_marked c =
-    copy_changes_only_marked c.args.self.now _ c.args.source c.args.target c.args.size (grains_of_view c.self.inside.bytes.items c.self.inside.marks c.self.inside.hits.watched c.self.inside.hits.hits c.args.self.now c.self.view_is) c.requires.target (grind (arith, common_steps)) (grind (arith, common_steps)) (grind (arith, common_steps))
-    (written_hits _ c.args.self.now c.note_copy.new.self.hits c.deref.result.now (splice c.deref.result.now c.args.target (piece c.deref.result.now c.args.source c.args.size)) _ c.self.view_is c.deref.ensures.value c.note_copy.ensures.hits (grind (arith, common_steps)))
+    copy_changes_only_marked c.args.self.now c.copy.new.self c.args.source c.args.target c.args.size c.copy.ensures.grains c.requires.target c.copy.ensures.bytes c.copy.ensures.marks c.copy.ensures.watched c.copy.ensures.hits
