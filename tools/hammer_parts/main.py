@@ -144,9 +144,10 @@ def words_of_command(arguments):
     parser.add_argument("--first", type=int, default=0, metavar="N", help="with --cases: the first one's number (0)")
     parser.add_argument("--again", default=None, metavar="KIND:NUMBER", help="one case of the seed again")
     parser.add_argument("--found", default=None, help="where differences are stored (hammer-SEED in the folder for temporary files)")
-    parser.add_argument("--coverage", action="store_true", help="tell at the end which instructions, causes, statuses and effects the cases met, and how many cases")
+    parser.add_argument("--coverage", action="store_true", help="tell at the end how many cases met each instruction, cause, status and effect")
     parser.add_argument("--counts", default=None, metavar="FILE", help="with --coverage: write the counts there too")
-    parser.add_argument("--find", type=float, default=None, metavar="SECONDS", help="look so long for cases that meet what few do, by the plain interpreter, and keep them")
+    parser.add_argument("--find", type=float, default=None, metavar="SECONDS",
+                        help="look so long for cases that meet what few do, by the plain interpreter, and keep them (kept.txt)")
     parser.add_argument("--in-all", type=int, default=None, metavar="N", help="so many cases in pieces of SECONDS, each a process; goes on where it ended before")
     parser.add_argument("--folder", default=None, help="with --in-all: what the pieces came to (hammer-pieces-SEED in the folder for temporary files)")
     words = parser.parse_args(arguments)

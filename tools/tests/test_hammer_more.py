@@ -10,7 +10,6 @@ import unittest
 from unittest import mock
 
 from scenario_files import programs
-from plain_programs import TOP
 from hammer_parts import begins, books, corpus, coverage, marks, pieces, scenarios, splits, tool_faults
 from hammer_parts.cases import file_text
 from hammer_parts.plain.judge import answer
