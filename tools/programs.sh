@@ -43,3 +43,16 @@ sum_file() { printf '%s\n' "$top/crates/$1/out/$1.sum"; }
 is_proved() {
     [ -x "$(program_file "$1")" ] && [ -f "$(sum_file "$1")" ] && [ "$(cat "$(sum_file "$1")")" = "$(sum_of "$1")" ]
 }
+
+# How rt words what it says: a pattern, for grep -E, of the lines that say WHAT, perhaps of one crate. rt_says WHAT [CRATE]
+rt_says() {
+    local crate=${2:-[a-z0-9_]+}
+    case $1 in
+        proved) printf '%s\n' "^rt: $crate (proved|is kept)" ;;
+        done) printf '%s\n' "^rt: $crate (proved|NOT PROVED|is kept)" ;;
+        tried) printf '%s\n' '^(rt: )?must-fail ([a-z_]+/[a-z_0-9]+)\.edit: (refused|NOT REFUSED|NOT TRIED|BAD EDIT)(.*)$' ;;
+        refused) printf '%s\n' '^(rt: )?must-fail .*: refused' ;;
+        ended) printf '%s\n' '^run=ended status=([0-9]+) .*proved=no$' ;;
+        beside) printf '%s\n' '^(interpreted|checked|races): |^run=|^rt: ' ;;
+    esac
+}

@@ -1,4 +1,4 @@
-# How far a run of `rt ci` has come: a line a minute on standard error. To be sourced.
+# How far a run of `rt ci` has come: a line a minute on standard error. To be sourced, after programs.sh.
 
 # Watches the process PID, whose output goes to the file LOG, in the repository FOLDER: tell_progress NAME PID LOG FOLDER CRATE..
 # A crate that is kept from an earlier run counts as proved. A planted bug is being tried as long as `rt` has a folder for it, and one
@@ -24,7 +24,7 @@ tell_progress() {
     done
 }
 
-crates_proved() { grep -c '^rt: [a-z0-9_]* \(proved\|is kept\)' "$1"; }
+crates_proved() { grep -cE "$(rt_says proved)" "$1"; }
 
 # Of planted bugs, if there are any.
 bugs_tried() {
@@ -38,6 +38,6 @@ under_way() {
     shift 2
     for crate in "$@"; do
         [ "$folder/crates/$crate/out" -nt "$log.begun" ] || continue
-        grep -q "^rt: $crate \(proved\|NOT PROVED\|is kept\)" "$log" || printf ' %s' "$crate"
+        grep -qE "$(rt_says done "$crate")" "$log" || printf ' %s' "$crate"
     done
 }

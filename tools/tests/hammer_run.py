@@ -3,17 +3,14 @@
 It takes a minute or so of one processor. What differs is printed, and the status is 1 then.
 """
 
-import os
 import sys
 import tempfile
 
-TOP = os.path.dirname(os.path.dirname(os.path.dirname(os.path.abspath(__file__))))
-sys.path.insert(0, f"{TOP}/tools")
-
-from hammer_parts.limits import LIMITS  # noqa: E402
-from hammer_parts.main import Hammer  # noqa: E402
-from hammer_parts.more import GATE  # noqa: E402
-from hammer_parts.program import Program  # noqa: E402
+from common import built
+from lib.hammer.limits import LIMITS
+from lib.hammer.main import Hammer
+from lib.hammer.more import GATE
+from lib.hammer.program import Program
 
 ALL = sys.maxsize
 COUNTS = {
@@ -27,7 +24,7 @@ COUNTS = {
 
 def main():
     sys.setrecursionlimit(20_000)
-    program = Program(f"{TOP}/crates/logix/out/logix")
+    program = Program(built("logix"))
     with tempfile.TemporaryDirectory() as found:
         hammer = Hammer(program, "gate", found)
         try:

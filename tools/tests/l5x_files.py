@@ -5,17 +5,13 @@ from __future__ import annotations
 import contextlib
 import io
 import os
-import sys
 import tempfile
 from dataclasses import dataclass
 
-sys.dont_write_bytecode = True
-TOOLS = os.path.dirname(os.path.dirname(os.path.realpath(__file__)))
-TOP = os.path.dirname(TOOLS)
-SAMPLES = os.path.join(TOP, "examples", "l5x")
-sys.path.insert(0, TOOLS)
+from common import TOP
+from lib.l5x.main import main
 
-from l5x.main import main  # noqa: E402
+SAMPLES = os.path.join(TOP, "examples", "l5x")
 
 
 @dataclass

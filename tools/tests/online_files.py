@@ -1,20 +1,20 @@
 """A session of tools/online in this process, and what a new process of the controller says of the same journal."""
 
 import json
-import os
 import random
 import subprocess
 import tempfile
 
-from plain_programs import LIVE, LOGIX, TOP, contents
-from online_parts.commands import Commands
-from online_parts.guards import Refused
-from online_parts.main import explainer
-from online_parts.player import Player
-from online_parts.processes import Programs
-from online_parts.session import Session
-from online_parts.shown import Shown
-from online_parts.uses import Uses
+from common import TOP, built, read_text
+from plain_programs import LIVE, LOGIX
+from lib.online.commands import Commands
+from lib.online.guards import Refused
+from lib.online.main import explainer
+from lib.online.player import Player
+from lib.online.processes import Programs
+from lib.online.session import Session
+from lib.online.shown import Shown
+from lib.online.uses import Uses
 
 PLAIN = Programs(LOGIX, LIVE)
 CONVEYOR = f"{TOP}/examples/conveyor/project.json"
@@ -25,7 +25,7 @@ class Page:
     """A session with its commands, as the server has it, and what was told to the pages."""
 
     def __init__(self, programs=PLAIN, path=CONVEYOR, source=None):
-        self.source = source or json.loads(contents(path))
+        self.source = source or json.loads(read_text(path))
         self.session = Session(programs, self.source, SAID)
         self.player = Player(self.session, lambda fresh: self.shown.frame(fresh))
         self.shown = Shown(self.session, self.player, {"title": "test"})
@@ -85,7 +85,7 @@ class Walk:
 
     def __init__(self, test, programs, path, seed):
         self.test, self.programs, self.draw = test, programs, random.Random(seed)
-        self.source = json.loads(contents(path))
+        self.source = json.loads(read_text(path))
         self.page = Page(programs, source=self.source)
         self.session = self.page.session
 
@@ -174,10 +174,6 @@ WAYS = [Walk.cpu, Walk.cpu, Walk.tick, Walk.scan, Walk.go, Walk.go, Walk.last, W
         Walk.act]
 
 
-def built():
+def built_programs():
     """The built programs, as after the gate."""
-    return Programs(*(type(LOGIX)((f"{TOP}/crates/{name}/out/{name}",), True) for name in ("logix", "logix_live")))
-
-
-def is_built():
-    return all(os.access(program.words[0], os.X_OK) for program in (built().logix, built().live))
+    return Programs(*(type(LOGIX)((built(name),), True) for name in ("logix", "logix_live")))

@@ -13,7 +13,7 @@ import sys
 import time
 import unittest
 
-from plain_programs import TOP
+from common import TOP
 from png import smaller
 
 from selenium import webdriver

@@ -1,15 +1,13 @@
 #!/usr/bin/env python3
 """Answers the lines of a journal one by one, as `logix_live P` does, by the plain interpreter of the hammer."""
 
-import os
 import sys
 
-sys.dont_write_bytecode = True
-sys.path.insert(0, os.path.dirname(os.path.dirname(os.path.realpath(__file__))))
-from hammer_parts.plain.journal import Bad, Reader, lines_of  # noqa: E402
-from hammer_parts.plain.judge import Reporter, run  # noqa: E402
-from hammer_parts.plain.project import Project  # noqa: E402
-from hammer_parts.plain.reader import Fault  # noqa: E402
+from common import read_bytes
+from lib.hammer.plain.journal import Bad, Reader, lines_of
+from lib.hammer.plain.judge import Reporter, run
+from lib.hammer.plain.project import Project
+from lib.hammer.plain.reader import Fault
 
 
 def put(lines):
@@ -29,10 +27,8 @@ def answer(reporter, number, line):
 
 
 def main(path):
-    with open(path, "rb") as file:
-        contents = file.read()
     try:
-        reporter = Reporter(Project(contents))
+        reporter = Reporter(Project(read_bytes(path)))
     except Fault as fault:
         put([fault.line()])
         sys.exit(2)

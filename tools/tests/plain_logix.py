@@ -1,19 +1,12 @@
 #!/usr/bin/env python3
 """Answers `logix` check, text, xref, replay and stations by the plain interpreter of the hammer: a stand-in before the programs are built."""
 
-import os
 import sys
 
-sys.dont_write_bytecode = True
-sys.path.insert(0, os.path.dirname(os.path.dirname(os.path.realpath(__file__))))
-from hammer_parts.plain.journal import read_journal  # noqa: E402
-from hammer_parts.plain.judge import answer, story  # noqa: E402
-from hammer_parts.plain.project import Project  # noqa: E402
-
-
-def contents(path):
-    with open(path, "rb") as file:
-        return file.read()
+from common import read_bytes
+from lib.hammer.plain.journal import read_journal
+from lib.hammer.plain.judge import answer, story
+from lib.hammer.plain.project import Project
 
 
 def stations(project, journal, count):
@@ -28,9 +21,9 @@ def stations(project, journal, count):
 
 def main(word, *words):
     if word == "stations":
-        status, text = stations(contents(words[0]), contents(words[1]), int(words[2]))
+        status, text = stations(read_bytes(words[0]), read_bytes(words[1]), int(words[2]))
     else:
-        status, text = answer([word], [contents(path) for path in words])
+        status, text = answer([word], [read_bytes(path) for path in words])
     sys.stdout.write(text)
     return status
 

@@ -7,7 +7,8 @@ import subprocess
 import sys
 import tempfile
 
-TOP = os.path.dirname(os.path.dirname(os.path.dirname(os.path.realpath(__file__))))
+from common import TOP, read_bytes
+
 PLANT = f"{TOP}/examples/plant"
 PARTS = ("table", "session", "answer")
 
@@ -17,14 +18,9 @@ tee {room}/session | {program} "$1" | tee {room}/answer
 """
 
 
-def contents(path):
-    with open(path, "rb") as file:
-        return file.read()
-
-
 def stored():
     """What the plant prints, what it tells the controller, and what it is answered."""
-    return tuple(contents(f"{PLANT}/{part}.txt") for part in PARTS)
+    return tuple(read_bytes(f"{PLANT}/{part}.txt") for part in PARTS)
 
 
 def plant(*words):
@@ -40,4 +36,4 @@ def talk(program):
         with open(recorder, "w", encoding="utf-8") as file:
             file.write(RECORDER.format(room=shlex.quote(room), program=shlex.quote(program)))
         os.chmod(recorder, stat.S_IRWXU)
-        return plant(recorder).stdout, contents(f"{room}/session"), contents(f"{room}/answer")
+        return plant(recorder).stdout, read_bytes(f"{room}/session"), read_bytes(f"{room}/answer")

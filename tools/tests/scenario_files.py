@@ -8,16 +8,10 @@ import os
 import shlex
 import stat
 import sys
-import tempfile
-import unittest
 from contextlib import redirect_stderr, redirect_stdout
 
-TESTS = os.path.dirname(os.path.realpath(__file__))
-TOOLS = os.path.dirname(TESTS)
-TOP = os.path.dirname(TOOLS)
-sys.path.insert(0, TOOLS)
-
-from scenario_parts.main import main  # noqa: E402
+from common import TESTS, RoomTest, built
+from lib.scenario.main import main
 
 PLAIN = {"logix_live": "plain_live.py", "logix": "plain_logix.py"}
 BUILT = ("logix_live", "logix", "logix_timeline", "logix_wave")
@@ -38,12 +32,12 @@ LAMP = {
 }  # fmt: skip
 
 
-def programs(folder: str, built: bool) -> str:
+def programs(folder: str, is_built: bool) -> str:
     """A folder of programs: links to those that are built here, or starters of the plain ones."""
     os.makedirs(folder, exist_ok=True)
-    for name in BUILT if built else PLAIN:
-        if built:
-            os.symlink(f"{TOP}/crates/{name}/out/{name}", f"{folder}/{name}")
+    for name in BUILT if is_built else PLAIN:
+        if is_built:
+            os.symlink(built(name), f"{folder}/{name}")
             continue
         with open(f"{folder}/{name}", "w", encoding="utf-8") as file:
             file.write(f'#!/bin/sh\nexec {shlex.quote(sys.executable)} -B {shlex.quote(f"{TESTS}/{PLAIN[name]}")} "$@"\n')
@@ -61,21 +55,17 @@ class Called:
         self.out, self.err = out.getvalue(), err.getvalue()
 
 
-class ScenarioTest(unittest.TestCase):
+class ScenarioTest(RoomTest):
     built = True
 
     def setUp(self) -> None:
-        room = tempfile.TemporaryDirectory()
-        self.addCleanup(room.cleanup)
-        self.room = room.name
+        super().setUp()
         self.programs = programs(f"{self.room}/programs", self.built)
         self.put("lamp.json", json.dumps(LAMP))
 
     def put(self, name: str, text: str) -> str:
         os.makedirs(os.path.dirname(f"{self.room}/{name}"), exist_ok=True)
-        with open(f"{self.room}/{name}", "w", encoding="utf-8", newline="") as file:
-            file.write(text)
-        return f"{self.room}/{name}"
+        return super().put(name, text)
 
     def project(self, **more) -> str:
         """The lamp's project with other fields; its first rung is `rung` if that is given."""

@@ -6,34 +6,19 @@ this after `rt ci`.
 """
 
 import json
-import os
 import re
 import subprocess
-import tempfile
 import unittest
 
-TOP = os.path.dirname(os.path.dirname(os.path.dirname(os.path.abspath(__file__))))
-LOGIX = f"{TOP}/crates/logix/out/logix"
+from common import TOP, RoomTest, built, read_text
+
+LOGIX = built("logix")
 BLOCK = re.compile(r"^```(\w+)\n(.*?)^```$", re.MULTILINE | re.DOTALL)
 WORDS = {"project": ["check", "project"], "journal": ["replay", "project", "journal"], "script": ["run", "project", "script"]}
 REFUSED = {"project": 2, "journal": 3, "script": 3}
 
 
-def document(name):
-    with open(f"{TOP}/{name}", encoding="utf-8") as file:
-        return file.read()
-
-
-class Documents(unittest.TestCase):
-    def setUp(self):
-        room = tempfile.TemporaryDirectory()
-        self.addCleanup(room.cleanup)
-        self.room = room.name
-
-    def put(self, name, text):
-        with open(f"{self.room}/{name}", "w", encoding="utf-8") as file:
-            file.write(text)
-
+class Documents(RoomTest):
     def call(self, words):
         ran = subprocess.run([LOGIX, *words], cwd=self.room, stdout=subprocess.PIPE, stderr=subprocess.STDOUT, timeout=60, check=False)
         return ran.returncode, ran.stdout.decode()
@@ -41,7 +26,7 @@ class Documents(unittest.TestCase):
     def judge(self, name):
         """Each answer of a document is the program's; how many there are."""
         last, answers, waiting = None, 0, None
-        for kind, text in BLOCK.findall(document(name)):
+        for kind, text in BLOCK.findall(read_text(f"{TOP}/{name}")):
             with self.subTest(document=name, text=text):
                 if kind == "uses":
                     answers += 1
@@ -72,17 +57,17 @@ class Documents(unittest.TestCase):
         self.assertEqual(self.judge("docs/L5X.md"), 1)
 
     def test_the_readme_shows_the_example_that_it_runs(self):
-        shown = dict(BLOCK.findall(document("README.md")))
-        self.assertEqual(json.loads(shown["project"]), json.loads(document("examples/blink/project.json")))
-        self.assertEqual(shown["journal"], document("examples/blink/edit.txt"))
-        self.assertEqual(shown["report"], document("examples/blink/edited.txt"))
+        shown = dict(BLOCK.findall(read_text(f"{TOP}/README.md")))
+        self.assertEqual(json.loads(shown["project"]), json.loads(read_text(f"{TOP}/examples/blink/project.json")))
+        self.assertEqual(shown["journal"], read_text(f"{TOP}/examples/blink/edit.txt"))
+        self.assertEqual(shown["report"], read_text(f"{TOP}/examples/blink/edited.txt"))
 
     def test_what_gen_writes(self):
-        lines = re.search(r"`gen 1` writes:\n\n((?:    .*\n)+)", document("docs/FORMATS.md")).group(1)
+        lines = re.search(r"`gen 1` writes:\n\n((?:    .*\n)+)", read_text(f"{TOP}/docs/FORMATS.md")).group(1)
         self.assertEqual(self.call(["gen", "1"]), (0, re.sub(r"^ {4}", "", lines, flags=re.MULTILINE)))
 
     def test_the_usage(self):
-        shown = re.search(r"^\| 1 \|.*`(usage: .*?)`", document("docs/FORMATS.md"), re.MULTILINE).group(1)
+        shown = re.search(r"^\| 1 \|.*`(usage: .*?)`", read_text(f"{TOP}/docs/FORMATS.md"), re.MULTILINE).group(1)
         self.assertEqual(self.call([]), (1, shown + "\n"))
 
 

@@ -6,38 +6,26 @@ The gate runs this after `rt ci`. What the tool makes of each file is tested bef
 import json
 import os
 import subprocess
-import tempfile
 import unittest
 
+from common import RoomTest, built, read_text
 from add_on_files import add_on, given_out, taken_in, with_add_ons
 from add_on_made import INPUT
-from l5x_files import SAMPLES, TOP, convert, program, routine, tag
-from hammer_parts.plain.project import read
+from l5x_files import SAMPLES, convert, program, routine, tag
+from lib.hammer.plain.project import read
 from test_add_on_cases import SCANS, Both, leaves
 from test_samples import WORDS
 
-LOGIX = f"{TOP}/crates/logix/out/logix"
+LOGIX = built("logix")
 CASES = 60
 MOST_WATCHED = 256
 
 
 def contents(name):
-    with open(os.path.join(SAMPLES, name), encoding="ascii") as file:
-        return file.read()
+    return read_text(os.path.join(SAMPLES, name))
 
 
-class Built(unittest.TestCase):
-    def setUp(self):
-        room = tempfile.TemporaryDirectory()
-        self.addCleanup(room.cleanup)
-        self.room = room.name
-
-    def put(self, name, text):
-        path = f"{self.room}/{name}"
-        with open(path, "w", encoding="ascii") as file:
-            file.write(text)
-        return path
-
+class Built(RoomTest):
     def told(self, *words):
         """What the program writes, to its end with 0."""
         ran = subprocess.run([LOGIX, *words], stdout=subprocess.PIPE, stderr=subprocess.STDOUT, timeout=60, check=False)

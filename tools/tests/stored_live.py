@@ -10,11 +10,12 @@ import subprocess
 import tempfile
 import unittest
 
-from plant_files import PLANT, contents, plant, stored, talk
-from stored_runs import TOP, StoredRun, program
+from common import TOP, built, read_bytes
+from plant_files import PLANT, plant, stored, talk
+from stored_runs import StoredRun
 
 BLINK = f"{TOP}/examples/blink/project.json"
-LIVE = program("logix_live")
+LIVE = built("logix_live")
 IDLE = b"end 0 0 program lost 0\n"
 LONGEST = 65_536
 
@@ -123,7 +124,7 @@ class Sessions(StoredRun):
 
 class Plant(StoredRun):
     def test_the_stored_session(self):
-        self.runs([f"{PLANT}/project.json"], contents(f"{PLANT}/answer.txt"), 0, "logix_live", contents(f"{PLANT}/session.txt"))
+        self.runs([f"{PLANT}/project.json"], read_bytes(f"{PLANT}/answer.txt"), 0, "logix_live", read_bytes(f"{PLANT}/session.txt"))
 
     def test_the_plant_talks_as_it_is_stored(self):
         self.assertEqual(talk(LIVE), stored())

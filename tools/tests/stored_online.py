@@ -9,9 +9,10 @@ import subprocess
 import unittest
 from unittest import mock
 
-from online_files import CONVEYOR, Page, Walk, built
-from plain_programs import PROJECTS, TOP
-from online_parts import player
+from online_files import CONVEYOR, Page, Walk, built_programs
+from common import TOP
+from plain_programs import PROJECTS
+from lib.online import player
 
 COMMANDS = 8  # of each example's walk
 
@@ -20,12 +21,12 @@ class Walks(unittest.TestCase):
     def test_each_example(self):
         with mock.patch.object(player, "MOST_BEATS", 200):
             for seed, path in enumerate(PROJECTS):
-                Walk(self, built(), path, seed).take(COMMANDS)
+                Walk(self, built_programs(), path, seed).take(COMMANDS)
 
 
 class Places(unittest.TestCase):
     def page(self):
-        page = Page(built())
+        page = Page(built_programs())
         self.addCleanup(page.session.rest)
         page.act("mode run")
         page.act("in In1 1 3", 0)
@@ -37,7 +38,7 @@ class Places(unittest.TestCase):
     def test_examples_name_what_the_controller_takes(self):
         # Each place of each rung is one that the controller takes as a watch.
         for path in PROJECTS:
-            with Page(built(), path) as page:
+            with Page(built_programs(), path) as page:
                 self.assertEqual((page.session.lost, page.session.left_out), (None, set()), path)
 
     def test_from_before_and_from_behind_it_is_the_same(self):

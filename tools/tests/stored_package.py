@@ -15,14 +15,9 @@ import tempfile
 import unittest
 import urllib.request
 
-sys.dont_write_bytecode = True
-TOP = os.path.dirname(os.path.dirname(os.path.dirname(os.path.abspath(__file__))))
+from common import TOP, read_bytes
+
 NEEDED = ("dpkg", "dpkg-deb", "readelf", "strip")
-
-
-def contents(path):
-    with open(path, "rb") as file:
-        return file.read()
 
 
 @unittest.skipUnless(all(map(shutil.which, NEEDED)), "this machine makes no Debian packages")
@@ -79,16 +74,16 @@ class Package(unittest.TestCase):
         example = f"{root}/usr/share/doc/logix/examples/conveyor"
         words = [f"{root}/usr/bin/logix", "replay", f"{example}/project.json", f"{example}/journal.txt"]
         ran = subprocess.run(words, capture_output=True, timeout=60, check=False)
-        self.assertEqual((ran.returncode, ran.stdout, ran.stderr), (0, contents(f"{example}/report.txt"), b""))
+        self.assertEqual((ran.returncode, ran.stdout, ran.stderr), (0, read_bytes(f"{example}/report.txt"), b""))
         drawn = subprocess.run([f"{root}/usr/bin/logix_timeline"], input=ran.stdout, capture_output=True, timeout=60, check=False)
-        self.assertEqual((drawn.returncode, drawn.stdout), (0, contents(f"{example}/report.svg")))
+        self.assertEqual((drawn.returncode, drawn.stdout), (0, read_bytes(f"{example}/report.svg")))
 
     def talks_with_the_plant(self, root):
         example = f"{root}/usr/share/doc/logix/examples/plant"
         words = [sys.executable, f"{example}/plant.py"]
         path = f"{root}/usr/bin:{os.environ['PATH']}"
         ran = subprocess.run(words, env={**os.environ, "PATH": path}, capture_output=True, timeout=60, check=False)
-        self.assertEqual((ran.returncode, ran.stdout, ran.stderr), (0, contents(f"{example}/table.txt"), b""))
+        self.assertEqual((ran.returncode, ran.stdout, ran.stderr), (0, read_bytes(f"{example}/table.txt"), b""))
 
     def explains_a_refusal(self, root):
         with tempfile.NamedTemporaryFile() as project:
@@ -137,7 +132,7 @@ class Package(unittest.TestCase):
         pages = [f"{root}/usr/share/doc/logix/README.md", *glob.glob(f"{root}/usr/share/doc/logix/examples/**/README.md", recursive=True)]
         self.assertGreater(len(pages), 15)
         for page in pages:
-            self.named(root, contents(page).decode())
+            self.named(root, read_bytes(page).decode())
 
     def named(self, root, text):
         self.assertNotRegex(text, r"\./logix|\btools/|(?<![/\w])docs/")

@@ -5,33 +5,24 @@ The gate runs this after `rt ci`.
 """
 
 import json
-import os
 import re
 import subprocess
-import tempfile
 import unittest
 
+from common import TOP, RoomTest, built
 import refused_journals
 import refused_projects
 from terminal import on_terminal
 
-TOP = os.path.dirname(os.path.dirname(os.path.dirname(os.path.abspath(__file__))))
-LOGIX = f"{TOP}/crates/logix/out/logix"
+LOGIX = built("logix")
 AUDIT = f"{TOP}/examples/audit"
 TWO_STATIONS = f"{TOP}/examples/two_stations"
 
 
-class Terminal(unittest.TestCase):
+class Terminal(RoomTest):
     def setUp(self):
-        room = tempfile.TemporaryDirectory()
-        self.addCleanup(room.cleanup)
-        self.room = room.name
-        self.maxDiff = None
+        super().setUp()
         self.put("line.json", refused_projects.LINE)
-
-    def put(self, name, text):
-        with open(f"{self.room}/{name}", "wb") as file:
-            file.write(text if isinstance(text, bytes) else text.encode())
 
     def logix(self, *words):
         """The built program, as ./logix runs it."""

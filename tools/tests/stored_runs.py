@@ -6,39 +6,20 @@ that call, is seen here.
 """
 
 import json
-import os
 import random
 import resource
 import subprocess
-import tempfile
 import unittest
 
-TOP = os.path.dirname(os.path.dirname(os.path.dirname(os.path.abspath(__file__))))
+from common import TOP, RoomTest, built, read_bytes
+
 USAGE = b"usage: logix check P, text P, replay P J, run P S, gen N, migrate P, trace P J, audit P T, xref P, stations P J C, link A B L\n"
 CONVEYOR = f"{TOP}/examples/conveyor"
 AUDIT = f"{TOP}/examples/audit"
 MOST_BYTES = 16_777_216
 
 
-def program(name):
-    return f"{TOP}/crates/{name}/out/{name}"
-
-
-def contents(path):
-    with open(path, "rb") as file:
-        return file.read()
-
-
-class StoredRun(unittest.TestCase):
-    def setUp(self):
-        room = tempfile.TemporaryDirectory()
-        self.addCleanup(room.cleanup)
-        self.room = room.name
-
-    def put(self, name, text):
-        with open(f"{self.room}/{name}", "w", encoding="utf-8") as file:
-            file.write(text)
-
+class StoredRun(RoomTest):
     def runs(self, words, wanted, status, name="logix", given=b"", out=subprocess.PIPE, most_memory=None):
         """The program, run with these words, writes what is wanted, nothing on standard error, and ends with the status."""
 
@@ -47,7 +28,7 @@ class StoredRun(unittest.TestCase):
                 resource.setrlimit(resource.RLIMIT_AS, (most_memory, most_memory))
 
         ran = subprocess.run(
-            [program(name), *words], cwd=self.room, input=given, stdout=out, stderr=subprocess.PIPE, timeout=60, preexec_fn=limit
+            [built(name), *words], cwd=self.room, input=given, stdout=out, stderr=subprocess.PIPE, timeout=60, preexec_fn=limit
         )
         self.assertEqual((ran.returncode, ran.stdout or b"", ran.stderr), (status, wanted, b""))
 
@@ -55,7 +36,7 @@ class StoredRun(unittest.TestCase):
 class Logix(StoredRun):
     def test_a_replay_writes_the_report(self):
         words = ["replay", f"{CONVEYOR}/project.json", f"{CONVEYOR}/journal.txt"]
-        self.runs(words, contents(f"{CONVEYOR}/report.txt"), 0)
+        self.runs(words, read_bytes(f"{CONVEYOR}/report.txt"), 0)
 
     def test_no_words_are_told_how_to_use_it(self):
         self.runs([], USAGE, 1)
@@ -105,13 +86,13 @@ class Logix(StoredRun):
 
     def test_a_trace_is_written_and_kept(self):
         words = ["trace", f"{AUDIT}/project.json", f"{AUDIT}/journal.txt"]
-        self.runs(words, contents(f"{AUDIT}/trace.txt"), 0)
-        self.runs(["audit", f"{AUDIT}/project.json", f"{AUDIT}/trace.txt"], contents(f"{AUDIT}/verdict.txt"), 0)
+        self.runs(words, read_bytes(f"{AUDIT}/trace.txt"), 0)
+        self.runs(["audit", f"{AUDIT}/project.json", f"{AUDIT}/trace.txt"], read_bytes(f"{AUDIT}/verdict.txt"), 0)
 
     def test_two_stations(self):
         folder = f"{TOP}/examples/two_stations"
         words = [f"{folder}/{name}" for name in ("a.json", "b.json", "link.txt")]
-        self.runs(["link", *words], contents(f"{folder}/output.txt"), 0)
+        self.runs(["link", *words], read_bytes(f"{folder}/output.txt"), 0)
 
     def test_a_breach_ends_with_8(self):
         self.runs(["audit", f"{AUDIT}/project.json", f"{AUDIT}/doctored.txt"], b"no L1 4\n", 8)
@@ -126,19 +107,19 @@ class Stack(StoredRun):
         def limit():
             resource.setrlimit(resource.RLIMIT_STACK, (self.ENOUGH, self.ENOUGH))
 
-        called = [program(name), *words]
+        called = [built(name), *words]
         ran = subprocess.run(called, input=given, stdout=subprocess.PIPE, env={}, timeout=60, preexec_fn=limit)
         self.assertEqual(ran.returncode, 0, called)
 
     def test_it_is_enough(self):
-        report = contents(f"{CONVEYOR}/report.txt")
+        report = read_bytes(f"{CONVEYOR}/report.txt")
         files = [f"{CONVEYOR}/project.json", f"{CONVEYOR}/journal.txt"]
         self.ends_well("logix", ["replay", *files])
         self.ends_well("logix", ["trace", *files])
         self.ends_well("logix", ["stations", *files, "8"])
         self.ends_well("logix", ["run", *(f"{TOP}/examples/two_engineers/{name}" for name in ("project.json", "shift.txt"))])
         self.ends_well("logix", ["link", *(f"{TOP}/examples/two_stations/{name}" for name in ("a.json", "b.json", "link.txt"))])
-        self.ends_well("logix_live", files[:1], contents(files[1]))
+        self.ends_well("logix_live", files[:1], read_bytes(files[1]))
         self.ends_well("logix_timeline", [], report)
         self.ends_well("logix_wave", [], report)
 
@@ -187,7 +168,7 @@ class Stations(StoredRun):
             self.assertEqual([int(word) for word in first[2:]], story[int(first[2])], number)
 
     def output(self, words):
-        ran = subprocess.run([program("logix"), *words], cwd=self.room, stdout=subprocess.PIPE, timeout=60)
+        ran = subprocess.run([built("logix"), *words], cwd=self.room, stdout=subprocess.PIPE, timeout=60)
         self.assertEqual(ran.returncode, 0)
         return ran.stdout.decode()
 
@@ -235,7 +216,7 @@ class Pictures(StoredRun):
                 self.runs([], b"", 5, name, self.REPORT, full)
 
     def test_the_stored_drawing(self):
-        self.runs([], contents(f"{CONVEYOR}/report.svg"), 0, "logix_timeline", contents(f"{CONVEYOR}/report.txt"))
+        self.runs([], read_bytes(f"{CONVEYOR}/report.svg"), 0, "logix_timeline", read_bytes(f"{CONVEYOR}/report.txt"))
 
     def told(self, tool, *words):
         """What a tool writes of this report, in which nothing changes, where it is told of a project."""
@@ -258,7 +239,7 @@ class Pictures(StoredRun):
 
     def test_a_report_is_drawn(self):
         for name in ("logix_wave", "logix_timeline"):
-            ran = subprocess.run([program(name), "tick"], input=self.REPORT, stdout=subprocess.PIPE, timeout=60)
+            ran = subprocess.run([built(name), "tick"], input=self.REPORT, stdout=subprocess.PIPE, timeout=60)
             self.assertEqual(ran.returncode, 0)
             self.assertGreater(len(ran.stdout), 100)
 

@@ -12,16 +12,16 @@ import random
 import unittest
 
 from scenario_files import ScenarioTest
-from hammer_parts.made import Maker
-from hammer_parts.plain.journal import read_journal
-from hammer_parts.plain.judge import Reporter
-from hammer_parts.plain.project import FITS, Project, write
-from scenario_parts.line import Wrong
-from scenario_parts.pacing import Pacer
-from scenario_parts.places import Places
-from scenario_parts.playing import play, refusal_of
-from scenario_parts.programs import Programs
-from scenario_parts.running import Runner
+from lib.hammer.made import Maker
+from lib.hammer.plain.journal import read_journal
+from lib.hammer.plain.judge import Reporter
+from lib.hammer.plain.project import FITS, Project, write
+from lib.scenario.line import Wrong
+from lib.scenario.pacing import Pacer
+from lib.scenario.places import Places
+from lib.scenario.playing import play, refusal_of
+from lib.scenario.programs import Programs
+from lib.scenario.running import Runner
 
 CASES, LEAST_WORDS = 40, 80
 
@@ -107,7 +107,7 @@ class Copies(ScenarioTest):
         return "".join(line + "\n" for line in [*reporter.lines, reporter.end()])
 
     def test_nothing_else_can_be_seen(self) -> None:
-        import scenario_parts.playing as playing
+        import lib.scenario.playing as playing
 
         self.patched(playing, "Runner", Watched)
         words = cases = 0

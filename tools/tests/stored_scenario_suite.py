@@ -15,8 +15,9 @@ import subprocess
 import unittest
 import xml.etree.ElementTree as tree
 
-from scenario_files import LAMP, TESTS, TOP, Called, ScenarioTest
-from scenario_parts.places import Places
+from common import TESTS, TOP
+from scenario_files import LAMP, Called, ScenarioTest
+from lib.scenario.places import Places
 
 EXAMPLES = sorted(glob.glob(f"{TOP}/examples/**/*.scenario", recursive=True))
 FALLING = sorted(glob.glob(f"{TESTS}/scenarios/*.scenario"))

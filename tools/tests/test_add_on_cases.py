@@ -14,11 +14,11 @@ from unittest import mock
 from add_on_made import INPUT, Maker
 from add_on_plain import Cell, Plain
 from l5x_files import convert
-from hammer_parts.plain.journal import Action
-from hammer_parts.plain.machine import Machine
-from hammer_parts.plain.project import Project, read
-from l5x import expanding
-from l5x.calls import Call
+from lib.hammer.plain.journal import Action
+from lib.hammer.plain.machine import Machine
+from lib.hammer.plain.project import Project, read
+from lib.l5x import expanding
+from lib.l5x.calls import Call
 
 CASES = 60
 SCANS = 6

@@ -6,7 +6,8 @@ import subprocess
 import tempfile
 import unittest
 
-TOP = os.path.dirname(os.path.dirname(os.path.dirname(os.path.realpath(__file__))))
+from common import TOP
+
 SUMS = {
     "a.json": "96532c30fd029d77a9cf9af42bdb359bffc14516cbc5bf5acb1dbb4c23a7d118",
     "a.txt": "195bab05bbed550e9c6b5a30e4d95b214df2bed31f14a3f94f7275d786f4aedb",

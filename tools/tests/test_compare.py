@@ -6,8 +6,8 @@ import subprocess
 import tempfile
 import unittest
 
-from scenario_files import TOOLS
-from scenario_parts.comparing import differences, first_difference, read_report
+from common import TOOLS
+from lib.scenario.comparing import differences, first_difference, read_report
 
 REPORT = """0 0 reply 31 ok
 0 1 begin Cont Main 0

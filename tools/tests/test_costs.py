@@ -1,17 +1,14 @@
 """tools/costs: what a process is at work on, the table, and the status of the command."""
 
-import os
 import subprocess
 import sys
 import tempfile
 import unittest
 
-TOP = os.path.dirname(os.path.dirname(os.path.dirname(os.path.realpath(__file__))))
-sys.path.insert(0, f"{TOP}/tools")
-
-from costs_parts.processes import Process, Run  # noqa: E402
-from costs_parts.table import table_of  # noqa: E402
-from costs_parts.work import Kind, Work, work_of  # noqa: E402
+from common import TOP
+from lib.costs.processes import Process, Run
+from lib.costs.table import table_of
+from lib.costs.work import Kind, Work, work_of
 
 RATTLE = "/opt/rattle/bin/rattle"
 HOME = "/work/crates/lgx_num"

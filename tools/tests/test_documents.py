@@ -10,13 +10,13 @@ from importlib.machinery import SourceFileLoader
 from importlib.util import module_from_spec, spec_from_loader
 from types import ModuleType
 
-TOP = os.path.dirname(os.path.dirname(os.path.dirname(os.path.realpath(__file__))))
+from common import TOP, read_text
+
 DOCUMENTS = ["README.md", *sorted(os.path.relpath(path, TOP) for path in glob.glob(f"{TOP}/docs/*.md"))]
 
 
 def text(name: str) -> str:
-    with open(f"{TOP}/{name}", encoding="utf-8") as file:
-        return file.read()
+    return read_text(f"{TOP}/{name}")
 
 
 def sources(crate: str) -> str:

@@ -5,7 +5,8 @@ import os
 import re
 import unittest
 
-TOP = os.path.dirname(os.path.dirname(os.path.dirname(os.path.abspath(__file__))))
+from common import TOP
+
 PAIR = re.compile(r"^file: (\S+)\nold: ?(.*)\nnew: ?(.*)$", re.MULTILINE)
 
 

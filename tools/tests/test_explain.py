@@ -6,13 +6,11 @@ import os
 import stat
 import subprocess
 import sys
-import tempfile
 import unittest
 
+from common import TOOLS, RoomTest
 from refused_projects import LINE
 from terminal import on_terminal
-
-TOOLS = os.path.dirname(os.path.dirname(os.path.realpath(__file__)))
 
 # How many codes there are of each letter, from 1 on; there is no E4.
 CODES = {"T": 5, "C": 17, "G": 10, "Y": 6, "P": 11, "J": 5, "K": 2, "V": 5, "U": 1, "L": 3, "E": 12, "N": 3, "F": 3, "M": 3}
@@ -30,17 +28,9 @@ def explain(*words: str, cwd: str | None = None) -> tuple[int, str]:
     return ran.returncode, ran.stdout
 
 
-class Room(unittest.TestCase):
-    def setUp(self) -> None:
-        room = tempfile.TemporaryDirectory()
-        self.addCleanup(room.cleanup)
-        self.room = room.name
-        self.maxDiff = None
-
+class Room(RoomTest):
     def put(self, name: str, text: str) -> str:
-        path = f"{self.room}/{name}"
-        with open(path, "w", encoding="utf-8") as file:
-            file.write(text)
+        path = super().put(name, text)
         os.chmod(path, stat.S_IRWXU)
         return path
 
@@ -100,7 +90,7 @@ class Ended(Room):
         words = [*self.runner("logix", "#!/bin/sh\necho end 0 0 run lost many; echo more\n"), "replay", "p", "j"]
         status, out, said = on_terminal(words)
         self.assertEqual((status, out), (0, b"end 0 0 run lost many\nmore\n"))
-        self.assertRegex(said, "^logix: this couldn't be explained, by a fault of tools/places: ValueError")
+        self.assertRegex(said, "^logix: this couldn't be explained, by a fault of tools/lib/places: ValueError")
 
 
 class Output(Room):

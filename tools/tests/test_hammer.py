@@ -4,23 +4,20 @@ import json
 import os
 import random
 import subprocess
-import sys
 import tempfile
 import unittest
 
-TOP = os.path.dirname(os.path.dirname(os.path.dirname(os.path.abspath(__file__))))
-sys.path.insert(0, f"{TOP}/tools")
-
-from hammer_parts import failing, lanes, limits  # noqa: E402
-from hammer_parts.bent import Bender  # noqa: E402
-from hammer_parts.cases import file_text, journal_text  # noqa: E402
-from hammer_parts.laws import Broken  # noqa: E402
-from hammer_parts.made import Maker  # noqa: E402
-from hammer_parts.plain.journal import Script, read_journal  # noqa: E402
-from hammer_parts.plain.judge import answer  # noqa: E402
-from hammer_parts.program import Ran  # noqa: E402
-from hammer_parts.shrink import Shrinker  # noqa: E402
-from hammer_parts.sound import unsound  # noqa: E402
+import common  # noqa: F401 (where the tools are)
+from lib.hammer import failing, lanes, limits
+from lib.hammer.bent import Bender
+from lib.hammer.cases import file_text, journal_text
+from lib.hammer.laws import Broken
+from lib.hammer.made import Maker
+from lib.hammer.plain.journal import Script, read_journal
+from lib.hammer.plain.judge import answer
+from lib.hammer.program import Ran
+from lib.hammer.shrink import Shrinker
+from lib.hammer.sound import unsound
 
 
 class Made(unittest.TestCase):

@@ -10,11 +10,11 @@ import unittest
 from unittest import mock
 
 from scenario_files import programs
-from hammer_parts import begins, books, corpus, coverage, marks, pieces, scenarios, splits, tool_faults
-from hammer_parts.cases import file_text
-from hammer_parts.plain.judge import answer
-from hammer_parts.plain.required import Requirement, Test
-from hammer_parts.program import Ran
+from lib.hammer import begins, books, corpus, coverage, marks, pieces, scenarios, splits, tool_faults
+from lib.hammer.cases import file_text
+from lib.hammer.plain.judge import answer
+from lib.hammer.plain.required import Requirement, Test
+from lib.hammer.program import Ran
 
 
 class Plain:
@@ -101,7 +101,7 @@ class Met(unittest.TestCase):
         self.assertNotIn("  cause M1: 7", told)
 
     def test_each_code_of_the_documents_has_a_row(self):
-        from places.codes import table
+        from lib.places.codes import table
         rows = {row.split(" ")[-1] for row in coverage.rows()}
         for code in table():
             if not code.isdigit() and code != "G9":
@@ -169,7 +169,7 @@ class Scenarios(unittest.TestCase):
         self.assertEqual(self.judged(2), [None] * 2)
 
     def test_a_judge_that_lets_all_pass_is_seen(self):
-        with mock.patch("scenario_parts.tests.Not.holds", lambda *_: True):
+        with mock.patch("lib.scenario.tests.Not.holds", lambda *_: True):
             self.assertTrue(any(self.judged(5)))
 
 

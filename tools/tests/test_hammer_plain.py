@@ -3,13 +3,10 @@
 import json
 import os
 import re
-import sys
 import unittest
 
-TOP = os.path.dirname(os.path.dirname(os.path.dirname(os.path.abspath(__file__))))
-sys.path.insert(0, f"{TOP}/tools")
-
-from hammer_parts.plain.judge import answer  # noqa: E402
+from common import TOP, read_bytes
+from lib.hammer.plain.judge import answer
 
 FIELDS = {
     "schema": "1", "controller": '"C"', "types": "[]", "tags": "[]",
@@ -18,16 +15,11 @@ FIELDS = {
 }
 
 
-def contents(path):
-    with open(path, "rb") as file:
-        return file.read()
-
-
 class Documents(unittest.TestCase):
     """Each journal runs on the last project above it, and a report or a refusal is what comes out."""
 
     def judge(self, name):
-        text = contents(f"{TOP}/docs/{name}").decode()
+        text = read_bytes(f"{TOP}/docs/{name}").decode()
         found = re.findall(r"^```(project|journal|report|refused)\n(.*?)^```", text, re.DOTALL | re.MULTILINE)
         files, judged = {}, 0
         for at, (kind, text) in enumerate(found):
@@ -53,15 +45,15 @@ class Examples(unittest.TestCase):
         for folder in sorted(os.listdir(f"{TOP}/examples")):
             path = f"{TOP}/examples/{folder}"
             if os.path.exists(f"{path}/report.txt") and os.path.exists(f"{path}/journal.txt"):
-                files = [contents(f"{path}/project.json"), contents(f"{path}/journal.txt")]
-                self.assertEqual(answer(["replay"], files)[1].encode(), contents(f"{path}/report.txt"), folder)
+                files = [read_bytes(f"{path}/project.json"), read_bytes(f"{path}/journal.txt")]
+                self.assertEqual(answer(["replay"], files)[1].encode(), read_bytes(f"{path}/report.txt"), folder)
 
     def test_traces(self):
         path = f"{TOP}/examples/audit"
-        project, trace = contents(f"{path}/project.json"), contents(f"{path}/trace.txt")
-        self.assertEqual(answer(["trace"], [project, contents(f"{path}/journal.txt")])[1].encode(), trace)
-        self.assertEqual(answer(["audit"], [project, trace])[1].encode(), contents(f"{path}/verdict.txt"))
-        self.assertEqual(answer(["audit"], [project, contents(f"{path}/doctored.txt")]), (8, "no L1 4\n"))
+        project, trace = read_bytes(f"{path}/project.json"), read_bytes(f"{path}/trace.txt")
+        self.assertEqual(answer(["trace"], [project, read_bytes(f"{path}/journal.txt")])[1].encode(), trace)
+        self.assertEqual(answer(["audit"], [project, trace])[1].encode(), read_bytes(f"{path}/verdict.txt"))
+        self.assertEqual(answer(["audit"], [project, read_bytes(f"{path}/doctored.txt")]), (8, "no L1 4\n"))
 
 
 MOST_BYTES = 100_000
@@ -78,7 +70,7 @@ class Rows(unittest.TestCase):
 
     def test_project(self):
         texts, judged = {}, 0
-        for line in contents(f"{TOP}/crates/test_program/stdin").decode().splitlines():
+        for line in read_bytes(f"{TOP}/crates/test_program/stdin").decode().splitlines():
             kind, given, wanted = (part.strip() for part in (line.split("|", 2) + ["", ""])[:3])
             if kind in ("text", "more"):
                 texts[given] = (texts[given] if kind == "more" else "") + plain(wanted)

@@ -7,11 +7,12 @@ import unittest
 import xml.etree.ElementTree as trees
 from unittest import mock
 
-from plain_programs import LOGIX, PROJECTS, contents
-from hammer_parts.plain.judge import answer
-from ladder_parts import drawing, forms, main, rungs
-from ladder_parts.elements import Look, Mark
-from ladder_parts.programs import routines
+from common import read_text
+from plain_programs import LOGIX, PROJECTS
+from lib.hammer.plain.judge import answer
+from lib import neutral
+from lib.ladder import drawing, forms, main
+from lib.ladder.elements import Look, Mark
 
 SVG = "{http://www.w3.org/2000/svg}"
 NO_RUNGS = {  # with the place where each stops being one
@@ -57,34 +58,34 @@ class Neutral(unittest.TestCase):
     def test_each_rung_of_each_example_is_read_and_spelled(self):
         count = 0
         for path in PROJECTS:
-            for _, _, texts in routines(answer(["text"], [contents(path).encode()])[1]):
+            for _, _, texts in neutral.routines(answer(["text"], [read_text(path).encode()])[1]):
                 for text in texts:
-                    self.assertEqual(rungs.spelled(rungs.read(text)), text)
+                    self.assertEqual(neutral.canonical(neutral.elements(text)), text)
                     count += 1
         self.assertGreater(count, 50)
 
     def test_blanks_and_case(self):
-        self.assertEqual(rungs.spelled(rungs.read(" xic( a ) [ XIO(b)\t,\r\n] ote(C) ; ")), "XIC(a)[XIO(b),]OTE(C);")
+        self.assertEqual(neutral.canonical(neutral.elements(" xic( a ) [ XIO(b)\t,\r\n] ote(C) ; ")), "XIC(a)[XIO(b),]OTE(C);")
 
     def test_what_is_no_rung(self):
         for text, at in NO_RUNGS.items():
-            with self.subTest(text), self.assertRaises(rungs.NoRung) as fault:
-                rungs.read(text)
+            with self.subTest(text), self.assertRaises(neutral.NoRung) as fault:
+                neutral.elements(text)
             self.assertEqual(fault.exception.at, at, text)
 
     def test_instructions_in_the_order_of_the_text(self):
-        found = rungs.instructions(rungs.read("[XIC(a),[XIC(b),]XIC(c)]OTE(d);"))
+        found = neutral.instructions(neutral.elements("[XIC(a),[XIC(b),]XIC(c)]OTE(d);"))
         self.assertEqual([each.operands[0] for each in found], list("abcd"))
 
     def test_what_text_writes_as_routines(self):
         listing = "program P routine M\nprogram(x);\nprogram P routine S\nprogram Q routine M\n;\n"
-        self.assertEqual(routines(listing), [("P", "M", ["program(x);"]), ("P", "S", []), ("Q", "M", [";"])])
+        self.assertEqual(neutral.routines(listing), [("P", "M", ["program(x);"]), ("P", "S", []), ("Q", "M", [";"])])
 
 
 class Drawing(unittest.TestCase):
     def check(self, texts, width):
         for text, (whole, height, found) in zip(texts, boxes(drawn(texts, width=width)), strict=True):
-            self.assertEqual(len(found), len(list(rungs.instructions(rungs.read(text)))))
+            self.assertEqual(len(found), len(neutral.instructions(neutral.elements(text))))
             for at, one in enumerate(found):
                 self.assertTrue(drawing.LEFT <= one[0] and one[2] <= whole - drawing.RIGHT and 0 <= one[1] and one[3] <= height, (text, one))
                 for other in found[at + 1:]:
@@ -97,7 +98,7 @@ class Drawing(unittest.TestCase):
 
     def test_examples(self):
         for path in PROJECTS:
-            for _, _, texts in routines(answer(["text"], [contents(path).encode()])[1]):
+            for _, _, texts in neutral.routines(answer(["text"], [read_text(path).encode()])[1]):
                 self.check(texts, 900)
 
     def test_long_rungs_are_wrapped(self):
@@ -125,7 +126,7 @@ class Drawing(unittest.TestCase):
         self.assertEqual([text.text for text in svg.iter(f"{SVG}text") if text.get("class") == "note"], ["never", "3", "12 times"])
 
     def test_each_mnemonic_has_a_form(self):
-        from hammer_parts.plain.rungs import MNEMONICS
+        from lib.hammer.plain.rungs import MNEMONICS
         self.assertEqual(set(forms.CONTACTS) | set(forms.COILS) | set(forms.TITLES), MNEMONICS)
 
     def test_parameters_of_calls(self):

@@ -1,30 +1,25 @@
 """The man page, the help and the completion: all name the commands of the usage line, the page each program, and it has no warning."""
 
-import os
 import re
 import shutil
 import subprocess
 import unittest
 
-TOP = os.path.dirname(os.path.dirname(os.path.dirname(os.path.realpath(__file__))))
+from common import TOP, read_text
+
 PAGE = f"{TOP}/docs/logix.1"
 COMPLETION = f"{TOP}/tools/logix.bash-completion"
 
 
-def text(path):
-    with open(path, encoding="utf-8") as file:
-        return file.read()
-
-
 def usage_words():
     """The commands of the program, as the documents have its usage line (which the gate compares with what it prints)."""
-    usage = re.search(r"`usage: logix (.*?)`", text(f"{TOP}/docs/FORMATS.md")).group(1)
+    usage = re.search(r"`usage: logix (.*?)`", read_text(f"{TOP}/docs/FORMATS.md")).group(1)
     return [command.split()[0] for command in usage.split(", ")]
 
 
 def programs():
     """The programs that a user runs, as the tools have them, and the tools that a package has beside them."""
-    listed = re.search(r"^programs=\((.*)\)$", text(f"{TOP}/tools/programs.sh"), re.MULTILINE).group(1)
+    listed = re.search(r"^programs=\((.*)\)$", read_text(f"{TOP}/tools/programs.sh"), re.MULTILINE).group(1)
     tools = "from_l5x ladder online xref explain scenario compare".split()
     return [*listed.split(), *(f"logix_{tool}" for tool in tools)]
 
@@ -44,11 +39,11 @@ class Manual(unittest.TestCase):
 
     def test_the_page_has_each_command(self):
         for form in (r"^\.B logix (\w+)$", r'^\.BI (\w+) "'):
-            self.assertEqual(sorted(re.findall(form, text(PAGE), re.MULTILINE)), sorted(usage_words()))
+            self.assertEqual(sorted(re.findall(form, read_text(PAGE), re.MULTILINE)), sorted(usage_words()))
 
     def test_the_page_has_each_program(self):
-        names, _, _ = text(PAGE).partition(".SH NAME\n")[2].replace("\n", " ").partition(" \\- ")
-        synopsis, _, _ = text(PAGE).partition(".SH SYNOPSIS\n")[2].partition(".SH ")
+        names, _, _ = read_text(PAGE).partition(".SH NAME\n")[2].replace("\n", " ").partition(" \\- ")
+        synopsis, _, _ = read_text(PAGE).partition(".SH SYNOPSIS\n")[2].partition(".SH ")
         self.assertEqual(names.split(", "), programs())
         self.assertEqual(list(dict.fromkeys(re.findall(r"^\.B (logix\w*)", synopsis, re.MULTILINE))), programs())
 

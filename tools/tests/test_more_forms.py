@@ -7,7 +7,7 @@ import unittest
 
 from add_on_files import add_on, given_out, taken_in, with_add_ons
 from l5x_files import alias, call, content, convert, file, program, routine, tag, task
-from hammer_parts.plain.judge import answer
+from lib.hammer.plain.judge import answer
 
 NEWER = ["LIMIT(1,n,5)NOP();", "NE(n,1)LT(n,2)[GT(n,3),xic(b)]le( n , 4 )GE(n,5)EQ(n,6)NOP();", "MOVE(1,n);"]
 OLDER = ["LIM(1,n,5)NOP();", "NEQ(n,1)LES(n,2)[GRT(n,3),xic(b)]LEQ( n , 4 )GEQ(n,5)EQU(n,6)NOP();", "MOV(1,n);"]

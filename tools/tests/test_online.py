@@ -13,14 +13,14 @@ from unittest import mock
 
 from online_files import CONVEYOR, PLAIN, Page, Walk, anew
 from plain_programs import LIVE, PROJECTS
-from ladder_parts.programs import Ended, Program
-from online_parts import follower, player, taking
-from online_parts.edits import Program as Edited
-from online_parts.guards import Refused
-from online_parts.journal import Act
-from online_parts.seen import Seen
-from online_parts.stops import Stop, first
-from online_parts.talk import Talk, TalkAnew
+from lib.programs import Ended, Program
+from lib.online import follower, player, taking
+from lib.online.edits import Program as Edited
+from lib.online.guards import Refused
+from lib.online.journal import Act
+from lib.online.seen import Seen
+from lib.online.stops import Stop, first
+from lib.talk import Talk, TalkAnew
 
 # Programs that answer as a controller might, and end as it might.
 ECHO = "import sys\nfor at, line in enumerate(sys.stdin.buffer, 1):\n    sys.stdout.buffer.write(b'line J1 %d\\n' % at if line == b'?\\n' else line); sys.stdout.buffer.flush()\n"
@@ -291,7 +291,7 @@ class Past(unittest.TestCase):
                 self.assertTrue(low <= before and last <= high)
 
     def test_edits_that_it_does_not_watch_are_seen_by_going_on(self):
-        with Page() as page, mock.patch("online_parts.watch.MOST", 20):
+        with Page() as page, mock.patch("lib.online.watch.MOST", 20):
             page.act("accept Rates Main r 0 ADD(Last,1,Last);")
             page.do("view", program="Rates", routine="Main")
             page.do("go", to=0)
@@ -335,7 +335,7 @@ class Refusals(unittest.TestCase):
             self.assertTrue(page.do("check")["same"])
 
     def test_no_more_events_than_a_session_has(self):
-        with Page() as page, mock.patch("online_parts.session.MOST_EVENTS", 40), mock.patch.object(player, "MOST_EVENTS", 40):
+        with Page() as page, mock.patch("lib.online.session.MOST_EVENTS", 40), mock.patch.object(player, "MOST_EVENTS", 40):
             page.act("mode run")
             page.do("cpu", count=30)
             page.do("cpu", count=10)

@@ -3,9 +3,9 @@
 import random
 import unittest
 
-import plain_programs  # noqa: F401 (where the tools are)
-from online_parts.journal import LONGEST_ACTION, Act, Beat, Journal, Run, action, read
-from online_parts.plan import Plan, number_of, steps_of
+import common  # noqa: F401 (where the tools are)
+from lib.online.journal import LONGEST_ACTION, Act, Beat, Journal, Run, action, read
+from lib.online.plan import Plan, number_of
 
 KINDS = {
     "controller": "C", "types": [{"name": "Cell", "members": [{"name": "Ok", "type": "BOOL"}, {"name": "Counts", "type": "INT", "dim": 3}, {"name": "Dwell", "type": "TIMER"}]}],
@@ -38,6 +38,8 @@ class Places(unittest.TestCase):
         self.assertEqual(place.watched(), ["arr[0].3", "arr[1].3", "arr[2].3", "arr[3].3", "Program:P.i"])
         self.assertEqual(self.plan.place("P", "cells[1].Counts[n]").watched(), ["cells[1].Counts[0]", "cells[1].Counts[1]", "cells[1].Counts[2]", "Program:P.n"])
         self.assertEqual(self.plan.place("Q", "cells[n].Counts[n]").watched(), ["n", "n"])  # two at a time are not spread
+        inside = self.plan.place("Q", "bits[cells[0].Counts[1]]")
+        self.assertEqual((inside.kind, inside.pieces), ("BOOL", ["bits", "[", {"p": "cells[0].Counts[1]"}, "]"]))
 
     def test_timers_and_counters(self):
         self.assertEqual({name: place.name for name, place in self.plan.timed("Q", "cells[0].Dwell").items()},
@@ -55,9 +57,6 @@ class Places(unittest.TestCase):
 
     def test_numbers(self):
         self.assertEqual([number_of(text) for text in ("7", "-1_000", "16#FFFF_FFFF", "2#1010", "8#17", "x", "S:V")], [7, -1000, -1, 10, 15, None, None])
-
-    def test_steps(self):
-        self.assertEqual(steps_of("Local:1:I.Data[n].3"), ("Local:1:I", [(".", "Data"), ("[", "n"), (".", "3")]))
 
 
 class Journals(unittest.TestCase):

@@ -11,22 +11,22 @@ import unittest
 from unittest import mock
 
 from online_files import PLAIN, SAID, CONVEYOR
-from plain_programs import TOP, contents
-from online_parts import guards, hub, server as servers
-from online_parts.player import Player
-from online_parts.server import Server
-from online_parts.session import Session
-from online_parts.shown import Shown
-from online_parts.uses import Uses
+from common import TOP, read_text
+from lib.online import guards, hub, server as servers
+from lib.online.player import Player
+from lib.online.server import Server
+from lib.online.session import Session
+from lib.online.shown import Shown
+from lib.online.uses import Uses
 
 PAGE, OTHER = "0" * 16, "1" * 16
-PARTS = f"{TOP}/tools/online_parts"
+PARTS = f"{TOP}/tools/lib/online"
 
 
 class Served(unittest.TestCase):
     @classmethod
     def setUpClass(cls):
-        cls.session = Session(PLAIN, json.loads(contents(CONVEYOR)), SAID)
+        cls.session = Session(PLAIN, json.loads(read_text(CONVEYOR)), SAID)
         player = Player(cls.session, lambda fresh: shown.frame(fresh))
         shown = Shown(cls.session, player, {"title": "test"})
         cls.session.on_snap = shown.snapshot
@@ -176,8 +176,8 @@ DOCTORED = {
     "check_one_writer": lambda: mock.patch.object(hub.Hub, "check_writer"),
     "check_policy": lambda: mock.patch.dict(guards.HEADERS, {"Content-Security-Policy": "default-src 'none'; script-src 'self' 'unsafe-inline'; style-src 'self'; frame-ancestors 'none'"}),
     "check_files": lambda: mock.patch.dict(servers.FILES, {"server.py": ("server.py", "text/plain")}),
-    "check_fields": lambda: mock.patch("online_parts.commands.whole", lambda value, least, most: value),
-    "check_actions": lambda: mock.patch("online_parts.session.action", lambda lane, words: "#" + words.replace("\n", " ")),
+    "check_fields": lambda: mock.patch("lib.online.commands.whole", lambda value, least, most: value),
+    "check_actions": lambda: mock.patch("lib.online.session.action", lambda lane, words: "#" + words.replace("\n", " ")),
 }
 
 
@@ -243,7 +243,7 @@ class Files(unittest.TestCase):
     FORBIDDEN = re.compile(r"innerHTML|outerHTML|insertAdjacentHTML|document\.write|\beval\b|new Function|setTimeout\(\s*[\"'`]|javascript:")
 
     def text(self, name):
-        return contents(f"{PARTS}/{name}")
+        return read_text(f"{PARTS}/{name}")
 
     def test_no_text_becomes_html(self):
         for name in ("page.js", "ladder.js", "panels.js"):

@@ -5,7 +5,8 @@ import stat
 import tempfile
 import unittest
 
-from plant_files import TOP, plant, stored, talk
+from common import TOP
+from plant_files import plant, stored, talk
 
 
 class Plant(unittest.TestCase):

@@ -4,13 +4,13 @@ import os
 import re
 import unittest
 
-from l5x_files import TOP
-from l5x import profile
+from common import TOP, read_text
+from lib import neutral
+from lib.l5x import profile
 
 
 def text(*path: str) -> str:
-    with open(os.path.join(TOP, *path), encoding="utf-8") as file:
-        return file.read()
+    return read_text(os.path.join(TOP, *path))
 
 
 class Profile(unittest.TestCase):
@@ -24,7 +24,7 @@ class Profile(unittest.TestCase):
     def test_limits_are_those_of_the_definitions(self) -> None:
         limits = text("crates", "spec_base", "src", "limits.rt")
         found = {name: int(number) for name, number in re.findall(r"pub const (\w+): \w+ = (\d+);", limits)}
-        ours = {name: number for name, number in vars(profile).items() if name.startswith("MAX_")}
+        ours = {name: number for name, number in {**vars(profile), **vars(neutral)}.items() if name.startswith("MAX_")}
         for name in sorted(found.keys() & ours.keys()):
             self.assertEqual(ours[name], found[name], name)
         self.assertGreater(len(found.keys() & ours.keys()), 10)

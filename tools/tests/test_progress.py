@@ -9,7 +9,8 @@ import subprocess
 import tempfile
 import unittest
 
-TOP = os.path.dirname(os.path.dirname(os.path.dirname(os.path.realpath(__file__))))
+from common import TOP
+
 PROGRAMS = ("logix", "logix_live", "logix_timeline", "logix_wave")
 
 # The first crate is kept, the second is proved, the third is begun, and of three planted bugs one is tried and one is being tried.

@@ -6,20 +6,19 @@ import json
 import os
 import random
 import re
-import sys
 import tempfile
 import unittest
 
-sys.path.insert(0, os.path.dirname(os.path.dirname(os.path.realpath(__file__))))
-import refused_journals  # noqa: E402
-import refused_projects  # noqa: E402
-from hammer_parts.bent import Bender  # noqa: E402
-from hammer_parts.made import Maker  # noqa: E402
-from hammer_parts.plain import judge  # noqa: E402
-from hammer_parts.plain.project import Project  # noqa: E402
-from hammer_parts.plain.reader import Fault  # noqa: E402
-from places import running  # noqa: E402
-from places.ended import ended  # noqa: E402
+import common  # noqa: F401 (where the tools are)
+import refused_journals
+import refused_projects
+from lib.hammer.bent import Bender
+from lib.hammer.made import Maker
+from lib.hammer.plain import judge
+from lib.hammer.plain.project import Project
+from lib.hammer.plain.reader import Fault
+from lib.places import running
+from lib.places.ended import ended
 
 
 def refusal(contents: bytes) -> str:

@@ -5,8 +5,9 @@ import os
 import re
 import unittest
 
-from l5x_files import SAMPLES, TOP, call
-from hammer_parts.plain.judge import answer
+from common import TOP
+from l5x_files import SAMPLES, call
+from lib.hammer.plain.judge import answer
 
 # The words of each sample and its status.
 WORDS = {

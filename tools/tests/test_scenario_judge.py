@@ -5,11 +5,11 @@ from __future__ import annotations
 import random
 import unittest
 
-import scenario_files  # noqa: F401 (finds tools/)
-from scenario_parts.judge import Judge
-from scenario_parts.reading import read
-from scenario_parts.story import read_reports
-from scenario_parts.tracing import Trace
+import common  # noqa: F401 (where the tools are)
+from lib.scenario.judge import Judge
+from lib.scenario.reading import read
+from lib.scenario.story import read_reports
+from lib.scenario.tracing import Trace
 
 TAGS, PROGRAMS, CASES = ("a", "b", "Program:P.c"), ("P", "Q"), 5_000
 PROJECT = {

@@ -5,11 +5,11 @@ from __future__ import annotations
 import itertools
 import unittest
 
-import scenario_files  # noqa: F401 (finds tools/)
-from scenario_parts.line import Line, Wrong
-from scenario_parts.reading import read
-from scenario_parts.scenario import Fault, Pace, When
-from scenario_parts.tests import read_test, whole_test
+import common  # noqa: F401 (where the tools are)
+from lib.scenario.line import Line, Wrong
+from lib.scenario.reading import read
+from lib.scenario.scenario import Fault, Pace, When
+from lib.scenario.tests import read_test, whole_test
 
 # Texts that a question of tools/explore has: tests joined by `and`. Each with its comparisons, as left, operator and right.
 QUESTIONS = (

@@ -7,9 +7,9 @@ import json
 import random
 import unittest
 
-from scenario_files import TOP
-from hammer_parts.plain.judge import answer
-from scenario_parts.tracing import Trace
+from common import TOP
+from lib.hammer.plain.judge import answer
+from lib.scenario.tracing import Trace
 
 PROJECTS = [path for path in sorted(glob.glob(f"{TOP}/examples/*/project.json")) if "/plant/" not in path]
 

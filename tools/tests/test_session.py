@@ -6,10 +6,9 @@ import os
 import tempfile
 import unittest
 
+from common import TOOLS
 from refused_projects import LINE
 from terminal import on_terminal
-
-TOOLS = os.path.dirname(os.path.dirname(os.path.realpath(__file__)))
 
 GIVEN = """\
 mode run

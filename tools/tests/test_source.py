@@ -7,7 +7,8 @@ import sys
 import tempfile
 import unittest
 
-from l5x_files import TOOLS, call, convert, file
+from common import TOOLS
+from l5x_files import call, convert, file
 
 BOMB = (
     '<?xml version="1.0"?><!DOCTYPE b [<!ENTITY a "' + "x" * 50 + '">'
@@ -68,7 +69,7 @@ class Source(unittest.TestCase):
     def test_large_files_need_little_memory(self) -> None:
         code = (
             f"import re, sys; sys.dont_write_bytecode = True; sys.path.insert(0, {TOOLS!r})\n"
-            "from l5x.main import main\n"
+            "from lib.l5x.main import main\n"
             "status = main(sys.argv[1:], '/nonexistent')\n"
             # (what getrusage tells begins with the most that the process had which started this one)
             "most = re.search(r'VmHWM:\\s*(\\d+)', open('/proc/self/status').read())[1]\n"

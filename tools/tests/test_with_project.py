@@ -1,12 +1,11 @@
 """What tools/wave and tools/timeline are told of a project."""
 
 import json
-import os
 import subprocess
 import tempfile
 import unittest
 
-TOP = os.path.dirname(os.path.dirname(os.path.dirname(os.path.abspath(__file__))))
+from common import TOP
 
 PROJECT = {
     "schema": 1, "controller": "C",

@@ -3,18 +3,16 @@
 from __future__ import annotations
 
 import json
-import os
 import random
-import sys
 import unittest
 
-sys.path.insert(0, os.path.dirname(os.path.dirname(os.path.realpath(__file__))))
-from hammer_parts.made import Maker  # noqa: E402
-from hammer_parts.plain.project import Project  # noqa: E402
-from hammer_parts.plain.reader import Fault  # noqa: E402
-from hammer_parts.plain.xref import xref  # noqa: E402
-from places.uses import NoTag, Uses  # noqa: E402
-from refused_projects import LINE  # noqa: E402
+import common  # noqa: F401 (where the tools are)
+from lib.hammer.made import Maker
+from lib.hammer.plain.project import Project
+from lib.hammer.plain.reader import Fault
+from lib.hammer.plain.xref import xref
+from lib.places.uses import NoTag, Uses
+from refused_projects import LINE
 
 PACKED = LINE.replace('"JSR(Count,0);"', '"JSR(Count,0);",\n "MOV(Lots[LineNo],Local:2:O);"').replace(
     '{"name": "LineRun"', '{"name": "LineNo", "type": "DINT"}, {"name": "LineRun"'
@@ -83,7 +81,7 @@ Local:2:O.0 = Motor1 (output Out2)
                 for use in uses.uses:
                     if "[" not in use.place.replace("Local:", ""):
                         answer = answered(uses.told(use.place))
-                        self.assertLessEqual(answer, proved[uses.names[use.tag]])
+                        self.assertLessEqual(answer, proved[uses.names.full[use.tag]])
                         self.assertIn(use.line, answer)
 
 

@@ -1,0 +1,1 @@
+"""What the commands of tools/ are made of: a folder for each, and modules that several use."""
