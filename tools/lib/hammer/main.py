@@ -46,7 +46,7 @@ FEW = 1_000  # cases: what was met by fewer is told as rare
 class Hammer:
     def __init__(self, program, seed, found, coverage=None):
         self.program, self.seed, self.found, self.coverage = program, seed, found, coverage
-        self.counts = dict.fromkeys(KINDS, 0)
+        self.counts, self.took = dict.fromkeys(KINDS, 0), dict.fromkeys(KINDS, 0.0)
         self.differences = []
 
     def known_kinds(self, wanted):
@@ -66,9 +66,11 @@ class Hammer:
         return make(draw, self.program, number) if kind in IN_TURN else make(draw, self.program)
 
     def try_case(self, kind, number):
+        began = self.spent()
         judge, contents = self.case(kind, number)
         self.counts[kind] += 1
         wrong = judge(self.program, contents)
+        self.took[kind] += self.spent() - began
         if self.coverage:
             self.coverage.case()
         if wrong:
@@ -117,7 +119,7 @@ class Hammer:
             print(f"{fault}: " + ", ".join(f"{count} {what}" for what, count in sorted(told.items())))
         for kind, count in self.counts.items():
             if count:
-                print(f"{kind}: {count} cases")
+                print(f"{kind}: {count} cases, {self.took[kind]:.1f} s")
         spent = self.spent()
         print(f"slowest run {self.program.slowest:.1f} s, most memory {self.program.largest // 1_000_000} MB")
         print(f"seed {self.seed}: {sum(self.counts.values())} cases, {self.program.runs} runs of the program,"
@@ -131,7 +133,8 @@ class Hammer:
 
     def store_counts(self, path):
         cases_of = {kind: count for kind, count in self.counts.items() if count}
-        stored(self.coverage, path, cases=cases_of, differences=len(self.differences), runs=self.program.runs, spent=self.spent(), told=self.program.told)
+        took = {kind: self.took[kind] for kind in cases_of}
+        stored(self.coverage, path, cases=cases_of, took=took, differences=len(self.differences), runs=self.program.runs, spent=self.spent(), told=self.program.told)
 
 
 def words_of_command(arguments):
