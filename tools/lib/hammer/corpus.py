@@ -141,7 +141,7 @@ def by_row():
     known, rows = read(), {}
     for one in known:
         for what in one.meets:
-            if not what.startswith("shown "):
+            if what.startswith(("cause ", "instruction ", "fault ", "prescan ", "effect ")):
                 rows.setdefault(what, []).append(one)
     return known, [rows[what] for what in sorted(rows)]
 

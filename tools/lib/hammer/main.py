@@ -94,6 +94,10 @@ class Hammer:
         self.differences.append(note)
         print(f"differs: {folder}\n{note}", flush=True)
 
+    def first(self, kind):
+        """The number of a kind's first case: those that come in turn begin at a place of the seed's, so that short runs meet all of them."""
+        return random.Random(f"{self.seed} {kind}").randrange(1 << 20) if kind in IN_TURN else 0
+
     def run(self, seconds, kinds):
         """Rounds of all kinds, each as often as it is to be; a rare one in some rounds."""
         until = time.monotonic() + seconds
@@ -103,7 +107,7 @@ class Hammer:
                 due[kind] += KINDS[kind][1]
                 while due[kind] >= 1 and time.monotonic() < until:
                     due[kind] -= 1
-                    self.try_case(kind, self.counts[kind])
+                    self.try_case(kind, self.first(kind) + self.counts[kind])
 
     def run_cases(self, kinds, first, count):
         """So many cases of each kind, from the first; of one that comes in turn, all at most."""

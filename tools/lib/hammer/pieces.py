@@ -70,7 +70,7 @@ class Pieces:
         for one in self.made:
             met.update(one["met"])
             kinds.update(one["cases"])
-            took.update(one["took"])
+            took.update(one.get("took", {}))
             told.update({f"{fault}: {came}": count for fault, came in one["told"].items() for came, count in came.items()})
             spent.update({"seconds": one["spent"], "runs": one["runs"], "differences": one["differences"]})
         lines = [*coverage.told(met, least), *(f"{kind}: {count} cases, {took[kind]:.0f} s" for kind, count in sorted(kinds.items()))]
