@@ -10,7 +10,6 @@ import unittest
 from unittest import mock
 
 from scenario_files import programs
-from plain_programs import TOP
 from lib.hammer import begins, books, corpus, coverage, marks, pieces, scenarios, splits, tool_faults
 from lib.hammer.cases import file_text
 from lib.hammer.plain.judge import answer
@@ -215,7 +214,7 @@ class Pieces(unittest.TestCase):
     def test_they_are_added(self):
         with tempfile.TemporaryDirectory() as room:
             for number in range(3):
-                piece = {"number": number, "seed": f"s-{number}", "seconds": 1, "cases": {"whole": 10}, "met": {"cause M1": 4}, "told": {"x": {"y": 1}}, "spent": 1.0,
+                piece = {"number": number, "seed": f"s-{number}", "seconds": 1, "cases": {"whole": 10}, "took": {"whole": 0.5}, "met": {"cause M1": 4}, "told": {"x": {"y": 1}}, "spent": 1.0,
                          "runs": 12, "differences": number // 2}
                 with open(f"{room}/piece-{number:05}.json", "w", encoding="utf-8") as file:
                     json.dump(piece, file)
@@ -225,6 +224,7 @@ class Pieces(unittest.TestCase):
                 self.assertEqual(made.tell(5), 1)
             text = told.call_args[0][0]
             self.assertIn("       12 cause M1\n", text)
+            self.assertIn("\nwhole: 30 cases, 2 s\n", text)
             self.assertTrue(text.endswith("seeds s-0 to s-2: 30 cases in 3 pieces, 36 runs of the programs, 3 s of processor time, 1 differences"))
 
 

@@ -141,7 +141,7 @@ def by_row():
     known, rows = read(), {}
     for one in known:
         for what in one.meets:
-            if not what.startswith("shown "):
+            if what.startswith(("cause ", "instruction ", "fault ", "prescan ", "effect ")):
                 rows.setdefault(what, []).append(one)
     return known, [rows[what] for what in sorted(rows)]
 
@@ -170,7 +170,8 @@ class Words:
 
 
 MAKERS = (
-    (cases.whole, 6), (marks.marks, 3), (begins.begins, 4), (cases.projects, 6), (cases.journals, 4), (cases.links, 1), (cases.traces, 2), (cases.walks, 2), (texts.texts, 1),
+    (cases.whole, 6), (marks.marks, 3), (begins.begins, 4), (cases.projects, 6), (cases.journals, 4), (cases.links, 1), (cases.traces, 2),
+    (cases.walks, 2), (texts.texts, 1),
 )
 
 

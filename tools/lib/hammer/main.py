@@ -46,7 +46,7 @@ FEW = 1_000  # cases: what was met by fewer is told as rare
 class Hammer:
     def __init__(self, program, seed, found, coverage=None):
         self.program, self.seed, self.found, self.coverage = program, seed, found, coverage
-        self.counts = dict.fromkeys(KINDS, 0)
+        self.counts, self.took = dict.fromkeys(KINDS, 0), dict.fromkeys(KINDS, 0.0)
         self.differences = []
 
     def known_kinds(self, wanted):
@@ -66,9 +66,11 @@ class Hammer:
         return make(draw, self.program, number) if kind in IN_TURN else make(draw, self.program)
 
     def try_case(self, kind, number):
+        began = self.spent()
         judge, contents = self.case(kind, number)
         self.counts[kind] += 1
         wrong = judge(self.program, contents)
+        self.took[kind] += self.spent() - began
         if self.coverage:
             self.coverage.case()
         if wrong:
@@ -92,6 +94,10 @@ class Hammer:
         self.differences.append(note)
         print(f"differs: {folder}\n{note}", flush=True)
 
+    def first(self, kind):
+        """The number of a kind's first case: those that come in turn begin at a place of the seed's, so that short runs meet all of them."""
+        return random.Random(f"{self.seed} {kind}").randrange(1 << 20) if kind in IN_TURN else 0
+
     def run(self, seconds, kinds):
         """Rounds of all kinds, each as often as it is to be; a rare one in some rounds."""
         until = time.monotonic() + seconds
@@ -101,7 +107,7 @@ class Hammer:
                 due[kind] += KINDS[kind][1]
                 while due[kind] >= 1 and time.monotonic() < until:
                     due[kind] -= 1
-                    self.try_case(kind, self.counts[kind])
+                    self.try_case(kind, self.first(kind) + self.counts[kind])
 
     def run_cases(self, kinds, first, count):
         """So many cases of each kind, from the first; of one that comes in turn, all at most."""
@@ -117,7 +123,7 @@ class Hammer:
             print(f"{fault}: " + ", ".join(f"{count} {what}" for what, count in sorted(told.items())))
         for kind, count in self.counts.items():
             if count:
-                print(f"{kind}: {count} cases")
+                print(f"{kind}: {count} cases, {self.took[kind]:.1f} s")
         spent = self.spent()
         print(f"slowest run {self.program.slowest:.1f} s, most memory {self.program.largest // 1_000_000} MB")
         print(f"seed {self.seed}: {sum(self.counts.values())} cases, {self.program.runs} runs of the program,"
@@ -131,7 +137,8 @@ class Hammer:
 
     def store_counts(self, path):
         cases_of = {kind: count for kind, count in self.counts.items() if count}
-        stored(self.coverage, path, cases=cases_of, differences=len(self.differences), runs=self.program.runs, spent=self.spent(), told=self.program.told)
+        took = {kind: self.took[kind] for kind in cases_of}
+        stored(self.coverage, path, cases=cases_of, took=took, differences=len(self.differences), runs=self.program.runs, spent=self.spent(), told=self.program.told)
 
 
 def words_of_command(arguments):
@@ -145,9 +152,10 @@ def words_of_command(arguments):
     parser.add_argument("--first", type=int, default=0, metavar="N", help="with --cases: the first one's number (0)")
     parser.add_argument("--again", default=None, metavar="KIND:NUMBER", help="one case of the seed again")
     parser.add_argument("--found", default=None, help="where differences are stored (hammer-SEED in the folder for temporary files)")
-    parser.add_argument("--coverage", action="store_true", help="tell at the end which instructions, causes, statuses and effects the cases met, and how many cases")
+    parser.add_argument("--coverage", action="store_true", help="tell at the end how many cases met each instruction, cause, status and effect")
     parser.add_argument("--counts", default=None, metavar="FILE", help="with --coverage: write the counts there too")
-    parser.add_argument("--find", type=float, default=None, metavar="SECONDS", help="look so long for cases that meet what few do, by the plain interpreter, and keep them")
+    parser.add_argument("--find", type=float, default=None, metavar="SECONDS",
+                        help="look so long for cases that meet what few do, by the plain interpreter, and keep them (kept.txt)")
     parser.add_argument("--in-all", type=int, default=None, metavar="N", help="so many cases in pieces of SECONDS, each a process; goes on where it ended before")
     parser.add_argument("--folder", default=None, help="with --in-all: what the pieces came to (hammer-pieces-SEED in the folder for temporary files)")
     words = parser.parse_args(arguments)

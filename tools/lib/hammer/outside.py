@@ -3,8 +3,9 @@
 import os
 import sys
 
+from lib.paths import TOOLS
+
 HERE = os.path.dirname(os.path.abspath(__file__))
-TOOLS = os.path.dirname(os.path.dirname(HERE))
 TESTS = f"{TOOLS}/tests"
 
 

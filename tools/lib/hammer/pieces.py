@@ -66,13 +66,14 @@ class Pieces:
 
     def tell(self, least):
         """The table of all pieces: what was met, how many cases of each kind, what came of faults, and all in all."""
-        met, kinds, told, spent = (collections.Counter() for _ in range(4))
+        met, kinds, took, told, spent = (collections.Counter() for _ in range(5))
         for one in self.made:
             met.update(one["met"])
             kinds.update(one["cases"])
+            took.update(one.get("took", {}))
             told.update({f"{fault}: {came}": count for fault, came in one["told"].items() for came, count in came.items()})
             spent.update({"seconds": one["spent"], "runs": one["runs"], "differences": one["differences"]})
-        lines = [*coverage.told(met, least), *(f"{kind}: {count} cases" for kind, count in sorted(kinds.items()))]
+        lines = [*coverage.told(met, least), *(f"{kind}: {count} cases, {took[kind]:.0f} s" for kind, count in sorted(kinds.items()))]
         lines += [f"{what}, {count}" for what, count in sorted(told.items())]
         seeds = f"{self.seed}-0 to {self.seed}-{self.number - 1}"
         print("\n".join([*lines, f"seeds {seeds}: {self.cases()} cases in {len(self.made)} pieces, {spent['runs']} runs of the programs,"

@@ -74,8 +74,11 @@ def of_fault(program, contents):
     if what in LOST:
         words[int(at)] = lost(what, program)
     words[0] = f"{TOOLS}/{words[0]}"
-    with open(call.given, "rb") as given:
-        status, out, err = run(words, given, what, int(at))
+    try:
+        with open(call.given, "rb") as given:
+            status, out, err = run(words, given, what, int(at))
+    except subprocess.TimeoutExpired:
+        raise Broken(f"{name}, {what} {at}: it hangs") from None
     program.runs += 1
     program.tally(f"tool, {what}", f"status {status}")
     wrong = judged(what, status, out, err)
@@ -99,8 +102,9 @@ def run_piped(words, given, count):
     process = subprocess.Popen(words, stdin=given, stdout=subprocess.PIPE, stderr=subprocess.PIPE)
     out = process.stdout.read(count)
     process.stdout.close()
-    err = process.stderr.read()
-    return process.wait(SECONDS), out, err
+    process.stdout = None
+    _, err = process.communicate(timeout=SECONDS)
+    return process.returncode, out, err
 
 
 def judged(what, status, out, err):
