@@ -25,7 +25,6 @@ def parser() -> argparse.ArgumentParser:
     made.add_argument("--wave", metavar="FILE.vcd", help="write the report as a wave file")
     made.add_argument("--project", metavar="FILE", help="try another project, and tell what it changes")
     made.add_argument("--junit", metavar="FILE", help="write what came of each requirement as JUnit has it")
-    made.add_argument("--coverage", metavar="FILE", help="write how often each instruction was executed: a text, or a page if FILE ends in .html")
     made.add_argument("--list", action="store_true", help="only write one command for each scenario")
     made.add_argument("--jobs", type=int, metavar="N", default=0, help="so many scenarios side by side (as many as there are processors)")
     made.add_argument("--seconds", type=float, metavar="N", default=USUAL_SECONDS, help=f"end a run that takes longer ({USUAL_SECONDS})")
@@ -83,9 +82,9 @@ def run(said: argparse.Namespace, programs: Programs) -> int:
     alone = len(said.paths) == 1 and not os.path.isdir(said.paths[0])
     if said.list:
         return suite.listed(said)
-    if not alone or said.junit or said.coverage:
+    if not alone or said.junit:
         if said.journal or said.report or said.timeline or said.wave:
-            return refuse("--journal, --report, --timeline and --wave are of one scenario, without --junit and --coverage", 2)
+            return refuse("--journal, --report, --timeline and --wave are of one scenario, without --junit", 2)
         return suite.run(said, programs)
     progress = Progress()
     try:

@@ -13,7 +13,6 @@ from dataclasses import dataclass, field
 from lib.paths import TOOLS
 
 from . import answer, junit, outputs
-from .coverage import Count, Coverage, Place, counted as executed
 from .judge import empty_told, held_told
 from .line import Wrong
 from .playing import Played, Stopped, play
@@ -46,9 +45,6 @@ class Outcome:
     tally: str = ""
     values: dict[str, int] = field(default_factory=dict)
     changes: list[str] = field(default_factory=list)
-    project_path: str = ""
-    project: dict = field(default_factory=dict)
-    counts: dict[Place, Count] | None = None
 
 
 def found(paths: list[str]) -> list[str]:
@@ -75,7 +71,7 @@ def run(said: argparse.Namespace, programs: Programs) -> int:
     if not paths:
         print(f"scenario: there is no file NAME{ENDING} below {', '.join(said.paths)}", file=sys.stderr)
         return WRONG
-    for name in ("logix_live", "logix", *(["logix_cover"] if said.coverage else [])):
+    for name in ("logix_live", "logix"):
         programs.path(name)
     began = time.monotonic()
     outcomes = []
@@ -89,8 +85,6 @@ def run(said: argparse.Namespace, programs: Programs) -> int:
         counted(len(outcomes), len(paths), began)
     if said.junit:
         outputs.put(said.junit, junit.text(outcomes))
-    if said.coverage:
-        outputs.put(said.coverage, coverage_of(outcomes).contents(said.coverage))
     print(summary(outcomes, time.monotonic() - began))
     return max(one.status for one in outcomes)
 
@@ -98,20 +92,12 @@ def run(said: argparse.Namespace, programs: Programs) -> int:
 def played(paths: list[str], said: argparse.Namespace, programs: Programs):
     """The outcomes in order, of as many at a time as there are processors."""
     jobs = min(said.jobs if said.jobs > 0 else os.cpu_count() or 1, len(paths))
-    work = [(path, said.project, said.seconds, said.programs, bool(said.coverage)) for path in paths]
+    work = [(path, said.project, said.seconds, said.programs) for path in paths]
     if jobs == 1:
         yield from map(one, work)
         return
     with multiprocessing.get_context("fork").Pool(jobs) as pool:
         yield from pool.imap(one, work, chunksize=max(1, min(16, len(work) // (jobs * 4))))
-
-
-def coverage_of(outcomes: list[Outcome]) -> Coverage:
-    made = Coverage()
-    for one in outcomes:
-        if one.counts is not None:
-            made.add(one.project_path, one.project, one.counts)
-    return made
 
 
 def counted(done: int, count: int, began: float) -> None:
@@ -131,21 +117,16 @@ def summary(outcomes: list[Outcome], seconds: float) -> str:
 
 
 def one(work: tuple) -> Outcome:
-    path, project, seconds, folder, covers = work
+    path, project, seconds, folder = work
     programs = Unchecked(folder)
     began = time.monotonic()
     try:
-        last = play(path, None, programs, seconds)
-        outcome = outcome_of(last)
+        outcome = outcome_of(play(path, None, programs, seconds))
         if project is not None:
-            last = play(path, project, programs, seconds)
-            other = outcome_of(last)
+            other = outcome_of(play(path, project, programs, seconds))
             other.changes = changes(outcome, other)
             other.line += f"; {len(other.changes)} changed" if other.changes else "; nothing changed"
             outcome = other
-        if covers:
-            outcome.counts = executed(programs, last.copy, last.journal)
-            outcome.project_path, outcome.project = last.path, last.project
     except Wrong as wrong:
         outcome = Outcome(path, WRONG, f"WRONG {wrong.told()}", cases=[Case("the scenario", False, [wrong.told()])])
     except Stopped as stopped:
