@@ -22,11 +22,11 @@ fn stretches_of(alloc: Global, project: &[u8], steps: u32) -> Option<u32> {
     Some(count_stretches(&mut controller, steps))
 }
 
-/// Makes so many processor steps, as long as the controller can count them; marks are taken before each stretch.
+/// Makes so many processor steps, as long as the controller can count them; hits are taken before each stretch.
 fn count_stretches(controller: &mut Controller, steps: u32) -> u32 {
     let mut left = steps;
     for stretches in 0..steps {
-        controller.clear_marks();
+        controller.clear_hits();
         let most = left.min(MAX_EVENTS.saturating_sub(controller.spent()));
         if most == 0 {
             return stretches;
