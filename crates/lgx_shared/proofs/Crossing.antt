@@ -21,6 +21,8 @@ use Rattle.lgx_rung.specs.contracts.rung.SourceRung as SourceRung
 use Rattle.lgx_prog.specs.contracts.rung.Rung as Rung
 use Rattle.lgx_prog.specs.contracts.prepared.Prepared as Prepared
 use Rattle.lgx_prog.specs.contracts.code.Code as Code
+use Rattle.lgx_prog.specs.contracts.short.Does as Does
+use Rattle.lgx_prog.specs.contracts.quick.Quick as Quick
 use Rattle.lgx_prog.specs.contracts.code.FlatRoutine as FlatRoutine
 use Rattle.lgx_prog.specs.contracts.program.FlatProgram as FlatProgram
 use Rattle.lgx_versions.specs.contracts.slots.Version as Version
@@ -53,8 +55,14 @@ prepared_send = search (sendable, crosses, ins.the_field_send) depth 200 fits 20
 pub code_send : IsSend Code.the_row
 code_send = search (sendable, crosses, prepared_send) depth 200 fits 20000
 
+pub does_send : IsSend Does.the_row
+does_send = search (sendable, crosses) depth 300 fits 50000
+
+pub quick_send : IsSend Quick.the_row
+quick_send = search (sendable, crosses, does_send) depth 200 fits 20000
+
 pub flat_routine_send : IsSend FlatRoutine.the_row
-flat_routine_send = search (sendable, crosses, code_send) depth 200 fits 20000
+flat_routine_send = search (sendable, crosses, code_send, quick_send) depth 200 fits 20000
 
 pub flat_program_send : IsSend FlatProgram.the_row
 flat_program_send = search (sendable, crosses, flat_routine_send) depth 200 fits 20000
