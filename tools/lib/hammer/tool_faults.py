@@ -55,15 +55,7 @@ def faults():
     """Each file of each call lost in each way; each call into a full device and into a pipe whose reader has gone, at once or after some bytes."""
     made = [Fault(call.name, what, at) for call in CALLS for at, word in enumerate(call.words) if call.reads and "/" in word for what in LOST]
     ending = [call.name for call in CALLS if not call.serves]
-    made += [Fault(name, what, 0) for name in ending for what in ("full device", "closed pipe", "closed output")] + [Fault(name, "closed pipe", 100) for name in ending]
-    return [fault for fault in made if not is_known(fault)]
-
-
-def is_known(fault):
-    """What is known to end with a traceback, and isn't tried: these have no word of their own yet for an output that can't be written."""
-    if fault.what in LOST:
-        return False
-    return fault.call.split()[0] in ("xref", "ladder", "explain", "compare") or (fault.call.split()[0], fault.what) == ("scenario", "closed output")
+    return made + [Fault(name, what, 0) for name in ending for what in ("full device", "closed pipe", "closed output")] + [Fault(name, "closed pipe", 100) for name in ending]
 
 
 @law
