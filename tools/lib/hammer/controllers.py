@@ -36,8 +36,8 @@ ENDS, ANSWERS = ("ends 0", "ends 3", "ends 6", "signal", "half ends"), ("rubbish
 # A controller that says nothing more, for ever: what waits for it has no bound of time yet, so these aren't among the turns.
 SILENT = ("hangs", "half", "lines", "other", "closes", "deaf")
 COUNTS = (0, 1, 2, 5, 9)
-# What is known to go wrong, and isn't tried: a signal while the project is looked at becomes the status; a doubled answer breaks a command.
-KNOWN = (("scenario", "signal", 0), *(("online", "double", count) for count in COUNTS))
+# What is known to go wrong, and isn't tried: a doubled answer breaks a command.
+KNOWN = tuple(("online", "double", count) for count in COUNTS)
 TURNS = [(tool, how, count) for count in COUNTS for how in (*ENDS, *ANSWERS) for tool in ("scenario", "online") if (tool, how, count) not in KNOWN]
 SECONDS, OF_A_COMMAND = 30, 20
 TOLD = (0, 1, 2, 3, 4, 5, 6, 7, 70)

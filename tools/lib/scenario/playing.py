@@ -20,7 +20,7 @@ from .line import Wrong
 from .places import Places, Unknown, fits, near
 from .programs import Programs
 from .reading import read_file
-from .refusals import Stopped, explained, refusal_of
+from .refusals import BY_A_SIGNAL, Stopped, explained, refusal_of
 from .running import Run, Runner
 from .scenario import Scenario, When
 from .session import Session
@@ -92,7 +92,7 @@ class Player:
                 journal = session.journal()
                 reports = [session.report(), *(self.again(copy, journal) for copy in copies[1:])]
             except Ended as ended:
-                raise Stopped(self.ended_told(ended), ended.status if 0 < ended.status < 8 else 6) from None
+                raise Stopped(self.ended_told(ended), ended.status if 0 < ended.status < 8 else BY_A_SIGNAL) from None
         lines = reports[0].count(b"\n") - 1
         if lines > MOST_LINES:
             self.notes.append(f"the report has {lines} lines: a replay of the journal keeps the first {MOST_LINES}")

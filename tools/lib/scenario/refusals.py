@@ -14,6 +14,8 @@ from lib.places.running import unexplained
 if TYPE_CHECKING:
     from .running import Done
 
+BY_A_SIGNAL = 6
+
 # (the modules that know the rules are loaded only when something is refused)
 
 
@@ -39,6 +41,8 @@ def refusal_of(live: str, path: str) -> tuple[str, ...]:
     ran = subprocess.run([live, path], stdin=subprocess.DEVNULL, stdout=subprocess.PIPE, check=False)
     if ran.returncode == 0:
         return ()
+    if ran.returncode < 0:
+        raise Stopped(f"the controller was ended by signal {-ran.returncode} at the project {path}", BY_A_SIGNAL)
     if ran.returncode != 2:
         raise Stopped(f"the controller ended with status {ran.returncode} at the project {path}", ran.returncode)
     line = ran.stdout.decode(errors="replace").partition("\n")[0]
