@@ -10,21 +10,28 @@ from typing import TYPE_CHECKING
 
 from lib.paths import read_bytes
 from lib.places.running import unexplained
+from lib.programs import Astray
+
+from .bounded import run
 
 if TYPE_CHECKING:
     from .running import Done
 
-BY_A_SIGNAL = 6
+NOT_IN_TIME, BY_A_SIGNAL = 1, 6
 
 # (the modules that know the rules are loaded only when something is refused)
 
 
 class Stopped(Exception):
-    """The controller's process ended before its time: why, and the status to end with."""
+    """The controller's process ended before its time, or was ended: why, and the status to end with."""
 
     def __init__(self, why: str, status: int) -> None:
         super().__init__(why)
         self.why, self.status = why, status
+
+
+def astray_told(astray: Astray) -> str:
+    return f"the controller's process was ended by --seconds: {astray.text}"
 
 
 @dataclass(frozen=True)
@@ -36,9 +43,12 @@ class Refusal:
 
 
 @functools.lru_cache(maxsize=64)
-def refusal_of(live: str, path: str) -> tuple[str, ...]:
+def refusal_of(live: str, path: str, seconds: float) -> tuple[str, ...]:
     """The controller's line of a project that it refuses, and what that says of the file; nothing of a project that it takes."""
-    ran = subprocess.run([live, path], stdin=subprocess.DEVNULL, stdout=subprocess.PIPE, check=False)
+    try:
+        ran = run([live, path], seconds, stdin=subprocess.DEVNULL)
+    except Astray as astray:
+        raise Stopped(astray_told(astray), NOT_IN_TIME) from None
     if ran.returncode == 0:
         return ()
     if ran.returncode < 0:

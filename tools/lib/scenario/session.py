@@ -5,8 +5,10 @@ from __future__ import annotations
 from collections.abc import Iterable
 from dataclasses import dataclass
 
-from lib.programs import Ended, Program
+from lib.programs import Astray, Ended, Program
 from lib.talk import Talk
+
+from .bounded import until
 
 
 @dataclass(frozen=True)
@@ -30,8 +32,8 @@ class Mark:
 
 
 class Session:
-    def __init__(self, program: str, project: str) -> None:
-        self.program, self.project = Program((program,), True), project
+    def __init__(self, program: str, project: str, deadline: float) -> None:
+        self.program, self.project, self.deadline = Program((program,), True), project, deadline
         self.entries: list[list] = []  # what was told: [verb, count] of steps and ticks, [action] of others
         self.answers: list[bytes] = []
         self.steps = self.ticks = self.actions = 0
@@ -78,9 +80,12 @@ class Session:
 
     def tell(self, lines: Iterable[str]) -> bytes:
         answer = b""
+        self.talk.until = until(self.deadline)
         try:
             for piece in self.talk.tell(lines):
                 answer += piece
+        except Astray:
+            raise
         except Ended as ended:
             raise Ended(ended.status, answer.decode(errors="replace") + ended.text) from None
         return answer
@@ -118,6 +123,7 @@ class Session:
     def end(self) -> bytes:
         """Ends the session: the last line of the report."""
         self.ask()
+        self.talk.until = until(self.deadline)
         last = self.talk.end()
         self.answers.append(last)
         return last

@@ -1,0 +1,55 @@
+"""Controllers that go wrong under tools/scenario: each run ends, with a status and a sentence, and nothing is told of what it didn't do."""
+
+from __future__ import annotations
+
+import os
+import shlex
+import stat
+import sys
+import time
+from unittest import mock
+
+from common import TESTS, TOOLS
+from scenario_files import ScenarioTest
+from lib.scenario import bounded
+from lib.scenario.refusals import refusal_of
+
+BAD = f"{TOOLS}/lib/hammer/bad_live.py"
+COUNTS = (0, 1, 3)  # lines that are right
+ENDED = "scenario: the controller's process was ended by --seconds: it "
+
+
+class Controllers(ScenarioTest):
+    built = False
+
+    def bad(self, how: str, count: int, seconds: str = "60"):
+        """A call with a controller that goes wrong after so many lines of its answers."""
+        words = [sys.executable, "-B", BAD, how, str(count), f"{self.room}/plain_live"]
+        for name, called in (("plain_live", [sys.executable, "-B", f"{TESTS}/plain_live.py"]), ("programs/logix_live", words)):
+            with open(f"{self.room}/{name}", "w", encoding="utf-8") as file:
+                file.write(f'#!/bin/sh\nexec {shlex.join(called)} "$@"\n')
+            os.chmod(f"{self.room}/{name}", stat.S_IRWXU)
+        refusal_of.cache_clear()
+        lines = ("at 50: Button = 1 for 30", "run 100", "require", "at 50: Lamp = 1")
+        return self.call(self.scenario(*lines), "--seconds", seconds)
+
+    def test_one_that_says_nothing_more(self) -> None:
+        for how in ("hangs", "half", "other", "closes", "deaf", "lines"):
+            for count in COUNTS if how in ("hangs", "closes", "lines") else COUNTS[1:2]:
+                began = time.monotonic()
+                with mock.patch.object(bounded, "GRACE", 0.5):
+                    called = self.bad(how, count, "0.8")
+                self.assertLess(time.monotonic() - began, 20)
+                self.assertEqual((called.status, called.out, called.err[: len(ENDED)]), (1, "", ENDED), (how, count))
+
+    def test_one_that_is_ended_by_a_signal(self) -> None:
+        for count in COUNTS:
+            called = self.bad("signal", count)
+            self.assertEqual((called.status, called.out), (6, ""), count)
+            self.assertRegex(called.err, "^scenario: the controller.* was ended by signal 9( at the project .*)?\n$")
+
+    def test_a_status_of_its_own(self) -> None:
+        for count in COUNTS:
+            called = self.bad("ends 4", count)
+            self.assertEqual((called.status, called.out), (4, ""), count)
+            self.assertRegex(called.err, "^scenario: the controller.* ended with status 4")
