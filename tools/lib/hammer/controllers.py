@@ -15,7 +15,7 @@ import sys
 
 from .cases import file_text
 from .laws import Broken, law
-from .outside import HERE, TOOLS
+from .outside import HERE, TOOLS, patience
 from .pages import Wanted, parts
 from .program import Hung
 
@@ -36,10 +36,8 @@ ENDS, ANSWERS = ("ends 0", "ends 3", "ends 6", "signal", "half ends"), ("rubbish
 # A controller that says nothing more, for ever: these are ended in time.
 SILENT = ("hangs", "half", "lines", "other", "closes", "deaf")
 COUNTS = (0, 1, 2, 5, 9)
-# What is known to go wrong, and isn't tried: a doubled answer breaks a command, and what is silent is waited for in tools/online.
-KNOWN = tuple(("online", how, count) for count in COUNTS for how in ("double", *SILENT))
-TURNS = [(tool, how, count) for count in COUNTS for how in (*ENDS, *ANSWERS, *SILENT) for tool in ("scenario", "online") if (tool, how, count) not in KNOWN]
-SECONDS, OF_A_COMMAND = 30, 20
+TURNS = [(tool, how, count) for count in COUNTS for how in (*ENDS, *ANSWERS, *SILENT) for tool in ("scenario", "online")]
+SECONDS, OF_A_COMMAND, PATIENCE = 30, 20, 1
 TOLD = (0, 1, 2, 3, 4, 5, 6, 7, 70)
 
 
@@ -114,9 +112,10 @@ def of_online(program, how, count):
         walk.page = files.Page(bad, source=PROJECT)
     walk.session = session = walk.page.session
     try:
-        for command, fields in COMMANDS:
-            with bounded(f"online, {how} after {count} lines: {command} {fields}"):
-                walk.page.do(command, **fields)
+        with patience(PATIENCE if how in SILENT else OF_A_COMMAND):
+            for command, fields in COMMANDS:
+                with bounded(f"online, {how} after {count} lines: {command} {fields}"):
+                    walk.page.do(command, **fields)
         lost = session.lost is not None
         program.tally("online, bad controller", f"{how}: {'told' if lost else 'went on'}")
         session.programs = good
