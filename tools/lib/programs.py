@@ -30,13 +30,17 @@ class Ended(Exception):
 
 
 class Astray(Ended):
-    """A program that is to be ended from here, since it didn't say in time what it should, or said something else; why."""
+    """A program that is to be ended from here, since it didn't say what it should; why."""
 
     def __init__(self, why):
         super().__init__(-signal.SIGKILL, why)
 
     def told(self):
         return self.text
+
+
+class Late(Astray):
+    """A program that didn't say in time what it should."""
 
 
 def place(name):

@@ -12,7 +12,7 @@ import threading
 import time
 import weakref
 
-from .programs import Astray, Ended
+from .programs import Ended, Late
 
 AT_ONCE = 32_768  # so much goes into an empty pipe without anybody who reads
 MARK = b"?\n"
@@ -86,7 +86,7 @@ class Talk:
             left, comes = self.left(), select.poll()
             comes.register(self.process.stdout, select.POLLIN)
             if left == 0 or not comes.poll(None if left is None else left * 1000):
-                raise Astray("it didn't answer in time")
+                raise Late("it didn't answer in time")
             return os.read(self.process.stdout.fileno(), READ)
 
     def status(self):
@@ -94,7 +94,7 @@ class Talk:
         try:
             return self.process.wait(self.left())
         except subprocess.TimeoutExpired:
-            raise Astray("it closed its output, and didn't end in time") from None
+            raise Late("it closed its output, and didn't end in time") from None
 
     def answers(self):
         kept = b""

@@ -16,7 +16,7 @@ from lib.scenario.refusals import refusal_of
 
 BAD = f"{TOOLS}/lib/hammer/bad_live.py"
 COUNTS = (0, 1, 3)  # lines that are right
-ENDED = "scenario: the controller's process was ended by --seconds: it "
+ENDED = "scenario: the controller was ended by --seconds: it "
 
 
 class Controllers(ScenarioTest):
@@ -41,6 +41,13 @@ class Controllers(ScenarioTest):
                     called = self.bad(how, count, "0.8")
                 self.assertLess(time.monotonic() - began, 20)
                 self.assertEqual((called.status, called.out, called.err[: len(ENDED)]), (1, "", ENDED), (how, count))
+
+    def test_answers_that_are_no_lines_of_a_report(self) -> None:
+        for how in ("rubbish", "double"):
+            for count in COUNTS:
+                called = self.bad(how, count)
+                self.assertEqual((called.status, called.out), (1, ""), (how, count))
+                self.assertRegex(called.err, "^scenario: the controller was ended: it answered ")
 
     def test_one_that_is_ended_by_a_signal(self) -> None:
         for count in COUNTS:

@@ -82,8 +82,10 @@ def judged(how, ran):
         return "a traceback"
     if ran.returncode > 1 and (ran.stdout or not ran.stderr.startswith("scenario: ")):
         return "it doesn't say why, or tells verdicts"
-    if how in SILENT and ran.returncode == 1 and not (ran.stdout or ran.stderr.startswith("scenario: the controller's process was ended by --seconds: ")):
+    if how in SILENT and ran.returncode == 1 and not (ran.stdout or ran.stderr.startswith("scenario: the controller was ended by --seconds: ")):
         return "it doesn't say that it was ended"
+    if how in ANSWERS and (ran.returncode != 1 or ran.stdout or not ran.stderr.startswith("scenario: the controller was ended: it answered ")):
+        return f"status {ran.returncode}, and not told what was answered"
     if how in ENDS and how != "ends 0" and ran.returncode < 2:
         return f"status {ran.returncode} of a run that broke off"
     return None

@@ -5,7 +5,7 @@ from __future__ import annotations
 import subprocess
 import time
 
-from lib.programs import Astray
+from lib.programs import Late
 
 # What a call of a program, or an answer after the deadline, has at least; and what any has at most, in seconds.
 GRACE, MOST = 3.0, 1e6
@@ -21,4 +21,4 @@ def run(words: list[str], seconds: float, **given) -> subprocess.CompletedProces
     try:
         return subprocess.run(words, stdout=subprocess.PIPE, check=False, timeout=min(max(GRACE, seconds), MOST), **given)
     except subprocess.TimeoutExpired:
-        raise Astray("it didn't end in time") from None
+        raise Late("it didn't end in time") from None

@@ -21,7 +21,7 @@ from .line import Wrong
 from .places import Places, Unknown, fits, near
 from .programs import Programs
 from .reading import read_file
-from .refusals import BY_A_SIGNAL, NOT_IN_TIME, Stopped, astray_told, explained, refusal_of
+from .refusals import ASTRAY, BY_A_SIGNAL, Stopped, astray_told, explained, refusal_of
 from .running import Run, Runner
 from .scenario import Scenario, When
 from .session import Session
@@ -93,7 +93,7 @@ class Player:
                 journal = session.journal()
                 reports = [session.report(), *(self.again(copy, journal) for copy in copies[1:])]
             except Astray as astray:
-                raise Stopped(astray_told(astray), NOT_IN_TIME) from None
+                raise Stopped(astray_told(astray), ASTRAY) from None
             except Ended as ended:
                 raise Stopped(self.ended_told(ended), ended.status if 0 < ended.status < 8 else BY_A_SIGNAL) from None
         lines = reports[0].count(b"\n") - 1

@@ -10,14 +10,14 @@ from typing import TYPE_CHECKING
 
 from lib.paths import read_bytes
 from lib.places.running import unexplained
-from lib.programs import Astray
+from lib.programs import Astray, Late
 
 from .bounded import run
 
 if TYPE_CHECKING:
     from .running import Done
 
-NOT_IN_TIME, BY_A_SIGNAL = 1, 6
+ASTRAY, BY_A_SIGNAL = 1, 6
 
 # (the modules that know the rules are loaded only when something is refused)
 
@@ -31,7 +31,7 @@ class Stopped(Exception):
 
 
 def astray_told(astray: Astray) -> str:
-    return f"the controller's process was ended by --seconds: {astray.text}"
+    return f"the controller was ended{' by --seconds' if isinstance(astray, Late) else ''}: {astray.text}"
 
 
 @dataclass(frozen=True)
@@ -48,7 +48,7 @@ def refusal_of(live: str, path: str, seconds: float) -> tuple[str, ...]:
     try:
         ran = run([live, path], seconds, stdin=subprocess.DEVNULL)
     except Astray as astray:
-        raise Stopped(astray_told(astray), NOT_IN_TIME) from None
+        raise Stopped(astray_told(astray), ASTRAY) from None
     if ran.returncode == 0:
         return ()
     if ran.returncode < 0:

@@ -2,6 +2,7 @@
 
 from __future__ import annotations
 
+import re
 from collections.abc import Iterable
 from dataclasses import dataclass
 
@@ -9,6 +10,11 @@ from lib.programs import Astray, Ended, Program
 from lib.talk import Talk
 
 from .bounded import until
+
+
+# A line that is none of a report, and a report's last line.
+NO_LINE = re.compile(rb"^(?!\d+ \d+ (?:set|begin|reply|fault) )[^\n]*\n", re.MULTILINE)
+LAST = re.compile(rb"end \d+ \d+ \w+ lost \d+\n")
 
 
 @dataclass(frozen=True)
@@ -88,6 +94,8 @@ class Session:
             raise
         except Ended as ended:
             raise Ended(ended.status, answer.decode(errors="replace") + ended.text) from None
+        if NO_LINE.search(answer):
+            raise Astray("it answered what is no line of a report")
         return answer
 
     # ---- what was told
@@ -125,6 +133,8 @@ class Session:
         self.ask()
         self.talk.until = until(self.deadline)
         last = self.talk.end()
+        if not LAST.fullmatch(last):
+            raise Astray("it answered what is no last line of a report")
         self.answers.append(last)
         return last
 
