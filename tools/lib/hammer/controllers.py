@@ -35,7 +35,8 @@ COMMANDS = (
 ENDS, ANSWERS = ("ends 0", "ends 3", "ends 6", "signal", "half ends"), ("rubbish", "double")
 # A controller that says nothing more, for ever: these are ended in time.
 SILENT = ("hangs", "half", "lines", "other", "closes", "deaf")
-COUNTS = (0, 1, 2, 5, 9)
+# The first turns are one of each.
+COUNTS = (1, 0, 2, 5, 9)
 TURNS = [(tool, how, count) for count in COUNTS for how in (*ENDS, *ANSWERS, *SILENT) for tool in ("scenario", "online")]
 SECONDS, OF_A_COMMAND, PATIENCE = 30, 20, 1
 TOLD = (0, 1, 2, 3, 4, 5, 6, 7, 70)

@@ -12,6 +12,8 @@ from .laws import Broken, law
 from .outside import TOOLS
 
 SECONDS, UNREAD = 60, 4  # at this status nothing is written
+# So that a few turns are of all calls, they don't come in order; the step and the number of turns have no common divisor.
+STEPS = (23, 29, 31)
 CONVEYOR, L5X = f"{EXAMPLES}/conveyor", f"{EXAMPLES}/l5x"
 PROJECT, JOURNAL, REPORT = (f"{CONVEYOR}/{name}" for name in ("project.json", "journal.txt", "report.txt"))
 OTHER = f"{EXAMPLES}/blink/report.txt"
@@ -111,4 +113,5 @@ def judged(what, status, out, err):
 
 def tool_faults(_, __, number):
     every = faults()
-    return of_fault, [str(one).encode() for one in every[number * 7 % len(every)]]
+    step = next(step for step in STEPS if len(every) % step)
+    return of_fault, [str(one).encode() for one in every[number * step % len(every)]]
