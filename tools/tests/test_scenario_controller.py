@@ -11,8 +11,10 @@ from unittest import mock
 
 from common import TESTS, TOOLS
 from scenario_files import ScenarioTest
+from lib.programs import Astray
 from lib.scenario import bounded
 from lib.scenario.refusals import refusal_of
+from lib.scenario.session import checked
 
 BAD = f"{TOOLS}/lib/hammer/bad_live.py"
 COUNTS = (0, 1, 3)  # lines that are right
@@ -48,6 +50,14 @@ class Controllers(ScenarioTest):
                 called = self.bad(how, count)
                 self.assertEqual((called.status, called.out), (1, ""), (how, count))
                 self.assertRegex(called.err, "^scenario: the controller was ended: it answered ")
+
+    def test_a_report_and_none(self) -> None:
+        report = b"0 0 reply 31 ok\n0 1 begin Cont Main 0\n0 3 set Lamp -1\n9 9 fault minor 6/3 E -\nend 9 9 run lost 0\n"
+        self.assertEqual(checked(report), report)
+        self.assertEqual(checked(b"end 0 0 program lost 0\n"), b"end 0 0 program lost 0\n")
+        for wrong in (b"", b"\n", report[:-1], report[:-20], b"\n" + report, report + report, report.replace(b"set", b"sat"), report.replace(b"0 3", b"x 3")):
+            with self.assertRaises(Astray):
+                checked(wrong)
 
     def test_one_that_is_ended_by_a_signal(self) -> None:
         for count in COUNTS:

@@ -24,7 +24,7 @@ from .reading import read_file
 from .refusals import ASTRAY, BY_A_SIGNAL, Stopped, astray_told, explained, refusal_of
 from .running import Run, Runner
 from .scenario import Scenario, When
-from .session import Session
+from .session import Session, checked
 from .story import Story, read_reports
 from .tracing import Trace
 
@@ -221,7 +221,7 @@ class Player:
         ran = bounded.run([self.live, copy], self.seconds, input=journal)
         if ran.returncode:
             raise Ended(ran.returncode, ran.stdout[-200:].decode(errors="replace"))
-        return ran.stdout
+        return checked(ran.stdout)
 
     def ended_told(self, ended: Ended) -> str:
         if ended.status < 0:

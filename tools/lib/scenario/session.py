@@ -17,6 +17,24 @@ NO_LINE = re.compile(rb"^(?!\d+ \d+ (?:set|begin|reply|fault) )[^\n]*\n", re.MUL
 LAST = re.compile(rb"end \d+ \d+ \w+ lost \d+\n")
 
 
+def check_lines(answer: bytes) -> None:
+    if NO_LINE.search(answer):
+        raise Astray("it answered what is no line of a report")
+
+
+def check_last(line: bytes) -> None:
+    if not LAST.fullmatch(line):
+        raise Astray("it answered what is no last line of a report")
+
+
+def checked(report: bytes) -> bytes:
+    """A whole report, as one."""
+    last = report.rfind(b"\n", 0, -1) + 1
+    check_lines(report[:last])
+    check_last(report[last:])
+    return report
+
+
 @dataclass(frozen=True)
 class Mark:
     """A place in what was told: how many entries, the count of the last one, and the steps and ticks up to there."""
@@ -94,8 +112,7 @@ class Session:
             raise
         except Ended as ended:
             raise Ended(ended.status, answer.decode(errors="replace") + ended.text) from None
-        if NO_LINE.search(answer):
-            raise Astray("it answered what is no line of a report")
+        check_lines(answer)
         return answer
 
     # ---- what was told
@@ -133,8 +150,7 @@ class Session:
         self.ask()
         self.talk.until = until(self.deadline)
         last = self.talk.end()
-        if not LAST.fullmatch(last):
-            raise Astray("it answered what is no last line of a report")
+        check_last(last)
         self.answers.append(last)
         return last
 
