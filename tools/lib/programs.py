@@ -1,6 +1,7 @@
 """The programs of this repository, or of the package, as tools run them."""
 
 import os
+import signal
 import subprocess
 from dataclasses import dataclass
 
@@ -23,6 +24,23 @@ class Ended(Exception):
     def __init__(self, status, text):
         super().__init__(status, text)
         self.status, self.text = status, text
+
+    def told(self):
+        return f"status {self.status} {self.text.strip()}"
+
+
+class Astray(Ended):
+    """A program that is to be ended from here, since it didn't say what it should; why."""
+
+    def __init__(self, why):
+        super().__init__(-signal.SIGKILL, why)
+
+    def told(self):
+        return self.text
+
+
+class Late(Astray):
+    """A program that didn't say in time what it should."""
 
 
 def place(name):

@@ -6,18 +6,23 @@ and nothing changes by it. So a reader never waits for a line that doesn't come,
 
 import fcntl
 import os
+import select
 import subprocess
 import threading
+import time
+import weakref
 
-from .programs import Ended
+from .programs import Ended, Late
 
 AT_ONCE = 32_768  # so much goes into an empty pipe without anybody who reads
 MARK = b"?\n"
 READ = 1 << 20
+LIVING, AT_LIVING = weakref.WeakSet(), threading.Lock()  # all talks that there are
+MOST_SECONDS = 1e6  # that are waited at a time, since the system's clocks have an end
 
 
 class Talk:
-    """A proved program, which answers line by line."""
+    """A proved program, which answers line by line. What it says is waited for up to the time `until` (of time.monotonic; None: for ever)."""
 
     def __init__(self, program, project):
         self.process = subprocess.Popen([*program.words, project], stdin=subprocess.PIPE, stdout=subprocess.PIPE, bufsize=0)
@@ -28,6 +33,9 @@ class Talk:
                 pass  # what the system lets have is enough
         self.told = 0  # lines
         self.last = None  # the answer to the mark, once that is told
+        self.until = None
+        with AT_LIVING:
+            LIVING.add(self)
         # Each is held at a call on its stream: whoever closes it waits, since the stream's number may be another's right after.
         self.writing, self.reading, self.closed = threading.Lock(), threading.Lock(), False
 
@@ -66,17 +74,34 @@ class Talk:
                     return False
         return True
 
+    def left(self):
+        """The seconds up to `until`."""
+        return None if self.until is None else min(max(self.until - time.monotonic(), 0), MOST_SECONDS)
+
     def read(self):
+        """What has come; nothing at the end of the output."""
         with self.reading:
-            return b"" if self.closed else os.read(self.process.stdout.fileno(), READ)
+            if self.closed:
+                return b""
+            left, comes = self.left(), select.poll()
+            comes.register(self.process.stdout, select.POLLIN)
+            if left == 0 or not comes.poll(None if left is None else left * 1000):
+                raise Late("it didn't answer in time")
+            return os.read(self.process.stdout.fileno(), READ)
+
+    def status(self):
+        """The status of a program whose output is at its end."""
+        try:
+            return self.process.wait(self.left())
+        except subprocess.TimeoutExpired:
+            raise Late("it closed its output, and didn't end in time") from None
 
     def answers(self):
         kept = b""
         while True:
             piece = self.read()
             if not piece:
-                self.process.wait()
-                raise Ended(self.process.returncode, kept.decode(errors="replace"))
+                raise Ended(self.status(), kept.decode(errors="replace"))
             kept += piece
             end = kept.rfind(b"\n") + 1
             whole, kept = kept[:end], kept[end:]
@@ -92,8 +117,8 @@ class Talk:
     def end(self):
         """Ends the journal; what is answered to that."""
         self.write(["end\n"])
-        last = self.process.stdout.read()
-        self.process.wait()
+        last = b"".join(iter(self.read, b""))
+        self.status()
         return last
 
     def close(self):
@@ -103,6 +128,14 @@ class Talk:
             self.closed = True
             self.process.stdin.close()
             self.process.stdout.close()
+
+
+def end_all():
+    """Ends every process that is talked to; whoever waits for one is told so."""
+    with AT_LIVING:
+        talks = list(LIVING)
+    for each in talks:
+        each.process.kill()
 
 
 class TalkAnew:

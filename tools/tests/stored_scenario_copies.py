@@ -119,7 +119,7 @@ class Copies(ScenarioTest):
             maker = Maker(rand)
             project = maker.project()
             refusal_of.cache_clear()
-            if refusal_of(f"{self.programs}/logix_live", self.put("lamp.json", json.dumps(project))):
+            if refusal_of(f"{self.programs}/logix_live", self.put("lamp.json", json.dumps(project)), 60):
                 continue
             places = Places(project)
             path = self.put("day.scenario", "\n".join(made_scenario(rand, maker, places)))

@@ -204,6 +204,10 @@ class Tools(unittest.TestCase):
         for fault in (("nothing", 0, b"x", b""), ("nothing", 2, b"", b""), ("full device", 0, b"", b""), ("closed pipe", 1, b"", b"Traceback (most recent call last)")):
             self.assertIsNotNone(judged(*fault), fault)
 
+    def test_each_fault_has_its_turn(self):
+        count = len(tool_faults.faults())
+        self.assertEqual(len({tuple(tool_faults.tool_faults(None, None, number)[1]) for number in range(count)}), count)
+
     def test_each_call_has_its_files(self):
         for call in tool_faults.CALLS:
             for word in (*call.words[1:], call.given):

@@ -373,6 +373,50 @@ class Ends(unittest.TestCase):
                 self.assertEqual((lost["text"], lost["said"][0][0]), (f"It ended with status {status}.", str(status)))
                 self.assertIn("To do:", lost["said"][0][1])
 
+    def gone_wrong(self, text):
+        """A page whose controller is this text, after a change to Run; and what it is told of how that ended."""
+        page = Page()
+        self.addCleanup(page.session.rest)
+        page.session.programs = mock.Mock(live=program(text), logix=PLAIN.logix)
+        page.session.go(0, renew=True)
+        page.act("mode run")
+        return page, page.shown.snapshot()["lost"]
+
+    def test_one_that_says_nothing_more_is_ended(self):
+        silent = "import time\nprint('0 0 reply 31', end='', flush=True)\ntime.sleep(600)"
+        for text in (silent, f"import os, time\nos.close(1)\ntime.sleep(600)", "while True:\n    print('0 0 set nothing 1', flush=True)"):
+            with mock.patch.object(follower, "PATIENCE", 0.5):
+                page, lost = self.gone_wrong(text)
+                self.assertRegex(lost["text"], r"^It was ended from here: it (didn't answer|closed its output, and didn't end) in time\.$")
+                self.assertEqual((page.session.here, page.do("verify", lane=31, text="mode run")["answer"]), (None, "no action"))
+            page.session.programs = PLAIN
+            page.do("again")
+            self.assertEqual((page.shown.snapshot()["lost"], page.act("in In1 0 1")), (None, "ok"))
+
+    def test_a_trend_of_what_is_not_asked_for(self):
+        with Page() as page:
+            page.do("trend", place="Motor", on=True)
+            page.act("mode run")
+            page.session.programs = mock.Mock(live=program(ECHO.replace("else line)", "else b'0 0 set nothing 1\\n')")), logix=PLAIN.logix)
+            self.assertEqual(page.do("whole"), {"text": "it answered what it wasn't asked"})
+
+    def test_one_that_answers_too_much_is_ended(self):
+        for text in (ECHO.replace("else line)", "else b'0 0 reply 31 ok\\n' * 2)"), ECHO.replace("else line)", "else b'0 0 reply 31 ok\\n' * 30)")):
+            page, lost = self.gone_wrong(text)
+            self.assertEqual(lost["text"], "It was ended from here: it answered more than it was asked.")
+
+    def test_the_lock_is_had_from_a_command_that_waits(self):
+        with Page() as page:
+            page.session.programs = mock.Mock(live=program("import time\ntime.sleep(600)"), logix=PLAIN.logix)
+            waiting = threading.Thread(target=page.do, args=("again",), daemon=True)
+            waiting.start()
+            time.sleep(0.3)
+            began = time.monotonic()
+            with page.session.taken():
+                self.assertLess(time.monotonic() - began, 10)
+            waiting.join()
+            self.assertEqual(page.shown.snapshot()["lost"]["text"], "It was ended from outside, by signal 9.")
+
     def test_no_process_and_no_folder_is_left(self):
         page = Page()
         process, folder = page.session.here.talk.process, page.session.folder

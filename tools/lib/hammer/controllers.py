@@ -15,7 +15,7 @@ import sys
 
 from .cases import file_text
 from .laws import Broken, law
-from .outside import HERE, TOOLS
+from .outside import HERE, TOOLS, patience
 from .pages import Wanted, parts
 from .program import Hung
 
@@ -33,13 +33,12 @@ COMMANDS = (
     ("act", {"lane": 0, "text": "accept Main Go i 0 NOP();"}), ("go", {"to": 3}), ("last", {}), ("snap", {}), ("whole", {}),
 )
 ENDS, ANSWERS = ("ends 0", "ends 3", "ends 6", "signal", "half ends"), ("rubbish", "double")
-# A controller that says nothing more, for ever: what waits for it has no bound of time yet, so these aren't among the turns.
+# A controller that says nothing more, for ever: these are ended in time.
 SILENT = ("hangs", "half", "lines", "other", "closes", "deaf")
-COUNTS = (0, 1, 2, 5, 9)
-# What is known to go wrong, and isn't tried: a signal while the project is looked at becomes the status; a doubled answer breaks a command.
-KNOWN = (("scenario", "signal", 0), *(("online", "double", count) for count in COUNTS))
-TURNS = [(tool, how, count) for count in COUNTS for how in (*ENDS, *ANSWERS) for tool in ("scenario", "online") if (tool, how, count) not in KNOWN]
-SECONDS, OF_A_COMMAND = 30, 20
+# The first turns are one of each.
+COUNTS = (1, 0, 2, 5, 9)
+TURNS = [(tool, how, count) for count in COUNTS for how in (*ENDS, *ANSWERS, *SILENT) for tool in ("scenario", "online")]
+SECONDS, OF_A_COMMAND, PATIENCE = 30, 20, 1
 TOLD = (0, 1, 2, 3, 4, 5, 6, 7, 70)
 
 
@@ -65,7 +64,7 @@ def of_scenario(program, how, count):
     os.chmod(f"{folder}/programs/logix_live", 0o700)
     os.symlink(program.path, f"{folder}/programs/logix")
     try:
-        ran = subprocess.run([sys.executable, "-B", f"{TOOLS}/scenario", f"{folder}/day.scenario", "--seconds", "5", "--programs", f"{folder}/programs"],
+        ran = subprocess.run([sys.executable, "-B", f"{TOOLS}/scenario", f"{folder}/day.scenario", "--seconds", "1" if how in SILENT else "20", "--programs", f"{folder}/programs"],
                              capture_output=True, text=True, timeout=SECONDS, check=False)
     except subprocess.TimeoutExpired:
         raise Broken(f"scenario, {how} after {count} lines: it hangs") from None
@@ -84,6 +83,10 @@ def judged(how, ran):
         return "a traceback"
     if ran.returncode > 1 and (ran.stdout or not ran.stderr.startswith("scenario: ")):
         return "it doesn't say why, or tells verdicts"
+    if how in SILENT and ran.returncode == 1 and not (ran.stdout or ran.stderr.startswith("scenario: the controller was ended by --seconds: ")):
+        return "it doesn't say that it was ended"
+    if how in ANSWERS and (ran.returncode != 1 or ran.stdout or not ran.stderr.startswith("scenario: the controller was ended: it answered ")):
+        return f"status {ran.returncode}, and not told what was answered"
     if how in ENDS and how != "ends 0" and ran.returncode < 2:
         return f"status {ran.returncode} of a run that broke off"
     return None
@@ -112,9 +115,10 @@ def of_online(program, how, count):
         walk.page = files.Page(bad, source=PROJECT)
     walk.session = session = walk.page.session
     try:
-        for command, fields in COMMANDS:
-            with bounded(f"online, {how} after {count} lines: {command} {fields}"):
-                walk.page.do(command, **fields)
+        with patience(PATIENCE if how in SILENT else OF_A_COMMAND):
+            for command, fields in COMMANDS:
+                with bounded(f"online, {how} after {count} lines: {command} {fields}"):
+                    walk.page.do(command, **fields)
         lost = session.lost is not None
         program.tally("online, bad controller", f"{how}: {'told' if lost else 'went on'}")
         session.programs = good

@@ -12,8 +12,8 @@ KINDS = {
     "instructions": (wrong_words.instructions, 0.1, "replay"),
 }
 GATE = {
-    "marks": 600, "begins": 500, "splits": 25, "books": 40, "sessions": 80, "kept": 1_000, "scenarios": 60, "online": 15, "bad controllers": 8,
-    "tools at fault": 12, "mixes": 6, "add-ons": 20, "pictures": 60, "wrong words": 60, "instructions": 2,
+    "marks": 600, "begins": 500, "splits": 25, "books": 40, "sessions": 80, "kept": 1_000, "scenarios": 60, "online": 15, "bad controllers": 26,
+    "tools at fault": 30, "mixes": 6, "add-ons": 20, "pictures": 60, "wrong words": 60, "instructions": 2,
 }
 # Those whose cases are counted, as in IN_TURN of main.py.
 IN_TURN = {"bad controllers": lambda _: len(controllers.TURNS), "tools at fault": lambda _: len(tool_faults.faults())}

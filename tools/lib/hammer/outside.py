@@ -1,5 +1,6 @@
 """What the hammer takes of the other tools, so that their places are named here alone."""
 
+import contextlib
 import os
 import sys
 
@@ -23,6 +24,17 @@ def online():
     from lib.programs import Program
     from lib.online import player
     return online_files, Program, player
+
+
+@contextlib.contextmanager
+def patience(seconds):
+    """How long tools/online waits for an answer, at least."""
+    from lib.online import follower
+    usual, follower.PATIENCE = follower.PATIENCE, seconds
+    try:
+        yield
+    finally:
+        follower.PATIENCE = usual
 
 
 def add_ons():

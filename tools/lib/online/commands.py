@@ -33,7 +33,7 @@ class Commands:
             inspect.signature(method).bind(**fields)
         except TypeError as fault:
             raise Refused(400, "wrong fields") from fault
-        if command in ("pause", "draw", "whole"):
+        if command in ("pause", "draw", "whole", "end"):
             return method(**fields) or {}
         with self.player.first():
             return method(**fields) or {}

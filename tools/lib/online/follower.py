@@ -2,28 +2,38 @@
 
 import re
 import threading
+import time
 
-from lib.programs import Ended
+from lib.programs import Astray, Ended
 from lib.talk import talk
 
-from .journal import texts
+from .journal import Act, texts
+from .seen import TOO_MANY
 
 ROUND = 2_000_000  # bytes of answers that are gone over at once
 REFUSED = re.compile(rb"^line (\S+) (\d+)\n", re.M)
 BEHIND = 1_000_000  # events that the waiting process is behind
 WORTH = 2_000_000  # so many, and it waits
+# How long answers are waited for, in seconds: at least, and for each event more. The proved controller takes millions of events a second.
+PATIENCE, OF_AN_EVENT = 20, 200e-6
+
+
+def until(events):
+    """The time up to which the answers to so many events are waited for."""
+    return time.monotonic() + PATIENCE + events * OF_AN_EVENT
 
 
 class Follower:
     def __init__(self, program, project, seen):
         self.talk, self.seen, self.at = talk(program, project), seen, 0
         self.refused = None  # the last line of an answer that refused one
+        self.asked = 0  # actions that were told
 
     def tell(self, entries, acts, to):
         """Tells entries, up to the place `to`; answers what was answered and what was set, the last of each."""
         answers, rounds, size, fresh = [], [], 0, {}
-        self.refused = None
-        for answer in self.talk.tell(texts(entries)):
+        self.refused, self.talk.until = None, until(to - self.at)
+        for answer in self.talk.tell(texts(self.counted(entries))):
             if answer.startswith(b"line ") or b"\nline " in answer:
                 self.refused = REFUSED.search(answer)[0].decode().strip()
                 answer = REFUSED.sub(b"", answer)
@@ -35,14 +45,22 @@ class Follower:
         if rounds:
             answers = rounds
             fresh.update(self.seen.take(b"".join(rounds), acts))
+        if self.seen.replies > self.asked:
+            raise Astray(TOO_MANY)
         if not self.refused:
             self.at = to
         return b"".join(answers), fresh
 
-    def last(self, mark, entries):
-        """The place right after the last event whose answer has this; None if there is none. It is told from the beginning, and no more
-        is taken of its answers."""
+    def counted(self, entries):
+        for entry in entries:
+            self.asked += isinstance(entry, Act)
+            yield entry
+
+    def last(self, mark, entries, events):
+        """The place right after the last event whose answer has this; None if there is none. It is told from the beginning, so many events,
+        and no more is taken of its answers."""
         found, replies = None, 0
+        self.talk.until = until(events)
         for answer in self.talk.tell(texts(entries)):
             end = answer.rfind(mark)
             if end >= 0:

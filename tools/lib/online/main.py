@@ -88,7 +88,8 @@ def serve(session, title):
     except KeyboardInterrupt:
         pass
     finally:
-        player.pause()
+        with session.taken():
+            player.pause()
         server.server_close()
 
 
@@ -109,5 +110,6 @@ def main(words):
     try:
         serve(session, os.path.basename(words[0]))
     finally:
-        session.rest()
+        with session.taken():
+            session.rest()
     return 0

@@ -8,6 +8,8 @@ import collections
 import hashlib
 import re
 
+from lib.programs import Astray
+
 from .journal import OPERATOR
 
 LINES_KEPT = 2_000
@@ -15,6 +17,7 @@ LINES_OF_AN_ANSWER = 200
 TREND_KEPT = 4_000
 LEAST, MOST = 4_096, 65_536  # bytes that are gone over at a time, from the end: more each time
 FEW = 8  # so few names are looked for one by one
+TOO_MANY = "it answered more than it was asked"
 
 # Each begins at a line's feed, before the line, which makes them fast.
 SETS = re.compile(rb"\n\d+ \d+ set (\S+) (-?\d+)(?=\n)")
@@ -120,6 +123,8 @@ class Seen:
             self.faults.append(words)
             self.mode = "faulted" if words[0] == "major" else self.mode
             return
+        if self.replies >= len(acts):
+            raise Astray(TOO_MANY)
         line = acts[self.replies]
         self.replies += 1
         if words[1] == "ok":

@@ -7,8 +7,10 @@ before, is a new process that is told the front part of the journal again. Nothi
 import re
 import threading
 import time
+from contextlib import contextmanager
 
 from lib.programs import Ended
+from lib.talk import end_all
 
 from .edits import Book
 from .journal import MOST_EVENTS, Act, Journal, action
@@ -16,6 +18,7 @@ from .processes import Processes
 from .seen import Seen
 
 TOLD_AGAIN = 0.3  # s, from which on it is said
+TURN = 0.2  # s, that a command has to end by itself
 
 
 class Session(Processes):
@@ -99,7 +102,7 @@ class Session(Processes):
         """The place right after the last event before `before` whose answer has this, from a process of its own; None if there is none."""
         follower = self.follower()
         try:
-            return follower.last(mark, self.journal.part(0, before - 1))
+            return follower.last(mark, self.journal.part(0, before - 1), before - 1)
         finally:
             follower.close()
 
@@ -161,6 +164,16 @@ class Session(Processes):
 
     def snap(self):
         self.emit("snap", self.on_snap())
+
+    @contextmanager
+    def taken(self):
+        """The lock, for the end: a process that a command waits for is ended."""
+        while not self.lock.acquire(timeout=TURN):
+            end_all()
+        try:
+            yield
+        finally:
+            self.lock.release()
 
     def rest(self):
         """Without a process and a folder; the journal and the place are kept, and `go` starts again."""

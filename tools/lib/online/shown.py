@@ -5,6 +5,7 @@ from itertools import islice
 
 from lib.ladder import drawing
 from lib.neutral import NoRung, canonical, elements
+from lib.programs import Astray
 
 from .journal import Act
 from .watch import ROWS
@@ -74,6 +75,8 @@ class Shown:
         ended = self.session.lost
         if not ended:
             return None
+        if isinstance(ended, Astray):
+            return {"text": f"It was ended from here: {ended.text}.", "said": []}
         if ended.status < 0:
             return {"text": f"It was ended from outside, by signal {-ended.status}.", "said": []}
         text = f"{ended.status} {ended.text.strip()}".strip()

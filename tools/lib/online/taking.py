@@ -6,10 +6,10 @@ import os
 import re
 import subprocess
 
-from lib.programs import Ended
+from lib.programs import Astray, Ended
 
 from .edits import Book
-from .follower import Follower
+from .follower import Follower, until
 from .journal import Act, action, texts
 from .seen import Seen
 from lib.talk import talk
@@ -62,7 +62,7 @@ def verify(session, lane, words):
         told = re.search(rb" reply \d+ ([^\n]*)\n", answer)
         return told[1].decode() if told else follower.refused or "no answer"
     except Ended as ended:
-        return f"status {ended.status} {ended.text.strip()}"
+        return ended.told()
     finally:
         follower.close()
 
@@ -84,12 +84,15 @@ class WholeTrend:
             return {"text": f"the trend of more than {MOST_EVENTS:,} events isn't told"} if self.names else {}
         process, form = talk(self.program, self.project), re.compile(rb"^(\d+) \d+ set (\S+) (-?\d+)$", re.M)
         wide, points = max(self.ticks // BUCKETS, 1), {name.encode(): some for name, some in self.points.items()}
+        process.until = until(self.at)
         try:
             for answer in process.tell(texts(self.entries)):
                 for tick, name, value in form.findall(answer):
+                    if name not in points:
+                        raise Astray("it answered what it wasn't asked")
                     self.put(points[name], int(tick), int(value), wide)
         except Ended as ended:
-            return {"text": f"status {ended.status} {ended.text.strip()}"}
+            return {"text": ended.told()}
         finally:
             process.close()
         return {"tick": self.ticks, "points": list(self.points.items())}

@@ -7,13 +7,15 @@ import os
 import sys
 import time
 
+from lib.output import NOT_WRITTEN, NotWritten
+
 from . import answer, outputs, suite
 from .line import Wrong
 from .playing import Stopped, play
 from .programs import Missing, Programs
 
 USUAL_SECONDS = 60
-NO_PROGRAM, NO_OUTPUT, INTERRUPTED = 70, 5, 130
+NO_PROGRAM, INTERRUPTED = 70, 130
 
 
 def parser() -> argparse.ArgumentParser:
@@ -57,24 +59,19 @@ def main(words: list[str]) -> int:
         return 2 if ended.code else 0
     programs = Programs(said.programs)
     try:
-        status = run(said, programs)
-        sys.stdout.flush()
-        return status
+        return run(said, programs)
     except Missing as missing:
         return refuse(str(missing), NO_PROGRAM)
     except KeyboardInterrupt:
         return refuse("ended by a key", INTERRUPTED)
-    except OSError as fault:
-        return refuse(f"{fault.filename or 'standard output'} couldn't be written: {fault.strerror}", NO_OUTPUT)
+    except NotWritten as fault:
+        return refuse(fault.told(), NOT_WRITTEN)
     finally:
         programs.close()
 
 
 def refuse(why: str, status: int) -> int:
     print(f"scenario: {why}", file=sys.stderr)
-    if status == NO_OUTPUT:
-        # (what is left of standard output would fail once more as the process ends)
-        os.dup2(os.open(os.devnull, os.O_WRONLY), 1)
     return status
 
 

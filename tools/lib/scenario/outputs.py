@@ -7,6 +7,8 @@ import json
 import os
 import subprocess
 
+from lib.output import NotWritten
+
 from .playing import Played
 from .programs import Programs
 
@@ -44,4 +46,4 @@ def put(path: str, contents: bytes) -> None:
         with open(path, "wb") as file:
             file.write(contents)
     except OSError as fault:
-        raise OSError(fault.errno, fault.strerror, path) from None
+        raise NotWritten(path, fault) from None

@@ -11,8 +11,9 @@ from collections.abc import Callable
 from dataclasses import dataclass, field
 
 from lib.paths import read_bytes
-from lib.programs import Ended
+from lib.programs import Astray, Ended
 
+from . import bounded
 from .agenda import Set, agenda, unseen
 from .copying import MOST_WATCHES, Copy, make_copy
 from .judge import Judge, Judged
@@ -20,10 +21,10 @@ from .line import Wrong
 from .places import Places, Unknown, fits, near
 from .programs import Programs
 from .reading import read_file
-from .refusals import Stopped, explained, refusal_of
+from .refusals import ASTRAY, BY_A_SIGNAL, Stopped, astray_told, explained, refusal_of
 from .running import Run, Runner
 from .scenario import Scenario, When
-from .session import Session
+from .session import Session, checked
 from .story import Story, read_reports
 from .tracing import Trace
 
@@ -62,15 +63,15 @@ def play(path: str, project: str | None, programs: Programs, seconds: float, pro
     deadline = time.monotonic() + seconds
     scenario = read_file(path)
     try:
-        return Player(scenario, project, programs, deadline, progress).play()
+        return Player(scenario, project, programs, seconds, deadline, progress).play()
     except Wrong as wrong:
         wrong.path = wrong.path or path
         raise
 
 
 class Player:
-    def __init__(self, scenario: Scenario, project: str | None, programs: Programs, deadline: float, progress) -> None:
-        self.scenario, self.programs, self.deadline = scenario, programs, deadline
+    def __init__(self, scenario: Scenario, project: str | None, programs: Programs, seconds: float, deadline: float, progress) -> None:
+        self.scenario, self.programs, self.seconds, self.deadline = scenario, programs, seconds, deadline
         self.progress = lambda now: progress(now, scenario.end)
         self.live, self.logix = programs.path("logix_live"), programs.path("logix")
         self.is_other = project is not None
@@ -91,8 +92,10 @@ class Player:
                 run, session, trace = self.run(copies[0], room)
                 journal = session.journal()
                 reports = [session.report(), *(self.again(copy, journal) for copy in copies[1:])]
+            except Astray as astray:
+                raise Stopped(astray_told(astray), ASTRAY) from None
             except Ended as ended:
-                raise Stopped(self.ended_told(ended), ended.status if 0 < ended.status < 8 else 6) from None
+                raise Stopped(self.ended_told(ended), ended.status if 0 < ended.status < 8 else BY_A_SIGNAL) from None
         lines = reports[0].count(b"\n") - 1
         if lines > MOST_LINES:
             self.notes.append(f"the report has {lines} lines: a replay of the journal keeps the first {MOST_LINES}")
@@ -113,7 +116,7 @@ class Player:
         except OSError as fault:
             why = f"the project {self.path} can't be read: {fault.strerror}"
             raise Wrong(why) if self.is_other else line.wrong(why, line.text.find(" ") + 1) from None
-        refusal = refusal_of(self.live, self.path)
+        refusal = refusal_of(self.live, self.path, self.seconds)
         if refusal:
             why = f"the project {self.path} is refused: {refusal[0].removeprefix('project ')}"
             raise Wrong(why, number=0 if self.is_other else line.number, more=refusal[1:])
@@ -183,7 +186,7 @@ class Player:
         """The run, and its trace. Where nothing but steps tells when all scans are over, so many that at last the processor idles."""
         idle = LEAST_IDLE
         while True:
-            session = Session(self.live, copy)
+            session = Session(self.live, copy, self.deadline)
             try:
                 runner = Runner(self.scenario, self.made, session, idle)
                 run = runner.go(self.items, self.deadline, self.progress)
@@ -209,16 +212,16 @@ class Player:
         path = f"{room}/journal.txt"
         with open(path, "wb") as file:
             file.write(journal)
-        ran = subprocess.run([self.logix, "trace", copy, path], stdin=subprocess.DEVNULL, stdout=subprocess.PIPE, check=False)
+        ran = bounded.run([self.logix, "trace", copy, path], self.seconds, stdin=subprocess.DEVNULL)
         if ran.returncode:
             raise Ended(ran.returncode, ran.stdout[:200].decode(errors="replace"))
         return Trace(ran.stdout)
 
     def again(self, copy: str, journal: bytes) -> bytes:
-        ran = subprocess.run([self.live, copy], input=journal, stdout=subprocess.PIPE, check=False)
+        ran = bounded.run([self.live, copy], self.seconds, input=journal)
         if ran.returncode:
             raise Ended(ran.returncode, ran.stdout[-200:].decode(errors="replace"))
-        return ran.stdout
+        return checked(ran.stdout)
 
     def ended_told(self, ended: Ended) -> str:
         if ended.status < 0:

@@ -10,19 +10,28 @@ from typing import TYPE_CHECKING
 
 from lib.paths import read_bytes
 from lib.places.running import unexplained
+from lib.programs import Astray, Late
+
+from .bounded import run
 
 if TYPE_CHECKING:
     from .running import Done
+
+ASTRAY, BY_A_SIGNAL = 1, 6
 
 # (the modules that know the rules are loaded only when something is refused)
 
 
 class Stopped(Exception):
-    """The controller's process ended before its time: why, and the status to end with."""
+    """The controller's process ended before its time, or was ended: why, and the status to end with."""
 
     def __init__(self, why: str, status: int) -> None:
         super().__init__(why)
         self.why, self.status = why, status
+
+
+def astray_told(astray: Astray) -> str:
+    return f"the controller was ended{' by --seconds' if isinstance(astray, Late) else ''}: {astray.text}"
 
 
 @dataclass(frozen=True)
@@ -34,11 +43,16 @@ class Refusal:
 
 
 @functools.lru_cache(maxsize=64)
-def refusal_of(live: str, path: str) -> tuple[str, ...]:
+def refusal_of(live: str, path: str, seconds: float) -> tuple[str, ...]:
     """The controller's line of a project that it refuses, and what that says of the file; nothing of a project that it takes."""
-    ran = subprocess.run([live, path], stdin=subprocess.DEVNULL, stdout=subprocess.PIPE, check=False)
+    try:
+        ran = run([live, path], seconds, stdin=subprocess.DEVNULL)
+    except Astray as astray:
+        raise Stopped(astray_told(astray), ASTRAY) from None
     if ran.returncode == 0:
         return ()
+    if ran.returncode < 0:
+        raise Stopped(f"the controller was ended by signal {-ran.returncode} at the project {path}", BY_A_SIGNAL)
     if ran.returncode != 2:
         raise Stopped(f"the controller ended with status {ran.returncode} at the project {path}", ran.returncode)
     line = ran.stdout.decode(errors="replace").partition("\n")[0]

@@ -9,6 +9,7 @@ from dataclasses import dataclass, field
 
 from lib.hammer.plain.project import read
 from lib.hammer.plain.words import signed
+from lib.programs import Astray
 
 from .agenda import Item, Set
 from .copying import Copy, Word
@@ -180,7 +181,10 @@ class Runner:
         for _ in range(MOST_HELD):
             data = self.session.act(told)
             self.look(data)
-            reply = REPLY.search(data)
+            replies = list(REPLY.finditer(data))
+            if len(replies) != 1:
+                raise Astray(f"it answered {len(replies)} times to {action}")
+            reply = replies[0]
             answer = reply[3].decode()
             self.run.done.append(Done(self.events(), int(reply[1]), lane, action, answer, line))
             if answer != "held":

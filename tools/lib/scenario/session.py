@@ -2,11 +2,37 @@
 
 from __future__ import annotations
 
+import re
 from collections.abc import Iterable
 from dataclasses import dataclass
 
-from lib.programs import Ended, Program
+from lib.programs import Astray, Ended, Program
 from lib.talk import Talk
+
+from .bounded import until
+
+
+# A line that is none of a report, and a report's last line.
+NO_LINE = re.compile(rb"^(?!\d+ \d+ (?:set|begin|reply|fault) )[^\n]*\n", re.MULTILINE)
+LAST = re.compile(rb"end \d+ \d+ \w+ lost \d+\n")
+
+
+def check_lines(answer: bytes) -> None:
+    if NO_LINE.search(answer):
+        raise Astray("it answered what is no line of a report")
+
+
+def check_last(line: bytes) -> None:
+    if not LAST.fullmatch(line):
+        raise Astray("it answered what is no last line of a report")
+
+
+def checked(report: bytes) -> bytes:
+    """A whole report, as one."""
+    last = report.rfind(b"\n", 0, -1) + 1
+    check_lines(report[:last])
+    check_last(report[last:])
+    return report
 
 
 @dataclass(frozen=True)
@@ -30,8 +56,8 @@ class Mark:
 
 
 class Session:
-    def __init__(self, program: str, project: str) -> None:
-        self.program, self.project = Program((program,), True), project
+    def __init__(self, program: str, project: str, deadline: float) -> None:
+        self.program, self.project, self.deadline = Program((program,), True), project, deadline
         self.entries: list[list] = []  # what was told: [verb, count] of steps and ticks, [action] of others
         self.answers: list[bytes] = []
         self.steps = self.ticks = self.actions = 0
@@ -78,11 +104,15 @@ class Session:
 
     def tell(self, lines: Iterable[str]) -> bytes:
         answer = b""
+        self.talk.until = until(self.deadline)
         try:
             for piece in self.talk.tell(lines):
                 answer += piece
+        except Astray:
+            raise
         except Ended as ended:
             raise Ended(ended.status, answer.decode(errors="replace") + ended.text) from None
+        check_lines(answer)
         return answer
 
     # ---- what was told
@@ -118,7 +148,9 @@ class Session:
     def end(self) -> bytes:
         """Ends the session: the last line of the report."""
         self.ask()
+        self.talk.until = until(self.deadline)
         last = self.talk.end()
+        check_last(last)
         self.answers.append(last)
         return last
 
