@@ -22,6 +22,7 @@ use Rattle.lgx_prog.specs.contracts.rung.Rung as Rung
 use Rattle.lgx_prog.specs.contracts.prepared.Prepared as Prepared
 use Rattle.lgx_prog.specs.contracts.code.Code as Code
 use Rattle.lgx_prog.specs.contracts.short.Does as Does
+use Rattle.lgx_prog.specs.contracts.quick.After as After
 use Rattle.lgx_prog.specs.contracts.quick.Quick as Quick
 use Rattle.lgx_prog.specs.contracts.code.FlatRoutine as FlatRoutine
 use Rattle.lgx_prog.specs.contracts.program.FlatProgram as FlatProgram
@@ -58,8 +59,11 @@ code_send = search (sendable, crosses, prepared_send) depth 200 fits 20000
 pub does_send : IsSend Does.the_row
 does_send = search (sendable, crosses) depth 300 fits 50000
 
+pub after_send : IsSend After.the_row
+after_send = search (sendable, crosses) depth 200 fits 20000
+
 pub quick_send : IsSend Quick.the_row
-quick_send = search (sendable, crosses, does_send) depth 200 fits 20000
+quick_send = search (sendable, crosses, does_send, after_send) depth 200 fits 20000
 
 pub flat_routine_send : IsSend FlatRoutine.the_row
 flat_routine_send = search (sendable, crosses, code_send, quick_send) depth 200 fits 20000
