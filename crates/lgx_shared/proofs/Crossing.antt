@@ -56,14 +56,14 @@ prepared_send = search (sendable, crosses, ins.the_field_send) depth 200 fits 20
 pub code_send : IsSend Code.the_row
 code_send = search (sendable, crosses, prepared_send) depth 200 fits 20000
 
-pub does_send : IsSend Does.the_row
+pub does_send : IsSend (Does.the_field).row
 does_send = search (sendable, crosses) depth 300 fits 50000
 
-pub after_send : IsSend After.the_row
+pub after_send : IsSend (After.the_field).row
 after_send = search (sendable, crosses) depth 200 fits 20000
 
 pub quick_send : IsSend Quick.the_row
-quick_send = search (sendable, crosses, does_send, after_send) depth 200 fits 20000
+quick_send = of_fields _ _ _ (Quick.the_type).to_one (struct_send (shape Quick.the_type) (does_send, (after_send, tt)))
 
 pub flat_routine_send : IsSend FlatRoutine.the_row
 flat_routine_send = search (sendable, crosses, code_send, quick_send) depth 200 fits 20000
