@@ -69,14 +69,18 @@ class Documents(unittest.TestCase):
         self.assertEqual(above.written(page, above.above(above.crates())), page)
 
     def test_the_places_of_an_instruction_are_all_named(self) -> None:
-        """What a search for a neighbour finds in the crates stands in the list, but for worked runs."""
+        """What a search for a neighbour finds in the crates and tools stands in the list, but for worked runs."""
         listed = re.search(r"^## An instruction$(.*?)^## ", text("docs/CHANGING.md"), re.MULTILINE | re.DOTALL).group(1)
         for path in (found for part in ("src", "specs", "proofs") for found in glob.glob(f"*/{part}/**/*", root_dir=f"{TOP}/crates", recursive=True)):
             crate, name = path.split("/")[0], os.path.basename(path)
-            if name.endswith((".rt", ".antt")) and crate != "test_cases" and re.search(r"\b(?:Clr|Equ|Mvm)\b", text(f"crates/{path}")):
+            if name.endswith((".rt", ".antt")) and crate != "test_cases" and re.search(r"\b(?:Clr|Equ|Meq|Mvm)\b", text(f"crates/{path}")):
                 with self.subTest(path=path):
                     self.assertIn(f"`{crate}`", listed)
                     self.assertIn(name.removesuffix(".antt"), listed)
+        for path in glob.glob("lib/**/*.[jp][sy]", root_dir=f"{TOP}/tools", recursive=True):
+            if re.search(r"\b(?:MEQ|MVM)\b", text(f"tools/{path}")):
+                with self.subTest(path=path):
+                    self.assertIn(os.path.basename(path), listed)
 
     def test_the_first_page_is_short(self) -> None:
         self.assertLess(len(text("README.md").splitlines()), 120)
