@@ -25,7 +25,7 @@ CASES = (
 line.txt, line 2: no line begins with 'step'; it is cpu, tick, in, out, accept, test, untest, assemble, cancel, mode, clear, force or end
     step 3
     ^
-J1: a line of another form, or of over 65,536 bytes. To do: correct the line.
+J1: a malformed line, or one of over 65,536 bytes. To do: correct the line.
 """),
     Case("no end", "mode run\ncpu 3\n", "journal J1 line 3", """\
 line.txt, line 3: the line 'end' is missing: here the text ends
@@ -35,31 +35,31 @@ J1: no line `end` (the line after the last). To do: add it.
 line.txt, line 1: '16#45': numbers of a journal are decimal
     in In1 0 16#45
              ^
-J1: no name, or no number of 32 bits, where one must stand. To do: correct the word.
+J1: no name, or no number of 32 bits, where one is needed. To do: correct the word.
 """),
     Case("no value", "@0 in In1 0\nend\n", "journal J1 line 1", """\
 line.txt, line 1: the line must be 'in CONN WORD VALUE'
     @0 in In1 0
                ^
-J1: a line of another form, or of over 65,536 bytes. To do: correct the line.
+J1: a malformed line, or one of over 65,536 bytes. To do: correct the line.
 """),
     Case("a mode with a capital", "mode Run\nend\n", "journal J1 line 1", """\
 line.txt, line 1: mode 'Run' isn't there; is run meant?
     mode Run
          ^
-J1: a line of another form, or of over 65,536 bytes. To do: correct the line.
+J1: a malformed line, or one of over 65,536 bytes. To do: correct the line.
 """),
     Case("the mark of Notepad", "\ufeffmode run\nend\n", "journal J1 line 1", """\
 line.txt, line 1: the file begins with a byte order mark: save it without
     \\ufeffmode run
     ^
-J1: a line of another form, or of over 65,536 bytes. To do: correct the line.
+J1: a malformed line, or one of over 65,536 bytes. To do: correct the line.
 """),
     Case("a tab", "mode run\ncpu\t3\nend\n", "journal J1 line 2", """\
 line.txt, line 2: a tab stands between words; write a space
     cpu 3
        ^
-J1: a line of another form, or of over 65,536 bytes. To do: correct the line.
+J1: a malformed line, or one of over 65,536 bytes. To do: correct the line.
 """),
     Case("the operator's lane", "# as in a script\n\n@31 clear\nend\n", "journal J2 line 3", """\
 line.txt, line 3: no lane 31: lanes are 0 to 30; the operator, 31, has no @
@@ -113,7 +113,7 @@ logix: 1 command is refused; it is line 1 of line.txt: no rung goes on with '(' 
     accept Line Main i 4 NOP(); | r 1 XIC(LineRunTON(Stagger,?,?);
     XIC(LineRunTON(Stagger,?,?);
                   ^
-T1: any other byte that no rung goes on with. To do: look just before it.
+T1: any other byte that can't continue a rung. To do: look just before it.
 """),
     Case("a tick of two seconds", "mode run\ncpu 2\ntick 2000\ncpu 100\nend\n", "", ""),
 )

@@ -159,19 +159,19 @@ P5: out of range: a number, an empty list, a rung of over 4,096 bytes. To do: st
 line.json, line 35: task Every10ms: 'kind' can't be 'Periodic'; it is continuous or periodic or event
         {"name": "Every10ms", "kind": "Periodic", "priority": 5, "period": 10, "programs": ["Line"]},
                                       ^
-P5: no name, or no word of the list. To do: write one.
+P5: no name, or no word that is allowed here. To do: write one.
 """),
     Case("a blank in a name", '"name": "Eye"', '"name": "Eye 1"', "project P5 programs.1.name", """\
 line.json, line 32: program Eye 1: 'Eye 1' is no name: it has ' ', and a name has letters, digits and underscores
         {"name": "Eye 1", "main": "Main", "routines": [{"name": "Main", "rungs": ["ADD(Lots[0],1,Lots[..
                  ^
-P5: no name, or no word of the list. To do: write one.
+P5: no name, or no word that is allowed here. To do: write one.
 """),
     Case("a program that isn't there", '"programs": ["Eye"]', '"programs": ["Eyes"]', "project P5 tasks.1.programs.0", """\
 line.json, line 36: task OnEye: there is no program 'Eyes'; is Eye meant?
         {"name": "OnEye", "kind": "event", "priority": 2, "programs": ["Eyes"]}
                                                                        ^
-P5: the name of nothing. To do: correct it, or declare it.
+P5: a name that nothing has. To do: correct it, or declare it.
 """),
     Case("a timer is watched", '"Motor1", "Parts.ACC"', '"Stagger", "Parts.ACC"', "project P5 watch.1", """\
 line.json, line 46: 'Stagger' is a TIMER; a BOOL, a bit or an integer must stand here

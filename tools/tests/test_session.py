@@ -35,7 +35,7 @@ SAID = """\
 logix_live: line 3: no line begins with 'step'; it is cpu, tick, in, out, accept, test, untest, assemble, cancel, mode, clear, force or end
     step 3
     ^
-J1: a line of another form, or of over 65,536 bytes. To do: correct the line.
+J1: a malformed line, or one of over 65,536 bytes. To do: correct the line.
 logix_live: refused: there is no connection 'Inn1'; is In1 meant?
     @1 in Inn1 0 5
           ^

@@ -33,7 +33,7 @@ class Word(NamedTuple):
 class Wrong(Exception):
     """What is wrong with a line, at which character, and words of the sentence that applies."""
 
-    def __init__(self, why: str, at: int, applies: str = "another form") -> None:
+    def __init__(self, why: str, at: int, applies: str = "malformed") -> None:
         super().__init__(why, at)
         self.why, self.at, self.applies = why, at, applies
 

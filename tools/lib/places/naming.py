@@ -20,9 +20,9 @@ def wrong_value(refused: Refused) -> Said:
     kind, value = refused.keys[0], refused.at(refused.keys)
     if kind == "programs":
         routines = refused.names(*refused.keys[:2], "routines")
-        return refused.say(f"the program has no routine {quoted(value)}{meant(value, routines)}", applies="of nothing")
+        return refused.say(f"the program has no routine {quoted(value)}{meant(value, routines)}", applies="nothing has")
     if kind == "tasks":
-        return refused.say(f"there is no program {quoted(value)}{meant(value, refused.names('programs'))}", applies="of nothing")
+        return refused.say(f"there is no program {quoted(value)}{meant(value, refused.names('programs'))}", applies="nothing has")
     if refused.keys[-1] == "trigger":
         return trigger(refused, value)
     if refused.keys[-1] == "value":
@@ -38,8 +38,8 @@ def trigger(refused: Refused, value: str) -> Said:
     tasks = [one for one in refused.at(["tasks"]) if one["name"].lower() == value.lower()]
     events = [one["name"] for one in refused.at(["tasks"]) if one["kind"] == "event"]
     if tasks:
-        return refused.say(f"the task {quoted(value)} is {tasks[0]['kind']}; a trigger is an event task", applies="of nothing")
-    return refused.say(f"there is no event task {quoted(value)}{meant(value, events)}", applies="of nothing")
+        return refused.say(f"the task {quoted(value)} is {tasks[0]['kind']}; a trigger is an event task", applies="nothing has")
+    return refused.say(f"there is no event task {quoted(value)}{meant(value, events)}", applies="nothing has")
 
 
 def place_of_no_use(refused: Refused, value: str) -> Said:

@@ -26,7 +26,7 @@ def told(code: str, number: int, contents: bytes, tasks: list[str], programs: li
     """What is said of `trace CODE line NUMBER`."""
     *lines, rest = contents.decode("utf-8", "replace").split("\n")
     if rest and number == len(lines) + 1:
-        return Said("the line has no LF at its end", marked(rest.expandtabs(1), len(rest)), [], "another form")
+        return Said("the line has no LF at its end", marked(rest.expandtabs(1), len(rest)), [], "malformed")
     if code == "K1" and number == len(lines) + 1:
         return Said("the line 'end' is missing: here the text ends", applies="no line")
     if not 1 <= number <= len(lines):
