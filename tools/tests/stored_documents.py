@@ -51,7 +51,7 @@ class Documents(RoomTest):
         self.assertGreaterEqual(self.judge("docs/CONTROLLER.md"), 17)
 
     def test_the_formats(self):
-        self.assertGreaterEqual(self.judge("docs/FORMATS.md"), 14)
+        self.assertGreaterEqual(self.judge("docs/FORMATS.md"), 12)
 
     def test_the_expansion(self):
         self.assertEqual(self.judge("docs/L5X.md"), 1)
