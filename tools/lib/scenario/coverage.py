@@ -109,11 +109,11 @@ class Suite:
             parts += [Part(f"{one.title()}: {LEGEND}", []), *(part(routine) for routine in one.routines.values() if routine.tally().instructions)]
         return sheet(parts)
 
-    def summary(self, path: str) -> list[str]:
+    def summary(self) -> list[str]:
         """A line for each project, for who looks at the run."""
         lines = []
         for one in self.sums.values():
             instructions, never, never_true = total(list(one.routines.values()))
             tally = f"{number_of(instructions, 'instruction')}, {never:,} never executed, {never_true:,} never true"
-            lines.append(f"coverage of {one.path}: {tally}: {path}")
+            lines.append(f"coverage of {one.path}: {tally}")
         return [*lines, *(f"coverage: not counted: {what}" for what in self.missing)]

@@ -34,7 +34,7 @@ def write(said: argparse.Namespace, played: Played, programs: Programs) -> None:
 
 def write_coverage(path: str, every: Suite) -> None:
     put(path, every.contents(path))
-    print("\n".join(every.summary(path)))
+    print("\n".join(every.summary()))
 
 
 def beside(path: str, ending: str) -> str:
