@@ -25,7 +25,7 @@ WRONG_WORDS, NO_PROGRAM = 1, 70
 
 
 def parser() -> argparse.ArgumentParser:
-    made = argparse.ArgumentParser(prog="cover", description="How often each instruction of a run was executed (docs/FORMATS.md, 8.6).")
+    made = argparse.ArgumentParser(prog="cover", description="How often each instruction of a run was executed (docs/FORMATS.md, section 8.6).")
     made.add_argument("project", metavar="P", help="a project")
     made.add_argument("journal", metavar="J", help="a journal")
     made.add_argument("--ladder", metavar="FILE.svg", help="draw the rungs with their counts there, too")

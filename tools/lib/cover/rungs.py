@@ -1,4 +1,4 @@
-"""Rungs with their instructions, and the code of a routine, by whose pieces `logix_cover` names an instruction (docs/FORMATS.md, 8.6)."""
+"""Rungs with their instructions, and the code of a routine, by whose pieces `logix_cover` names an instruction (docs/FORMATS.md, section 8.6)."""
 
 from __future__ import annotations
 

@@ -1,4 +1,4 @@
-"""How often each instruction of a run was executed, with a true and with a false condition, as `logix_cover` writes it (FORMATS.md, 8.6).
+"""How often each instruction of a run was executed, with a true and with a false condition, as `logix_cover` writes it (FORMATS.md, section 8.6).
 
 An instruction is told by how many pieces of code its routine has left from it on. What has no instruction has no code, but for a routine's
 last rung.
