@@ -20,8 +20,8 @@ def usage_words():
 def programs():
     """The programs that a user runs, as the tools have them, and the tools that a package has beside them."""
     listed = re.search(r"^programs=\((.*)\)$", read_text(f"{TOP}/tools/programs.sh"), re.MULTILINE).group(1)
-    tools = "cover from_l5x ladder online xref explain scenario compare".split()
-    return list(dict.fromkeys([*listed.split(), *(f"logix_{tool}" for tool in tools)]))
+    tools = "from_l5x ladder online xref explain scenario compare".split()
+    return [*listed.split(), *(f"logix_{tool}" for tool in tools)]
 
 
 class Manual(unittest.TestCase):
