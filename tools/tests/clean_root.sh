@@ -25,6 +25,7 @@ sed 's/OTE(Lamp)/OTE(Lump)/' $examples/blink/project.json >lump.json
 ! logix check lump.json
 logix_explain --project lump.json project P10 programs.0.routines.0 C4 0 1 | grep "is Lamp meant?"
 logix_xref $examples/conveyor/project.json Motor
+logix_cover $examples/conveyor/project.json $examples/conveyor/journal.txt
 logix --version
 END
 inside su tech -c 'bash ~/day'

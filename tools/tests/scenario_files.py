@@ -13,8 +13,8 @@ from contextlib import redirect_stderr, redirect_stdout
 from common import TESTS, RoomTest, built
 from lib.scenario.main import main
 
-PLAIN = {"logix_live": "plain_live.py", "logix": "plain_logix.py"}
-BUILT = ("logix_live", "logix", "logix_timeline", "logix_wave")
+PLAIN = {"logix_live": "plain_live.py", "logix": "plain_logix.py", "logix_cover": "plain_cover.py"}
+BUILT = ("logix_live", "logix", "logix_timeline", "logix_wave", "logix_cover")
 
 # One rung in a continuous task: a lamp follows a button of an input word.
 LAMP = {

@@ -60,6 +60,7 @@ class Package(unittest.TestCase):
             self.helps(root)
             self.names_its_own_commands(root)
             self.plays_scenarios(root)
+            self.counts_executions(root)
             self.draws_rungs(root)
             self.goes_online(root)
             self.dpkg(root, "--purge", "logix")
@@ -106,6 +107,13 @@ class Package(unittest.TestCase):
         report = f"{root}/usr/share/doc/logix/examples/conveyor/report.txt"
         ran = subprocess.run([f"{root}/usr/bin/logix_compare", report, report], capture_output=True, timeout=60, check=False)
         self.assertEqual((ran.returncode, ran.stdout, ran.stderr), (0, b"", b""))
+
+    def counts_executions(self, root):
+        if not os.path.exists(f"{root}/usr/libexec/logix/logix_cover"):
+            return
+        words = [f"{root}/usr/bin/logix_cover", *(f"{root}/usr/share/doc/logix/examples/blink/{name}" for name in ("project.json", "edit.txt"))]
+        ran = subprocess.run(words, capture_output=True, text=True, timeout=60, check=False)
+        self.assertEqual((ran.returncode, ran.stderr, ran.stdout.splitlines()[-1].split()[-3:]), (0, "", ["4", "0", "1"]))
 
     def takes_an_export(self, root):
         words = [f"{root}/usr/bin/logix_from_l5x", f"{root}/usr/share/doc/logix/examples/l5x/line.L5X"]

@@ -84,6 +84,8 @@ def calls_of(program):
         made.append(Call(f"stations {example}", ["stations", project, journal, "2" if example == "first" else "5"]))
         if program.beside("logix_live"):
             made.append(Call(f"live {example}", [project], contents_of(journal), program.beside("logix_live")))
+        if program.beside("logix_cover"):
+            made.append(Call(f"cover {example}", [project, journal], path=program.beside("logix_cover")))
     files = [program.put(f"turn-long{at}", text) for at, text in enumerate(long_report(STEPS_OF_LONG))]
     made.append(Call("replay long", ["replay", *files]))
     trace = program.put("turn-trace", program.run(["trace", f"{FIRST}/project.json", f"{FIRST}/journal.txt"]).out)

@@ -37,7 +37,7 @@ CALLS = (
     Call("explain", ("explain", "--project", PROJECT, "--journal", JOURNAL, "journal J1 line 3"), reads=False), Call("from_l5x", ("from_l5x", f"{L5X}/line.L5X")),
     Call("from_l5x --check", ("from_l5x", "--check", f"{L5X}/line.L5X")), Call("scenario", ("scenario", f"{L5X}/cells.scenario")),
     Call("scenario of a folder", ("scenario", "--list", L5X), reads=False), Call("help", ("help", "logix", "--help")), Call("live", ("live", PROJECT), JOURNAL),
-    Call("online", ("online", PROJECT, JOURNAL), serves=True),
+    Call("online", ("online", PROJECT, JOURNAL), serves=True), Call("cover", ("cover", PROJECT, JOURNAL)),
 )
 LOST = ("nothing", "a folder", "no file to be read", "an empty name")
 

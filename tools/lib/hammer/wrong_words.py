@@ -9,7 +9,7 @@ VERBS = ("check", "text", "migrate", "xref", "replay", "trace", "audit", "run", 
 NEEDS = {"check": 1, "text": 1, "migrate": 1, "xref": 1, "replay": 2, "trace": 2, "audit": 2, "run": 2, "stations": 3, "link": 3, "gen": 1}
 USAGE = {
     "logix": b"usage: logix check P, ", "logix_live": b"usage: logix_live P\n", "logix_timeline": b"usage: logix_timeline ",
-    "logix_wave": b"usage: logix_wave ",
+    "logix_wave": b"usage: logix_wave ", "logix_cover": b"usage: logix_cover P J\n",
 }
 OPTIONS = (
     "--from", "--from x", "--from 5 --to 4", "--to 4294967296", "--bool b", "--bool b=1=2", "--bool =1", "--bool b=", "--number n=x", "tick tick", "--to 3 tick",
@@ -28,8 +28,9 @@ def of_words(program, contents):
 
 
 def words_for(draw, name):
-    if name == "logix_live":
-        return [draw.choice(FILES) for _ in range(draw.choice((0, 2, 3)))]
+    if name in ("logix_live", "logix_cover"):
+        needs = 1 if name == "logix_live" else 2
+        return [draw.choice(FILES) for _ in range(draw.choice([count for count in range(4) if count != needs]))]
     if name != "logix":
         return draw.choice(OPTIONS).split(" ")
     verb = draw.choice(VERBS)

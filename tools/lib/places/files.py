@@ -14,7 +14,8 @@ from lib.texts import counted, meant, near, quoted
 MOST_BYTES = 16_777_216
 USAGE = re.compile(r"`usage: logix (.*?)`")
 FILES = {"P": "project", "J": "journal", "S": "script", "T": "trace", "A": "project", "B": "project", "L": "link script"}
-LIVE = ("P",)
+# The programs beside `logix` that read files, and which.
+OTHERS = {"logix_live": ("P",), "logix_cover": ("P", "J")}
 
 
 @cache
@@ -70,7 +71,7 @@ def files_of(program: str, words: list[str]) -> list[File]:
     if program == "logix":
         wanted, words = commands().get(words[0], []) if words else [], words[1:]
     else:
-        wanted = list(LIVE) if program == "logix_live" else []
+        wanted = list(OTHERS.get(program, ()))
     return [File(FILES[letter], word) for letter, word in zip(wanted, words) if letter in FILES]
 
 

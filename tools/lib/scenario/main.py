@@ -8,11 +8,13 @@ import sys
 import time
 
 from lib.output import NOT_WRITTEN, NotWritten
+from lib.programs import Astray
 
 from . import answer, outputs, suite
 from .line import Wrong
 from .playing import Stopped, play
 from .programs import Missing, Programs
+from .refusals import ASTRAY
 
 USUAL_SECONDS = 60
 NO_PROGRAM, INTERRUPTED = 70, 130
@@ -26,6 +28,7 @@ def parser() -> argparse.ArgumentParser:
     made.add_argument("--timeline", metavar="FILE.svg", help="write the report as a drawing")
     made.add_argument("--wave", metavar="FILE.vcd", help="write the report as a wave file")
     made.add_argument("--project", metavar="FILE", help="try another project, and tell what it changes")
+    made.add_argument("--coverage", metavar="FILE", help="write how often each instruction was executed; into a FILE.svg as a drawing")
     made.add_argument("--junit", metavar="FILE", help="write what came of each requirement as JUnit has it")
     made.add_argument("--list", action="store_true", help="only write one command for each scenario")
     made.add_argument("--jobs", type=int, metavar="N", default=0, help="so many scenarios side by side (as many as there are processors)")
@@ -64,6 +67,8 @@ def main(words: list[str]) -> int:
         return refuse(str(missing), NO_PROGRAM)
     except KeyboardInterrupt:
         return refuse("ended by a key", INTERRUPTED)
+    except Astray as astray:
+        return refuse(astray.told(), ASTRAY)
     except NotWritten as fault:
         return refuse(fault.told(), NOT_WRITTEN)
     finally:
@@ -85,9 +90,10 @@ def run(said: argparse.Namespace, programs: Programs) -> int:
         return suite.run(said, programs)
     progress = Progress()
     try:
-        played, changes = play(said.paths[0], None, programs, said.seconds, progress), None
+        covers = bool(said.coverage)
+        played, changes = play(said.paths[0], None, programs, said.seconds, progress, covers and not said.project), None
         if said.project:
-            own, played = played, play(said.paths[0], said.project, programs, said.seconds, progress)
+            own, played = played, play(said.paths[0], said.project, programs, said.seconds, progress, covers)
             changes = suite.changes(suite.outcome_of(own), suite.outcome_of(played))
     except Wrong as wrong:
         programs.sure()

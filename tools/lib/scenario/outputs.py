@@ -9,6 +9,7 @@ import subprocess
 
 from lib.output import NotWritten
 
+from .coverage import Suite
 from .playing import Played
 from .programs import Programs
 
@@ -25,6 +26,15 @@ def write(said: argparse.Namespace, played: Played, programs: Programs) -> None:
     for path, program in ((said.timeline, "logix_timeline"), (said.wave, "logix_wave")):
         if path:
             put(path, drawn(program, played.report, programs))
+    if said.coverage:
+        every = Suite()
+        every.add(played.scenario.path, played.covered)
+        write_coverage(said.coverage, every)
+
+
+def write_coverage(path: str, every: Suite) -> None:
+    put(path, every.contents(path))
+    print("\n".join(every.summary()))
 
 
 def beside(path: str, ending: str) -> str:

@@ -10,12 +10,14 @@ import time
 from collections.abc import Callable
 from dataclasses import dataclass, field
 
+from lib.cover.reading import NAME
 from lib.paths import read_bytes
 from lib.programs import Astray, Ended
 
 from . import bounded
 from .agenda import Set, agenda, unseen
 from .copying import MOST_WATCHES, Copy, make_copy
+from .coverage import Covered, covered
 from .judge import Judge, Judged
 from .line import Wrong
 from .places import Places, Unknown, fits, near
@@ -30,6 +32,7 @@ from .tracing import Trace
 
 LEAST_IDLE, MOST_IDLE = 64, 65_536
 MOST_TRACED, MOST_LINES = 4_000_000, 100_000
+REFUSED = 3  # the status of a refused journal
 
 
 @dataclass
@@ -45,6 +48,7 @@ class Played:
     journal: bytes
     report: bytes
     notes: list[str] = field(default_factory=list)
+    covered: Covered | None = None
 
     def values(self) -> dict[str, int]:
         """The values at the end of what the project watches and the scenario names, as they are spelled there."""
@@ -58,22 +62,25 @@ def no_progress(_now: int, _end: int) -> None:
     pass
 
 
-def play(path: str, project: str | None, programs: Programs, seconds: float, progress=no_progress) -> Played:
-    """Reads, runs and judges a scenario; on another project than its own if one is named."""
+def play(path: str, project: str | None, programs: Programs, seconds: float, progress=no_progress, covers: bool = False) -> Played:
+    """Reads, runs and judges a scenario; on another project than its own if one is named. `covers`: its executions are counted."""
     deadline = time.monotonic() + seconds
     scenario = read_file(path)
     try:
-        return Player(scenario, project, programs, seconds, deadline, progress).play()
+        return Player(scenario, project, programs, seconds, deadline, progress, covers).play()
     except Wrong as wrong:
         wrong.path = wrong.path or path
         raise
 
 
 class Player:
-    def __init__(self, scenario: Scenario, project: str | None, programs: Programs, seconds: float, deadline: float, progress) -> None:
+    def __init__(
+        self, scenario: Scenario, project: str | None, programs: Programs, seconds: float, deadline: float, progress, covers: bool
+    ) -> None:
         self.scenario, self.programs, self.seconds, self.deadline = scenario, programs, seconds, deadline
         self.progress = lambda now: progress(now, scenario.end)
         self.live, self.logix = programs.path("logix_live"), programs.path("logix")
+        self.cover = programs.path(NAME) if covers else None
         self.is_other = project is not None
         self.path = project if self.is_other else os.path.join(os.path.dirname(scenario.path), scenario.project)
         self.notes: list[str] = []
@@ -92,6 +99,7 @@ class Player:
                 run, session, trace = self.run(copies[0], room)
                 journal = session.journal()
                 reports = [session.report(), *(self.again(copy, journal) for copy in copies[1:])]
+                covered = self.covered(copies[0], journal, room)
             except Astray as astray:
                 raise Stopped(astray_told(astray), ASTRAY) from None
             except Ended as ended:
@@ -105,7 +113,7 @@ class Player:
         judged = judge.judge()
         notes = [*self.made.notes, *self.notes, *run.notes]
         copy = self.made.text(watches[0])
-        return Played(self.scenario, self.path, self.project, copy, run, story, judged, journal, reports[0], notes)
+        return Played(self.scenario, self.path, self.project, copy, run, story, judged, journal, reports[0], notes, covered)
 
     # ---- the project
 
@@ -216,6 +224,20 @@ class Player:
         if ran.returncode:
             raise Ended(ran.returncode, ran.stdout[:200].decode(errors="replace"))
         return Trace(ran.stdout)
+
+    def covered(self, copy: str, journal: bytes, room: str) -> Covered | None:
+        """What the run executed, if that is asked for."""
+        if self.cover is None:
+            return None
+        path = f"{room}/journal.txt"
+        with open(path, "wb") as file:
+            file.write(journal)
+        ran = bounded.run([self.cover, copy, path], self.seconds, stdin=subprocess.DEVNULL)
+        if ran.returncode == REFUSED:
+            return Covered(self.path, why="it has more events than a journal may have")
+        if ran.returncode:
+            raise Ended(ran.returncode, ran.stdout[:200].decode(errors="replace"))
+        return covered(self.path, ran.stdout.decode(errors="replace"), read_bytes(copy), journal)
 
     def again(self, copy: str, journal: bytes) -> bytes:
         ran = bounded.run([self.live, copy], self.seconds, input=journal)

@@ -10,9 +10,10 @@ import sys
 import time
 from dataclasses import dataclass, field
 
+from lib.cover.reading import NAME
 from lib.paths import TOOLS
 
-from . import answer, junit, outputs
+from . import answer, coverage, junit, outputs
 from .judge import empty_told, held_told
 from .line import Wrong
 from .playing import Played, Stopped, play
@@ -45,6 +46,7 @@ class Outcome:
     tally: str = ""
     values: dict[str, int] = field(default_factory=dict)
     changes: list[str] = field(default_factory=list)
+    covered: coverage.Covered | None = None
 
 
 def found(paths: list[str]) -> list[str]:
@@ -71,7 +73,7 @@ def run(said: argparse.Namespace, programs: Programs) -> int:
     if not paths:
         print(f"scenario: there is no file NAME{ENDING} below {', '.join(said.paths)}", file=sys.stderr)
         return WRONG
-    for name in ("logix_live", "logix"):
+    for name in ("logix_live", "logix", *([NAME] if said.coverage else [])):
         programs.path(name)
     began = time.monotonic()
     outcomes = []
@@ -85,6 +87,11 @@ def run(said: argparse.Namespace, programs: Programs) -> int:
         counted(len(outcomes), len(paths), began)
     if said.junit:
         outputs.put(said.junit, junit.text(outcomes))
+    if said.coverage:
+        every = coverage.Suite()
+        for outcome in outcomes:
+            every.add(outcome.path, outcome.covered)
+        outputs.write_coverage(said.coverage, every)
     print(summary(outcomes, time.monotonic() - began))
     return max(one.status for one in outcomes)
 
@@ -92,7 +99,7 @@ def run(said: argparse.Namespace, programs: Programs) -> int:
 def played(paths: list[str], said: argparse.Namespace, programs: Programs):
     """The outcomes in order, of as many at a time as there are processors."""
     jobs = min(said.jobs if said.jobs > 0 else os.cpu_count() or 1, len(paths))
-    work = [(path, said.project, said.seconds, said.programs) for path in paths]
+    work = [(path, said.project, said.seconds, said.programs, bool(said.coverage)) for path in paths]
     if jobs == 1:
         yield from map(one, work)
         return
@@ -117,13 +124,13 @@ def summary(outcomes: list[Outcome], seconds: float) -> str:
 
 
 def one(work: tuple) -> Outcome:
-    path, project, seconds, folder = work
+    path, project, seconds, folder, covers = work
     programs = Unchecked(folder)
     began = time.monotonic()
     try:
-        outcome = outcome_of(play(path, None, programs, seconds))
+        outcome = outcome_of(play(path, None, programs, seconds, covers=covers and project is None))
         if project is not None:
-            other = outcome_of(play(path, project, programs, seconds))
+            other = outcome_of(play(path, project, programs, seconds, covers=covers))
             other.changes = changes(outcome, other)
             other.line += f"; {len(other.changes)} changed" if other.changes else "; nothing changed"
             outcome = other
@@ -165,7 +172,7 @@ def outcome_of(played: Played) -> Outcome:
         line = f"FAIL  {path}: {tally}: {'; '.join(short[:2])}{'; ..' if short[2:] else ''}"
     if played.run.stopped:
         line += f" (ended by --seconds at {played.run.now} ms)"
-    return Outcome(path, status, line, cases=cases, tally=tally, values=played.values())
+    return Outcome(path, status, line, cases=cases, tally=tally, values=played.values(), covered=played.covered)
 
 
 def changes(own: Outcome, other: Outcome) -> list[str]:

@@ -1,6 +1,7 @@
 """What the program answers to its words, by the plain interpreter: a status and a text."""
 
 from .audit import Table, read_trace, verdict
+from .cover import cover
 from .gen import journal_of, project_of
 from .journal import LONGEST, Bad, Reader, lines_of, read_journal
 from .link import Link, LinkScript
@@ -63,6 +64,11 @@ def replayed(project, contents):
 def traced(project, contents):
     events = read_journal(contents)
     return None if is_long(events) else (0, trace(project, events))
+
+
+def covered(project, contents):
+    events = read_journal(contents)
+    return None if is_long(events) else (0, cover(project, events))
 
 
 def audited(project, contents):
@@ -217,5 +223,5 @@ def seen(said, event):
 
 
 OF_PROJECT = {"check": counted, "text": texts, "migrate": Project.migrated, "xref": xref}
-OF_MORE = {"replay": replayed, "trace": traced, "audit": audited, "link": linked}
+OF_MORE = {"replay": replayed, "trace": traced, "cover": covered, "audit": audited, "link": linked}
 KIND_OF = {"audit": "trace", "link": "link"}

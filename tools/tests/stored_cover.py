@@ -1,0 +1,151 @@
+"""logix_cover as a process, tools/cover and tools/scenario --coverage on it. The gate runs this after `rt ci`."""
+
+from __future__ import annotations
+
+import os
+import re
+import subprocess
+import unittest
+import xml.etree.ElementTree as trees
+
+import stored_runs
+from common import TOP, RoomTest, built, read_bytes, read_text
+from coverage_files import PRESSED, RUNGS, CoverageTest
+from lib.hammer.plain.judge import answer
+from lib.paths import TOOLS
+
+NAME = "logix_cover"
+CONVEYOR = f"{TOP}/examples/conveyor"
+FILES = [f"{CONVEYOR}/project.json", f"{CONVEYOR}/journal.txt"]
+is_built = unittest.skipUnless(os.access(built(NAME), os.X_OK), f"{NAME} isn't built")
+
+
+@is_built
+class Program(stored_runs.StoredRun):
+    def call(self, words, wanted: bytes, status: int, **more) -> None:
+        self.runs(words, wanted, status, name=NAME, **more)
+
+    def test_an_example(self) -> None:
+        self.call(FILES, answer(["cover"], [read_bytes(path) for path in FILES])[1].encode(), 0)
+
+    def test_statuses(self) -> None:
+        bad, long = self.put("bad.txt", "cpu x\n"), self.put("long.json", b"")
+        os.truncate(long, stored_runs.MOST_BYTES + 1)
+        for words in ([], FILES[:1], [*FILES, "x"]):
+            self.call(words, b"usage: logix_cover P J\n", 1)
+        self.call([FILES[1], "nothing"], b"project P1\n", 2)
+        self.call([FILES[0], bad], b"journal J1 line 1\n", 3)
+        for words in (["nothing", FILES[1]], [FILES[0], "nothing"], [FILES[0], ""]):
+            self.call(words, b"", 4)
+        self.call([long, FILES[1]], b"", 7)
+        with open("/dev/full", "wb") as full:
+            self.call(FILES, b"", 5, out=full)
+
+    def test_want_of_memory_ends_with_6(self) -> None:
+        self.put("long.json", b" " * stored_runs.MOST_BYTES)
+        self.call(["long.json", FILES[1]], b"", 6, most_memory=24_000_000)
+
+
+@is_built
+class Enough(RoomTest):
+    """The stack that FORMATS.md says is enough."""
+
+    ENOUGH, ends_well = stored_runs.Stack.ENOUGH, stored_runs.Stack.ends_well
+
+    def test_it_is_enough(self) -> None:
+        self.ends_well(NAME, FILES)
+
+
+@is_built
+class Tool(RoomTest):
+    def called(self, *words: str) -> tuple[int, str, str]:
+        ran = subprocess.run([f"{TOOLS}/cover", *words], capture_output=True, text=True, timeout=60, check=False)
+        return ran.returncode, ran.stdout, ran.stderr
+
+    def test_the_example_of_the_document(self) -> None:
+        shown = dict(re.findall(r"^```(cover|counts)\n(.*?)^```$", read_text(f"{TOP}/docs/FORMATS.md"), re.MULTILINE | re.DOTALL))
+        blink = [f"{TOP}/examples/blink/{name}" for name in ("project.json", "edit.txt")]
+        self.assertEqual(self.called(*blink, "--lines"), (0, shown["cover"], ""))
+        self.assertEqual(self.called(*blink), (0, shown["counts"], ""))
+
+    def test_statuses(self) -> None:
+        self.assertEqual(self.called(FILES[0], f"{self.room}/nothing")[:2], (4, ""))
+        self.assertEqual(self.called(FILES[0], FILES[0])[:2], (3, "journal J1 line 1\n"))
+        self.assertEqual(self.called(*FILES, "--ladder", "/dev/full"), (5, "", "cover: /dev/full couldn't be written: No space left on device\n"))
+
+
+@is_built
+class Suites(CoverageTest):
+    def test_a_suite(self) -> None:
+        called = self.call(self.suite(), "--coverage", self.file)
+        self.assertEqual((called.status, called.err), (2, ""))
+        self.assertEqual(called.out.replace(self.room, "").splitlines()[-3:-1], [
+            "coverage of /lamp.json: 4 instructions, 0 never executed, 0 never true",
+            "coverage: not counted: /suite/c.scenario: it was not run",
+        ])  # fmt: skip
+        self.assertEqual(self.written(), """\
+/lamp.json, run by 2 scenarios
+  4 steps executed rungs that edits brought
+
+Main / Go
+      true     false
+                      rung 0  XIC(Button)OTE(Lamp);
+         3         0      XIC(Button)
+         2         1      OTE(Lamp)
+                      rung 1  XIC(Other)MOV(1,n);
+         5         0      XIC(Other)
+         2         3      MOV(1,n)
+
+            instructions   never executed   never true
+Main / Go              4                0            0
+in all                 4                0            0
+
+not counted: /suite/c.scenario: it was not run
+""")
+
+    def test_a_scenario_that_falls_short_is_counted(self) -> None:
+        called = self.call(self.scenario("run 0", "require", "end: Lamp = 1"), "--coverage", self.file)
+        self.assertEqual(called.status, 1)
+        self.assertIn("         0         1      OTE(Lamp)  (never true)\n", self.written())
+
+    def test_another_project(self) -> None:
+        """Counted is the run on that one."""
+        self.project(rungs=["XIO(Button)OTL(Lamp);"])
+        os.rename(f"{self.room}/lamp.json", f"{self.room}/other.json")
+        self.project(rungs=RUNGS)
+        for paths in ([self.scenario(*PRESSED)], [self.suite()]):
+            self.call(*paths, "--project", f"{self.room}/other.json", "--coverage", self.file)
+            self.assertIn("/other.json, run by", self.written())
+            self.assertNotIn("/lamp.json", self.written())
+
+    def test_projects_are_summed_each_by_itself(self) -> None:
+        self.scenario("run 0", name="suite/d.scenario", project="../../" + self.room.rsplit("/", 1)[1] + "/lamp.json")
+        self.put("more/lamp.json", self.text("lamp.json"))
+        self.scenario("run 0", name="suite/e.scenario", project="../more/lamp.json")
+        called = self.call(self.suite(), "--coverage", self.file)
+        self.assertEqual(called.out.replace(self.room, "").count("coverage of /lamp.json: "), 1)
+        self.assertIn("/lamp.json, run by 3 scenarios\n", self.written())
+        self.assertIn("/more/lamp.json, run by 1 scenario\n", self.written())
+
+    def test_a_drawing(self) -> None:
+        self.file = f"{self.room}/coverage.svg"
+        self.call(self.suite(), "--coverage", self.file)
+        texts = [text for text in trees.fromstring(self.text("coverage.svg")).iter("{http://www.w3.org/2000/svg}text")]
+        self.assertEqual([text.text for text in texts if text.get("class") == "note"], ["3 / 0", "2 / 1", "5 / 0", "2 / 3"])
+        self.assertEqual(texts[0].text.replace(self.room, ""), "/lamp.json, run by 2 scenarios: steps with a true condition / with a false one")
+
+    def test_a_program_that_goes_wrong(self) -> None:
+        for script, status in (("echo ok", 1), ("printf '0 0 0 9 1 0\\nend\\n'", 1), ("exit 6", 6)):
+            self.put("programs/logix_cover", f"#!/bin/sh\n{script}\n")
+            called = self.call(self.scenario(*PRESSED), "--coverage", self.file)
+            self.assertEqual((called.status, os.path.exists(self.file)), (status, False), script)
+            self.assertRegex(called.err, "^scenario: ")
+
+    def test_a_file_that_can_t_be_written(self) -> None:
+        called = self.call(self.scenario(*PRESSED), "--coverage", f"{self.room}/no/c.txt")
+        self.assertEqual(called.status, 5)
+        self.assertIn("couldn't be written: No such file", called.err)
+
+
+if __name__ == "__main__":
+    unittest.main()
