@@ -136,7 +136,7 @@ not counted: /suite/c.scenario: it was not run
 
     def test_a_program_that_goes_wrong(self) -> None:
         for script, status in (("echo ok", 1), ("printf '0 0 0 9 1 0\\nend\\n'", 1), ("exit 6", 6)):
-            self.put("programs/logix_cover", f"#!/bin/sh\n{script}\n")
+            self.counts_by(script)
             called = self.call(self.scenario(*PRESSED), "--coverage", self.file)
             self.assertEqual((called.status, os.path.exists(self.file)), (status, False), script)
             self.assertRegex(called.err, "^scenario: ")
