@@ -2,6 +2,9 @@
 
 from __future__ import annotations
 
+import os
+import stat
+
 from scenario_files import ScenarioTest
 
 RUNGS = ["XIC(Button)OTE(Lamp);", "XIC(Other)MOV(1,n);"]
@@ -21,6 +24,13 @@ class CoverageTest(ScenarioTest):
         for name, lines in (("a", PRESSED), ("b", EDITED), ("c", WRONG)):
             self.scenario(*lines, name=f"suite/{name}.scenario", project="../lamp.json")
         return f"{self.room}/suite"
+
+    def counts_by(self, script: str) -> None:
+        """The program that counts is a script, in place of the one that the link leads to."""
+        path = f"{self.programs}/logix_cover"
+        os.remove(path)
+        self.put("programs/logix_cover", f"#!/bin/sh\n{script}\n")
+        os.chmod(path, stat.S_IRWXU)
 
     def written(self) -> str:
         return self.text("coverage.txt").replace(self.room, "")

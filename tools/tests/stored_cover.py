@@ -135,11 +135,14 @@ not counted: /suite/c.scenario: it was not run
         self.assertEqual(texts[0].text.replace(self.room, ""), "/lamp.json, run by 2 scenarios: steps with a true condition / with a false one")
 
     def test_a_program_that_goes_wrong(self) -> None:
-        for script, status in (("echo ok", 1), ("printf '0 0 0 9 1 0\\nend\\n'", 1), ("exit 6", 6)):
-            self.put("programs/logix_cover", f"#!/bin/sh\n{script}\n")
+        for script, status, told in (
+            ("echo ok", 1, "wrote what is no text of its own"), ("printf '0 0 0 9 1 0\\nend\\n'", 1, "counts at no instruction of the project: 0 0 0 9 1 0"),
+            ("exit 6", 6, "ended with status 6"), ("kill -9 $$", 6, "ended by signal 9"),
+        ):  # fmt: skip
+            self.counts_by(script)
             called = self.call(self.scenario(*PRESSED), "--coverage", self.file)
             self.assertEqual((called.status, os.path.exists(self.file)), (status, False), script)
-            self.assertRegex(called.err, "^scenario: ")
+            self.assertIn(f"scenario: {NAME} {told}\n", called.err)
 
     def test_a_file_that_can_t_be_written(self) -> None:
         called = self.call(self.scenario(*PRESSED), "--coverage", f"{self.room}/no/c.txt")

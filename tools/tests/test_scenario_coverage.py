@@ -33,7 +33,7 @@ class Coverage(CoverageTest):
         self.assertEqual(self.call(self.scenario(*PRESSED)).status, 0)
 
     def test_a_journal_that_is_too_long(self) -> None:
-        self.put("programs/logix_cover", "#!/bin/sh\necho journal J4 line 9\nexit 3\n")
+        self.counts_by("echo journal J4 line 9\nexit 3")
         called = self.call(self.scenario(*PRESSED), "--coverage", self.file)
         self.assertEqual((called.status, called.err), (0, ""))
         self.assertEqual(self.written(), "not counted: /day.scenario: it has more events than a journal may have\n")

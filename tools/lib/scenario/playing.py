@@ -12,7 +12,7 @@ from dataclasses import dataclass, field
 
 from lib.cover.reading import NAME
 from lib.paths import read_bytes
-from lib.programs import Astray, Ended
+from lib.programs import Astray, Ended, Late
 
 from . import bounded
 from .agenda import Set, agenda, unseen
@@ -99,11 +99,11 @@ class Player:
                 run, session, trace = self.run(copies[0], room)
                 journal = session.journal()
                 reports = [session.report(), *(self.again(copy, journal) for copy in copies[1:])]
-                covered = self.covered(copies[0], journal, room)
             except Astray as astray:
                 raise Stopped(astray_told(astray), ASTRAY) from None
             except Ended as ended:
                 raise Stopped(self.ended_told(ended), ended.status if 0 < ended.status < 8 else BY_A_SIGNAL) from None
+            covered = self.covered(copies[0], journal, room)
         lines = reports[0].count(b"\n") - 1
         if lines > MOST_LINES:
             self.notes.append(f"the report has {lines} lines: a replay of the journal keeps the first {MOST_LINES}")
@@ -232,12 +232,18 @@ class Player:
         path = f"{room}/journal.txt"
         with open(path, "wb") as file:
             file.write(journal)
-        ran = bounded.run([self.cover, copy, path], self.seconds, stdin=subprocess.DEVNULL)
+        try:
+            ran = bounded.run([self.cover, copy, path], self.seconds, stdin=subprocess.DEVNULL)
+            if ran.returncode == 0:
+                return covered(self.path, ran.stdout.decode(errors="replace"), read_bytes(copy), journal)
+        except Late as late:
+            raise Stopped(f"{NAME} was ended by --seconds: {late.text}", ASTRAY) from None
+        except Astray as astray:
+            raise Stopped(astray.text, ASTRAY) from None
         if ran.returncode == REFUSED:
             return Covered(self.path, why="it has more events than a journal may have")
-        if ran.returncode:
-            raise Ended(ran.returncode, ran.stdout[:200].decode(errors="replace"))
-        return covered(self.path, ran.stdout.decode(errors="replace"), read_bytes(copy), journal)
+        is_signal = ran.returncode < 0
+        raise Stopped(f"{NAME} ended {'by signal' if is_signal else 'with status'} {abs(ran.returncode)}", BY_A_SIGNAL if is_signal else ran.returncode)
 
     def again(self, copy: str, journal: bytes) -> bytes:
         ran = bounded.run([self.live, copy], self.seconds, input=journal)
