@@ -6,6 +6,7 @@ use Rattle.std.proofs.lemmas.Bool.{leb-true}
 use Rattle.std.proofs.lemmas.List.{length-map, take_all}
 use Rattle.std.proofs.Math.Seq.{drop-append_seam}
 use Rattle.spec_base.specs.declared.limits.TheConstants.{MAX_TASKS, MAX_REPORT_LINES}
+use Rattle.spec_tables.specs.declared.fault.TheConstants.{PERIODIC_OVERLAP}
 use Rattle.spec_tables.specs.declared.fault.Fault.{Fault}
 use Rattle.spec_tables.specs.declared.fault.Severity.TheVariants.{Minor}
 use Rattle.spec_machine.specs.declared.answer.What.{What}
@@ -63,8 +64,8 @@ few_faults s (OfTick report) few =
     let tasks = tasks_in report.overlapped (length s.table.defs) in
     let one = one_watchdog s report.watchdog in
     let rest = few_in_mask report.overlapped (length s.table.defs) in
-    let many = length-map tasks (task_fault s Minor 2) in
-    let all = length-append (watchdog_fault s report.watchdog) (map (task_fault s Minor 2) tasks) in
+    let many = length-map tasks (task_fault s Minor PERIODIC_OVERLAP) in
+    let all = length-append (watchdog_fault s report.watchdog) (map (task_fault s Minor PERIODIC_OVERLAP) tasks) in
     omega arith
 few_faults s (OfAction lane action outcome) few = let one = one_fault outcome.fault in omega arith
 

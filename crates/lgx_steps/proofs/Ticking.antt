@@ -2,6 +2,7 @@
 use Rattle.std.proofs.Common.{◌≡◌, ℕ, ◌+◌, zero, suc, List, [], ◌∷◌, length, Bool, true, false, if◌then◌else◌, Option, Some, None, refl, sym, ap, ◌∙◌, subst, arith}
 use Rattle.std.specs.Prelude.{fold}
 use Rattle.std.specs.List.{range_with_len}
+use Rattle.spec_tables.specs.declared.fault.TheConstants.{TASK_FAULT, WATCHDOG}
 use Rattle.spec_tables.specs.declared.fault.Severity.TheVariants.{Major}
 use Rattle.spec_tables.specs.declared.task.Release.{Release}
 use Rattle.spec_tables.specs.Tasks.{Table, due, expired, rotate}
@@ -61,11 +62,11 @@ gives-more n v w r r' t start g f =
 
 -- ---- the watchdogs
 
-pub gives-expired : (n : ℕ) (v : PartsView) (s : State) (o : Option ℕ) (t now : ℕ) → o ≡ Some t → o ≡ expired s.tick s.table → now ≡ s.tick → RepresentsState n v (major_fault (record { severity = Major; kind = 6; code = 1; task = t; program = None; tick = now }) s)
+pub gives-expired : (n : ℕ) (v : PartsView) (s : State) (o : Option ℕ) (t now : ℕ) → o ≡ Some t → o ≡ expired s.tick s.table → now ≡ s.tick → RepresentsState n v (major_fault (record { severity = Major; kind = TASK_FAULT; code = WATCHDOG; task = t; program = None; tick = now }) s)
     → TickGives n v (record { watchdog = Some t; released = 0; overlapped = 0 }) (after_watchdogs s (expired s.tick s.table))
 gives-expired n v s o t now is e now_is r =
     subst (λ (x : Option ℕ). TickGives n v (record { watchdog = Some t; released = 0; overlapped = 0 }) (after_watchdogs s x)) (sym is ∙ e)
-    (record { report_is = refl; represents = subst (λ i. RepresentsState n v (major_fault (record (task_fault s Major 1 t) { tick = i }) s)) now_is r })
+    (record { report_is = refl; represents = subst (λ i. RepresentsState n v (major_fault (record (task_fault s Major WATCHDOG t) { tick = i }) s)) now_is r })
 
 pub gives-unexpired : (n : ℕ) (v : PartsView) (s : State) (o : Option ℕ) (r : TickReport) → o ≡ None → o ≡ expired s.tick s.table → TickGives n v r (release_due s) → TickGives n v r (after_watchdogs s (expired s.tick s.table))
 gives-unexpired n v s o r is e g = subst (λ (x : Option ℕ). TickGives n v r (after_watchdogs s x)) (sym is ∙ e) g

@@ -9,7 +9,7 @@ ghost use Rattle.lgx_steps.specs.Gives.{GivesTick, IsBelow};
 use crate::parts::Parts;
 use lgx_sched::Release;
 use spec_machine::{Mode, TickReport};
-use spec_tables::{Fault, Severity};
+use spec_tables::{Fault, Severity, TASK_FAULT, WATCHDOG};
 
 /// A report of nothing.
 #[inline(always)]
@@ -96,8 +96,8 @@ impl Parts {
             Some(t) => {
                 self.major_fault(Fault {
                     severity: Severity::Major,
-                    kind: 6,
-                    code: 1,
+                    kind: TASK_FAULT,
+                    code: WATCHDOG,
                     task: t,
                     program: None,
                     tick: self.tick,

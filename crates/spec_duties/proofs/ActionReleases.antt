@@ -7,6 +7,7 @@ use Rattle.std.proofs.lemmas.Bool.{and_parts, cases_eq, cases_lt, eq-eqb, ne_eqb
 use Rattle.std.proofs.lemmas.List.{get_or_past, length-map}
 use Rattle.lgx_num.specs.Image.{write_signed}
 use Rattle.lgx_num.specs.Name.{same}
+use Rattle.spec_tables.specs.declared.fault.TheConstants.{TASK_FAULT, EVENT_OVERLAP}
 use Rattle.spec_tables.specs.declared.conn.ConnDef.{ConnDef}
 use Rattle.spec_tables.specs.declared.conn.ConnFault.{ConnFault}
 use Rattle.spec_tables.specs.declared.conn.ConnFault.TheVariants.{N1, N2, N3}
@@ -141,7 +142,7 @@ module _ (s : State) where
     abbrev conns : List ConnDef
     conns = s.plan.conns
 
-    module _ (y : State) (table : y.table ≡ s.table) (tick : y.tick ≡ s.tick) (t : ℕ) (h : CallsFor a t) (kind : overlap_code (task s.table t).kind ≡ 3) where
+    module _ (y : State) (table : y.table ≡ s.table) (tick : y.tick ≡ s.tick) (t : ℕ) (h : CallsFor a t) (kind : overlap_code (task s.table t).kind ≡ EVENT_OVERLAP) where
       in_table : (z : Table) → z ≡ s.table → (u : ℕ) → is_up z u ≡ is_up s.table u
       in_table z e u = ap (λ (x : Table). is_up x u) e
 
@@ -153,9 +154,9 @@ module _ (s : State) where
       }
       by_tests false true i u = record {
         released = sym (mask_of_one a t h false true i u);
-        fault = ap (λ (n : ℕ). let f : Fault = record { severity = Minor; kind = 6; code = overlap_code (task y.table t).kind; task = t; program = None; tick = n } in Some f) tick
-            ∙ (ap (λ (z : Table). let f : Fault = record { severity = Minor; kind = 6; code = overlap_code (task z t).kind; task = t; program = None; tick = s.tick } in Some f) table
-            ∙ (ap (λ (n : ℕ). let f : Fault = record { severity = Minor; kind = 6; code = n; task = t; program = None; tick = s.tick } in Some f) kind ∙ sym (fault_of_one a t h false true i u)));
+        fault = ap (λ (n : ℕ). let f : Fault = record { severity = Minor; kind = TASK_FAULT; code = overlap_code (task y.table t).kind; task = t; program = None; tick = n } in Some f) tick
+            ∙ (ap (λ (z : Table). let f : Fault = record { severity = Minor; kind = TASK_FAULT; code = overlap_code (task z t).kind; task = t; program = None; tick = s.tick } in Some f) table
+            ∙ (ap (λ (n : ℕ). let f : Fault = record { severity = Minor; kind = TASK_FAULT; code = n; task = t; program = None; tick = s.tick } in Some f) kind ∙ sym (fault_of_one a t h false true i u)));
         up = ups_same a t h false true i u y refl (in_table y.table table);
       }
       by_tests false false i u = record {
@@ -199,12 +200,12 @@ module _ (s : State) where
           let r = and_parts (nat_lt t (length p.tasks)) (is_event (slice_index_or p.tasks t no_task).kind) q.1 in
           (ltb-true t (length p.tasks) r.0, r.1)
 
-      event_code : (k : TaskKind) → is_event k ≡ true → overlap_code k ≡ 3
+      event_code : (k : TaskKind) → is_event k ≡ true → overlap_code k ≡ EVENT_OVERLAP
       event_code Continuous e = absurd (false≢true e)
       event_code (Periodic m) e = absurd (false≢true e)
       event_code EventTask e = refl
 
-      code_of : (t : ℕ) → c.trigger ≡ Some t → overlap_code (task s.table t).kind ≡ 3
+      code_of : (t : ℕ) → c.trigger ≡ Some t → overlap_code (task s.table t).kind ≡ EVENT_OVERLAP
       code_of t e =
           event_code (task s.table t).kind (ap (λ (ds : List TaskDef). is_event (slice_index_or ds t no_task).kind) known.sizes.same_tasks ∙ (is_known t e).1)
 

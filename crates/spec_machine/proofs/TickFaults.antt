@@ -8,6 +8,7 @@ use Rattle.std.proofs.Math.Nat.{two-pow-succ}
 use Rattle.std.proofs.lemmas.Bool.{and_parts, cond_both}
 use Rattle.std.proofs.lemmas.List.{append-nil, append_assoc}
 use Rattle.std.proofs.lemmas.Nat.Bits.{bit_at-zero, bit_at_above, bit_at_cat_low, bit_at_cat_high}
+use Rattle.spec_tables.specs.declared.fault.TheConstants.{WATCHDOG, PERIODIC_OVERLAP}
 use Rattle.spec_tables.specs.declared.fault.Fault.{Fault}
 use Rattle.spec_tables.specs.declared.fault.Severity.TheVariants.{Minor, Major}
 use Rattle.spec_tables.specs.declared.task.TaskDef.{TaskDef}
@@ -69,7 +70,7 @@ record IsSoFar (s : State) (k : ℕ) (x : Ticked) : Type 0 where
   watchdog : x.report.watchdog ≡ None
   released : x.report.released < 2 ^ k
   overlapped : x.report.overlapped < 2 ^ k
-  faults : x.state.faults ≡ s.faults ++ map (task_fault s Minor 2) (tasks_in x.report.overlapped k)
+  faults : x.state.faults ≡ s.faults ++ map (task_fault s Minor PERIODIC_OVERLAP) (tasks_in x.report.overlapped k)
 
 stays : (s : State) (k : ℕ) (x : Ticked) → IsSoFar s k x → IsSoFar s (suc k) x
 stays s k x h = record {
@@ -78,11 +79,11 @@ stays s k x h = record {
   watchdog = h.watchdog;
   released = wider x.report.released k h.released;
   overlapped = wider x.report.overlapped k h.overlapped;
-  faults = h.faults ∙ ap (λ ts. s.faults ++ map (task_fault s Minor 2) ts) (sym (none_added x.report.overlapped k h.overlapped));
+  faults = h.faults ∙ ap (λ ts. s.faults ++ map (task_fault s Minor PERIODIC_OVERLAP) ts) (sym (none_added x.report.overlapped k h.overlapped));
 }
 
 -- what is due is periodic
-due_code : (since : ℕ) (kind : TaskKind) → divides_by_period since kind ≡ true → overlap_code kind ≡ 2
+due_code : (since : ℕ) (kind : TaskKind) → divides_by_period since kind ≡ true → overlap_code kind ≡ PERIODIC_OVERLAP
 due_code since Continuous h = absurd (cc h)
 due_code since (Periodic n) h = refl
 due_code since Event h = absurd (cc h)
@@ -91,7 +92,7 @@ map_last : (f : ℕ → Fault) (ts : List ℕ) (k : ℕ) → map f (ts ++ k ∷ 
 map_last f [] k = refl
 map_last f (t ∷ ts) k = ap (λ fs. f t ∷ fs) (map_last f ts k)
 
-overlaps : (s : State) (k : ℕ) (x : Ticked) → IsSoFar s k x → overlap_code (task x.state.table k).kind ≡ 2 → IsSoFar s (suc k) (after_release k x.report (after_answer Overlap k x.state))
+overlaps : (s : State) (k : ℕ) (x : Ticked) → IsSoFar s k x → overlap_code (task x.state.table k).kind ≡ PERIODIC_OVERLAP → IsSoFar s (suc k) (after_release k x.report (after_answer Overlap k x.state))
 overlaps s k x h code = record {
   tick = h.tick;
   defs = h.defs;
@@ -100,10 +101,10 @@ overlaps s k x h code = record {
   overlapped = wide_sum x.report.overlapped k h.overlapped;
   faults =
       ap (λ fs. fs ++ task_fault x.state Minor (overlap_code (task x.state.table k).kind) k ∷ []) h.faults
-      ∙ (ap (λ c. (s.faults ++ map (task_fault s Minor 2) (tasks_in x.report.overlapped k)) ++ task_fault x.state Minor c k ∷ []) code
-      ∙ (ap (λ now. (s.faults ++ map (task_fault s Minor 2) (tasks_in x.report.overlapped k)) ++ task_fault (record s { tick = now }) Minor 2 k ∷ []) h.tick
-      ∙ (append_assoc s.faults (map (task_fault s Minor 2) (tasks_in x.report.overlapped k)) (task_fault s Minor 2 k ∷ [])
-      ∙ ap (λ fs. s.faults ++ fs) (sym (map_last (task_fault s Minor 2) (tasks_in x.report.overlapped k) k) ∙ ap (λ ts. map (task_fault s Minor 2) ts) (sym (bit_added x.report.overlapped k h.overlapped))))));
+      ∙ (ap (λ c. (s.faults ++ map (task_fault s Minor PERIODIC_OVERLAP) (tasks_in x.report.overlapped k)) ++ task_fault x.state Minor c k ∷ []) code
+      ∙ (ap (λ now. (s.faults ++ map (task_fault s Minor PERIODIC_OVERLAP) (tasks_in x.report.overlapped k)) ++ task_fault (record s { tick = now }) Minor PERIODIC_OVERLAP k ∷ []) h.tick
+      ∙ (append_assoc s.faults (map (task_fault s Minor PERIODIC_OVERLAP) (tasks_in x.report.overlapped k)) (task_fault s Minor PERIODIC_OVERLAP k ∷ [])
+      ∙ ap (λ fs. s.faults ++ fs) (sym (map_last (task_fault s Minor PERIODIC_OVERLAP) (tasks_in x.report.overlapped k) k) ∙ ap (λ ts. map (task_fault s Minor PERIODIC_OVERLAP) ts) (sym (bit_added x.report.overlapped k h.overlapped))))));
 }
 
 releases : (s : State) (k : ℕ) (x : Ticked) → IsSoFar s k x → IsSoFar s (suc k) (after_release k x.report (after_answer Released k x.state))
@@ -116,7 +117,7 @@ releases s k x h = let y = stays s k x h in record {
   faults = y.faults;
 }
 
-by_answer : (s : State) (k : ℕ) (x : Ticked) (a : Release) → IsSoFar s k x → overlap_code (task x.state.table k).kind ≡ 2 → IsSoFar s (suc k) (after_release k x.report (after_answer a k x.state))
+by_answer : (s : State) (k : ℕ) (x : Ticked) (a : Release) → IsSoFar s k x → overlap_code (task x.state.table k).kind ≡ PERIODIC_OVERLAP → IsSoFar s (suc k) (after_release k x.report (after_answer a k x.state))
 by_answer s k x Released h code = releases s k x h
 by_answer s k x Overlap h code = overlaps s k x h code
 by_answer s k x Inhibited h code = stays s k x h
@@ -155,7 +156,7 @@ told_nothing s = record {
   defs = refl;
   released = some_bits (length s.table.defs);
   overlapped = some_bits (length s.table.defs);
-  faults = sym (append-nil s.faults) ∙ ap (λ ts. s.faults ++ map (task_fault s Minor 2) ts) (sym (none_in (length s.table.defs)));
+  faults = sym (append-nil s.faults) ∙ ap (λ ts. s.faults ++ map (task_fault s Minor PERIODIC_OVERLAP) ts) (sym (none_in (length s.table.defs)));
 }
 
 told_watchdog : (s : State) (t : ℕ) → IsTold s.table.defs s.faults (after_watchdogs s (Some t))
@@ -163,7 +164,7 @@ told_watchdog s t = record {
   defs = refl;
   released = some_bits (length s.table.defs);
   overlapped = some_bits (length s.table.defs);
-  faults = ap (λ ts. s.faults ++ task_fault s Major 1 t ∷ map (task_fault s Minor 2) ts) (sym (none_in (length s.table.defs)));
+  faults = ap (λ ts. s.faults ++ task_fault s Major WATCHDOG t ∷ map (task_fault s Minor PERIODIC_OVERLAP) ts) (sym (none_in (length s.table.defs)));
 }
 
 begins : (s : State) → IsSoFar s 0 (record { state = s; report = quiet })
@@ -177,11 +178,11 @@ told_walk s y h = record {
   faults = h.faults ∙ ap (λ fs. s.faults ++ fs) (sym same);
 }
   where
-    same : report_faults y.state y.report ≡ map (task_fault s Minor 2) (tasks_in y.report.overlapped (length s.table.defs))
+    same : report_faults y.state y.report ≡ map (task_fault s Minor PERIODIC_OVERLAP) (tasks_in y.report.overlapped (length s.table.defs))
     same =
         ap (λ o. watchdog_fault y.state o ++ map (task_fault y.state Minor 2) (tasks_in y.report.overlapped (length y.state.table.defs))) h.watchdog
-        ∙ (ap (λ now. map (task_fault (record s { tick = now }) Minor 2) (tasks_in y.report.overlapped (length y.state.table.defs))) h.tick
-        ∙ ap (λ (ds : List TaskDef). map (task_fault s Minor 2) (tasks_in y.report.overlapped (length ds))) h.defs)
+        ∙ (ap (λ now. map (task_fault (record s { tick = now }) Minor PERIODIC_OVERLAP) (tasks_in y.report.overlapped (length y.state.table.defs))) h.tick
+        ∙ ap (λ (ds : List TaskDef). map (task_fault s Minor PERIODIC_OVERLAP) (tasks_in y.report.overlapped (length ds))) h.defs)
 
 told_releases : (s : State) (o : Option ℕ) → IsTold s.table.defs s.faults (after_watchdogs s o)
 told_releases s (Some t) = told_watchdog s t

@@ -1,5 +1,6 @@
 -- One processor step.
 use Rattle.std.specs.Prelude.{ℕ, ◌+◌, true, false, length, nat_lt, if◌then◌else◌, Option, Some, None, slice_set, slice_index, slice_index_or}
+use Rattle.spec_tables.specs.declared.fault.TheConstants.{OVERFLOW}
 use Rattle.spec_tables.specs.declared.fault.Fault.{Fault}
 use Rattle.spec_tables.specs.declared.fault.Severity.TheVariants as severity
 use Rattle.spec_machine.specs.declared.answer.What.{What}
@@ -9,7 +10,6 @@ use Rattle.spec_machine.specs.declared.answer.Mark.TheVariants as mark
 use Rattle.spec_machine.specs.declared.answer.Moment.{Moment}
 use Rattle.spec_scan.specs.declared.bound.Effect.{Effect}
 use Rattle.spec_scan.specs.declared.bound.Effect.TheVariants.{Ran, Up, Down, Trigger, CopyStart, Copied, Left, Minor, Major}
-use Rattle.spec_scan.specs.Instructions.{overflowed}
 use Rattle.spec_scan.specs.Position.{first_position}
 use Rattle.spec_scan.specs.Scan.{Advanced, advance}
 use Rattle.spec_tables.specs.Tasks.{Table, chosen, finish, region_up, region_down, region_clear, set_copy}
@@ -88,7 +88,7 @@ after_effect s t p n effect = go effect
     go (Copied false sync) = plainly s (what.Copied t n)
     go (Left true) = plainly (scan_ended t p s) (what.Left t n true)
     go (Left false) = plainly s (what.Left t n false)
-    go Minor = let f = program_fault s severity.Minor overflowed t n in told (with_fault f s) ran mark.Plain (Some f)
+    go Minor = let f = program_fault s severity.Minor OVERFLOW t n in told (with_fault f s) ran mark.Plain (Some f)
     go (Major code) = let f = program_fault s severity.Major code t n in told (major_fault f s) ran mark.Plain (Some f)
 
 abbrev pub after_advance : State → ℕ → Progress → Scan → Advanced → Stepped

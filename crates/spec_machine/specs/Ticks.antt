@@ -1,6 +1,7 @@
 -- The tick: one stands for a millisecond (profile).
 use Rattle.std.specs.Prelude.{ℕ, ◌+◌, ◌^◌, length, if◌then◌else◌, Option, Some, None, fold}
 use Rattle.std.specs.List.{range_with_len}
+use Rattle.spec_tables.specs.declared.fault.TheConstants.{WATCHDOG}
 use Rattle.spec_tables.specs.declared.fault.Severity.TheVariants.{Major}
 use Rattle.spec_machine.specs.declared.reply.Mode.{Mode}
 use Rattle.spec_machine.specs.declared.reply.Mode.TheVariants.{Run}
@@ -36,9 +37,9 @@ release_if_due x t = if due t x.state.tick x.state.table then after_release t x.
 abbrev pub release_due : State → Ticked
 release_due s = fold release_if_due (record { state = s; report = quiet }) (range_with_len 0 (length s.table.defs))
 
--- a watchdog that ran out is major fault 6/1, and nothing more happens
+-- a watchdog that ran out is a major fault, and nothing more happens
 abbrev pub after_watchdogs : State → Option ℕ → Ticked
-after_watchdogs s (Some t) = record { state = major_fault (task_fault s Major 1 t) s; report = record quiet { watchdog = Some t } }
+after_watchdogs s (Some t) = record { state = major_fault (task_fault s Major WATCHDOG t) s; report = record quiet { watchdog = Some t } }
 after_watchdogs s None = release_due s
 
 abbrev pub in_run : State → Ticked

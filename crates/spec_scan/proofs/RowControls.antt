@@ -2,6 +2,7 @@
 use Rattle.std.proofs.Common.{◌≡◌, ℕ, ◌||◌, Bool, true, false, if◌then◌else◌, List, length, map, ℤ, Option, Some, None, refl}
 use Rattle.std.specs.Prelude.{nat_lt, ⊤}
 use Rattle.spec_base.specs.declared.limits.TheConstants.{MAX_FRAMES}
+use Rattle.spec_tables.specs.declared.fault.TheConstants.{BAD_SUBSCRIPT, MISSING_PARAMETERS, BAD_TIMER, TOO_DEEP}
 use Rattle.lgx_num.specs.declared.place.Flags.{Flags}
 use Rattle.lgx_num.specs.declared.place.Operand.{Operand}
 use Rattle.lgx_num.specs.declared.place.Place.{Place}
@@ -12,7 +13,7 @@ use Rattle.spec_scan.specs.declared.bound.Copying.{Copying}
 use Rattle.spec_scan.specs.Arguments.{bind, arg, place_of, byte_of, value_of}
 use Rattle.spec_scan.specs.Arithmetic.{math}
 use Rattle.spec_scan.specs.Copies.{start_copy}
-use Rattle.spec_scan.specs.Instructions.{Control, Nothing, Call, Return, Jump, ToggleZone, RegionUp, RegionDown, TriggerTask, StartCopy, MinorFault, MajorFault, row, target, acts_when_false, bad_subscript, bad_timer, missing_parameters, too_deep, pass_on, timer_row, copy_row, store_row, executed, with_bound}
+use Rattle.spec_scan.specs.Instructions.{Control, Nothing, Call, Return, Jump, ToggleZone, RegionUp, RegionDown, TriggerTask, StartCopy, MinorFault, MajorFault, row, target, acts_when_false, pass_on, timer_row, copy_row, store_row, executed, with_bound}
 use Rattle.spec_scan.specs.Parameters.{inputs_of, returns_of, inputs_handed, returns_wanted, store_all}
 use Rattle.spec_scan.specs.Position.{Frame}
 use Rattle.spec_scan.specs.Timers.{timer}
@@ -26,7 +27,7 @@ IsOther _ = ⊤
 module _ (P : Control → Type 0) (other : (d : Control) → IsOther d → P d) (args : List Operand) (on : Bool) (now : ℕ) (first : Bool) (frames : List Frame) (flags : Flags) (image : List ℕ) where
   timer_asks : (o : Option (List ℕ)) → P (timer_row args on now first frames flags image o).control
   timer_asks (Some after) = other Nothing tt
-  timer_asks None = other (MajorFault bad_timer) tt
+  timer_asks None = other (MajorFault BAD_TIMER) tt
 
   math_asks : (overflows : Bool) → P (if overflows then MinorFault else Nothing)
   math_asks true = other MinorFault tt
@@ -40,15 +41,15 @@ module _ (P : Control → Type 0) (other : (d : Control) → IsOther d → P d) 
   abbrev pub call_of : List Arg → Control
   call_of bound = Call (target args) (inputs_of bound image) (returns_of bound)
 
-  call_asks : (room : Bool) (bound : List Arg) → P (call_of bound) → P (if room then pass_on args on now first frames flags image (call_of bound) else pass_on args on now first frames flags image (MajorFault too_deep)).control
+  call_asks : (room : Bool) (bound : List Arg) → P (call_of bound) → P (if room then pass_on args on now first frames flags image (call_of bound) else pass_on args on now first frames flags image (MajorFault TOO_DEEP)).control
   call_asks true bound holds = holds
-  call_asks false bound holds = other (MajorFault too_deep) tt
+  call_asks false bound holds = other (MajorFault TOO_DEEP) tt
 
   store_asks : (places : List Place) (numbers : List ℤ) (control : Control) → P control → P (store_row args on now first frames flags image places numbers control).control
   store_asks places numbers control holds = go (nat_lt (length numbers) (length places))
     where
-      go : (missing : Bool) → P (if missing then pass_on args on now first frames flags image (MajorFault missing_parameters) else record { on = on; image = store_all image places numbers; flags = flags; control = control }).control
-      go true = other (MajorFault missing_parameters) tt
+      go : (missing : Bool) → P (if missing then pass_on args on now first frames flags image (MajorFault MISSING_PARAMETERS) else record { on = on; image = store_all image places numbers; flags = flags; control = control }).control
+      go true = other (MajorFault MISSING_PARAMETERS) tt
       go false = holds
 
   -- of a call and of a trigger it holds
@@ -90,7 +91,7 @@ module _ (P : Control → Type 0) (other : (d : Control) → IsOther d → P d) 
 
   bound_asks : (op : Op) (o : Option (List Arg)) → ((bound : List Arg) → o ≡ Some bound → Asks op bound) → P (with_bound args on now first frames flags image op o).control
   bound_asks op (Some bound) asks = executed_asks op bound (asks bound refl)
-  bound_asks op None asks = other (MajorFault bad_subscript) tt
+  bound_asks op None asks = other (MajorFault BAD_SUBSCRIPT) tt
 
   pub row_asks : (op : Op) → ((bound : List Arg) → bind image args ≡ Some bound → Asks op bound) → P (row op args on now first frames flags image).control
   row_asks op asks = go (on || acts_when_false op)
