@@ -23,7 +23,7 @@ use Rattle.spec_scan.specs.Arithmetic.{math}
 use Rattle.spec_scan.specs.Bits.{bits}
 use Rattle.spec_scan.specs.Copies.{start_copy, element_bytes}
 use Rattle.spec_scan.specs.Counters.{counter, one_up, one_down, with_done}
-use Rattle.spec_scan.specs.Instructions.{Control, Nothing, Call, Return, Jump, ToggleZone, RegionUp, RegionDown, TriggerTask, StartCopy, MinorFault, MajorFault, Row, row, executed, with_bound, timer_row, copy_row, store_row, call_row, acts_when_false}
+use Rattle.spec_scan.specs.Instructions.{Control, Nothing, Call, Return, Jump, ToggleZone, Up, Down, TriggerTask, StartCopy, MinorFault, MajorFault, Row, row, executed, with_bound, timer_row, copy_row, store_row, call_row, acts_when_false}
 use Rattle.spec_scan.specs.Parameters.{inputs_handed, returns_wanted, store_all}
 use Rattle.spec_scan.specs.Position.{ProgramRungs, Frame, Position}
 use Rattle.spec_scan.specs.Prescan.{prescan_one, prescan_bound, prescan_ins, prescan, reached_instructions}
@@ -236,8 +236,8 @@ module _ (program : ProgramRungs) (position : Position) (image : List ℕ) (now 
   by_control on im fl Return f outer h = h
   by_control on im fl (Jump label) f outer h = h
   by_control on im fl ToggleZone f outer h = h
-  by_control on im fl RegionUp f outer h = h
-  by_control on im fl RegionDown f outer h = h
+  by_control on im fl Up f outer h = h
+  by_control on im fl Down f outer h = h
   by_control on im fl (TriggerTask t) f outer h = h
   by_control on im fl (StartCopy c) f outer h = h
   by_control on im fl MinorFault f outer h = h

@@ -13,7 +13,7 @@ use Rattle.spec_scan.specs.declared.bound.Copying.{Copying}
 use Rattle.spec_scan.specs.Arguments.{bind, arg, place_of, byte_of, value_of}
 use Rattle.spec_scan.specs.Arithmetic.{math}
 use Rattle.spec_scan.specs.Copies.{start_copy}
-use Rattle.spec_scan.specs.Instructions.{Control, Nothing, Call, Return, Jump, ToggleZone, RegionUp, RegionDown, TriggerTask, StartCopy, MinorFault, MajorFault, row, target, acts_when_false, pass_on, timer_row, copy_row, store_row, executed, with_bound}
+use Rattle.spec_scan.specs.Instructions.{Control, Nothing, Call, Return, Jump, ToggleZone, Up, Down, TriggerTask, StartCopy, MinorFault, MajorFault, row, target, acts_when_false, pass_on, timer_row, copy_row, store_row, executed, with_bound}
 use Rattle.spec_scan.specs.Parameters.{inputs_of, returns_of, inputs_handed, returns_wanted, store_all}
 use Rattle.spec_scan.specs.Position.{Frame}
 use Rattle.spec_scan.specs.Timers.{timer}
@@ -84,8 +84,8 @@ module _ (P : Control → Type 0) (other : (d : Control) → IsOther d → P d) 
   executed_asks Tnd bound asks = other Return tt
   executed_asks Jmp bound asks = other (Jump (target args)) tt
   executed_asks Mcr bound asks = other ToggleZone tt
-  executed_asks Uid bound asks = other RegionUp tt
-  executed_asks Uie bound asks = other RegionDown tt
+  executed_asks Uid bound asks = other Up tt
+  executed_asks Uie bound asks = other Down tt
   executed_asks Event bound asks = asks.trigger refl
   executed_asks _ bound asks = other Nothing tt
 
