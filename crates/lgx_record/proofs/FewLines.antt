@@ -70,8 +70,8 @@ few_faults s (OfTick report) few =
 few_faults s (OfAction lane action outcome) few = let one = one_fault outcome.fault in omega arith
 
 -- what an event put after the faults before it
-pub new_faults : (s : State) (e : Event) → drop (length s.faults) (step s e).state.faults ≡ told_faults (step s e).state (step s e).entry
-new_faults s e = ap (λ (fs : List Fault). drop (length s.faults) fs) (answers_tell_faults s e) ∙ drop-append_seam s.faults (told_faults (step s e).state (step s e).entry)
+pub new_faults : (s : State) (e : Event) → drop (length s.faults) (step s e).state.faults ≡ told_faults (step s e).state (step s e).answer
+new_faults s e = ap (λ (fs : List Fault). drop (length s.faults) fs) (answers_tell_faults s e) ∙ drop-append_seam s.faults (told_faults (step s e).state (step s e).answer)
 
 -- ---- lines
 
@@ -102,17 +102,17 @@ stamped_line tick step line = record { tick = tick; step = step; line = line }
 pub few_lines : (watches : List Watch) (s : State) (n : ℕ) (e : Event) → length watches ≤ MAX_WATCHES → length (step s e).state.table.defs ≤ MAX_TASKS → length (lines_of_event watches s n e) ≤ MAX_EVENT_LINES
 few_lines watches s n e few tasks =
     let x = step s e in
-    let told = told_faults x.state x.entry in
+    let told = told_faults x.state x.answer in
     let faults = map FaultLine (drop (length s.faults) x.state.faults) in
     let sets = set_lines 0 watches s.image x.state.image in
-    let one = one_answer x.entry in
-    let some = few_faults x.state x.entry tasks in
+    let one = one_answer x.answer in
+    let some = few_faults x.state x.answer tasks in
     let new = ap length (new_faults s e) in
     let many = length-map (drop (length s.faults) x.state.faults) FaultLine in
     let last = few_sets watches s.image x.state.image in
     let rest = length-append faults sets in
-    let all = length-append (answer_lines x.entry) (faults ++ sets) in
-    let stamped = length-map (event_lines watches s x.state x.entry) (λ (l : Line). stamped_line x.state.tick (if is_step e then n + 1 else n) l) in
+    let all = length-append (answer_lines x.answer) (faults ++ sets) in
+    let stamped = length-map (event_lines watches s x.state x.answer) (λ (l : Line). stamped_line x.state.tick (if is_step e then n + 1 else n) l) in
     omega arith
 
 -- ---- reports

@@ -23,6 +23,7 @@ use Rattle.spec_tables.specs.Connections.{no_conn, conn_named, trigger_at, slot,
 use Rattle.spec_tables.specs.Forces.{Forces, forced, enable, remove_all}
 use Rattle.spec_tables.specs.Tasks.{TaskState, Table, no_task, task, state_of, is_up, is_continuous, continuous_task, held, stop, release_answer, release_some, put_up_if, if_released}
 use Rattle.spec_tables.proofs.StateLists.{found, none_found}
+use Rattle.spec_machine.specs.declared.answer.Outcome.{Outcome}
 use Rattle.spec_machine.specs.declared.event.Action.{Action}
 use Rattle.spec_machine.specs.declared.event.Action.TheVariants.{WordIn, WordOut, Accept, Test, Untest, Assemble, Cancel, ForceInstall, ForceEnable, ForceDisable, ForceRemove, ModeRun, ModeProgram, Clear}
 use Rattle.spec_machine.specs.declared.event.Event.{Event}
@@ -32,11 +33,11 @@ use Rattle.spec_machine.specs.declared.reply.Mode.{Mode}
 use Rattle.spec_machine.specs.declared.reply.Mode.TheVariants.{Program, Run, Faulted}
 use Rattle.spec_machine.specs.declared.reply.Reply.{Reply}
 use Rattle.spec_machine.specs.declared.reply.Reply.TheVariants.{Done, Held}
-use Rattle.spec_machine.specs.Actions.{Acted, replied, held_or, after_trigger, triggers, put_in, take_out, install_on, force_replied, edit_replied, to_run, mode_run_from, mode_program_from, clear_from, act}
+use Rattle.spec_machine.specs.Actions.{replied, held_or, after_trigger, triggers, put_in, take_out, install_on, force_replied, edit_replied, to_run, mode_run_from, mode_program_from, clear_from, act}
 use Rattle.spec_machine.specs.Edits.{Edited, accept, on_accepted, test, untest, assemble, cancel}
 use Rattle.spec_machine.specs.Project.{Project}
 use Rattle.spec_machine.specs.Releases.{after_answer, overlap_code, mask_of}
-use Rattle.spec_machine.specs.State.{State, Plan}
+use Rattle.spec_machine.specs.State.{State, Plan, Answered}
 use Rattle.spec_machine.specs.ValidProject.{IsValidProject, has_known_trigger, is_event, is_event_task}
 use Rattle.spec_schedule.specs.Counting.{is_task}
 use Rattle.spec_schedule.specs.Refusals.{conn_of, is_mode}
@@ -52,8 +53,8 @@ module _ (s : State) where
   abbrev many : ℕ
   many = length s.table.defs
 
-  abbrev Right : Action → Acted → Type 0
-  Right a x = IsReleasedRightly s a x.outcome x.state
+  abbrev Right : Action → Answered Outcome → Type 0
+  Right a x = IsReleasedRightly s a x.answer x.state
 
   -- ---- of an action that calls_for for nobody
 
@@ -66,16 +67,16 @@ module _ (s : State) where
   none_overlaps : (a : Action) (r : Reply) → IsCalm a r → (t : ℕ) → overlaps_by s a r t ≡ false
   none_overlaps a r calm t = ap (λ b. (b && not (task s.table t).inhibited) && is_up s.table t) (calm t)
 
-  calmly : (a : Action) (x : Acted) → x.outcome.released ≡ 0 → x.outcome.fault ≡ None → IsCalm a x.outcome.reply → ((t : ℕ) → is_up x.state.table t ≡ stays_up s a x.outcome.reply t) → Right a x
+  calmly : (a : Action) (x : Answered Outcome) → x.answer.released ≡ 0 → x.answer.fault ≡ None → IsCalm a x.answer.reply → ((t : ℕ) → is_up x.state.table t ≡ stays_up s a x.answer.reply t) → Right a x
   calmly a x none fault calm stay =
-      let r = x.outcome.reply in
+      let r = x.answer.reply in
       record {
         released = none ∙ sym (mask_none (comes_up_by s a r) many (none_comes a r calm));
         fault = fault ∙ sym (ap (λ (o : Option ℕ). option_map (overlap_of s) o) (find_none (overlaps_by s a r) 0 many (none_overlaps a r calm)));
         up = mask_same (is_up x.state.table) (λ t. comes_up_by s a r t || stays_up s a r t) many (λ t l. stay t ∙ sym (ap (λ b. b || stays_up s a r t) (none_comes a r calm t)));
       }
 
-  by_held : (a : Action) (b : Bool) (x : Acted) → IsCalm a Held → ((t : ℕ) → is_up s.table t ≡ stays_up s a Held t) → Right a x → Right a (held_or b s x)
+  by_held : (a : Action) (b : Bool) (x : Answered Outcome) → IsCalm a Held → ((t : ℕ) → is_up s.table t ≡ stays_up s a Held t) → Right a x → Right a (held_or b s x)
   by_held a true x calm stay h = calmly a (replied s Held) refl refl calm stay
   by_held a false x calm stay h = h
 
@@ -299,10 +300,10 @@ module _ (s : State) where
     stopped_down k = ap (λ (o : Option TaskState). is_some o) (down_state s.table.states k)
 
     -- the change, by the continuous task
-    abbrev ran_by : Option ℕ → Acted
+    abbrev ran_by : Option ℕ → Answered Outcome
     ran_by o = record {
       state = record (to_run s) { table = release_some o s.tick stopped };
-      outcome = record { reply = Done; fault = None; released = mask_of (option_and_then (λ t. if_released (release_answer (stop s.table) t) t) o) };
+      answer = record { reply = Done; fault = None; released = mask_of (option_and_then (λ t. if_released (release_answer (stop s.table) t) t) o) };
     }
 
     -- what is not there isn't continuous
@@ -329,7 +330,7 @@ module _ (s : State) where
               | inr g ↦ absurd (false≢true (sym (past_tasks u g) ∙ q))
             ]
 
-    released_by : (t : ℕ) (h : CallsFor ModeRun t) (inhibited up : Bool) → (task s.table t).inhibited ≡ inhibited → is_up stopped t ≡ up → Right ModeRun (record { state = record (to_run s) { table = put_up_if (cond inhibited Inhibited (cond up Overlap Released)) t s.tick stopped }; outcome = record { reply = Done; fault = None; released = mask_of (if_released (cond inhibited Inhibited (cond up Overlap Released)) t) } })
+    released_by : (t : ℕ) (h : CallsFor ModeRun t) (inhibited up : Bool) → (task s.table t).inhibited ≡ inhibited → is_up stopped t ≡ up → Right ModeRun (record { state = record (to_run s) { table = put_up_if (cond inhibited Inhibited (cond up Overlap Released)) t s.tick stopped }; answer = record { reply = Done; fault = None; released = mask_of (if_released (cond inhibited Inhibited (cond up Overlap Released)) t) } })
     released_by t h true up i u = record {
       released = sym (mask_of_one ModeRun t h true false i (nobody_up t));
       fault = sym (fault_of_one ModeRun t h true false i (nobody_up t));

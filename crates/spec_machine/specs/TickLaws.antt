@@ -26,14 +26,14 @@ report_faults s r =
 
 -- The faults that a tick records are those of its report. They have the tick that it leads to.
 abbrev pub TicksTellFaults : Type 0
-TicksTellFaults = (s : State) → (tick s).state.faults ≡ s.faults ++ report_faults (tick s).state (tick s).report
+TicksTellFaults = (s : State) → (tick s).state.faults ≡ s.faults ++ report_faults (tick s).state (tick s).answer
 
 -- a mask has bits of the table's tasks alone, so that of 32 tasks is below 2 ^ 32
 abbrev pub IsMaskOf : State → ℕ → Type 0
 IsMaskOf s mask = mask < 2 ^ length s.table.defs
 
 abbrev pub MasksAreOfTasks : Type 0
-MasksAreOfTasks = (s : State) → IsMaskOf s (tick s).report.released × IsMaskOf s (tick s).report.overlapped
+MasksAreOfTasks = (s : State) → IsMaskOf s (tick s).answer.released × IsMaskOf s (tick s).answer.overlapped
 
 -- A tick keeps the table's tasks.
 abbrev pub TicksKeepTasks : Type 0
