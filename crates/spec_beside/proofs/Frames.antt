@@ -101,7 +101,7 @@ module _ (Of : ℕ → Ins → Type 0) (To : ℕ → Place → Type 0) where
     by_frame f outer (one i rest) t h k =
         let r = row i.op i.args f.cursor.on now first position.frames flags image in
         by_control r.on r.image r.flags r.control (record f { cursor = record f.cursor { rest = rest; on = r.on } }) outer
-        (row_asks Calls other_calls i.args f.cursor.on now first position.frames flags image i.op (λ bound found. record { call = λ is. calls f.routine i image bound t.0 is found; trigger = λ is. tt }))
+        (row_asks Calls other_calls i.args f.cursor.on now first position.frames flags image i.op (λ bound found. record { call = λ is. calls f.routine i image bound t.0 is found; trigger = λ is. tt; copy = λ is c started. tt }))
         (record { cursor = record { rungs = h.cursor.rungs; rest = t.1; forks = h.cursor.forks }; returns = h.returns }) k
     by_frame f outer end t h k = k
     by_frame f outer (fork x legs rest) t h k = k

@@ -108,6 +108,7 @@ instruction_hands i on now first frames flags image len can =
     row_asks (HandsOver len) (other_hands len) i.args on now first frames flags image i.op (λ args found. record {
       call = λ is. call_lies image len i.args args (subst (λ (op : Op). OperandsFit op i.args) is can.fit) (each_of (λ o. OperandInBounds o len) i.args can.lie) found;
       trigger = λ is. tt;
+      copy = λ is c started. tt;
     })
 
 -- ---- a step

@@ -46,6 +46,7 @@ instruction_asks i on now first frames flags image len count can known =
     row_asks (AsksKnownTask count) (other_asks count) i.args on now first frames flags image i.op (λ args found. record {
       call = λ is. tt;
       trigger = λ is. target_known count i.args (subst (λ (op : Op). OperandsFit op i.args) is can.fit) known;
+      copy = λ is c started. tt;
     })
 
 -- ---- a step
