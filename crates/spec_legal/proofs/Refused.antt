@@ -318,10 +318,10 @@ module _ (s : State) where
 -- ---- along a run
 
 -- with this reply
-abbrev answered : Answered Outcome → Reply → Answered Outcome
-answered x r = record x { answer = record x.answer { reply = r } }
+abbrev with_reply : Answered Outcome → Reply → Answered Outcome
+with_reply x r = record x { answer = record x.answer { reply = r } }
 
-keeps : (s : State) (lane : ℕ) (a : Action) (x : Answered Outcome) (r : Reply) → Rightly s (first_cause s lane a) (answered x r) → KeepsState (record { before = s; entry = OfAction lane a (answered x r).answer; after = x.state })
+keeps : (s : State) (lane : ℕ) (a : Action) (x : Answered Outcome) (r : Reply) → Rightly s (first_cause s lane a) (with_reply x r) → KeepsState (record { before = s; entry = OfAction lane a (with_reply x r).answer; after = x.state })
 keeps s lane a x Done h = tt
 keeps s lane a x (Word v) h = tt
 keeps s lane a x (Version n) h = tt
