@@ -84,12 +84,14 @@ copy_starts image op bound few lie blocks =
     let n = elements op bound image in
     let c = copy_of op bound image n in
     cond_both (nat_eq n 0) None (Some c) (λ (o : Option Copying). (x : Copying) → o ≡ Some x → IsCopyIn (length image) x) (λ e x is. absurd (cc is))
-    (λ e x is. subst (IsCopyIn (length image)) (cc is) (record {
+    (λ e x is.
+    let c_is : IsCopyIn (length image) c = record {
       some = (let ne : n ≡ 0 → ⊥ = eqb-false n 0 e in omega arith);
       few = few_elements op bound image (length image) blocks.ends;
       lies = copy_lies op bound image c refl few lie blocks;
       plain = sync_plain op bound image;
-    }))
+    } in
+    subst (IsCopyIn (length image)) (cc is) c_is)
 
 pub instruction_starts : (i : Ins) (on : Bool) (now : ℕ) (first : Bool) (frames : List Frame) (flags : Flags) (image : List ℕ) → length image ≤ MAX_IMAGE_BYTES → IsExecutable (length image) i → StartsIn (length image) (row i.op i.args on now first frames flags image).control
 instruction_starts i on now first frames flags image few can =
