@@ -7,21 +7,21 @@ use Rattle.spec_machine.specs.declared.answer.Outcome.{Outcome}
 use Rattle.spec_machine.specs.declared.event.Action.{Action}
 use Rattle.spec_machine.specs.Machine.{TraceEntry, OfStep, OfTick, OfAction, run}
 use Rattle.spec_machine.specs.Project.{Project}
-use Rattle.spec_machine.specs.State.{State, start}
+use Rattle.spec_machine.specs.State.{State, start, Answered}
 use Rattle.spec_machine.specs.ValidProject.{IsValidProject}
 use Rattle.spec_machine.specs.ProcessorStep.{processor_step}
 use Rattle.spec_machine.specs.Ticks.{tick}
-use Rattle.spec_machine.specs.Actions.{Acted, act}
+use Rattle.spec_machine.specs.Actions.{act}
 use Rattle.lgx_image.specs.Grains.{ImageView, ChangesOnlyMarked}
 use Rattle.lgx_image.proofs.Changes.{no_change_needs_marks}
 use Rattle.lgx_steps.specs.declared.parts.Parts.{Parts}
 use Rattle.lgx_steps.specs.PartsView.{view_of as parts_of}
 use Rattle.lgx_steps.specs.Represents.{RepresentsState, IsLive, HasRoom}
-use Rattle.lgx_steps.specs.Gives.{StepGives as PartsStep, TickGives as PartsTick, ActionGives as PartsAction}
+use Rattle.lgx_steps.specs.Gives.{ViewGives}
 use Rattle.lgx_steps.proofs.States.{later}
 use Rattle.lgx_core.specs.ControllerView.{ControllerView, view_of}
 use Rattle.lgx_core.specs.Represents.{Represents, StandsFor, IsController, GoesOn}
-use Rattle.lgx_core.specs.Gives.{StepGives, TickGives, ActionGives}
+use Rattle.lgx_core.specs.Gives.{Gives}
 use Rattle.lgx_core.proofs.Runs.{goes-on}
 
 -- ---- a new one
@@ -63,24 +63,24 @@ unchanged old now e = subst (λ (i : ImageView). ChangesOnlyMarked old i) (sym e
 -- ---- the calls
 
 module _ (old now : Parts) (spent : ℕ) (l : spent < MAX_EVENTS) where
-  pub step-gives : (m : Moment) → ((n : ℕ) (s : State) → RepresentsState n (parts_of old) s → PartsStep (n + 1) (parts_of now) m (processor_step s)) → (s : State) → Represents (view_of old spent) s → StepGives (view_of now (spent + 1)) m (processor_step s)
+  pub step-gives : (m : Moment) → ((n : ℕ) (s : State) → RepresentsState n (parts_of old) s → ViewGives (n + 1) (parts_of now) m (processor_step s)) → (s : State) → Represents (view_of old spent) s → Gives (view_of now (spent + 1)) m (processor_step s)
   step-gives m gives s h = let g = gives spent s h.parts in record { answers = g.answers; represents = record { room = omega arith; parts = g.represents } }
 
-  pub step-goes : (m : Moment) → ((n : ℕ) (s : State) → RepresentsState n (parts_of old) s → PartsStep (n + 1) (parts_of now) m (processor_step s)) → GoesOn (view_of old spent) (view_of now (spent + 1)) (OfStep m)
+  pub step-goes : (m : Moment) → ((n : ℕ) (s : State) → RepresentsState n (parts_of old) s → ViewGives (n + 1) (parts_of now) m (processor_step s)) → GoesOn (view_of old spent) (view_of now (spent + 1)) (OfStep m)
   step-goes m gives = goes-on (view_of old spent) (view_of now (spent + 1)) (OfStep m) refl (λ s h. let g = step-gives m gives s h in record { answers = ap OfStep g.answers; represents = g.represents })
 
-  pub tick-gives : (r : TickReport) → ((n : ℕ) (s : State) → RepresentsState n (parts_of old) s → PartsTick (n + 1) (parts_of now) r (tick s)) → (s : State) → Represents (view_of old spent) s → TickGives (view_of now (spent + 1)) r (tick s)
-  tick-gives r gives s h = let g = gives spent s h.parts in record { answers = g.report_is; represents = record { room = omega arith; parts = g.represents } }
+  pub tick-gives : (r : TickReport) → ((n : ℕ) (s : State) → RepresentsState n (parts_of old) s → ViewGives (n + 1) (parts_of now) r (tick s)) → (s : State) → Represents (view_of old spent) s → Gives (view_of now (spent + 1)) r (tick s)
+  tick-gives r gives s h = let g = gives spent s h.parts in record { answers = g.answers; represents = record { room = omega arith; parts = g.represents } }
 
-  pub tick-goes : (r : TickReport) → ((n : ℕ) (s : State) → RepresentsState n (parts_of old) s → PartsTick (n + 1) (parts_of now) r (tick s)) → GoesOn (view_of old spent) (view_of now (spent + 1)) (OfTick r)
+  pub tick-goes : (r : TickReport) → ((n : ℕ) (s : State) → RepresentsState n (parts_of old) s → ViewGives (n + 1) (parts_of now) r (tick s)) → GoesOn (view_of old spent) (view_of now (spent + 1)) (OfTick r)
   tick-goes r gives = goes-on (view_of old spent) (view_of now (spent + 1)) (OfTick r) refl (λ s h. let g = tick-gives r gives s h in record { answers = ap OfTick g.answers; represents = g.represents })
 
-  pub action-gives : (o : Outcome) (x : State → Acted) → ((n : ℕ) (s : State) → RepresentsState n (parts_of old) s → PartsAction (n + 1) (parts_of now) o (x s)) → (s : State) → Represents (view_of old spent) s → ActionGives (view_of now (spent + 1)) o (x s)
-  action-gives o x gives s h = let g = gives spent s h.parts in record { answers = g.outcome_is; represents = record { room = omega arith; parts = g.represents } }
+  pub action-gives : (o : Outcome) (x : State → Answered Outcome) → ((n : ℕ) (s : State) → RepresentsState n (parts_of old) s → ViewGives (n + 1) (parts_of now) o (x s)) → (s : State) → Represents (view_of old spent) s → Gives (view_of now (spent + 1)) o (x s)
+  action-gives o x gives s h = let g = gives spent s h.parts in record { answers = g.answers; represents = record { room = omega arith; parts = g.represents } }
 
-  pub action-goes : (o : Outcome) (lane : ℕ) (a : Action) → ((n : ℕ) (s : State) → RepresentsState n (parts_of old) s → PartsAction (n + 1) (parts_of now) o (act s lane a)) → GoesOn (view_of old spent) (view_of now (spent + 1)) (OfAction lane a o)
+  pub action-goes : (o : Outcome) (lane : ℕ) (a : Action) → ((n : ℕ) (s : State) → RepresentsState n (parts_of old) s → ViewGives (n + 1) (parts_of now) o (act s lane a)) → GoesOn (view_of old spent) (view_of now (spent + 1)) (OfAction lane a o)
   action-goes o lane a gives = goes-on (view_of old spent) (view_of now (spent + 1)) (OfAction lane a o) refl (λ s h. let g = action-gives o (λ s. act s lane a) gives s h in record { answers = ap (OfAction lane a) g.answers; represents = g.represents })
 
 -- an action that its parts don't count
-pub one-later : (old now : Parts) (o : Outcome) (x : State → Acted) → ((n : ℕ) (s : State) → RepresentsState n (parts_of old) s → PartsAction n (parts_of now) o (x s)) → (n : ℕ) (s : State) → RepresentsState n (parts_of old) s → PartsAction (n + 1) (parts_of now) o (x s)
-one-later old now o x gives n s h = let g = gives n s h in record { outcome_is = g.outcome_is; represents = later n (parts_of now) (x s).state g.represents }
+pub one-later : (old now : Parts) (o : Outcome) (x : State → Answered Outcome) → ((n : ℕ) (s : State) → RepresentsState n (parts_of old) s → ViewGives n (parts_of now) o (x s)) → (n : ℕ) (s : State) → RepresentsState n (parts_of old) s → ViewGives (n + 1) (parts_of now) o (x s)
+one-later old now o x gives n s h = let g = gives n s h in record { answers = g.answers; represents = later n (parts_of now) (x s).state g.represents }

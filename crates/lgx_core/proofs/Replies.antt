@@ -11,27 +11,27 @@ use Rattle.spec_machine.specs.declared.event.Action.TheVariants.{WordIn, WordOut
 use Rattle.spec_machine.specs.Edits.{Edited, accept, on_accepted, test, untest, assemble, cancel}
 use Rattle.spec_machine.specs.Events.{is_accept}
 use Rattle.spec_machine.specs.Machine.{OfAction}
-use Rattle.spec_machine.specs.State.{State}
+use Rattle.spec_machine.specs.State.{State, Answered}
 use Rattle.spec_machine.specs.Actions.{act, edit_replied, force_replied, install_on}
 use Rattle.lgx_steps.specs.Gives.{replied_by}
 use Rattle.lgx_core.specs.ControllerView.{ControllerView}
 use Rattle.lgx_core.specs.Represents.{Represents, GoesOn}
-use Rattle.lgx_core.specs.Gives.{ActionGives, is_edit, is_force}
+use Rattle.lgx_core.specs.Gives.{Gives, is_edit, is_force}
 use Rattle.lgx_core.proofs.Runs.{goes-on}
 
 -- the outcome is no more than its reply
 abbrev IsReply : Outcome → Type 0
 IsReply o = o ≡ replied_by o.reply
 
-edited : (s : State) (r : Result Edited EditFault) → IsReply (edit_replied s r).outcome
+edited : (s : State) (r : Result Edited EditFault) → IsReply (edit_replied s r).answer
 edited s (Ok e) = refl
 edited s (Err f) = refl
 
-forced : (s : State) (r : Result Forces ForceFault) → IsReply (force_replied s r).outcome
+forced : (s : State) (r : Result Forces ForceFault) → IsReply (force_replied s r).answer
 forced s (Ok e) = refl
 forced s (Err f) = refl
 
-edit-replies : (s : State) (lane : ℕ) (a : Action) → is_edit a ≡ true → IsReply (act s lane a).outcome
+edit-replies : (s : State) (lane : ℕ) (a : Action) → is_edit a ≡ true → IsReply (act s lane a).answer
 edit-replies s lane (Accept command) h = edited s (accept s.plan.tags s.plan.names s.books lane command)
 edit-replies s lane (Test name) h = edited s (on_accepted test s.books lane name)
 edit-replies s lane (Untest name) h = edited s (on_accepted untest s.books lane name)
@@ -47,7 +47,7 @@ edit-replies s lane ModeRun h = absurd (cc h)
 edit-replies s lane ModeProgram h = absurd (cc h)
 edit-replies s lane Clear h = absurd (cc h)
 
-force-replies : (s : State) (lane : ℕ) (a : Action) → is_force a ≡ true → IsReply (act s lane a).outcome
+force-replies : (s : State) (lane : ℕ) (a : Action) → is_force a ≡ true → IsReply (act s lane a).answer
 force-replies s lane (ForceInstall conn word mask value) h = forced s (install_on s.forces (io_word s.plan.conns conn word) mask value)
 force-replies s lane ForceEnable h = forced s (enable s.forces)
 force-replies s lane ForceDisable h = forced s (Ok (disable s.forces))
@@ -98,19 +98,19 @@ force-no_accept Clear h k = cc h
 
 -- ---- the calls
 
-module _ (old now : ControllerView) (lane : ℕ) (a : Action) (o : Outcome) (gives : (s : State) → Represents old s → ActionGives now o (act s lane a)) where
-  pub edit-gives : is_edit a ≡ true → (s : State) → Represents old s → ActionGives now (replied_by o.reply) (act s lane a)
+module _ (old now : ControllerView) (lane : ℕ) (a : Action) (o : Outcome) (gives : (s : State) → Represents old s → Gives now o (act s lane a)) where
+  pub edit-gives : is_edit a ≡ true → (s : State) → Represents old s → Gives now (replied_by o.reply) (act s lane a)
   edit-gives is s h =
-      let g : ActionGives now o (act s lane a) = gives s h in
+      let g : Gives now o (act s lane a) = gives s h in
       record { answers = ap (λ (x : Outcome). replied_by x.reply) g.answers ∙ sym (edit-replies s lane a is); represents = g.represents }
 
   pub edit-goes : is_edit a ≡ true → now.spent ≡ old.spent + 1 → GoesOn old now (OfAction lane a (replied_by o.reply))
   edit-goes is counted = goes-on old now (OfAction lane a (replied_by o.reply)) counted (λ s h. let g = edit-gives is s h in record { answers = ap (OfAction lane a) g.answers; represents = g.represents })
 
-  pub force-gives : is_force a ≡ true → (other : ℕ) (s : State) → Represents old s → ActionGives now (replied_by o.reply) (act s other a)
+  pub force-gives : is_force a ≡ true → (other : ℕ) (s : State) → Represents old s → Gives now (replied_by o.reply) (act s other a)
   force-gives is other s h =
-      let g : ActionGives now o (act s lane a) = gives s h in
-      subst (ActionGives now (replied_by o.reply)) (force-lanes s lane other a is)
+      let g : Gives now o (act s lane a) = gives s h in
+      subst (λ (x : Answered Outcome). Gives now (replied_by o.reply) x) (force-lanes s lane other a is)
       (record { answers = ap (λ (x : Outcome). replied_by x.reply) g.answers ∙ sym (force-replies s lane a is); represents = g.represents })
 
   pub force-goes : is_force a ≡ true → now.spent ≡ old.spent + 1 → (other : ℕ) → GoesOn old now (OfAction other a (replied_by o.reply))

@@ -9,13 +9,13 @@ use Rattle.lgx_core.specs.ControllerView.{ControllerView}
 use Rattle.lgx_core.specs.Represents.{Represents, IsController, GoesOn}
 
 -- the last event has the last answer of a trace
-pub trace-more : (s : State) (events : List Event) (e : Event) → trace_from s (events ++ e ∷ []) ≡ trace_from s events ++ (step (run_from s events) e).entry ∷ []
+pub trace-more : (s : State) (events : List Event) (e : Event) → trace_from s (events ++ e ∷ []) ≡ trace_from s events ++ (step (run_from s events) e).answer ∷ []
 trace-more s [] e = refl
-trace-more s (x ∷ events) e = ap (λ (entries : List TraceEntry). (step s x).entry ∷ entries) (trace-more (step s x).state events e)
+trace-more s (x ∷ events) e = ap (λ (entries : List TraceEntry). (step s x).answer ∷ entries) (trace-more (step s x).state events e)
 
 -- the machine's answer, and its next state
 pub record Steps (now : ControllerView) (s : State) (entry : TraceEntry) : Type 0 where
-  pub answers : entry ≡ (step s (event_of entry)).entry
+  pub answers : entry ≡ (step s (event_of entry)).answer
   pub represents : Represents now (step s (event_of entry)).state
 
 module _ (old now : ControllerView) (entry : TraceEntry) where

@@ -42,7 +42,7 @@ module _ (p : Project) (events : List Event) where
   trace-steps k =
       ap (trace p) (one-more k)
       ∙ (trace-more (start p) (events ++ replicate k Cpu) Cpu
-      ∙ ap (λ (s : State). trace p (events ++ replicate k Cpu) ++ OfStep (processor_step s).moment ∷ []) (run-steps k))
+      ∙ ap (λ (s : State). trace p (events ++ replicate k Cpu) ++ OfStep (processor_step s).answer ∷ []) (run-steps k))
 
 module _ (old now : ControllerView) (x : Stretch) where
   -- whatever state was represented, so the runs go on

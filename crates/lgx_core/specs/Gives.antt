@@ -1,38 +1,22 @@
 -- What the calls of a controller give: the machine's answer, and the machine's next state.
-use Rattle.std.specs.Prelude.{◌≡◌, Bool, true, false}
-use Rattle.spec_machine.specs.declared.answer.Moment.{Moment}
-use Rattle.spec_machine.specs.declared.answer.TickReport.{TickReport}
-use Rattle.spec_machine.specs.declared.answer.Outcome.{Outcome}
+use Rattle.std.specs.Prelude.{Bool, true, false}
 use Rattle.spec_machine.specs.declared.event.Action.{Action}
 use Rattle.spec_machine.specs.declared.event.Action.TheVariants.{Accept, Test, Untest, Assemble, Cancel, ForceInstall, ForceEnable, ForceDisable, ForceRemove}
-use Rattle.spec_machine.specs.ProcessorStep.{Stepped}
-use Rattle.spec_machine.specs.Ticks.{Ticked}
-use Rattle.spec_machine.specs.Actions.{Acted}
-use Rattle.spec_machine.specs.State.{State}
+use Rattle.spec_machine.specs.State.{State, Answered}
 use Rattle.lgx_steps.specs.declared.stretch.Stretch.{Stretch}
+use Rattle.lgx_steps.specs.Gives.{MatchesAnswer}
 use Rattle.lgx_steps.specs.Stretches.{IsStretch, after_steps}
 use Rattle.lgx_core.specs.ControllerView.{ControllerView}
 use Rattle.lgx_core.specs.Represents.{Represents}
 
--- after a processor step
-pub record StepGives (v : ControllerView) (answer : Moment) (x : Stepped) : Type 0 where
-  pub answers : answer ≡ x.moment
-  pub represents : Represents v x.state
+-- afterwards the controller represents that state
+abbrev pub Gives : {A : Type 0} → ControllerView → A → Answered A → Type 0
+Gives v answer x = MatchesAnswer (Represents v) answer x
 
 -- after a stretch of processor steps from this state
 pub record StretchGives (v : ControllerView) (x : Stretch) (s : State) : Type 0 where
   pub represents : Represents v (after_steps x.steps s)
   pub is_stretch : IsStretch v.parts.image.watched x s
-
--- after a tick
-pub record TickGives (v : ControllerView) (report : TickReport) (x : Ticked) : Type 0 where
-  pub answers : report ≡ x.report
-  pub represents : Represents v x.state
-
--- after an action
-pub record ActionGives (v : ControllerView) (outcome : Outcome) (x : Acted) : Type 0 where
-  pub answers : outcome ≡ x.outcome
-  pub represents : Represents v x.state
 
 -- ---- kinds of actions
 

@@ -51,7 +51,7 @@ impl Controller {
     ghost use Rattle.lgx_image.specs.Grains.{ChangesOnlyMarked, SomeIsHit};
     ghost use Rattle.lgx_steps.specs.Stretches.{is_plain};
     ghost use Rattle.lgx_core.specs.Represents.{Represents, StandsFor, IsController, GoesOn, GoesOnBy};
-    ghost use Rattle.lgx_core.specs.Gives.{StepGives, StretchGives, TickGives, ActionGives};
+    ghost use Rattle.lgx_core.specs.Gives.{Gives, StretchGives};
     ghost use Rattle.lgx_core.specs.Lawful.{IsLawful};
 
     /// A controller in Program at tick 0, with no task up. It takes all room but that of accepts.
@@ -73,7 +73,7 @@ impl Controller {
     #[inline(always)]
     pub fn cpu(&mut self) -> Moment
         requires room { self.old.spent < MAX_EVENTS }
-        ensures step { (s : State) → Represents self.old s → StepGives self.new result (processor_step s) }
+        ensures step { (s : State) → Represents self.old s → Gives self.new result (processor_step s) }
         ensures runs { GoesOn self.old self.new (OfStep result) }
         ensures spent { self.new.spent ≡ self.old.spent + 1 }
         ensures only_marked { ChangesOnlyMarked self.old.parts.image self.new.parts.image }
@@ -107,7 +107,7 @@ impl Controller {
     #[inline(always)]
     pub fn tick(&mut self) -> TickReport
         requires room { self.old.spent < MAX_EVENTS }
-        ensures step { (s : State) → Represents self.old s → TickGives self.new result (tick s) }
+        ensures step { (s : State) → Represents self.old s → Gives self.new result (tick s) }
         ensures runs { GoesOn self.old self.new (OfTick result) }
         ensures spent { self.new.spent ≡ self.old.spent + 1 }
         ensures only_marked { ChangesOnlyMarked self.old.parts.image self.new.parts.image }
@@ -120,7 +120,7 @@ impl Controller {
     /// and nothing changes.
     pub fn act(&mut self, lane: u32, action: &Action) -> Result<Outcome, Memory>
         requires room { self.old.spent < MAX_EVENTS }
-        ensures step { (s : State) → Represents self.old s → IfOk result (λ outcome. ActionGives self.new outcome (act s lane action.now)) }
+        ensures step { (s : State) → Represents self.old s → IfOk result (λ outcome. Gives self.new outcome (act s lane action.now)) }
         ensures runs { IfOk result (λ outcome. GoesOn self.old self.new (OfAction lane action.now outcome)) }
         ensures spent { IfOk result (λ _. self.new.spent ≡ self.old.spent + 1) }
         ensures memory { IfErr result (λ _. IsTrue (is_accept action.now)) }

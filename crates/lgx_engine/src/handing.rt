@@ -17,18 +17,13 @@ ghost use Rattle.lgx_engine.specs.Rows.{handing_control, HasFrame, inputs_of_top
 
 use crate::frame::{Frames, Inputs, Returns};
 use crate::operand::routine_of;
-use crate::row::BAD_SUBSCRIPT;
 use arrayvec::ArrayVec;
 use lgx_image::Image;
 use lgx_num::{Operand, Place};
 use lgx_prog::Prepared;
 use lgx_rung::Op;
 use spec_base::limits::MAX_FRAMES;
-
-// codes of type 4: numbers that weren't handed over or don't come back, and a call with all frames taken
-const MISSING_PARAMETERS: u8 = 31;
-
-const TOO_DEEP: u8 = 84;
+use spec_tables::{BAD_SUBSCRIPT, MISSING_PARAMETERS, TOO_DEEP};
 
 /// A call: the routine's number, its inputs as they are now, and where its returns go.
 #[derive(Drop)]

@@ -1,6 +1,7 @@
 // One instruction: what it does to the image and the flags, and what else it does.
 ghost use Rattle.std.specs.Prelude.{◌≡◌, ℕ, ◌+◌, ◌≤◌, true, false, ◌||◌, List, length, if◌then◌else◌, IfSome, Some, None};
 ghost use Rattle.spec_base.specs.declared.limits.TheConstants.{TIMER_BYTES};
+ghost use Rattle.spec_tables.specs.declared.fault.TheConstants.{BAD_TIMER};
 ghost use Rattle.lgx_rung.specs.OperandTable.{family_of};
 ghost use Rattle.lgx_rung.specs.declared.operands.OperandKind.{OperandKind};
 ghost use Rattle.spec_scan.specs.Arguments.{arg, bind, byte_of};
@@ -9,7 +10,7 @@ ghost use Rattle.spec_scan.specs.StatusWords.{reset};
 ghost use Rattle.spec_scan.specs.Arithmetic.{math};
 ghost use Rattle.spec_scan.specs.Copies.{start_copy};
 ghost use Rattle.spec_scan.specs.Position.{Frame};
-ghost use Rattle.spec_scan.specs.Instructions.{row, acts_when_false, bad_timer};
+ghost use Rattle.spec_scan.specs.Instructions.{row, acts_when_false};
 ghost use Rattle.spec_scan.specs.ArgBounds.{ArgInBounds, ArgsInBounds};
 ghost use Rattle.lgx_image.specs.Grains.{ChangesOnlyMarked};
 ghost use Rattle.spec_scan.specs.Executable.{IsExecutable, ArgsEndIn};
@@ -28,11 +29,7 @@ use lgx_prog::Prepared;
 use lgx_rung::{Family, Ins, Op};
 use lgx_time::{reset, run_counter, run_timer};
 use spec_scan::{Arg, Bound, Copying};
-
-// codes of type 4: a subscript out of range, and a timer with a negative number
-pub(crate) const BAD_SUBSCRIPT: u8 = 20;
-
-pub(crate) const BAD_TIMER: u8 = 34;
+use spec_tables::{BAD_SUBSCRIPT, BAD_TIMER};
 
 /// What an instruction does beside the image and the flags.
 ///
@@ -43,8 +40,8 @@ pub(crate) enum Control {
     Return,
     Jump(u64),
     ToggleZone,
-    RegionUp,
-    RegionDown,
+    Up,
+    Down,
     TriggerTask(u32),
     StartCopy(Copying),
     MinorFault,
@@ -191,7 +188,7 @@ fn count_time(op: Op, arg: Arg, on: bool, now: u32, image: &mut Image) -> Contro
     requires family { family_of op ≡ Family.Timer }
     requires lies { byte_of arg + TIMER_BYTES ≤ length image.old.bytes }
     ensures counted { IfSome (timer op (byte_of arg) on now image.old.bytes) (λ after. (result ≡ Control.Nothing) × (image.new.bytes ≡ after)) }
-    ensures fault { timer op (byte_of arg) on now image.old.bytes ≡ None → (result ≡ Control.MajorFault bad_timer) × (image.new ≡ image.old) }
+    ensures fault { timer op (byte_of arg) on now image.old.bytes ≡ None → (result ≡ Control.MajorFault BAD_TIMER) × (image.new ≡ image.old) }
     ensures stays { StaysInRoutine result }
     ensures only_marked { ChangesOnlyMarked image.old image.new }
 {
@@ -261,8 +258,8 @@ fn program_control(ins: &Ins) -> Control
         Op::Tnd => Control::Return,
         Op::Jmp => Control::Jump(target(ins.args.as_slice())),
         Op::Mcr => Control::ToggleZone,
-        Op::Uid => Control::RegionUp,
-        Op::Uie => Control::RegionDown,
+        Op::Uid => Control::Up,
+        Op::Uie => Control::Down,
         Op::Event => Control::TriggerTask(task_of(ins.args.as_slice())),
         Op::Lbl | Op::Nop => Control::Nothing,
         _ => unreachable!(),

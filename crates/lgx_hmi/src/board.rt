@@ -1,15 +1,15 @@
 // The board that publishes a story.
 ghost use Rattle.std.specs.Prelude.{◌≡◌, ◌≤◌, ◌<◌, ◌-◌, ◌⊎◌, ◌↔◌, List, [], ◌∷◌, ◌++◌, length, drop, fold, IsOk, vec_len, vec_capacity, slice_index_or, slice_get, All, IfOk, OnOk, OnErr, IsTrue, Some, true, false};
-ghost use Rattle.lgx_hmi.specs.Stories.{IsPrefix, longer, with_next};
-ghost use Rattle.lgx_hmi.specs.declared.published.TheConstants.{MAX_SNAPSHOTS};
+ghost use Rattle.spec_board.specs.Stories.{IsPrefix, longer, with_next};
+ghost use Rattle.spec_board.specs.declared.snapshot.TheConstants.{MAX_SNAPSHOTS};
 
-use crate::published::{MAX_SNAPSHOTS, Published};
-use crate::snapshot::Snapshot;
+use crate::published::Published;
 use crate::station::Station;
 use crate::story::{Finds, Follows, Story};
 use core::mem::replace_with;
 use left_right::writer::Writer;
 use lgx_num::Memory;
+use spec_board::{MAX_SNAPSHOTS, Snapshot};
 use std::alloc::Global;
 use std::marker::Model;
 use std::sync::Wait;
@@ -22,8 +22,8 @@ pub struct Board<S: Story> {
 
 impl<S: Story> Model for Board<S> {
     ghost use Rattle.std.specs.Prelude.{◌≡◌, ◌<◌, List, [], length, drop};
-    ghost use Rattle.lgx_hmi.specs.declared.snapshot.Snapshot.{Snapshot};
-    ghost use Rattle.lgx_hmi.specs.Stories.{IsPrefix};
+    ghost use Rattle.spec_board.specs.declared.snapshot.Snapshot.{Snapshot};
+    ghost use Rattle.spec_board.specs.Stories.{IsPrefix};
 
     ghost Value = { List Snapshot };
 

@@ -3,12 +3,11 @@
 
 mod board;
 mod published;
-mod snapshot;
 mod station;
 mod story;
 
 pub use board::Board;
-pub use published::{MAX_SNAPSHOTS, Published};
-pub use snapshot::{MAX_VALUES, Snapshot, Values};
+pub use published::Published;
+pub use spec_board::{MAX_SNAPSHOTS, MAX_VALUES, Snapshot, Values};
 pub use station::Station;
 pub use story::Story;

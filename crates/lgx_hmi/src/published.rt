@@ -1,16 +1,13 @@
 // The list of snapshots that a board has published.
 ghost use Rattle.std.specs.Prelude.{◌≡◌, ◌≤◌, ◌<◌, ◌-◌, List, [], ◌∷◌, ◌++◌, length, slice_get, IfOk, Some};
-ghost use Rattle.lgx_hmi.specs.declared.published.TheConstants.{MAX_SNAPSHOTS};
-ghost use Rattle.lgx_hmi.specs.Stories.{with_next};
+ghost use Rattle.spec_board.specs.declared.snapshot.TheConstants.{MAX_SNAPSHOTS};
+ghost use Rattle.spec_board.specs.Stories.{with_next};
 
-use crate::snapshot::Snapshot;
 use left_right::Absorb;
 use lgx_num::Memory;
+use spec_board::{MAX_SNAPSHOTS, Snapshot};
 use std::alloc::{AllocError, Global};
 use std::marker::Model;
-
-/// How many snapshots are published at most: those after them are left out.
-pub const MAX_SNAPSHOTS: usize = 4096;
 
 /// The first snapshots of a story, oldest first, at most [`MAX_SNAPSHOTS`].
 pub struct Published {
@@ -25,8 +22,8 @@ impl Drop for Published {
 
 impl Model for Published {
     ghost use Rattle.std.specs.Prelude.{List, ◌≤◌, length, vec_capacity};
-    ghost use Rattle.lgx_hmi.specs.declared.published.TheConstants.{MAX_SNAPSHOTS};
-    ghost use Rattle.lgx_hmi.specs.declared.snapshot.Snapshot.{Snapshot};
+    ghost use Rattle.spec_board.specs.declared.snapshot.TheConstants.{MAX_SNAPSHOTS};
+    ghost use Rattle.spec_board.specs.declared.snapshot.Snapshot.{Snapshot};
 
     ghost Value = { List Snapshot };
 

@@ -1,11 +1,11 @@
 // A station that reads what a board published.
 ghost use Rattle.std.specs.Prelude.{◌≡◌, ◌≤◌, ◌<◌, ◌-◌, [], ◌∷◌, length, slice_get, Some};
-ghost use Rattle.lgx_hmi.specs.Stories.{IsPrefix, longer};
+ghost use Rattle.spec_board.specs.Stories.{IsPrefix, longer};
 
 use crate::published::Published;
-use crate::snapshot::Snapshot;
 use crate::story::{Finds, Follows, Story};
 use left_right::reader::Reader;
+use spec_board::Snapshot;
 use std::marker::Model;
 
 /// A reader of the story, seen as the list of the snapshots that it has seen: the first ones of the story, at least one.
@@ -20,7 +20,7 @@ pub struct Station<S: Story> {
 
 impl<S: Story> Model for Station<S> {
     ghost use Rattle.std.specs.Prelude.{◌≡◌, ◌≤◌, ◌<◌, ◌-◌, List, length, take, slice_get, Some};
-    ghost use Rattle.lgx_hmi.specs.declared.snapshot.Snapshot.{Snapshot};
+    ghost use Rattle.spec_board.specs.declared.snapshot.Snapshot.{Snapshot};
 
     ghost Value = { List Snapshot };
 

@@ -1,14 +1,14 @@
 // What is told to stations, and the rule under which they read it.
 use crate::published::Published;
-use crate::snapshot::Snapshot;
 use crossbeam_utils::rule::{Outcome, Protocol};
+use spec_board::Snapshot;
 use std::marker::PhantomData;
 
 /// A story names one list of snapshots: what a board will have published in the end, and each station sees a part of. It has
 /// no calls.
 pub trait Story {
     ghost use Rattle.std.specs.Prelude.{List};
-    ghost use Rattle.lgx_hmi.specs.declared.snapshot.Snapshot.{Snapshot};
+    ghost use Rattle.spec_board.specs.declared.snapshot.Snapshot.{Snapshot};
 
     ghost story: { List Snapshot };
 }
@@ -19,7 +19,7 @@ pub(crate) struct Follows<S> {
 }
 
 impl<S: Story> Protocol<Published, ()> for Follows<S> {
-    ghost use Rattle.lgx_hmi.specs.Stories.{IsPrefix};
+    ghost use Rattle.spec_board.specs.Stories.{IsPrefix};
 
     ghost holds = { λ list _. IsPrefix list S.story };
 
@@ -32,7 +32,7 @@ pub(crate) struct Finds<S> {
 }
 
 impl<S: Story> Outcome<Published, ()> for Finds<S> {
-    ghost use Rattle.lgx_hmi.specs.Stories.{IsPrefix};
+    ghost use Rattle.spec_board.specs.Stories.{IsPrefix};
 
     ghost then = { λ _ old new _. IsPrefix old S.story × IsPrefix new S.story };
 }

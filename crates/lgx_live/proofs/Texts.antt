@@ -53,7 +53,7 @@ lines_over ws s n [] ys = ap (λ m. lines_from ws s m ys) (omega arith)
 lines_over ws s n (x ∷ xs) ys =
     let y = step s x in
     let next = cond (is_step x) (n + 1) n in
-    let here = stamp y.state.tick next (event_lines ws s y.state y.entry) in
+    let here = stamp y.state.tick next (event_lines ws s y.state y.answer) in
     ap (λ (l : List Stamped). here ++ l) (lines_over ws y.state next xs ys)
     ∙ sym (append_assoc here (lines_from ws y.state next xs) (lines_from ws (run_from y.state xs) (next + steps_of xs) ys))
     ∙ ap (λ m. (here ++ lines_from ws y.state next xs) ++ lines_from ws (run_from y.state xs) m ys) (counted n x xs)

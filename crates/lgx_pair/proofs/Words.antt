@@ -43,18 +43,18 @@ pub outs_more : (output : List ℕ) (n : ℕ) → outs output (n + 1) ≡ outs o
 outs_more output n = map-range_with_len_more (λ k. Act OWN_LANE (WordOut output k)) 0 n n (omega arith)
 
 -- the words that these events are answered, and the last one's
-pub answered_more : (p : Project) (journal es : List Event) (e : Event) → words_answered p journal (es ++ e ∷ []) ≡ words_answered p journal es ++ answered (step (run p (journal ++ es)) e).entry
+pub answered_more : (p : Project) (journal es : List Event) (e : Event) → words_answered p journal (es ++ e ∷ []) ≡ words_answered p journal es ++ answered (step (run p (journal ++ es)) e).answer
 answered_more p journal es e =
     let s = run p journal in
-    let last = (step (run_from s es) e).entry in
+    let last = (step (run_from s es) e).answer in
     ap (flat_map answered) (trace-more s es e)
     ∙ flat_map-append answered (trace_from s es) (last ∷ [])
     ∙ ap (λ ws. words_answered p journal es ++ ws) (append-nil (answered last))
-    ∙ ap (λ (x : State). words_answered p journal es ++ answered (step x e).entry) (sym (run_over (start p) journal es))
+    ∙ ap (λ (x : State). words_answered p journal es ++ answered (step x e).answer) (sym (run_over (start p) journal es))
 
 -- the words before, and that of the last reply
 pub told_more : (p : Project) (journal : List Event) (output : List ℕ) (n : ℕ) (reply : Reply) (before after : List ℤ) → before ≡ words_answered p journal (outs output n)
-    → reply ≡ (word_out (run p (journal ++ outs output n)) output n).outcome.reply → after ≡ before ++ word_of reply
+    → reply ≡ (word_out (run p (journal ++ outs output n)) output n).answer.reply → after ≡ before ++ word_of reply
     → after ≡ words_answered p journal (outs output (n + 1))
 told_more p journal output n reply before after told is_reply is =
     let e : Event = Act OWN_LANE (WordOut output n) in

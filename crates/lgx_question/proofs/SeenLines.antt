@@ -5,7 +5,8 @@ use Rattle.std.specs.List.{position_from, list_all, list_any}
 use Rattle.std.proofs.lemmas.Bool.{or_from}
 use Rattle.std.proofs.lemmas.Iterator.Adapters.{position_from-zero}
 use Rattle.lgx_num.specs.Image.{number}
-use Rattle.spec_machine.specs.Machine.{Answered}
+use Rattle.spec_machine.specs.State.{Answered}
+use Rattle.spec_machine.specs.Machine.{TraceEntry}
 use Rattle.spec_machine.specs.Project.{Project, Watch}
 use Rattle.spec_explore.specs.declared.question.Operand.{Operand}
 use Rattle.spec_explore.specs.declared.question.Operand.TheVariants.{Number, Watched}
@@ -21,7 +22,7 @@ number_seen image [] n = refl
 number_seen image (w ∷ ws) zero = refl
 number_seen image (w ∷ ws) (suc n) = number_seen image ws n
 
-module _ (p : Project) (x : Answered) (values : List ℤ) (ended : Option ℕ) (seen : IsSeen p x values ended) where
+module _ (p : Project) (x : Answered TraceEntry) (values : List ℤ) (ended : Option ℕ) (seen : IsSeen p x values ended) where
   value_seen : (n : ℕ) → number_in x.state.image (slice_get p.watches n) ≡ value_or_zero (slice_get values n)
   value_seen n = number_seen x.state.image p.watches n ∙ ap (λ (vs : List ℤ). value_or_zero (slice_get vs n)) (sym seen.values_are)
 
@@ -38,7 +39,7 @@ module _ (p : Project) (x : Answered) (values : List ℤ) (ended : Option ℕ) (
   tests_seen [] = refl
   tests_seen (t ∷ ts) = ap (λ b. b && list_all (passes p x.state) ts) (test_seen t) ∙ ap (λ b. passes_in values t && b) (tests_seen ts)
 
-  asked_seen : (o : Option ℕ) → is_asked o x.entry ≡ is_asked_in ended o
+  asked_seen : (o : Option ℕ) → is_asked o x.answer ≡ is_asked_in ended o
   asked_seen None = refl
   asked_seen (Some q) = seen.ended_is q
 

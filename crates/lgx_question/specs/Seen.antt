@@ -2,7 +2,8 @@
 use Rattle.std.specs.Prelude.{◌≡◌, ℕ, ℤ, pos, List, map, Bool, true, false, ◌&&◌, nat_eq, Option, Some, None, slice_get, position}
 use Rattle.std.specs.List.{list_all}
 use Rattle.lgx_num.specs.Image.{number}
-use Rattle.spec_machine.specs.Machine.{Answered}
+use Rattle.spec_machine.specs.State.{Answered}
+use Rattle.spec_machine.specs.Machine.{TraceEntry}
 use Rattle.spec_machine.specs.Project.{Project, Watch}
 use Rattle.spec_explore.specs.declared.question.Operand.{Operand}
 use Rattle.spec_explore.specs.declared.question.Operand.TheVariants.{Number, Watched}
@@ -34,16 +35,16 @@ abbrev pub holds_in : List ℤ → Option ℕ → Never → Bool
 holds_in values ended line = is_asked_in ended line.program && list_all (passes_in values) line.tests
 
 -- what an event left has these values, and the event ended the scan of this program, if it ended one
-pub record IsSeen (p : Project) (x : Answered) (values : List ℤ) (ended : Option ℕ) : Type 0 where
+pub record IsSeen (p : Project) (x : Answered TraceEntry) (values : List ℤ) (ended : Option ℕ) : Type 0 where
   pub values_are : values ≡ map (λ (w : Watch). number x.state.image w.place) p.watches
-  pub ended_is : (q : ℕ) → ends_scan q x.entry ≡ is_program q ended
+  pub ended_is : (q : ℕ) → ends_scan q x.answer ≡ is_program q ended
 
 -- so the first line of these is the first that holds after the event
 abbrev pub FirstLinesAreSeen : Type 0
 FirstLinesAreSeen =
-    (p : Project) (x : Answered) (values : List ℤ) (ended : Option ℕ) (q : Question) (line : ℕ) → IsSeen p x values ended → position (holds_in values ended) q.lines ≡ Some line → IsFirstLine p q x line
+    (p : Project) (x : Answered TraceEntry) (values : List ℤ) (ended : Option ℕ) (q : Question) (line : ℕ) → IsSeen p x values ended → position (holds_in values ended) q.lines ≡ Some line → IsFirstLine p q x line
 
 -- and if there is none, no line holds
 abbrev pub NoLineIsSeen : Type 0
 NoLineIsSeen =
-    (p : Project) (x : Answered) (values : List ℤ) (ended : Option ℕ) (q : Question) → IsSeen p x values ended → position (holds_in values ended) q.lines ≡ None → holds_some p q x ≡ false
+    (p : Project) (x : Answered TraceEntry) (values : List ℤ) (ended : Option ℕ) (q : Question) → IsSeen p x values ended → position (holds_in values ended) q.lines ≡ None → holds_some p q x ≡ false

@@ -18,7 +18,7 @@ use Rattle.spec_machine.proofs.TickFaults.{masks_of_tasks, ticks_keep_tasks}
 use Rattle.lgx_watch.specs.Kept.{Kept}
 use Rattle.lgx_core.specs.ControllerView.{ControllerView}
 use Rattle.lgx_core.specs.Represents.{Represents}
-use Rattle.lgx_core.specs.Gives.{TickGives, ActionGives}
+use Rattle.lgx_core.specs.Gives.{Gives}
 use Rattle.lgx_record.specs.declared.lines.Stamp.{Stamp}
 use Rattle.lgx_record.specs.FollowerView.{FollowerView}
 use Rattle.lgx_record.specs.Faults.{faults_in}
@@ -51,7 +51,7 @@ pub kept-values : (old new : FollowerView) (c : ControllerView) (log end : Kept)
 kept-values old new c log end at k s h = (k.compared s h).values ∙ ap (numbers_at s.image) (sym k.places)
 
 module _ (old new : FollowerView) (c : ControllerView) (start first second end : Kept) (at : Stamp) (project : Project) (events : List Event) (r : FollowsRun old project events) (k : Closes old new c second end at) (spent : c.spent ≡ old.controller.spent + 1) (same_watched : c.parts.image.watched ≡ old.controller.parts.image.watched) where
-  pub tick-taken : (report : TickReport) → TickGives c report (tick (run project events)) → new.steps ≡ old.steps → first ≡ start → ((s : State) → s.tick ≡ at.tick → length s.table.defs ≤ MAX_TASKS → report.overlapped < 2 ^ length s.table.defs → second ≡ with_event_lines first at (map FaultLine (report_faults s report))) → TakesEvent new start end project events Tick
+  pub tick-taken : (report : TickReport) → Gives c report (tick (run project events)) → new.steps ≡ old.steps → first ≡ start → ((s : State) → s.tick ≡ at.tick → length s.table.defs ≤ MAX_TASKS → report.overlapped < 2 ^ length s.table.defs → second ≡ with_event_lines first at (map FaultLine (report_faults s report))) → TakesEvent new start end project events Tick
   tick-taken report g steps begun faulted =
       let s = run project events in
       let x = tick s in
@@ -59,7 +59,7 @@ module _ (old new : FollowerView) (c : ControllerView) (start first second end :
       let few : length x.state.table.defs ≤ MAX_TASKS = subst (λ (ds : List _). length ds ≤ MAX_TASKS) (sym same) (few_defs project r.controller.valid events) in
       let mask : report.overlapped < 2 ^ length x.state.table.defs =
       subst (λ (m : TickReport). m.overlapped < 2 ^ length x.state.table.defs) (sym g.answers)
-      (subst (λ (ds : List _). x.report.overlapped < 2 ^ length ds) (sym same) (masks_of_tasks s).1) in
+      (subst (λ (ds : List _). x.answer.overlapped < 2 ^ length ds) (sym same) (masks_of_tasks s).1) in
       let told = faulted x.state (sym (k.tick x.state g.represents)) few mask in
       let faults = told ∙ ap (λ (m : TickReport). with_event_lines first at (map FaultLine (report_faults x.state m))) g.answers in
       follows-more old new start end project events Tick at (has-taken old project events r) (record {
@@ -70,13 +70,13 @@ module _ (old new : FollowerView) (c : ControllerView) (start first second end :
         steps = steps;
         tick = k.tick x.state g.represents;
         step_is = k.step_is;
-        log = three-parts start first second end at [] (map FaultLine (report_faults x.state x.report)) (change_lines 0 old.values new.values) begun faults (changes-kept second end at old.values new.values _ (k.compared x.state g.represents));
+        log = three-parts start first second end at [] (map FaultLine (report_faults x.state x.answer)) (change_lines 0 old.values new.values) begun faults (changes-kept second end at old.values new.values _ (k.compared x.state g.represents));
         values = kept-values old new c second end at k x.state g.represents;
         watched = k.watched ∙ same_watched;
         none_hit = k.none_hit;
       })
 
-  pub act-taken : (lane : ℕ) (action : Action) (outcome : Outcome) → ActionGives c outcome (act (run project events) lane action) → new.steps ≡ old.steps → first ≡ with_event_lines start at (Reply lane outcome.reply ∷ []) → second ≡ with_event_lines first at (map FaultLine (faults_in outcome.fault)) → TakesEvent new start end project events (Act lane action)
+  pub act-taken : (lane : ℕ) (action : Action) (outcome : Outcome) → Gives c outcome (act (run project events) lane action) → new.steps ≡ old.steps → first ≡ with_event_lines start at (Reply lane outcome.reply ∷ []) → second ≡ with_event_lines first at (map FaultLine (faults_in outcome.fault)) → TakesEvent new start end project events (Act lane action)
   act-taken lane action outcome g steps answered faulted =
       let s = run project events in
       let x = act s lane action in
@@ -90,7 +90,7 @@ module _ (old new : FollowerView) (c : ControllerView) (start first second end :
         steps = steps;
         tick = k.tick x.state g.represents;
         step_is = k.step_is;
-        log = three-parts start first second end at (Reply lane x.outcome.reply ∷ []) (map FaultLine (faults_in x.outcome.fault)) (change_lines 0 old.values new.values) answers faults (changes-kept second end at old.values new.values _ (k.compared x.state g.represents));
+        log = three-parts start first second end at (Reply lane x.answer.reply ∷ []) (map FaultLine (faults_in x.answer.fault)) (change_lines 0 old.values new.values) answers faults (changes-kept second end at old.values new.values _ (k.compared x.state g.represents));
         values = kept-values old new c second end at k x.state g.represents;
         watched = k.watched ∙ same_watched;
         none_hit = k.none_hit;

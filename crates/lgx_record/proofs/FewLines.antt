@@ -6,6 +6,7 @@ use Rattle.std.proofs.lemmas.Bool.{leb-true}
 use Rattle.std.proofs.lemmas.List.{length-map, take_all}
 use Rattle.std.proofs.Math.Seq.{drop-append_seam}
 use Rattle.spec_base.specs.declared.limits.TheConstants.{MAX_TASKS, MAX_REPORT_LINES}
+use Rattle.spec_tables.specs.declared.fault.TheConstants.{PERIODIC_OVERLAP}
 use Rattle.spec_tables.specs.declared.fault.Fault.{Fault}
 use Rattle.spec_tables.specs.declared.fault.Severity.TheVariants.{Minor}
 use Rattle.spec_machine.specs.declared.answer.What.{What}
@@ -63,14 +64,14 @@ few_faults s (OfTick report) few =
     let tasks = tasks_in report.overlapped (length s.table.defs) in
     let one = one_watchdog s report.watchdog in
     let rest = few_in_mask report.overlapped (length s.table.defs) in
-    let many = length-map tasks (task_fault s Minor 2) in
-    let all = length-append (watchdog_fault s report.watchdog) (map (task_fault s Minor 2) tasks) in
+    let many = length-map tasks (task_fault s Minor PERIODIC_OVERLAP) in
+    let all = length-append (watchdog_fault s report.watchdog) (map (task_fault s Minor PERIODIC_OVERLAP) tasks) in
     omega arith
 few_faults s (OfAction lane action outcome) few = let one = one_fault outcome.fault in omega arith
 
 -- what an event put after the faults before it
-pub new_faults : (s : State) (e : Event) → drop (length s.faults) (step s e).state.faults ≡ told_faults (step s e).state (step s e).entry
-new_faults s e = ap (λ (fs : List Fault). drop (length s.faults) fs) (answers_tell_faults s e) ∙ drop-append_seam s.faults (told_faults (step s e).state (step s e).entry)
+pub new_faults : (s : State) (e : Event) → drop (length s.faults) (step s e).state.faults ≡ told_faults (step s e).state (step s e).answer
+new_faults s e = ap (λ (fs : List Fault). drop (length s.faults) fs) (answers_tell_faults s e) ∙ drop-append_seam s.faults (told_faults (step s e).state (step s e).answer)
 
 -- ---- lines
 
@@ -101,17 +102,17 @@ stamped_line tick step line = record { tick = tick; step = step; line = line }
 pub few_lines : (watches : List Watch) (s : State) (n : ℕ) (e : Event) → length watches ≤ MAX_WATCHES → length (step s e).state.table.defs ≤ MAX_TASKS → length (lines_of_event watches s n e) ≤ MAX_EVENT_LINES
 few_lines watches s n e few tasks =
     let x = step s e in
-    let told = told_faults x.state x.entry in
+    let told = told_faults x.state x.answer in
     let faults = map FaultLine (drop (length s.faults) x.state.faults) in
     let sets = set_lines 0 watches s.image x.state.image in
-    let one = one_answer x.entry in
-    let some = few_faults x.state x.entry tasks in
+    let one = one_answer x.answer in
+    let some = few_faults x.state x.answer tasks in
     let new = ap length (new_faults s e) in
     let many = length-map (drop (length s.faults) x.state.faults) FaultLine in
     let last = few_sets watches s.image x.state.image in
     let rest = length-append faults sets in
-    let all = length-append (answer_lines x.entry) (faults ++ sets) in
-    let stamped = length-map (event_lines watches s x.state x.entry) (λ (l : Line). stamped_line x.state.tick (if is_step e then n + 1 else n) l) in
+    let all = length-append (answer_lines x.answer) (faults ++ sets) in
+    let stamped = length-map (event_lines watches s x.state x.answer) (λ (l : Line). stamped_line x.state.tick (if is_step e then n + 1 else n) l) in
     omega arith
 
 -- ---- reports

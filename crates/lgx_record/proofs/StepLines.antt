@@ -116,10 +116,10 @@ no-changes n [] = refl
 no-changes n (v ∷ vs) =
     ap (λ (first : List Line). first ++ change_lines (n + 1) vs vs) (change_line-same n v v refl) ∙ no-changes (n + 1) vs
 
-pub has-no-line : (watches : List Watch) (s : State) → is_plain (processor_step s).moment ≡ true → numbers_at (processor_step s).state.image (map (λ w. w.place) watches) ≡ numbers_at s.image (map (λ w. w.place) watches) → event_lines watches s (processor_step s).state (OfStep (processor_step s).moment) ≡ []
+pub has-no-line : (watches : List Watch) (s : State) → is_plain (processor_step s).answer ≡ true → numbers_at (processor_step s).state.image (map (λ w. w.place) watches) ≡ numbers_at s.image (map (λ w. w.place) watches) → event_lines watches s (processor_step s).state (OfStep (processor_step s).answer) ≡ []
 has-no-line watches s plain same =
     let x = processor_step s in
-    let m = x.moment in
+    let m = x.answer in
     let places = map (λ (w : Watch). w.place) watches in
     let sets = set_lines 0 watches s.image x.state.image in
     let parts = and_parts (not (is_told m.what)) (is_plain_mark m.mark && is_none m.fault) plain in

@@ -73,11 +73,11 @@ module _ (old new : FollowerView) (c : ControllerView) (start first second end :
   last : after_steps x.steps s ≡ (processor_step (run project before)).state
   last = ap (λ n. after_steps n s) many ∙ last-step m s ∙ ap (λ (t : State). (processor_step t).state) (sym (run-steps project events m))
 
-  told : x.last ≡ (processor_step (run project before)).moment
+  told : x.last ≡ (processor_step (run project before)).answer
   told =
       g.is_stretch.last
       ∙ ap (λ n. moment_after n s) (let one : x.steps - 1 ≡ m = omega (arith, many) in one)
-      ∙ ap (λ (t : State). (processor_step t).moment) (sym (run-steps project events m))
+      ∙ ap (λ (t : State). (processor_step t).answer) (sym (run-steps project events m))
 
   represents : Represents c (processor_step (run project before)).state
   represents = subst (λ (t : State). Represents c t) last g.represents
@@ -95,7 +95,7 @@ module _ (old new : FollowerView) (c : ControllerView) (start first second end :
         steps = steps ∙ omega (arith, many);
         tick = k.tick y.state represents;
         step_is = k.step_is;
-        log = three-parts start first second end at (begin_lines y.moment.what) (map FaultLine (faults_in y.moment.fault)) (change_lines 0 old.values new.values) begins faults (changes-kept second end at old.values new.values _ (k.compared y.state represents));
+        log = three-parts start first second end at (begin_lines y.answer.what) (map FaultLine (faults_in y.answer.fault)) (change_lines 0 old.values new.values) begins faults (changes-kept second end at old.values new.values _ (k.compared y.state represents));
         values = kept-values old new c second end at k y.state represents;
         watched = k.watched ∙ same_watched;
         none_hit = k.none_hit;

@@ -148,7 +148,7 @@ pub record Takes (old new : FollowerView) (before after : Kept) (s : State) (e :
   pub steps : new.steps ≡ (if is_step e then old.steps + 1 else old.steps)
   pub tick : at.tick ≡ (step s e).state.tick
   pub step_is : at.step ≡ new.steps
-  pub log : after ≡ with_event_lines before at (answer_lines (step s e).entry ++ (map FaultLine (told_faults (step s e).state (step s e).entry) ++ change_lines 0 old.values new.values))
+  pub log : after ≡ with_event_lines before at (answer_lines (step s e).answer ++ (map FaultLine (told_faults (step s e).state (step s e).answer) ++ change_lines 0 old.values new.values))
   pub values : new.values ≡ numbers_at (step s e).state.image new.places
   pub watched : new.controller.parts.image.watched ≡ old.controller.parts.image.watched
   pub none_hit : NoneIsHit new.controller.parts.image
@@ -177,10 +177,10 @@ follows-more old new start end project events e at r t =
     ap (λ (vs : List ℤ). change_lines 0 vs new.values) before
     ∙ ap (λ (us : List ℤ). change_lines 0 (numbers_at s.image watched) us) now
     ∙ sym (set_lines-changes 0 project.watches s.image x.state.image) in
-    let answer = answer_lines x.entry in
-    let told = told_faults x.state x.entry in
+    let answer = answer_lines x.answer in
+    let told = told_faults x.state x.answer in
     let lines = answer ++ (map FaultLine told ++ change_lines 0 old.values new.values) in
-    let same_lines : lines ≡ event_lines project.watches s x.state x.entry =
+    let same_lines : lines ≡ event_lines project.watches s x.state x.answer =
     ap (λ (fs : List Fault). answer ++ (map FaultLine fs ++ change_lines 0 old.values new.values)) (sym (new_faults s e))
     ∙ ap (λ (cs : List Line). answer ++ (map FaultLine (drop (length s.faults) x.state.faults) ++ cs)) sets in
     let same_step : at.step ≡ (if is_step e then steps_of events + 1 else steps_of events) =

@@ -2,6 +2,7 @@
 use Rattle.std.specs.Prelude.{◌≡◌, ℕ, ◌*◌, ◌≤◌, List, length, map, ℤ}
 use Rattle.lgx_record.specs.declared.lines.TheConstants.{MAX_EVENT_LINES}
 use Rattle.lgx_record.specs.declared.lines.Stamp.{Stamp}
+use Rattle.spec_tables.specs.declared.fault.TheConstants.{PERIODIC_OVERLAP}
 use Rattle.spec_tables.specs.declared.fault.Severity.TheVariants.{Minor}
 use Rattle.spec_machine.specs.declared.line.Line.{Line}
 use Rattle.spec_machine.specs.declared.line.Line.TheVariants.{Fault as FaultLine}
@@ -21,7 +22,7 @@ with_event_lines log at lines = with_lines log (stamp at.tick at.step lines)
 
 -- the lines of the periodic tasks below n that overlapped, by a mask; s is the state after the tick
 abbrev pub overlap_lines : State → ℕ → ℕ → List Line
-overlap_lines s mask n = map FaultLine (map (task_fault s Minor 2) (tasks_in mask n))
+overlap_lines s mask n = map FaultLine (map (task_fault s Minor PERIODIC_OVERLAP) (tasks_in mask n))
 
 -- The watched places were compared: those whose numbers before and now differ have lines, and the numbers now are kept.
 pub record Compared (old new : Kept) (at : Stamp) (before after now : List ℤ) : Type 0 where

@@ -20,4 +20,4 @@ told_faults s (OfAction lane action outcome) = faults_in outcome.fault
 -- an event puts the faults of its answer after those before, and no other
 abbrev pub AnswersTellFaults : Type 0
 AnswersTellFaults =
-    (s : State) (e : Event) → (step s e).state.faults ≡ s.faults ++ told_faults (step s e).state (step s e).entry
+    (s : State) (e : Event) → (step s e).state.faults ≡ s.faults ++ told_faults (step s e).state (step s e).answer

@@ -12,7 +12,7 @@ ghost use Rattle.lgx_record.specs.EventLines.{with_event_lines, overlap_lines};
 use lgx_watch::{Line, Log, MAX_WATCHES};
 use spec_base::limits::MAX_TASKS;
 use spec_machine::{TickReport, What};
-use spec_tables::{Fault, Severity};
+use spec_tables::{Fault, PERIODIC_OVERLAP, Severity, TASK_FAULT, WATCHDOG};
 
 /// The most lines of an event: its answer's, a fault for each task and one more, and the watched places.
 pub const MAX_EVENT_LINES: u64 = 2 + MAX_TASKS as u64 + MAX_WATCHES as u64;
@@ -93,7 +93,7 @@ fn log_watchdog(log: &mut Log, at: Stamp, watchdog: Option<u32>)
         log_line(
             log,
             at,
-            Line::Fault(task_fault(at, Severity::Major, 1, task)),
+            Line::Fault(task_fault(at, Severity::Major, WATCHDOG, task)),
         );
     }
 }
@@ -112,19 +112,19 @@ fn log_overlaps(log: &mut Log, at: Stamp, overlapped: u32)
             log_line(
                 log,
                 at,
-                Line::Fault(task_fault(at, Severity::Minor, 2, task)),
+                Line::Fault(task_fault(at, Severity::Minor, PERIODIC_OVERLAP, task)),
             );
         }
     }
 }
 
-/// A fault of a task (type 6): code 1 is its watchdog, 2 the overlap of a periodic task.
+/// A fault of a task.
 fn task_fault(at: Stamp, severity: Severity, code: u8, task: u32) -> Fault
     ensures { (s : State) → s.tick ≡ at.tick → result ≡ task_fault s severity code task }
 {
     Fault {
         severity,
-        kind: 6,
+        kind: TASK_FAULT,
         code,
         task,
         program: None,

@@ -9,7 +9,7 @@ use Rattle.spec_machine.specs.Machine.{run}
 use Rattle.spec_machine.specs.Project.{Project, Watch}
 use Rattle.lgx_record.specs.RecordingView.{RecordingView}
 use Rattle.lgx_record.specs.Records.{Records}
-use Rattle.lgx_hmi.specs.declared.snapshot.Snapshot.{Snapshot}
+use Rattle.spec_board.specs.declared.snapshot.Snapshot.{Snapshot}
 use Rattle.spec_story.specs.Snapshots.{snapshot}
 
 -- the tick and the values are the run's snapshot

@@ -13,9 +13,9 @@ use Rattle.spec_machine.specs.Events.{is_tick}
 use Rattle.spec_machine.specs.Machine.{run}
 use Rattle.spec_machine.specs.Project.{Project}
 use Rattle.spec_machine.specs.State.{start}
-use Rattle.lgx_hmi.specs.declared.published.TheConstants.{MAX_SNAPSHOTS}
-use Rattle.lgx_hmi.specs.declared.snapshot.Snapshot.{Snapshot}
-use Rattle.lgx_hmi.specs.Stories.{IsPrefix, with_next}
+use Rattle.spec_board.specs.declared.snapshot.TheConstants.{MAX_SNAPSHOTS}
+use Rattle.spec_board.specs.declared.snapshot.Snapshot.{Snapshot}
+use Rattle.spec_board.specs.Stories.{IsPrefix, with_next}
 use Rattle.spec_story.specs.Snapshots.{snapshot, snapshots_from, snapshots}
 use Rattle.spec_story.proofs.Stories.{stories_go_on, ticks_add_one, others_add_none}
 use Rattle.lgx_stations.specs.Telling.{IsAt}

@@ -3,7 +3,7 @@ use Rattle.std.specs.Prelude.{◌≡◌, ◌≤◌, ◌-◌, ◌++◌, ℕ, List
 use Rattle.spec_base.specs.declared.limits.TheConstants.{MAX_EVENTS}
 use Rattle.spec_machine.specs.declared.event.Event.{Event}
 use Rattle.spec_machine.specs.Project.{Project}
-use Rattle.lgx_hmi.specs.declared.snapshot.Snapshot.{Snapshot}
+use Rattle.spec_board.specs.declared.snapshot.Snapshot.{Snapshot}
 use Rattle.spec_story.specs.Snapshots.{snapshots}
 use Rattle.lgx_stations.specs.declared.watcher.Readings.{Readings}
 

@@ -1,6 +1,6 @@
 // A station on a thread of its own, and what it gives.
 ghost use Rattle.std.specs.Prelude.{◌≡◌, ℕ, Some, slice_get};
-ghost use Rattle.lgx_hmi.specs.Stories.{IsPrefix};
+ghost use Rattle.spec_board.specs.Stories.{IsPrefix};
 ghost use Rattle.lgx_stations.specs.Telling.{IsFirstOf, AreReadingsOf};
 
 use lgx_hmi::{Board, Snapshot, Station, Story};

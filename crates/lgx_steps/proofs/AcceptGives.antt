@@ -26,7 +26,7 @@ use Rattle.lgx_edit.specs.Accepting.{has_numbers_left, LeavesAccepted}
 use Rattle.lgx_steps.specs.PartsView.{PartsView}
 use Rattle.lgx_steps.specs.Plans.{IsReadyBook}
 use Rattle.lgx_steps.specs.Represents.{RepresentsState}
-use Rattle.lgx_steps.specs.Gives.{ActionGives, replied_by, refusal_of}
+use Rattle.lgx_steps.specs.Gives.{ViewGives, replied_by, refusal_of}
 use Rattle.lgx_steps.proofs.Accepting.{StaysReady, accept-ready, numbers-left}
 use Rattle.lgx_steps.proofs.States.{later, with-books}
 
@@ -48,7 +48,7 @@ module _ (n : ℕ) (v : PartsView) (s : State) (h : RepresentsState n v s) where
 
   pub accepted : (client : ℕ) (command : AcceptCommand) (names : List TaskName) (book : List EditsView) (number : ℕ) (o : Outcome) → names ≡ v.plan.names → o ≡ replied_by (reply.Version number)
       → accept v.plan.tags names (books v.book) client command ≡ Ok (record { books = books book; reply = reply.Version number }) → holds book ≡ holds v.book
-      → ActionGives (n + 1) (record v { book = book }) o (edit_replied s (accept s.plan.tags s.plan.names s.books client command))
+      → ViewGives (n + 1) (record v { book = book }) o (edit_replied s (accept s.plan.tags s.plan.names s.books client command))
   accepted client command names book number o names_are is done held =
       let e : Edited = record { books = books book; reply = reply.Version number } in
       let answer : accept s.plan.tags s.plan.names s.books client command ≡ Ok e = sym (meant client command) ∙ (ap (λ (ns : List TaskName). accept v.plan.tags ns (books v.book) client command) (sym names_are) ∙ done) in
@@ -57,36 +57,36 @@ module _ (n : ℕ) (v : PartsView) (s : State) (h : RepresentsState n v s) where
       let before : Each (IsReadyBook (bytes s.plan.tags) (length s.plan.names) n) s.books = subst (λ k. Each (IsReadyBook (bytes s.plan.tags) k n) s.books) named h.sane.books in
       let after : Each (IsReadyBook (bytes s.plan.tags) (length s.plan.names) (n + 1)) s.books = subst (λ k. Each (IsReadyBook (bytes s.plan.tags) k (n + 1)) s.books) named l.sane.books in
       let r : StaysReady s.plan.tags s.plan.names h.sane.plan.tags n s.books e = accept-ready s.plan.tags s.plan.names h.sane.plan.tags n client command s.books e before after answer in
-      subst (λ (x : Result Edited EditFault). ActionGives (n + 1) (record v { book = book }) o (edit_replied s x)) (sym answer)
-      (record { outcome_is = is; represents = with-books (n + 1) v s l book (books book) refl held r.many (subst (λ k. Each (IsReadyBook (bytes s.plan.tags) k (n + 1)) (books book)) (sym named) r.ready) })
+      subst (λ (x : Result Edited EditFault). ViewGives (n + 1) (record v { book = book }) o (edit_replied s x)) (sym answer)
+      (record { answers = is; represents = with-books (n + 1) v s l book (books book) refl held r.many (subst (λ k. Each (IsReadyBook (bytes s.plan.tags) k (n + 1)) (books book)) (sym named) r.ready) })
 
   pub refused : (client : ℕ) (command : AcceptCommand) (names : List TaskName) (book : List EditsView) (fault : EditFault) (o : Outcome) → names ≡ v.plan.names → o ≡ replied_by (reply.Edit fault)
       → accept v.plan.tags names (books v.book) client command ≡ Err fault → book ≡ v.book
-      → ActionGives (n + 1) (record v { book = book }) o (edit_replied s (accept s.plan.tags s.plan.names s.books client command))
+      → ViewGives (n + 1) (record v { book = book }) o (edit_replied s (accept s.plan.tags s.plan.names s.books client command))
   refused client command names book fault o names_are is done same =
       let answer : accept s.plan.tags s.plan.names s.books client command ≡ Err fault = sym (meant client command) ∙ (ap (λ (ns : List TaskName). accept v.plan.tags ns (books v.book) client command) (sym names_are) ∙ done) in
-      subst (λ (x : Result Edited EditFault). ActionGives (n + 1) (record v { book = book }) o (edit_replied s x)) (sym answer)
-      (record { outcome_is = is; represents = subst (λ (b : List EditsView). RepresentsState (n + 1) (record v { book = b }) s) (sym same) (later n v s h) })
+      subst (λ (x : Result Edited EditFault). ViewGives (n + 1) (record v { book = book }) o (edit_replied s x)) (sym answer)
+      (record { answers = is; represents = subst (λ (b : List EditsView). RepresentsState (n + 1) (record v { book = b }) s) (sym same) (later n v s h) })
 
   -- the same by the book's error
   pub refused-as : (client : ℕ) (command : AcceptCommand) (names : List TaskName) (book : List EditsView) (e : EditError) (r : Result Outcome Memory) → names ≡ v.plan.names → r ≡ refusal_of e
       → LeavesAccepted (accept v.plan.tags names (books v.book) client command) v.book book (Err e)
-      → IfOk r (λ o. ActionGives (n + 1) (record v { book = book }) o (edit_replied s (accept s.plan.tags s.plan.names s.books client command)))
+      → IfOk r (λ o. ViewGives (n + 1) (record v { book = book }) o (edit_replied s (accept s.plan.tags s.plan.names s.books client command)))
   refused-as client command names book (error.Edit fault) r names_are is l =
-      subst (λ (x : Result Outcome Memory). IfOk x (λ o. ActionGives (n + 1) (record v { book = book }) o (edit_replied s (accept s.plan.tags s.plan.names s.books client command)))) (sym is)
+      subst (λ (x : Result Outcome Memory). IfOk x (λ o. ViewGives (n + 1) (record v { book = book }) o (edit_replied s (accept s.plan.tags s.plan.names s.books client command)))) (sym is)
       (refused client command names book fault (replied_by (reply.Edit fault)) names_are refl l.0 l.1)
   refused-as client command names book error.Memory r names_are is l =
-      subst (λ (x : Result Outcome Memory). IfOk x (λ o. ActionGives (n + 1) (record v { book = book }) o (edit_replied s (accept s.plan.tags s.plan.names s.books client command)))) (sym is) tt
+      subst (λ (x : Result Outcome Memory). IfOk x (λ o. ViewGives (n + 1) (record v { book = book }) o (edit_replied s (accept s.plan.tags s.plan.names s.books client command)))) (sym is) tt
 
   -- ---- a word out
 
-  pub gives-out : (conn : List ℕ) (word : ℕ) (r : Reply) (o : Outcome) → o ≡ replied_by r → r ≡ (word_out s conn word).outcome.reply → ActionGives n v o (word_out s conn word)
+  pub gives-out : (conn : List ℕ) (word : ℕ) (r : Reply) (o : Outcome) → o ≡ replied_by r → r ≡ (word_out s conn word).answer.reply → ViewGives n v o (word_out s conn word)
   gives-out conn word r o is e = go (held s.table) (slot s.plan.conns conn word true) e
     where
-      go : (b : Bool) (k : Result Slot ConnFault) → r ≡ (held_or b s (take_out s k)).outcome.reply → ActionGives n v o (held_or b s (take_out s k))
-      go true k f = record { outcome_is = is ∙ ap replied_by f; represents = h }
-      go false (Ok k) f = record { outcome_is = is ∙ ap replied_by f; represents = h }
-      go false (Err k) f = record { outcome_is = is ∙ ap replied_by f; represents = h }
+      go : (b : Bool) (k : Result Slot ConnFault) → r ≡ (held_or b s (take_out s k)).answer.reply → ViewGives n v o (held_or b s (take_out s k))
+      go true k f = record { answers = is ∙ ap replied_by f; represents = h }
+      go false (Ok k) f = record { answers = is ∙ ap replied_by f; represents = h }
+      go false (Err k) f = record { answers = is ∙ ap replied_by f; represents = h }
 
 -- out of memory the book is as before
 pub unchanged-as : (old book : List EditsView) (meant : Result Edited EditFault) (e : EditError) (r : Result Outcome Memory) → r ≡ refusal_of e → LeavesAccepted meant old book (Err e) → IfErr r (λ m. book ≡ old)
@@ -95,6 +95,6 @@ unchanged-as old book meant error.Memory r is l = subst (λ (x : Result Outcome 
 
 -- ---- any action, counted after it
 
-pub acts : (n : ℕ) (v : PartsView) (s : State) (lane : ℕ) (o : Outcome) (a a' : Action) → a ≡ a' → ActionGives n v o (act s lane a') → ActionGives (n + 1) v o (act s lane a)
+pub acts : (n : ℕ) (v : PartsView) (s : State) (lane : ℕ) (o : Outcome) (a a' : Action) → a ≡ a' → ViewGives n v o (act s lane a') → ViewGives (n + 1) v o (act s lane a)
 acts n v s lane o a a' e g =
-    subst (λ (x : Action). ActionGives (n + 1) v o (act s lane x)) (sym e) (record { outcome_is = g.outcome_is; represents = later n v (act s lane a').state g.represents })
+    subst (λ (x : Action). ViewGives (n + 1) v o (act s lane x)) (sym e) (record { answers = g.answers; represents = later n v (act s lane a').state g.represents })

@@ -15,27 +15,27 @@ use Rattle.spec_machine.specs.ProcessorStep.{after_effect, scan_ended}
 use Rattle.lgx_steps.specs.declared.parts.Released.{Released}
 use Rattle.lgx_steps.specs.PartsView.{PartsView}
 use Rattle.lgx_steps.specs.Represents.{RepresentsState}
-use Rattle.lgx_steps.specs.Gives.{StepGives, ReleaseGives}
+use Rattle.lgx_steps.specs.Gives.{ViewGives, ReleaseGives}
 use Rattle.lgx_steps.proofs.States.{later}
 
-pub by-effect : (k : ℕ) (v : PartsView) (m : Moment) (s : State) (t n : ℕ) (e e' : Effect) → e ≡ e' → StepGives (k + 1) v m (after_effect s t (progress_of s t) n e') → StepGives (k + 1) v m (after_effect s t (progress_of s t) n e)
-by-effect k v m s t n e e' same g = subst (λ (x : Effect). StepGives (k + 1) v m (after_effect s t (progress_of s t) n x)) (sym same) g
+pub by-effect : (k : ℕ) (v : PartsView) (m : Moment) (s : State) (t n : ℕ) (e e' : Effect) → e ≡ e' → ViewGives (k + 1) v m (after_effect s t (progress_of s t) n e') → ViewGives (k + 1) v m (after_effect s t (progress_of s t) n e)
+by-effect k v m s t n e e' same g = subst (λ (x : Effect). ViewGives (k + 1) v m (after_effect s t (progress_of s t) n x)) (sym same) g
 
-pub gives-triggered : (k : ℕ) (v : PartsView) (ran : What) (r : Released) (s : State) (t n other : ℕ) → ran ≡ what.Ran t n → ReleaseGives k v r (release_task other s) → StepGives (k + 1) v (record { what = ran; mark = mark.Trigger other; fault = r.fault }) (after_effect s t (progress_of s t) n (effect.Trigger other))
+pub gives-triggered : (k : ℕ) (v : PartsView) (ran : What) (r : Released) (s : State) (t n other : ℕ) → ran ≡ what.Ran t n → ReleaseGives k v r (release_task other s) → ViewGives {A = Moment} (k + 1) v (record { what = ran; mark = mark.Trigger other; fault = r.fault }) (after_effect s t (progress_of s t) n (effect.Trigger other))
 gives-triggered k v ran r s t n other e g = record {
   answers = ap (λ (w : What). record { what = w; mark = mark.Trigger other; fault = r.fault }) e ∙ ap (λ (x : Option Fault). record { what = what.Ran t n; mark = mark.Trigger other; fault = x }) g.fault;
   represents = later k v _ g.represents;
 }
 
-pub gives-left : (k : ℕ) (v : PartsView) (m : Moment) (s : State) (t n : ℕ) (b : Bool) → b ≡ true → m ≡ record { what = what.Left t n b; mark = mark.Plain; fault = None } → RepresentsState k v (scan_ended t (progress_of s t) s) → StepGives (k + 1) v m (after_effect s t (progress_of s t) n (effect.Left b))
+pub gives-left : (k : ℕ) (v : PartsView) (m : Moment) (s : State) (t n : ℕ) (b : Bool) → b ≡ true → m ≡ record { what = what.Left t n b; mark = mark.Plain; fault = None } → RepresentsState k v (scan_ended t (progress_of s t) s) → ViewGives (k + 1) v m (after_effect s t (progress_of s t) n (effect.Left b))
 gives-left k v m s t n b e m_is r =
     let there : m ≡ record { what = what.Left t n true; mark = mark.Plain; fault = None } = m_is ∙ ap (λ (x : Bool). record { what = what.Left t n x; mark = mark.Plain; fault = None }) e in
-    subst (λ (x : Bool). StepGives (k + 1) v m (after_effect s t (progress_of s t) n (effect.Left x))) (sym e) (record { answers = there; represents = later k v _ r })
+    subst (λ (x : Bool). ViewGives (k + 1) v m (after_effect s t (progress_of s t) n (effect.Left x))) (sym e) (record { answers = there; represents = later k v _ r })
 
-pub gives-stayed : (k : ℕ) (v : PartsView) (m : Moment) (s : State) (t n : ℕ) (b : Bool) → b ≡ false → m ≡ record { what = what.Left t n b; mark = mark.Plain; fault = None } → RepresentsState k v s → StepGives (k + 1) v m (after_effect s t (progress_of s t) n (effect.Left b))
+pub gives-stayed : (k : ℕ) (v : PartsView) (m : Moment) (s : State) (t n : ℕ) (b : Bool) → b ≡ false → m ≡ record { what = what.Left t n b; mark = mark.Plain; fault = None } → RepresentsState k v s → ViewGives (k + 1) v m (after_effect s t (progress_of s t) n (effect.Left b))
 gives-stayed k v m s t n b e m_is r =
     let there : m ≡ record { what = what.Left t n false; mark = mark.Plain; fault = None } = m_is ∙ ap (λ (x : Bool). record { what = what.Left t n x; mark = mark.Plain; fault = None }) e in
-    subst (λ (x : Bool). StepGives (k + 1) v m (after_effect s t (progress_of s t) n (effect.Left x))) (sym e) (record { answers = there; represents = later k v _ r })
+    subst (λ (x : Bool). ViewGives (k + 1) v m (after_effect s t (progress_of s t) n (effect.Left x))) (sym e) (record { answers = there; represents = later k v _ r })
 
 -- ---- a program scan has ended
 

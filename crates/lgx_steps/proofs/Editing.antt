@@ -14,7 +14,7 @@ use Rattle.lgx_edit.specs.EditsView.{EditsView, books, Leaves}
 use Rattle.lgx_steps.specs.PartsView.{PartsView}
 use Rattle.lgx_steps.specs.Plans.{IsReadyBook}
 use Rattle.lgx_steps.specs.Represents.{RepresentsState}
-use Rattle.lgx_steps.specs.Gives.{ActionGives, edit_outcome}
+use Rattle.lgx_steps.specs.Gives.{ViewGives, edit_outcome}
 use Rattle.lgx_steps.proofs.Elements.{each-set, each-get_or}
 use Rattle.lgx_steps.proofs.States.{with-books}
 
@@ -69,17 +69,17 @@ command-ready change len tasks n client name bs e keeps h is =
 -- ---- the answer
 
 module _ (n : ℕ) (v : PartsView) (s : State) (h : RepresentsState n v s) (change : Book → Result Book EditFault) (keeps : KeepsReady change) (client : ℕ) (name : List ℕ) (book : List EditsView) (answer : Result (Unit {0}) EditFault) where
-  edited : (r : Result Edited EditFault) → on_accepted change s.books client name ≡ r → Leaves r v.book book answer → ActionGives n (record v { book = book }) (edit_outcome answer) (edit_replied s r)
+  edited : (r : Result Edited EditFault) → on_accepted change s.books client name ≡ r → Leaves r v.book book answer → ViewGives n (record v { book = book }) (edit_outcome answer) (edit_replied s r)
   edited (Ok e) is l =
       let r = command-ready change (bytes s.plan.tags) (length s.plan.schedule) n client name s.books e keeps h.sane.books is in
       record {
-        outcome_is = ap edit_outcome l.0 ∙ ap (λ x. record { reply = x; fault = None; released = 0 }) (sym r.done);
+        answers = ap edit_outcome l.0 ∙ ap (λ x. record { reply = x; fault = None; released = 0 }) (sym r.done);
         represents = with-books n v s h book e.books l.1 l.2 r.many r.ready;
       }
   edited (Err f) is l = record {
-    outcome_is = ap edit_outcome l.0;
+    answers = ap edit_outcome l.0;
     represents = subst (λ (b : List EditsView). RepresentsState n (record v { book = b }) s) (sym l.1) h;
   }
 
-  pub gives-edited : Leaves (on_accepted change (books v.book) client name) v.book book answer → ActionGives n (record v { book = book }) (edit_outcome answer) (edit_replied s (on_accepted change s.books client name))
+  pub gives-edited : Leaves (on_accepted change (books v.book) client name) v.book book answer → ViewGives n (record v { book = book }) (edit_outcome answer) (edit_replied s (on_accepted change s.books client name))
   gives-edited l = edited (on_accepted change s.books client name) refl (subst (λ (bs : List Book). Leaves (on_accepted change bs client name) v.book book answer) h.books l)

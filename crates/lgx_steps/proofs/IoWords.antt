@@ -23,7 +23,7 @@ use Rattle.spec_machine.specs.declared.reply.Mode.TheVariants as mode
 use Rattle.spec_machine.specs.declared.reply.Reply.TheVariants.{Done}
 use Rattle.spec_machine.specs.Actions.{triggers}
 use Rattle.lgx_image.specs.Grains.{ImageView}
-use Rattle.lgx_steps.specs.Gives.{ActionGives}
+use Rattle.lgx_steps.specs.Gives.{ViewGives}
 use Rattle.lgx_steps.proofs.States.{with-image}
 use Rattle.spec_machine.specs.State.{State, Plan}
 use Rattle.lgx_steps.specs.PartsView.{PartsView}
@@ -94,16 +94,16 @@ with-word n v s h i byte io value is long =
     let e : i.bytes ≡ write_signed w32 s.image byte (forced s.forces io value) = is ∙ (ap (λ (b : List ℕ). write_signed w32 b byte (forced v.forces io value)) h.image ∙ ap (λ (f : Forces). write_signed w32 s.image byte (forced f io value)) h.forces) in
     with-image n v s h i (write_signed w32 s.image byte (forced s.forces io value)) e (ap (λ (b : List ℕ). length b) (sym e) ∙ (long ∙ ap (λ (b : List ℕ). length b) h.image))
 
-pub gives-triggers : (n : ℕ) (v : PartsView) (s : State) (outcome : Outcome) (trigger : Option ℕ) (m m' : Mode) → m ≡ s.mode → m ≡ m' → ActionGives n v outcome (triggers s m' trigger) → ActionGives n v outcome (triggers s s.mode trigger)
-gives-triggers n v s outcome trigger m m' e is g = subst (λ (x : Mode). ActionGives n v outcome (triggers s x trigger)) (sym is ∙ e) g
+pub gives-triggers : (n : ℕ) (v : PartsView) (s : State) (outcome : Outcome) (trigger : Option ℕ) (m m' : Mode) → m ≡ s.mode → m ≡ m' → ViewGives n v outcome (triggers s m' trigger) → ViewGives n v outcome (triggers s s.mode trigger)
+gives-triggers n v s outcome trigger m m' e is g = subst (λ (x : Mode). ViewGives n v outcome (triggers s x trigger)) (sym is ∙ e) g
 
-pub done-outside : (n : ℕ) (v : PartsView) (s : State) (outcome : Outcome) (trigger : Option ℕ) (m : Mode) → m ≡ s.mode → (m ≡ mode.Run → ⊥) → outcome ≡ record { reply = Done; fault = None; released = 0 } → RepresentsState n v s → ActionGives n v outcome (triggers s s.mode trigger)
-done-outside n v s outcome trigger m e outside is r = subst (λ (x : Mode). ActionGives n v outcome (triggers s x trigger)) e (go m trigger outside)
+pub done-outside : (n : ℕ) (v : PartsView) (s : State) (outcome : Outcome) (trigger : Option ℕ) (m : Mode) → m ≡ s.mode → (m ≡ mode.Run → ⊥) → outcome ≡ record { reply = Done; fault = None; released = 0 } → RepresentsState n v s → ViewGives n v outcome (triggers s s.mode trigger)
+done-outside n v s outcome trigger m e outside is r = subst (λ (x : Mode). ViewGives n v outcome (triggers s x trigger)) e (go m trigger outside)
   where
-    go : (x : Mode) (o : Option ℕ) → (x ≡ mode.Run → ⊥) → ActionGives n v outcome (triggers s x o)
-    go mode.Program o f = record { outcome_is = is; represents = r }
+    go : (x : Mode) (o : Option ℕ) → (x ≡ mode.Run → ⊥) → ViewGives n v outcome (triggers s x o)
+    go mode.Program o f = record { answers = is; represents = r }
     go mode.Run o f = absurd (f refl)
-    go mode.Faulted o f = record { outcome_is = is; represents = r }
+    go mode.Faulted o f = record { answers = is; represents = r }
 
 pub words-of : (n : ℕ) (v : PartsView) (s : State) → RepresentsState n v s → length v.forces.words ≡ words_of v.plan.conns
 words-of n v s h = ap (λ (f : Forces). length f.words) h.forces ∙ (h.sane.words ∙ ap (λ (p : Plan). words_of p.conns) (sym h.plan))

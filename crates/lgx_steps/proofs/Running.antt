@@ -11,15 +11,15 @@ use Rattle.spec_machine.specs.declared.answer.Outcome.{Outcome}
 use Rattle.spec_machine.specs.declared.reply.Mode.{Mode}
 use Rattle.spec_machine.specs.declared.reply.Reply.TheVariants as reply
 use Rattle.spec_machine.specs.Edits.{Book, no_book, book_at, selected}
-use Rattle.spec_machine.specs.State.{State, Progress, no_progress, dropped}
-use Rattle.spec_machine.specs.Actions.{Acted, held_or, prescan_all, mode_run, mode_run_from, mode_program, mode_program_from, clear, clear_from}
+use Rattle.spec_machine.specs.State.{State, Progress, no_progress, dropped, Answered}
+use Rattle.spec_machine.specs.Actions.{held_or, prescan_all, mode_run, mode_run_from, mode_program, mode_program_from, clear, clear_from}
 use Rattle.spec_tables.specs.Tasks.{held}
 use Rattle.lgx_prog.specs.FlatProgram.{Program, IsFlatProgram}
 use Rattle.lgx_edit.specs.EditsView.{EditsView, books, RunsSelected}
 use Rattle.lgx_steps.specs.PartsView.{PartsView}
 use Rattle.lgx_steps.specs.Plans.{IsReadyBook}
 use Rattle.lgx_steps.specs.Represents.{RepresentsState}
-use Rattle.lgx_steps.specs.Gives.{ActionGives}
+use Rattle.lgx_steps.specs.Gives.{ViewGives}
 use Rattle.lgx_steps.proofs.Elements.{each-at}
 use Rattle.lgx_steps.proofs.States.{cleared}
 use Rattle.lgx_steps.proofs.Beginning.{selected-executable}
@@ -49,19 +49,19 @@ marked fs = length-map fs (λ (b : Bool). true)
 -- ---- the answers
 
 -- while no CPS is in progress
-pub gives-free : (n : ℕ) (v : PartsView) (s : State) (outcome : Outcome) (b : Bool) (x : Acted) → b ≡ held s.table → b ≡ false → ActionGives n v outcome x → ActionGives n v outcome (held_or (held s.table) s x)
-gives-free n v s outcome b x h f g = subst (λ c. ActionGives n v outcome (held_or c s x)) (sym f ∙ h) g
+pub gives-free : (n : ℕ) (v : PartsView) (s : State) (outcome : Outcome) (b : Bool) (x : Answered Outcome) → b ≡ held s.table → b ≡ false → ViewGives n v outcome x → ViewGives n v outcome (held_or (held s.table) s x)
+gives-free n v s outcome b x h f g = subst (λ c. ViewGives n v outcome (held_or c s x)) (sym f ∙ h) g
 
 module _ (n : ℕ) (v : PartsView) (s : State) (outcome : Outcome) (m m' : Mode) (e : m ≡ s.mode) (is : m ≡ m') where
-  pub runs-from : (b : Bool) → b ≡ held s.table → b ≡ false → ActionGives n v outcome (mode_run_from m' s) → ActionGives n v outcome (mode_run s)
-  runs-from b h f g = gives-free n v s outcome b (mode_run_from s.mode s) h f (subst (λ (x : Mode). ActionGives n v outcome (mode_run_from x s)) (sym is ∙ e) g)
+  pub runs-from : (b : Bool) → b ≡ held s.table → b ≡ false → ViewGives n v outcome (mode_run_from m' s) → ViewGives n v outcome (mode_run s)
+  runs-from b h f g = gives-free n v s outcome b (mode_run_from s.mode s) h f (subst (λ (x : Mode). ViewGives n v outcome (mode_run_from x s)) (sym is ∙ e) g)
 
-  pub stops-from : (b : Bool) → b ≡ held s.table → b ≡ false → ActionGives n v outcome (mode_program_from m' s) → ActionGives n v outcome (mode_program s)
-  stops-from b h f g = gives-free n v s outcome b (mode_program_from s.mode s) h f (subst (λ (x : Mode). ActionGives n v outcome (mode_program_from x s)) (sym is ∙ e) g)
+  pub stops-from : (b : Bool) → b ≡ held s.table → b ≡ false → ViewGives n v outcome (mode_program_from m' s) → ViewGives n v outcome (mode_program s)
+  stops-from b h f g = gives-free n v s outcome b (mode_program_from s.mode s) h f (subst (λ (x : Mode). ViewGives n v outcome (mode_program_from x s)) (sym is ∙ e) g)
 
-  pub clears-from : (b : Bool) → b ≡ held s.table → b ≡ false → ActionGives n v outcome (clear_from m' s) → ActionGives n v outcome (clear s)
-  clears-from b h f g = gives-free n v s outcome b (clear_from s.mode s) h f (subst (λ (x : Mode). ActionGives n v outcome (clear_from x s)) (sym is ∙ e) g)
+  pub clears-from : (b : Bool) → b ≡ held s.table → b ≡ false → ViewGives n v outcome (clear_from m' s) → ViewGives n v outcome (clear s)
+  clears-from b h f g = gives-free n v s outcome b (clear_from s.mode s) h f (subst (λ (x : Mode). ViewGives n v outcome (clear_from x s)) (sym is ∙ e) g)
 
 -- while a CPS is in progress
-pub gives-held : (n : ℕ) (v : PartsView) (s : State) (outcome : Outcome) (b : Bool) (x : Acted) → b ≡ held s.table → b ≡ true → outcome ≡ record { reply = reply.Held; fault = None; released = 0 } → RepresentsState n v s → ActionGives n v outcome (held_or (held s.table) s x)
-gives-held n v s outcome b x h t is r = subst (λ c. ActionGives n v outcome (held_or c s x)) (sym t ∙ h) (record { outcome_is = is; represents = r })
+pub gives-held : (n : ℕ) (v : PartsView) (s : State) (outcome : Outcome) (b : Bool) (x : Answered Outcome) → b ≡ held s.table → b ≡ true → outcome ≡ record { reply = reply.Held; fault = None; released = 0 } → RepresentsState n v s → ViewGives n v outcome (held_or (held s.table) s x)
+gives-held n v s outcome b x h t is r = subst (λ c. ViewGives n v outcome (held_or c s x)) (sym t ∙ h) (record { answers = is; represents = r })

@@ -11,7 +11,7 @@ use Rattle.lgx_edit.specs.EditsView.{holds}
 use Rattle.lgx_steps.specs.declared.parts.Progress.{Progress as KeptProgress}
 use Rattle.lgx_steps.specs.PartsView.{PartsView}
 use Rattle.lgx_steps.specs.Represents.{RepresentsState, RepresentsTask}
-use Rattle.lgx_steps.specs.Gives.{StepGives}
+use Rattle.lgx_steps.specs.Gives.{ViewGives}
 use Rattle.lgx_steps.proofs.Tasks.{same_elsewhere, tasks-set}
 use Rattle.lgx_steps.proofs.Reading.{in-plan, task-at, task-read}
 use Rattle.lgx_steps.proofs.States.{with-progress, with-image}
@@ -41,8 +41,8 @@ module _ (n : ℕ) (v : PartsView) (s : State) (h : RepresentsState n v s) (t : 
 
 -- ---- from a task's step to the machine's
 
-pub gives-chosen : (n : ℕ) (v : PartsView) (m : Moment) (s : State) (o : Option ℕ) → o ≡ chosen s.table → StepGives n v m (task_step s o) → StepGives n v m (processor_step s)
-gives-chosen n v m s o e g = subst (λ (x : Option ℕ). StepGives n v m (task_step s x)) e g
+pub gives-chosen : (n : ℕ) (v : PartsView) (m : Moment) (s : State) (o : Option ℕ) → o ≡ chosen s.table → ViewGives n v m (task_step s o) → ViewGives n v m (processor_step s)
+gives-chosen n v m s o e g = subst (λ (x : Option ℕ). ViewGives n v m (task_step s x)) e g
 
-pub gives-begun : (n : ℕ) (v : PartsView) (m : Moment) (s : State) (t : ℕ) → (progress_of s t).scan ≡ None → StepGives (n + 1) v m (begin_program s t (progress_of s t) (next_program s t (progress_of s t))) → StepGives (n + 1) v m (task_step s (Some t))
-gives-begun n v m s t e g = subst (λ (o : Option Scan). StepGives (n + 1) v m (scan_step s t (progress_of s t) o)) (sym e) g
+pub gives-begun : (n : ℕ) (v : PartsView) (m : Moment) (s : State) (t : ℕ) → (progress_of s t).scan ≡ None → ViewGives (n + 1) v m (begin_program s t (progress_of s t) (next_program s t (progress_of s t))) → ViewGives (n + 1) v m (task_step s (Some t))
+gives-begun n v m s t e g = subst (λ (o : Option Scan). ViewGives (n + 1) v m (scan_step s t (progress_of s t) o)) (sym e) g

@@ -1,16 +1,13 @@
 -- What a call gives: its answer is the machine's, and afterwards the parts represent the machine's state.
 use Rattle.std.specs.Prelude.{◌≡◌, ℕ, ◌^◌, ◌<◌, None, Result, Ok, Err}
 use Rattle.spec_tables.specs.declared.force.ForceFault.{ForceFault}
+use Rattle.spec_machine.specs.State.{State, Answered}
 use Rattle.spec_machine.specs.declared.reply.EditFault.{EditFault}
 use Rattle.spec_machine.specs.declared.reply.Reply.{Reply}
 use Rattle.spec_machine.specs.declared.reply.Reply.TheVariants as reply
-use Rattle.spec_machine.specs.declared.answer.Moment.{Moment}
 use Rattle.spec_machine.specs.declared.answer.TickReport.{TickReport}
 use Rattle.spec_machine.specs.declared.answer.Outcome.{Outcome}
 use Rattle.spec_machine.specs.Releases.{AfterRelease}
-use Rattle.spec_machine.specs.ProcessorStep.{Stepped}
-use Rattle.spec_machine.specs.Ticks.{Ticked}
-use Rattle.spec_machine.specs.Actions.{Acted}
 use Rattle.lgx_num.specs.declared.memory.Memory.{Memory}
 use Rattle.lgx_edit.specs.declared.error.EditError.{EditError}
 use Rattle.lgx_edit.specs.declared.error.EditError.TheVariants as error
@@ -19,38 +16,26 @@ use Rattle.lgx_steps.specs.declared.parts.Released.{Released}
 use Rattle.lgx_steps.specs.PartsView.{PartsView, view_of}
 use Rattle.lgx_steps.specs.Represents.{RepresentsState}
 
--- after a processor step
-pub record StepGives (n : ℕ) (v : PartsView) (answer : Moment) (x : Stepped) : Type 0 where
-  pub answers : answer ≡ x.moment
-  pub represents : RepresentsState n v x.state
+-- A call matches the machine: its answer is the machine's, and this holds of the state that the machine has then.
+pub record MatchesAnswer {A : Type 0} (Holds : State → Type 0) (answer : A) (x : Answered A) : Type 0 where
+  pub answers : answer ≡ x.answer
+  pub represents : Holds x.state
 
--- after a release
+-- afterwards parts with this view represent that state
+abbrev pub ViewGives : {A : Type 0} → ℕ → PartsView → A → Answered A → Type 0
+ViewGives n v answer x = MatchesAnswer (RepresentsState n v) answer x
+
+abbrev pub Gives : {A : Type 0} → ℕ → Parts → A → Answered A → Type 0
+Gives n v answer x = ViewGives n (view_of v) answer x
+
+-- the same of a release, which answers the fault of an overlap too
 pub record ReleaseGives (n : ℕ) (v : PartsView) (released : Released) (x : AfterRelease) : Type 0 where
   pub answer : released.answer ≡ x.answer
   pub fault : released.fault ≡ x.fault
   pub represents : RepresentsState n v x.state
 
--- after a tick
-pub record TickGives (n : ℕ) (v : PartsView) (report : TickReport) (x : Ticked) : Type 0 where
-  pub report_is : report ≡ x.report
-  pub represents : RepresentsState n v x.state
-
--- after an action
-pub record ActionGives (n : ℕ) (v : PartsView) (outcome : Outcome) (x : Acted) : Type 0 where
-  pub outcome_is : outcome ≡ x.outcome
-  pub represents : RepresentsState n v x.state
-
-abbrev pub Gives : ℕ → Parts → Moment → Stepped → Type 0
-Gives n v answer x = StepGives n (view_of v) answer x
-
 abbrev pub GivesRelease : ℕ → Parts → Released → AfterRelease → Type 0
 GivesRelease n v released x = ReleaseGives n (view_of v) released x
-
-abbrev pub GivesTick : ℕ → Parts → TickReport → Ticked → Type 0
-GivesTick n v report x = TickGives n (view_of v) report x
-
-abbrev pub GivesAction : ℕ → Parts → Outcome → Acted → Type 0
-GivesAction n v outcome x = ActionGives n (view_of v) outcome x
 
 -- ---- a report under way
 

@@ -12,10 +12,7 @@ use crate::parts::Parts;
 use crate::step::plainly;
 use lgx_engine::Effect;
 use spec_machine::{Mark, Moment, What};
-use spec_tables::{Fault, Severity};
-
-/// The code of an overflow (type 4).
-const OVERFLOWED: u8 = 4;
+use spec_tables::{Fault, OVERFLOW, PROGRAM_FAULT, Severity};
 
 impl Parts {
     /// What the effect of a scan's step of program `n` does.
@@ -154,7 +151,7 @@ impl Parts {
         ensures gives { (k : ℕ) (s : State) → Represents k self.old s → Gives (k + 1) self.new result (after_effect s t (progress_of s t) n Effect.Minor) }
         ensures image { self.new.image ≡ self.old.image }
     {
-        let fault = self.program_fault(Severity::Minor, OVERFLOWED, t, n);
+        let fault = self.program_fault(Severity::Minor, OVERFLOW, t, n);
         self.faults.note(fault);
         Moment {
             what: What::Ran {
@@ -190,7 +187,7 @@ impl Parts {
     {
         Fault {
             severity,
-            kind: 4,
+            kind: PROGRAM_FAULT,
             code,
             task: t,
             program: Some(n),

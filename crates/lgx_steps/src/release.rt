@@ -9,15 +9,15 @@ ghost use Rattle.lgx_steps.specs.Gives.{GivesRelease};
 use crate::parts::{Parts, Released};
 use lgx_sched::{Release, TaskKind};
 use spec_machine::Mode;
-use spec_tables::{Fault, Severity};
+use spec_tables::{EVENT_OVERLAP, Fault, PERIODIC_OVERLAP, Severity, TASK_FAULT};
 
 /// The code of an overlap.
 fn overlap_code(kind: TaskKind) -> u8
     ensures { result ≡ overlap_code kind }
 {
     match kind {
-        TaskKind::Periodic(_) => 2,
-        TaskKind::Continuous | TaskKind::Event => 3,
+        TaskKind::Periodic(_) => PERIODIC_OVERLAP,
+        TaskKind::Continuous | TaskKind::Event => EVENT_OVERLAP,
     }
 }
 
@@ -61,7 +61,7 @@ impl Parts {
     {
         Fault {
             severity: Severity::Minor,
-            kind: 6,
+            kind: TASK_FAULT,
             code: overlap_code(self.table.kind(t)),
             task: t,
             program: None,

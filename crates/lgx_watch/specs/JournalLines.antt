@@ -10,7 +10,7 @@ use Rattle.spec_machine.specs.Report.{Stamped, is_step, steps_of, stamp, event_l
 abbrev pub lines_of_event : List Watch → State → ℕ → Event → List Stamped
 lines_of_event watches s n e =
     let x = step s e in
-    stamp x.state.tick (if is_step e then n + 1 else n) (event_lines watches s x.state x.entry)
+    stamp x.state.tick (if is_step e then n + 1 else n) (event_lines watches s x.state x.answer)
 
 -- they are those of the journal, and then that event's
 abbrev pub OneMoreEvent : Type 0

@@ -1,29 +1,23 @@
 -- A copy that an instruction starts writes beside every byte that the instruction's written operands miss.
-use Rattle.std.specs.Prelude.{⊤, map, nat_eq, nat_lt, take}
+use Rattle.std.specs.Prelude.{⊤, nat_eq, take}
 use Rattle.std.specs.Int.{w32, to_le_bytes}
-use Rattle.std.proofs.Common.{◌≡◌, ℕ, zero, suc, ◌+◌, ◌*◌, ◌/◌, ◌-◌, ◌<◌, ◌≤◌, ◌||◌, inl, inr, Bool, true, false, if◌then◌else◌, List, [], ◌∷◌, length, ℤ, get_or, Option, Some, None, refl, ap, subst, arith}
+use Rattle.std.proofs.Common.{◌≡◌, ℕ, zero, suc, ◌+◌, ◌*◌, ◌/◌, ◌-◌, ◌<◌, ◌≤◌, inl, inr, false, List, [], ◌∷◌, length, ℤ, get_or, Option, Some, None, refl, ap, subst, arith}
 use Rattle.std.proofs.lemmas.Bool.{cond_both, eqb-false}
 use Rattle.std.proofs.Math.Nat.{div-le_self, div-mul-le_self, mul-le-mul_right, suc-mul}
-use Rattle.spec_base.specs.declared.limits.TheConstants.{MAX_FRAMES}
-use Rattle.lgx_num.specs.declared.place.Flags.{Flags}
-use Rattle.lgx_num.specs.declared.place.Operand.{Operand}
-use Rattle.lgx_num.specs.declared.place.Place.{Place}
 use Rattle.lgx_num.specs.Image.{piece}
 use Rattle.lgx_num.specs.Number.{low_bits}
 use Rattle.lgx_num.proofs.Images.{splice_before, splice_behind}
 use Rattle.lgx_rung.specs.declared.op.Op.{Op}
-use Rattle.lgx_rung.specs.declared.op.Op.TheVariants.{Ton, Rto, Tof, Add, Sub, Mul, Div, Mod, Neg, Abs, Mov, And, Or, Xor, Not, Mvm, Clr, Cop, Cps, Fll, Jsr, Sbr, Ret}
-use Rattle.lgx_rung.specs.OperandTable.{fixed_kinds, further, NoMore}
+use Rattle.lgx_rung.specs.declared.op.Op.TheVariants.{Cop, Cps, Fll}
+use Rattle.lgx_rung.specs.declared.operands.Family.TheVariants.{Copy}
+use Rattle.lgx_rung.specs.OperandTable.{fixed_kinds, family_of, further, NoMore}
 use Rattle.spec_scan.specs.declared.bound.Arg.{Arg}
 use Rattle.spec_scan.specs.declared.bound.Arg.TheVariants.{Block}
 use Rattle.spec_scan.specs.declared.bound.Copying.{Copying}
-use Rattle.spec_scan.specs.Arguments.{arg, bind, byte_of, place_of, room_of, size_of, value_of}
-use Rattle.spec_scan.specs.Arithmetic.{math}
+use Rattle.spec_scan.specs.Arguments.{arg, byte_of, room_of, size_of}
 use Rattle.spec_scan.specs.Copies.{copy_element, copy_of, element_bytes, elements, elements_in, start_copy}
-use Rattle.spec_scan.specs.Instructions.{Control, Nothing, Return, StartCopy, MinorFault, Row, acts_when_false, call_row, copy_row, executed, store_row, timer_row, with_bound}
-use Rattle.spec_scan.specs.Parameters.{inputs_handed, returns_wanted}
-use Rattle.spec_scan.specs.Position.{Frame}
-use Rattle.spec_scan.specs.Timers.{timer}
+use Rattle.spec_scan.specs.Instructions.{Control, StartCopy}
+use Rattle.spec_scan.proofs.RowControls.{IsOther, row_asks}
 use Rattle.spec_beside.specs.Copies.{CopyBeside, CopiesStartBeside, CopiesGoOnBeside, ElementsWriteBeside}
 use Rattle.spec_beside.specs.Misses.{IsBeside}
 use Rattle.spec_beside.proofs.Beside.{ArgMisses, ArgsMissFrom, args_miss}
@@ -98,65 +92,32 @@ abbrev pub StartsBeside : ℕ → Control → Type 0
 StartsBeside b (StartCopy c) = CopyBeside b c
 StartsBeside b _ = ⊤
 
-module _ (args : List Operand) (on : Bool) (now : ℕ) (first : Bool) (frames : List Frame) (flags : Flags) (image : List ℕ) (b : ℕ) where
-  abbrev Starts : Row → Type 0
-  Starts r = StartsBeside b r.control
+other_starts : (b : ℕ) (d : Control) → IsOther d → StartsBeside b d
+other_starts b (StartCopy c) h = absurd h
+other_starts b _ h = tt
 
-  copy_starts : (op : Op) (bound : List Arg) → ArgMisses b (arg bound 1) → Starts (copy_row args on now first frames flags image (start_copy op bound image))
-  copy_starts op bound h =
-      let n = elements op bound image in
-      cond_both (nat_eq n 0) None (Some (copy_of op bound image n)) (λ (o : Option Copying). Starts (copy_row args on now first frames flags image o)) (λ e. tt)
-      (λ e.
-      let ne : n ≡ 0 → ⊥ = eqb-false n 0 e in
-      let some : 0 < n = omega arith in
-      record { some = some; target = target_beside (arg bound 1) b n h some (few_elements op bound image) })
+-- the second operand of a copy is its target
+target_misses : (op : Op) (bound : List Arg) (b : ℕ) → family_of op ≡ Copy → (further op ≡ NoMore → ArgsMissFrom b 0 (fixed_kinds op) bound) → ArgMisses b (arg bound 1)
+target_misses Cop bound b is h = (h refl).1.0
+target_misses Cps bound b is h = (h refl).1.0
+target_misses Fll bound b is h = (h refl).1.0
+target_misses _ bound b is h = absurd (cc is)
 
-  timer_starts : (o : Option (List ℕ)) → Starts (timer_row args on now first frames flags image o)
-  timer_starts (Some after) = tt
-  timer_starts None = tt
-
-  math_starts : (v : Bool) → StartsBeside b (if v then MinorFault else Nothing)
-  math_starts true = tt
-  math_starts false = tt
-
-  call_starts : (bound : List Arg) → Starts (call_row args on now first frames flags image bound)
-  call_starts bound = cond_both (nat_lt (length frames) MAX_FRAMES) _ _ Starts (λ e. tt) (λ e. tt)
-
-  store_starts : (places : List Place) (numbers : List ℤ) (control : Control) → StartsBeside b control → Starts (store_row args on now first frames flags image places numbers control)
-  store_starts places numbers control h = cond_both (nat_lt (length numbers) (length places)) _ _ Starts (λ e. tt) (λ e. h)
-
-  executed_starts : (op : Op) (bound : List Arg) → (further op ≡ NoMore → ArgsMissFrom b 0 (fixed_kinds op) bound) → Starts (executed args on now first frames flags image op bound)
-  executed_starts Cop bound h = copy_starts Cop bound (h refl).1.0
-  executed_starts Cps bound h = copy_starts Cps bound (h refl).1.0
-  executed_starts Fll bound h = copy_starts Fll bound (h refl).1.0
-  executed_starts Ton bound h = timer_starts (timer Ton (byte_of (arg bound 0)) on now image)
-  executed_starts Rto bound h = timer_starts (timer Rto (byte_of (arg bound 0)) on now image)
-  executed_starts Tof bound h = timer_starts (timer Tof (byte_of (arg bound 0)) on now image)
-  executed_starts Add bound h = math_starts (math Add bound image).flags.v
-  executed_starts Sub bound h = math_starts (math Sub bound image).flags.v
-  executed_starts Mul bound h = math_starts (math Mul bound image).flags.v
-  executed_starts Div bound h = math_starts (math Div bound image).flags.v
-  executed_starts Mod bound h = math_starts (math Mod bound image).flags.v
-  executed_starts Neg bound h = math_starts (math Neg bound image).flags.v
-  executed_starts Abs bound h = math_starts (math Abs bound image).flags.v
-  executed_starts Mov bound h = math_starts (math Mov bound image).flags.v
-  executed_starts And bound h = math_starts (math And bound image).flags.v
-  executed_starts Or bound h = math_starts (math Or bound image).flags.v
-  executed_starts Xor bound h = math_starts (math Xor bound image).flags.v
-  executed_starts Not bound h = math_starts (math Not bound image).flags.v
-  executed_starts Mvm bound h = math_starts (math Mvm bound image).flags.v
-  executed_starts Clr bound h = math_starts (math Clr bound image).flags.v
-  executed_starts Jsr bound h = call_starts bound
-  executed_starts Sbr bound h = store_starts (map place_of bound) (inputs_handed frames) Nothing tt
-  executed_starts Ret bound h = store_starts (returns_wanted frames) (map (value_of image) bound) Return tt
-  executed_starts _ bound h = tt
-
-  bound_starts : (op : Op) (o : Option (List Arg)) → ((bound : List Arg) → o ≡ Some bound → further op ≡ NoMore → ArgsMissFrom b 0 (fixed_kinds op) bound) → Starts (with_bound args on now first frames flags image op o)
-  bound_starts op (Some bound) h = executed_starts op bound (h bound refl)
-  bound_starts op None h = tt
+copy_starts : (op : Op) (bound : List Arg) (image : List ℕ) (b : ℕ) → ArgMisses b (arg bound 1) → (c : Copying) → start_copy op bound image ≡ Some c → CopyBeside b c
+copy_starts op bound image b h =
+    let n = elements op bound image in
+    cond_both (nat_eq n 0) None (Some (copy_of op bound image n)) (λ (o : Option Copying). (c : Copying) → o ≡ Some c → CopyBeside b c) (λ e c is. absurd (cc is))
+    (λ e c is.
+    let ne : n ≡ 0 → ⊥ = eqb-false n 0 e in
+    let some : 0 < n = omega arith in
+    let beside : CopyBeside b (copy_of op bound image n) = record { some = some; target = target_beside (arg bound 1) b n h some (few_elements op bound image) } in
+    subst (CopyBeside b) (cc is) beside)
 
 pub copies_start : CopiesStartBeside
 copies_start i on now first frames flags image b c fit h is =
     subst (StartsBeside b) is
-    (cond_both (on || acts_when_false i.op) _ _ (λ (r : Row). StartsBeside b r.control)
-    (λ e. bound_starts i.args on now first frames flags image b i.op (bind image i.args) (λ bound found no_more. args_miss image i bound b no_more fit found h)) (λ e. tt))
+    (row_asks (StartsBeside b) (other_starts b) i.args on now first frames flags image i.op (λ bound found. record {
+      call = λ called. tt;
+      trigger = λ triggered. tt;
+      copy = λ copies. copy_starts i.op bound image b (target_misses i.op bound b copies (λ no_more. args_miss image i bound b no_more fit found h));
+    }))

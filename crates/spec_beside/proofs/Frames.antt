@@ -8,7 +8,7 @@ use Rattle.lgx_num.specs.declared.place.Place.{Place}
 use Rattle.lgx_rung.specs.declared.ins.Ins.{Ins}
 use Rattle.lgx_rung.specs.Tree.{Tree, end, one, fork, Legs, last, leg, instructions, leg_instructions}
 use Rattle.spec_scan.specs.declared.bound.Copying.{Copying}
-use Rattle.spec_scan.specs.Instructions.{Control, Nothing, Call, Return, Jump, ToggleZone, RegionUp, RegionDown, TriggerTask, StartCopy, MinorFault, MajorFault, row}
+use Rattle.spec_scan.specs.Instructions.{Control, Nothing, Call, Return, Jump, ToggleZone, Up, Down, TriggerTask, StartCopy, MinorFault, MajorFault, row}
 use Rattle.spec_scan.specs.Position.{Rungs, ProgramRungs, routine_rungs, OpenFork, NoZone, Cursor, Frame, Position, starts, along, along_legs, joined, next_rung, settled}
 use Rattle.spec_scan.specs.Scan.{zone_after, after_row, in_frame, in_frames, in_progress}
 use Rattle.spec_scan.proofs.RowControls.{IsOther, row_asks}
@@ -69,8 +69,8 @@ module _ (Of : ℕ → Ins → Type 0) (To : ℕ → Place → Type 0) where
   other_calls Return h = tt
   other_calls (Jump label) h = tt
   other_calls ToggleZone h = tt
-  other_calls RegionUp h = tt
-  other_calls RegionDown h = tt
+  other_calls Up h = tt
+  other_calls Down h = tt
   other_calls (TriggerTask t) h = tt
   other_calls (StartCopy c) h = tt
   other_calls MinorFault h = tt
@@ -90,8 +90,8 @@ module _ (Of : ℕ → Ins → Type 0) (To : ℕ → Place → Type 0) where
         (record { cursor = next_has (Of f.routine) (starts f.zone) (drop label (routine_rungs program f.routine)) f.cursor.on (drop_has (Of f.routine) label (routine_rungs program f.routine) (has f.routine)); returns = h.returns }, k)
     by_control on im fl ToggleZone f outer c h k =
         (record { cursor = settled_has (Of f.routine) (starts (zone_after f.zone f.cursor.on)) f.cursor h.cursor; returns = h.returns }, k)
-    by_control on im fl RegionUp f outer c h k = (settles f h, k)
-    by_control on im fl RegionDown f outer c h k = (settles f h, k)
+    by_control on im fl Up f outer c h k = (settles f h, k)
+    by_control on im fl Down f outer c h k = (settles f h, k)
     by_control on im fl (TriggerTask t) f outer c h k = (settles f h, k)
     by_control on im fl (StartCopy copy) f outer c h k = (settles f h, k)
     by_control on im fl MinorFault f outer c h k = (settles f h, k)
@@ -101,7 +101,7 @@ module _ (Of : ℕ → Ins → Type 0) (To : ℕ → Place → Type 0) where
     by_frame f outer (one i rest) t h k =
         let r = row i.op i.args f.cursor.on now first position.frames flags image in
         by_control r.on r.image r.flags r.control (record f { cursor = record f.cursor { rest = rest; on = r.on } }) outer
-        (row_asks Calls other_calls i.args f.cursor.on now first position.frames flags image i.op (λ bound found. record { call = λ is. calls f.routine i image bound t.0 is found; trigger = λ is. tt }))
+        (row_asks Calls other_calls i.args f.cursor.on now first position.frames flags image i.op (λ bound found. record { call = λ is. calls f.routine i image bound t.0 is found; trigger = λ is. tt; copy = λ is c started. tt }))
         (record { cursor = record { rungs = h.cursor.rungs; rest = t.1; forks = h.cursor.forks }; returns = h.returns }) k
     by_frame f outer end t h k = k
     by_frame f outer (fork x legs rest) t h k = k

@@ -1,7 +1,7 @@
 -- An instruction changes no byte that its written operands miss.
-use Rattle.std.specs.Prelude.{not, ◌&&◌, map, nat_lt}
+use Rattle.std.specs.Prelude.{⊤, not, ◌&&◌, map, nat_lt}
 use Rattle.std.specs.List.{AllByRecursion as Each}
-use Rattle.std.proofs.Common.{◌≡◌, ℕ, ◌+◌, ◌⊎◌, inl, inr, Bool, true, false, ◌||◌, if◌then◌else◌, List, [], ◌∷◌, ℤ, length, arith, get_or, Option, Some, None, refl, ◌∙◌}
+use Rattle.std.proofs.Common.{◌≡◌, ℕ, ◌+◌, ◌⊎◌, inl, inr, Bool, true, false, ◌||◌, if◌then◌else◌, List, [], ◌∷◌, ℤ, length, arith, get_or, Option, Some, None, refl, sym, subst, ◌∙◌}
 use Rattle.std.proofs.lemmas.Bool.{cond_both}
 use Rattle.spec_base.specs.declared.limits.TheConstants.{MAX_FRAMES, TIMER_BYTES, COUNTER_BYTES}
 use Rattle.lgx_num.specs.declared.place.Flags.{Flags}
@@ -9,8 +9,9 @@ use Rattle.lgx_num.specs.declared.place.Operand.{Operand}
 use Rattle.lgx_num.specs.declared.place.Place.{Place}
 use Rattle.lgx_num.specs.Image.{write}
 use Rattle.lgx_rung.specs.declared.op.Op.{Op}
-use Rattle.lgx_rung.specs.declared.op.Op.TheVariants.{Add, Sub, Mul, Div, Mod, Neg, Abs, Mov, And, Or, Xor, Not, Mvm, Clr, Xic, Xio, Ote, Otl, Otu, Ons, Osr, Osf, Afi, Ton, Rto, Tof, Ctu, Ctd, Res, Cop, Cps, Fll, Jsr, Sbr, Ret}
-use Rattle.lgx_rung.specs.declared.operands.Family.TheVariants.{Bit, Arithmetic}
+use Rattle.lgx_rung.specs.declared.op.Op.TheVariants.{Add, Sub, Mul, Div, Mod, Neg, Abs, Mov, And, Or, Xor, Not, Mvm, Clr, Xic, Xio, Ote, Otl, Otu, Ons, Osr, Osf, Afi, Ton, Rto, Tof, Ctu, Ctd, Res, Jsr, Sbr, Ret}
+use Rattle.lgx_rung.specs.declared.operands.Family.{Family}
+use Rattle.lgx_rung.specs.declared.operands.Family.TheVariants.{Bit, Timer, Counter, Reset, Comparison, Arithmetic, Copy, ProgramControl}
 use Rattle.lgx_rung.specs.OperandTable.{fixed_kinds, family_of, further, NoMore}
 use Rattle.spec_scan.specs.declared.bound.Arg.{Arg}
 use Rattle.spec_scan.specs.declared.bound.Arg.TheVariants as bound
@@ -24,7 +25,7 @@ use Rattle.spec_scan.specs.Arguments.{arg, bind, bit_value, byte_of, place_of, p
 use Rattle.spec_scan.specs.Bits.{bits}
 use Rattle.spec_scan.specs.Arithmetic.{math, dest}
 use Rattle.spec_scan.specs.Fits.{OperandsFit, ArgsFit, IsPlace, IsTimerPlace, IsCounterPlace}
-use Rattle.spec_scan.specs.Instructions.{Control, Nothing, Return, Row, acts_when_false, call_row, copy_row, executed, pass_on, store_row, timer_row, with_bound}
+use Rattle.spec_scan.specs.Instructions.{Control, Nothing, Return, Row, acts_when_false, call_row, copy_row, family_row, pass_on, program_control, store_row, timer_row, with_bound}
 use Rattle.spec_scan.specs.Position.{Frame}
 use Rattle.spec_scan.proofs.KeptKinds.{args_fit}
 use Rattle.spec_beside.specs.Misses.{IsBeside, PlaceMisses, WritesBeside}
@@ -61,11 +62,11 @@ counter_beside b (bound.Counter at) is h = h
 counter_beside b _ is h = absurd is
 
 module _ (args : List Operand) (on : Bool) (now : ℕ) (first : Bool) (frames : List Frame) (flags : Flags) (image : List ℕ) (b : ℕ) where
-  -- an instruction with its operands bound keeps a byte that those which it writes miss
-  abbrev Keeps : Op → Type 0
-  Keeps op = (bound : List Arg) → ArgsFit op bound → ArgsMissFrom b 0 (fixed_kinds op) bound → Stays (executed args on now first frames flags image op bound).image image b
+  -- an instruction of a family, with its operands bound, keeps a byte that those which it writes miss
+  abbrev Keeps : Family → Op → Type 0
+  Keeps f op = (bound : List Arg) → ArgsFit op bound → ArgsMissFrom b 0 (fixed_kinds op) bound → Stays (family_row args on now first frames flags image f op bound).image image b
 
-  arithmetic_keeps : (op : Op) → family_of op ≡ Arithmetic → Keeps op
+  arithmetic_keeps : (op : Op) → family_of op ≡ Arithmetic → Keeps Arithmetic op
   arithmetic_keeps Add is bound fit h = math_stays Add bound image b fit.1.1.0 h.1.1.0
   arithmetic_keeps Sub is bound fit h = math_stays Sub bound image b fit.1.1.0 h.1.1.0
   arithmetic_keeps Mul is bound fit h = math_stays Mul bound image b fit.1.1.0 h.1.1.0
@@ -87,7 +88,7 @@ module _ (args : List Operand) (on : Bool) (now : ℕ) (first : Bool) (frames : 
   if_stays true a v is h = bit_stays a v image b is h
   if_stays false a v is h = refl
 
-  bits_keep : (op : Op) → family_of op ≡ Bit → Keeps op
+  bits_keep : (op : Op) → family_of op ≡ Bit → Keeps Bit op
   bits_keep Xic is bound fit h = refl
   bits_keep Xio is bound fit h = refl
   bits_keep Ote is bound fit h = bit_stays (arg bound 0) on image b fit.0 h.0
@@ -112,15 +113,30 @@ module _ (args : List Operand) (on : Bool) (now : ℕ) (first : Bool) (frames : 
   timer_row_stays (Some after) h = h
   timer_row_stays None h = refl
 
-  timer_keeps : (op : Op) (a : Arg) → IsTimerPlace a → ArgMisses b a → Stays (timer_row args on now first frames flags image (timer op (byte_of a) on now image)).image image b
-  timer_keeps op a is h = timer_row_stays (timer op (byte_of a) on now image) (timer_same (byte_of a) TIMER_BYTES b (timer_beside b a is h) (omega arith) op on now image)
+  timer_stays : (op : Op) (a : Arg) → IsTimerPlace a → ArgMisses b a → Stays (timer_row args on now first frames flags image (timer op (byte_of a) on now image)).image image b
+  timer_stays op a is h = timer_row_stays (timer op (byte_of a) on now image) (timer_same (byte_of a) TIMER_BYTES b (timer_beside b a is h) (omega arith) op on now image)
 
-  counter_keeps : (op : Op) (a : Arg) → IsCounterPlace a → ArgMisses b a → Stays (counter op (byte_of a) on image) image b
-  counter_keeps op a is h = counter_same (byte_of a) COUNTER_BYTES b (counter_beside b a is h) (omega arith) op on image
+  counter_stays : (op : Op) (a : Arg) → IsCounterPlace a → ArgMisses b a → Stays (counter op (byte_of a) on image) image b
+  counter_stays op a is h = counter_same (byte_of a) COUNTER_BYTES b (counter_beside b a is h) (omega arith) op on image
 
-  reset_keeps : (a : Arg) → IsTimerPlace a ⊎ IsCounterPlace a → ArgMisses b a → Stays (reset (byte_of a) on image) image b
-  reset_keeps a (inl is) h = reset_same (byte_of a) TIMER_BYTES b (timer_beside b a is h) (omega arith) on image
-  reset_keeps a (inr is) h = reset_same (byte_of a) COUNTER_BYTES b (counter_beside b a is h) (omega arith) on image
+  reset_stays : (a : Arg) → IsTimerPlace a ⊎ IsCounterPlace a → ArgMisses b a → Stays (reset (byte_of a) on image) image b
+  reset_stays a (inl is) h = reset_same (byte_of a) TIMER_BYTES b (timer_beside b a is h) (omega arith) on image
+  reset_stays a (inr is) h = reset_same (byte_of a) COUNTER_BYTES b (counter_beside b a is h) (omega arith) on image
+
+  timer_keeps : (op : Op) → family_of op ≡ Timer → Keeps Timer op
+  timer_keeps Ton is bound fit h = timer_stays Ton (arg bound 0) fit.0 h.0
+  timer_keeps Rto is bound fit h = timer_stays Rto (arg bound 0) fit.0 h.0
+  timer_keeps Tof is bound fit h = timer_stays Tof (arg bound 0) fit.0 h.0
+  timer_keeps _ is bound fit h = absurd (cc is)
+
+  counter_keeps : (op : Op) → family_of op ≡ Counter → Keeps Counter op
+  counter_keeps Ctu is bound fit h = counter_stays Ctu (arg bound 0) fit.0 h.0
+  counter_keeps Ctd is bound fit h = counter_stays Ctd (arg bound 0) fit.0 h.0
+  counter_keeps _ is bound fit h = absurd (cc is)
+
+  reset_keeps : (op : Op) → family_of op ≡ Reset → Keeps Reset op
+  reset_keeps Res is bound fit h = reset_stays (arg bound 0) fit.0 h.0
+  reset_keeps _ is bound fit h = absurd (cc is)
 
   -- a copy's start changes nothing
   copy_stays : (o : Option Copying) → Stays (copy_row args on now first frames flags image o).image image b
@@ -142,43 +158,32 @@ module _ (args : List Operand) (on : Bool) (now : ℕ) (first : Bool) (frames : 
 
   -- ---- every instruction
 
-  keeps : (op : Op) (bound : List Arg) → ArgsFit op bound → (further op ≡ NoMore → ArgsMissFrom b 0 (fixed_kinds op) bound) → Stores op bound → Stays (executed args on now first frames flags image op bound).image image b
-  keeps Xic bound fit h s = bits_keep Xic refl bound fit (h refl)
-  keeps Xio bound fit h s = bits_keep Xio refl bound fit (h refl)
-  keeps Ote bound fit h s = bits_keep Ote refl bound fit (h refl)
-  keeps Otl bound fit h s = bits_keep Otl refl bound fit (h refl)
-  keeps Otu bound fit h s = bits_keep Otu refl bound fit (h refl)
-  keeps Ons bound fit h s = bits_keep Ons refl bound fit (h refl)
-  keeps Osr bound fit h s = bits_keep Osr refl bound fit (h refl)
-  keeps Osf bound fit h s = bits_keep Osf refl bound fit (h refl)
-  keeps Afi bound fit h s = bits_keep Afi refl bound fit (h refl)
-  keeps Add bound fit h s = arithmetic_keeps Add refl bound fit (h refl)
-  keeps Sub bound fit h s = arithmetic_keeps Sub refl bound fit (h refl)
-  keeps Mul bound fit h s = arithmetic_keeps Mul refl bound fit (h refl)
-  keeps Div bound fit h s = arithmetic_keeps Div refl bound fit (h refl)
-  keeps Mod bound fit h s = arithmetic_keeps Mod refl bound fit (h refl)
-  keeps Neg bound fit h s = arithmetic_keeps Neg refl bound fit (h refl)
-  keeps Abs bound fit h s = arithmetic_keeps Abs refl bound fit (h refl)
-  keeps Mov bound fit h s = arithmetic_keeps Mov refl bound fit (h refl)
-  keeps And bound fit h s = arithmetic_keeps And refl bound fit (h refl)
-  keeps Or bound fit h s = arithmetic_keeps Or refl bound fit (h refl)
-  keeps Xor bound fit h s = arithmetic_keeps Xor refl bound fit (h refl)
-  keeps Not bound fit h s = arithmetic_keeps Not refl bound fit (h refl)
-  keeps Mvm bound fit h s = arithmetic_keeps Mvm refl bound fit (h refl)
-  keeps Clr bound fit h s = arithmetic_keeps Clr refl bound fit (h refl)
-  keeps Ton bound fit h s = timer_keeps Ton (arg bound 0) fit.0 (h refl).0
-  keeps Rto bound fit h s = timer_keeps Rto (arg bound 0) fit.0 (h refl).0
-  keeps Tof bound fit h s = timer_keeps Tof (arg bound 0) fit.0 (h refl).0
-  keeps Ctu bound fit h s = counter_keeps Ctu (arg bound 0) fit.0 (h refl).0
-  keeps Ctd bound fit h s = counter_keeps Ctd (arg bound 0) fit.0 (h refl).0
-  keeps Res bound fit h s = reset_keeps (arg bound 0) fit.0 (h refl).0
-  keeps Cop bound fit h s = copy_stays (start_copy Cop bound image)
-  keeps Cps bound fit h s = copy_stays (start_copy Cps bound image)
-  keeps Fll bound fit h s = copy_stays (start_copy Fll bound image)
-  keeps Jsr bound fit h s = call_stays bound
-  keeps Sbr bound fit h s = store_stays (map place_of bound) (inputs_handed frames) Nothing (s.entry refl)
-  keeps Ret bound fit h s = store_stays (returns_wanted frames) (map (value_of image) bound) Return (s.leave refl)
-  keeps _ bound fit h s = refl
+  control_keeps : (op : Op) (bound : List Arg) → Stores op bound → Stays (program_control args on now first frames flags image op bound).image image b
+  control_keeps Jsr bound s = call_stays bound
+  control_keeps Sbr bound s = store_stays (map place_of bound) (inputs_handed frames) Nothing (s.entry refl)
+  control_keeps Ret bound s = store_stays (returns_wanted frames) (map (value_of image) bound) Return (s.leave refl)
+  control_keeps _ bound s = refl
+
+  -- an instruction of another family has no operands but those that it always has
+  abbrev IsFixed : Family → Type 0
+  IsFixed ProgramControl = ⊥
+  IsFixed _ = ⊤
+
+  no_more : (f : Family) (op : Op) → family_of op ≡ f → IsFixed f → further op ≡ NoMore
+  no_more f Jsr is fixed = absurd (subst IsFixed (sym is) fixed)
+  no_more f Sbr is fixed = absurd (subst IsFixed (sym is) fixed)
+  no_more f Ret is fixed = absurd (subst IsFixed (sym is) fixed)
+  no_more f _ is fixed = refl
+
+  family_keeps : (f : Family) (op : Op) (bound : List Arg) → family_of op ≡ f → ArgsFit op bound → (further op ≡ NoMore → ArgsMissFrom b 0 (fixed_kinds op) bound) → Stores op bound → Stays (family_row args on now first frames flags image f op bound).image image b
+  family_keeps Bit op bound is fit h s = bits_keep op is bound fit (h (no_more Bit op is tt))
+  family_keeps Timer op bound is fit h s = timer_keeps op is bound fit (h (no_more Timer op is tt))
+  family_keeps Counter op bound is fit h s = counter_keeps op is bound fit (h (no_more Counter op is tt))
+  family_keeps Reset op bound is fit h s = reset_keeps op is bound fit (h (no_more Reset op is tt))
+  family_keeps Comparison op bound is fit h s = refl
+  family_keeps Arithmetic op bound is fit h s = arithmetic_keeps op is bound fit (h (no_more Arithmetic op is tt))
+  family_keeps Copy op bound is fit h s = copy_stays (start_copy op bound image)
+  family_keeps ProgramControl op bound is fit h s = control_keeps op bound s
 
 -- an instruction changes no byte that what it writes misses
 pub rows_keep : RowsWriteBeside
@@ -189,7 +194,7 @@ rows_keep i on now first frames flags image b fit h returns = by_condition (on |
     entry _ bound fits misses found is = absurd (cc is)
 
     by_bound : (found : Option (List Arg)) → bind image i.args ≡ found → Stays (with_bound i.args on now first frames flags image i.op found).image image b
-    by_bound (Some bound) found = keeps i.args on now first frames flags image b i.op bound (args_fit image i.args bound i.op found fit) (λ no_more. args_miss image i bound b no_more fit found h) (record { entry = entry i.op bound fit h found; leave = returns })
+    by_bound (Some bound) found = family_keeps i.args on now first frames flags image b (family_of i.op) i.op bound refl (args_fit image i.args bound i.op found fit) (λ no_more. args_miss image i bound b no_more fit found h) (record { entry = entry i.op bound fit h found; leave = returns })
     by_bound None found = refl
 
     by_condition : (c : Bool) → Stays (if c then with_bound i.args on now first frames flags image i.op (bind image i.args) else pass_on i.args on now first frames flags image Nothing).image image b

@@ -7,7 +7,7 @@ use Rattle.lgx_rung.specs.declared.ins.Ins.{Ins}
 use Rattle.lgx_rung.specs.Tree.{Tree, end, one, fork}
 use Rattle.spec_scan.specs.declared.bound.Copying.{Copying}
 use Rattle.spec_scan.specs.Copies.{after_element}
-use Rattle.spec_scan.specs.Instructions.{Control, Nothing, Call, Return, Jump, ToggleZone, RegionUp, RegionDown, TriggerTask, StartCopy, MinorFault, MajorFault, row}
+use Rattle.spec_scan.specs.Instructions.{Control, Nothing, Call, Return, Jump, ToggleZone, Up, Down, TriggerTask, StartCopy, MinorFault, MajorFault, row}
 use Rattle.spec_scan.specs.Next.{FirstHas, NextHas}
 use Rattle.spec_scan.specs.Position.{ProgramRungs, Frame, Position}
 use Rattle.spec_scan.specs.Scan.{Advanced, after_row, in_frame, in_frames, in_progress}
@@ -28,8 +28,8 @@ module _ (program : ProgramRungs) (position : Position) (image : List ℕ) (now 
   by_control on im fl Return f outer h k = record { image = h; copy = tt }
   by_control on im fl (Jump label) f outer h k = record { image = h; copy = tt }
   by_control on im fl ToggleZone f outer h k = record { image = h; copy = tt }
-  by_control on im fl RegionUp f outer h k = record { image = h; copy = tt }
-  by_control on im fl RegionDown f outer h k = record { image = h; copy = tt }
+  by_control on im fl Up f outer h k = record { image = h; copy = tt }
+  by_control on im fl Down f outer h k = record { image = h; copy = tt }
   by_control on im fl (TriggerTask t) f outer h k = record { image = h; copy = tt }
   by_control on im fl (StartCopy c) f outer h k = record { image = h; copy = k c refl }
   by_control on im fl MinorFault f outer h k = record { image = h; copy = tt }

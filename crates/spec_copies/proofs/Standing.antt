@@ -10,7 +10,7 @@ use Rattle.spec_language.specs.Declarations.{bytes}
 use Rattle.spec_scan.specs.declared.bound.Copying.{Copying}
 use Rattle.spec_scan.specs.Copies.{after_element}
 use Rattle.spec_scan.specs.Executable.{IsExecutable, IsExecutableProgram}
-use Rattle.spec_scan.specs.Instructions.{Control, Nothing, Call, Return, Jump, ToggleZone, RegionUp, RegionDown, TriggerTask, StartCopy, MinorFault, MajorFault, row}
+use Rattle.spec_scan.specs.Instructions.{Control, Nothing, Call, Return, Jump, ToggleZone, Up, Down, TriggerTask, StartCopy, MinorFault, MajorFault, row}
 use Rattle.spec_scan.specs.Next.{FirstHas, NextHas}
 use Rattle.spec_scan.specs.Position.{ProgramRungs, Frame, Position, first_position}
 use Rattle.spec_scan.specs.Scan.{after_row, in_frame, in_frames, in_progress, advance}
@@ -42,8 +42,8 @@ module _ (program : ProgramRungs) (position : Position) (image : List ℕ) (now 
   by_control on im fl Return f outer h = tt
   by_control on im fl (Jump label) f outer h = tt
   by_control on im fl ToggleZone f outer h = tt
-  by_control on im fl RegionUp f outer h = tt
-  by_control on im fl RegionDown f outer h = tt
+  by_control on im fl Up f outer h = tt
+  by_control on im fl Down f outer h = tt
   by_control on im fl (TriggerTask t) f outer h = tt
   by_control on im fl (StartCopy c) f outer h = h
   by_control on im fl MinorFault f outer h = tt

@@ -15,6 +15,7 @@ use Rattle.spec_scan.specs.Copies.{copy_element, after_element}
 use Rattle.spec_scan.specs.Scan.{Advanced, in_progress}
 use Rattle.spec_base.proofs.Lists.{value_of_some}
 use Rattle.spec_scan.specs.CopyBounds.{SourceInBounds}
+use Rattle.spec_machine.specs.declared.answer.Outcome.{Outcome}
 use Rattle.spec_machine.specs.declared.answer.Mark.{Mark}
 use Rattle.spec_machine.specs.declared.answer.Mark.TheVariants as marks
 use Rattle.spec_machine.specs.declared.answer.Moment.{Moment}
@@ -26,9 +27,9 @@ use Rattle.spec_machine.specs.declared.event.Action.TheVariants.{WordIn, WordOut
 use Rattle.spec_machine.specs.declared.reply.EditFault.{EditFault}
 use Rattle.spec_machine.specs.Edits.{Edited, accept, on_accepted, test, untest, assemble, cancel}
 use Rattle.spec_machine.specs.Project.{Project}
-use Rattle.spec_machine.specs.ProcessorStep.{Stepped, task_of, processor_step, task_step, scan_step, after_advance}
-use Rattle.spec_machine.specs.State.{State, Scan, Progress, progress_of, start}
-use Rattle.spec_machine.specs.Actions.{Acted, held_or, install_on, edit_replied, force_replied, act}
+use Rattle.spec_machine.specs.ProcessorStep.{task_of, processor_step, task_step, scan_step, after_advance}
+use Rattle.spec_machine.specs.State.{State, Scan, Progress, progress_of, start, Answered}
+use Rattle.spec_machine.specs.Actions.{held_or, install_on, edit_replied, force_replied, act}
 use Rattle.spec_machine.specs.Machine.{TraceEntry, OfStep, step}
 use Rattle.spec_machine.specs.ValidProject.{IsValidProject}
 use Rattle.spec_machine.proofs.OrderlyTables.{only_chosen}
@@ -58,10 +59,10 @@ any_held (u ∷ us) zero h = or_left (has_open_cps u) (list_any has_open_cps us)
 any_held (u ∷ us) (suc t) h = or_right (has_open_cps u) (list_any has_open_cps us) (any_held us t h)
 
 -- the image after an action
-abbrev KeepsImage : State → Acted → Type 0
+abbrev KeepsImage : State → Answered Outcome → Type 0
 KeepsImage s a = a.state.image ≡ s.image
 
-held_image : (b : Bool) (s : State) (a : Acted) → b ≡ true → KeepsImage s (held_or b s a)
+held_image : (b : Bool) (s : State) (a : Answered Outcome) → b ≡ true → KeepsImage s (held_or b s a)
 held_image true s a h = refl
 held_image false s a h = absurd (false≢true h)
 
@@ -102,7 +103,7 @@ module _ (s : State) (t : ℕ) (scan : Scan) (now : Copying) where
   abbrev pub copied : Bool → Bool → Option Copying → Advanced
   copied done sync rest = record { position = record scan.position { copy = rest }; image = copy_element now s.image; flags = q.flags; effect = Copied done sync }
 
-  abbrev pub stepped : Bool → Bool → Option Copying → Stepped
+  abbrev pub stepped : Bool → Bool → Option Copying → Answered Moment
   stepped done sync rest = after_advance s t q scan (copied done sync rest)
 
   pub copying : chosen s.table ≡ Some t → q.scan ≡ Some scan → scan.position.copy ≡ Some now → processor_step s ≡ stepped (nat_le now.left 1) now.sync (rest_copy now (nat_lt 1 now.left))
@@ -280,17 +281,17 @@ module _ (p : Project) (valid : IsValidProject p) (t : ℕ) (within : t < length
     bytes_next = element_copied c its_copy h.elements first s.image h.at some_left apart h.bytes
 
     -- what follows a step
-    abbrev Goal : Stepped → Type 0
-    Goal x = Found (stage s (OfStep x.moment) x.state ∷ stages_from x.state es)
+    abbrev Goal : Answered Moment → Type 0
+    Goal x = Found (stage s (OfStep x.answer) x.state ∷ stages_from x.state es)
 
-    abbrev Follow : Stepped → Type 0
+    abbrev Follow : Answered Moment → Type 0
     Follow x = InPhase x.state → Found (stages_from x.state es)
 
     -- the last element
     last_element : its_copy.left ≤ 1 → Goal (stepped s t its_scan its_copy true true (rest_copy its_copy (nat_lt 1 its_copy.left)))
     last_element few =
         let x = stepped s t its_scan its_copy true true (rest_copy its_copy (nat_lt 1 its_copy.left)) in
-        let y = stage s (OfStep x.moment) x.state in
+        let y = stage s (OfStep x.answer) x.state in
         let image : x.state.image ≡ copy_element its_copy s.image = advance_image s t (progress_of s t) its_scan (copied s t its_scan its_copy true true (rest_copy its_copy (nat_lt 1 its_copy.left))) in
         let all : h.elements + 1 ≡ c.left = (let l = h.at.left in let n = some_left in omega arith) in
         let done = subst (λ (k : ℕ). CopiedSoFar c first (copy_element its_copy s.image) k) all bytes_next in
@@ -302,7 +303,7 @@ module _ (p : Project) (valid : IsValidProject p) (t : ℕ) (within : t < length
     more_elements many follow =
         let a = copied s t its_scan its_copy false true (Some (after_element its_copy)) in
         let x = stepped s t its_scan its_copy false true (Some (after_element its_copy)) in
-        let y = stage s (OfStep x.moment) x.state in
+        let y = stage s (OfStep x.answer) x.state in
         let image : x.state.image ≡ copy_element its_copy s.image = advance_image s t (progress_of s t) its_scan a in
         let made = own_copied p s t (chosen_known p s t (known_at p s r) (is_chosen s r h)) its_scan a true in
         passed y (stages_from x.state es) refl (follow (inl (record {
@@ -333,32 +334,32 @@ module _ (p : Project) (valid : IsValidProject p) (t : ℕ) (within : t < length
         subst Goal (sym same) (by_left (nat_lt 1 its_copy.left) refl (subst Follow same follow))
 
   -- a stage out of the copy
-  out_stage : (s : State) (e : Event) (es : List Event) → IsReached p s → syncs (progress_of s t).scan ≡ false → (InPhase (step s e).state → Found (stages_from (step s e).state es)) → Found (stage s (step s e).entry (step s e).state ∷ stages_from (step s e).state es)
+  out_stage : (s : State) (e : Event) (es : List Event) → IsReached p s → syncs (progress_of s t).scan ≡ false → (InPhase (step s e).state → Found (stages_from (step s e).state es)) → Found (stage s (step s e).answer (step s e).state ∷ stages_from (step s e).state es)
   out_stage s e es r out follow =
       let x = happens p s e t (known_at p s r) within in
-      let y = stage s (step s e).entry (step s e).state in
-      let ends : is_task t (sync_end (step s e).entry) ≡ false = x.ends ∙ none_ends s e x.change x.makes out in
-      by_start (is_task t (sync_start (step s e).entry)) refl ends x
+      let y = stage s (step s e).answer (step s e).state in
+      let ends : is_task t (sync_end (step s e).answer) ≡ false = x.ends ∙ none_ends s e x.change x.makes out in
+      by_start (is_task t (sync_start (step s e).answer)) refl ends x
     where
       y : Stage
-      y = stage s (step s e).entry (step s e).state
+      y = stage s (step s e).answer (step s e).state
 
-      by_start : (b : Bool) → is_task t (sync_start (step s e).entry) ≡ b → is_task t (sync_end (step s e).entry) ≡ false → Happens p s e t → Found (y ∷ stages_from (step s e).state es)
-      by_start true is ends x = found y (stages_from (step s e).state es) (or_left (is_task t (sync_start (step s e).entry)) (is_task t (sync_end (step s e).entry)) is) (no_end (is_task t (sync_end (step s e).entry)) (is_apart c) (is_copied c begun.after (step s e).state) ends)
+      by_start : (b : Bool) → is_task t (sync_start (step s e).answer) ≡ b → is_task t (sync_end (step s e).answer) ≡ false → Happens p s e t → Found (y ∷ stages_from (step s e).state es)
+      by_start true is ends x = found y (stages_from (step s e).state es) (or_left (is_task t (sync_start (step s e).answer)) (is_task t (sync_end (step s e).answer)) is) (no_end (is_task t (sync_end (step s e).answer)) (is_apart c) (is_copied c begun.after (step s e).state) ends)
       by_start false is ends x =
-          passed y (stages_from (step s e).state es) (or_from (is_task t (sync_start (step s e).entry)) (is_task t (sync_end (step s e).entry)) is ends)
+          passed y (stages_from (step s e).state es) (or_from (is_task t (sync_start (step s e).answer)) (is_task t (sync_end (step s e).answer)) is ends)
           (follow (inr (ap syncs (ap (λ (v : TaskView). v.scan) x.view) ∙ out_next s e x.change x.makes out (sym x.starts ∙ is))))
 
   -- a stage in the copy
-  in_stage : (s : State) (e : Event) (es : List Event) → IsReached p s → InCopy s t c first → (InPhase (step s e).state → Found (stages_from (step s e).state es)) → Found (stage s (step s e).entry (step s e).state ∷ stages_from (step s e).state es)
+  in_stage : (s : State) (e : Event) (es : List Event) → IsReached p s → InCopy s t c first → (InPhase (step s e).state → Found (stages_from (step s e).state es)) → Found (stage s (step s e).answer (step s e).state ∷ stages_from (step s e).state es)
   in_stage s events.Cpu es r h follow = at_step s es r h follow
   in_stage s events.Tick es r h follow =
-      passed (stage s (step s events.Tick).entry (step s events.Tick).state) (stages_from (step s events.Tick).state es) refl (follow (kept_phase s events.Tick (λ e. (let f : events.Tick ≡ events.Cpu → ⊥ = λ x. cc in f e)) r h (tick_image s)))
+      passed (stage s (step s events.Tick).answer (step s events.Tick).state) (stages_from (step s events.Tick).state es) refl (follow (kept_phase s events.Tick (λ e. (let f : events.Tick ≡ events.Cpu → ⊥ = λ x. cc in f e)) r h (tick_image s)))
   in_stage s (events.Act lane a) es r h follow =
-      passed (stage s (step s (events.Act lane a)).entry (step s (events.Act lane a)).state) (stages_from (step s (events.Act lane a)).state es) refl
+      passed (stage s (step s (events.Act lane a)).answer (step s (events.Act lane a)).state) (stages_from (step s (events.Act lane a)).state es) refl
       (follow (kept_phase s (events.Act lane a) (λ e. (let f : events.Act lane a ≡ events.Cpu → ⊥ = λ x. cc in f e)) r h (act_image s lane a (any_held s.table.states t (open_flag s r h)))))
 
-  by_phase : (s : State) (e : Event) (es : List Event) → IsReached p s → InPhase s → (InPhase (step s e).state → Found (stages_from (step s e).state es)) → Found (stage s (step s e).entry (step s e).state ∷ stages_from (step s e).state es)
+  by_phase : (s : State) (e : Event) (es : List Event) → IsReached p s → InPhase s → (InPhase (step s e).state → Found (stages_from (step s e).state es)) → Found (stage s (step s e).answer (step s e).state ∷ stages_from (step s e).state es)
   by_phase s e es r (inl h) follow = in_stage s e es r h follow
   by_phase s e es r (inr out) follow = out_stage s e es r out follow
 
@@ -406,7 +407,7 @@ sync_copy (Some c) h = (c, refl, h)
 
 module _ (p : Project) (valid : IsValidProject p) (s : State) (es : List Event) (r : IsReached p s) where
   abbrev here : Stage
-  here = record { before = s; entry = (step s events.Cpu).entry; after = (step s events.Cpu).state }
+  here = record { before = s; entry = (step s events.Cpu).answer; after = (step s events.Cpu).state }
 
   abbrev later : List Stage
   later = stages_from (step s events.Cpu).state es
@@ -453,7 +454,7 @@ module _ (p : Project) (valid : IsValidProject p) (s : State) (es : List Event) 
   by_start : (o : Option ℕ) → sync_start here.entry ≡ o → elim o [ None ↦ true | Some u ↦ ends_whole u here (copy_in here.after u) (find (starts_or_ends u) later) ] ≡ true
   by_start None e = refl
   by_start (Some u) e =
-      let m = (processor_step s).moment in
+      let m = (processor_step s).answer in
       let up = value_of_some (state_of s.table u) (step_of_up_task s u (start_is_step m m.mark u e)) in
       let known = known_at p s r in
       let within : u < length p.tasks = (let a = within_states s.table.states u up.0 up.1 in let b = known.sizes.states in omega arith) in
@@ -467,15 +468,15 @@ module _ (p : Project) (valid : IsValidProject p) (s : State) (es : List Event) 
 
 -- ---- along a run
 
-kept_here : (p : Project) (valid : IsValidProject p) (s : State) (e : Event) (es : List Event) → IsReached p s → keeps_copy (record { before = s; entry = (step s e).entry; after = (step s e).state }) (stages_from (step s e).state es) ≡ true
-kept_here p valid s events.Cpu es r = by_start p valid s es r (sync_start (step s events.Cpu).entry) refl
+kept_here : (p : Project) (valid : IsValidProject p) (s : State) (e : Event) (es : List Event) → IsReached p s → keeps_copy (record { before = s; entry = (step s e).answer; after = (step s e).state }) (stages_from (step s e).state es) ≡ true
+kept_here p valid s events.Cpu es r = by_start p valid s es r (sync_start (step s events.Cpu).answer) refl
 kept_here p valid s events.Tick es r = refl
 kept_here p valid s (events.Act lane a) es r = refl
 
 along : (p : Project) (valid : IsValidProject p) (s : State) (es : List Event) → IsReached p s → each_from keeps_copy (stages_from s es) ≡ true
 along p valid s [] r = refl
 along p valid s (e ∷ es) r =
-    and_from (keeps_copy (record { before = s; entry = (step s e).entry; after = (step s e).state }) (stages_from (step s e).state es)) (each_from keeps_copy (stages_from (step s e).state es))
+    and_from (keeps_copy (record { before = s; entry = (step s e).answer; after = (step s e).state }) (stages_from (step s e).state es)) (each_from keeps_copy (stages_from (step s e).state es))
     (kept_here p valid s e es r) (along p valid (step s e).state es (reached_next p s e r))
 
 pub runs_copy_whole : RunsCopyWhole

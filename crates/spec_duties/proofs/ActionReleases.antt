@@ -7,6 +7,7 @@ use Rattle.std.proofs.lemmas.Bool.{and_parts, cases_eq, cases_lt, eq-eqb, ne_eqb
 use Rattle.std.proofs.lemmas.List.{get_or_past, length-map}
 use Rattle.lgx_num.specs.Image.{write_signed}
 use Rattle.lgx_num.specs.Name.{same}
+use Rattle.spec_tables.specs.declared.fault.TheConstants.{TASK_FAULT, EVENT_OVERLAP}
 use Rattle.spec_tables.specs.declared.conn.ConnDef.{ConnDef}
 use Rattle.spec_tables.specs.declared.conn.ConnFault.{ConnFault}
 use Rattle.spec_tables.specs.declared.conn.ConnFault.TheVariants.{N1, N2, N3}
@@ -22,6 +23,7 @@ use Rattle.spec_tables.specs.Connections.{no_conn, conn_named, trigger_at, slot,
 use Rattle.spec_tables.specs.Forces.{Forces, forced, enable, remove_all}
 use Rattle.spec_tables.specs.Tasks.{TaskState, Table, no_task, task, state_of, is_up, is_continuous, continuous_task, held, stop, release_answer, release_some, put_up_if, if_released}
 use Rattle.spec_tables.proofs.StateLists.{found, none_found}
+use Rattle.spec_machine.specs.declared.answer.Outcome.{Outcome}
 use Rattle.spec_machine.specs.declared.event.Action.{Action}
 use Rattle.spec_machine.specs.declared.event.Action.TheVariants.{WordIn, WordOut, Accept, Test, Untest, Assemble, Cancel, ForceInstall, ForceEnable, ForceDisable, ForceRemove, ModeRun, ModeProgram, Clear}
 use Rattle.spec_machine.specs.declared.event.Event.{Event}
@@ -31,11 +33,11 @@ use Rattle.spec_machine.specs.declared.reply.Mode.{Mode}
 use Rattle.spec_machine.specs.declared.reply.Mode.TheVariants.{Program, Run, Faulted}
 use Rattle.spec_machine.specs.declared.reply.Reply.{Reply}
 use Rattle.spec_machine.specs.declared.reply.Reply.TheVariants.{Done, Held}
-use Rattle.spec_machine.specs.Actions.{Acted, replied, held_or, after_trigger, triggers, put_in, take_out, install_on, force_replied, edit_replied, to_run, mode_run_from, mode_program_from, clear_from, act}
+use Rattle.spec_machine.specs.Actions.{replied, held_or, after_trigger, triggers, put_in, take_out, install_on, force_replied, edit_replied, to_run, mode_run_from, mode_program_from, clear_from, act}
 use Rattle.spec_machine.specs.Edits.{Edited, accept, on_accepted, test, untest, assemble, cancel}
 use Rattle.spec_machine.specs.Project.{Project}
 use Rattle.spec_machine.specs.Releases.{after_answer, overlap_code, mask_of}
-use Rattle.spec_machine.specs.State.{State, Plan}
+use Rattle.spec_machine.specs.State.{State, Plan, Answered}
 use Rattle.spec_machine.specs.ValidProject.{IsValidProject, has_known_trigger, is_event, is_event_task}
 use Rattle.spec_schedule.specs.Counting.{is_task}
 use Rattle.spec_schedule.specs.Refusals.{conn_of, is_mode}
@@ -51,8 +53,8 @@ module _ (s : State) where
   abbrev many : ℕ
   many = length s.table.defs
 
-  abbrev Right : Action → Acted → Type 0
-  Right a x = IsReleasedRightly s a x.outcome x.state
+  abbrev Right : Action → Answered Outcome → Type 0
+  Right a x = IsReleasedRightly s a x.answer x.state
 
   -- ---- of an action that calls_for for nobody
 
@@ -65,16 +67,16 @@ module _ (s : State) where
   none_overlaps : (a : Action) (r : Reply) → IsCalm a r → (t : ℕ) → overlaps_by s a r t ≡ false
   none_overlaps a r calm t = ap (λ b. (b && not (task s.table t).inhibited) && is_up s.table t) (calm t)
 
-  calmly : (a : Action) (x : Acted) → x.outcome.released ≡ 0 → x.outcome.fault ≡ None → IsCalm a x.outcome.reply → ((t : ℕ) → is_up x.state.table t ≡ stays_up s a x.outcome.reply t) → Right a x
+  calmly : (a : Action) (x : Answered Outcome) → x.answer.released ≡ 0 → x.answer.fault ≡ None → IsCalm a x.answer.reply → ((t : ℕ) → is_up x.state.table t ≡ stays_up s a x.answer.reply t) → Right a x
   calmly a x none fault calm stay =
-      let r = x.outcome.reply in
+      let r = x.answer.reply in
       record {
         released = none ∙ sym (mask_none (comes_up_by s a r) many (none_comes a r calm));
         fault = fault ∙ sym (ap (λ (o : Option ℕ). option_map (overlap_of s) o) (find_none (overlaps_by s a r) 0 many (none_overlaps a r calm)));
         up = mask_same (is_up x.state.table) (λ t. comes_up_by s a r t || stays_up s a r t) many (λ t l. stay t ∙ sym (ap (λ b. b || stays_up s a r t) (none_comes a r calm t)));
       }
 
-  by_held : (a : Action) (b : Bool) (x : Acted) → IsCalm a Held → ((t : ℕ) → is_up s.table t ≡ stays_up s a Held t) → Right a x → Right a (held_or b s x)
+  by_held : (a : Action) (b : Bool) (x : Answered Outcome) → IsCalm a Held → ((t : ℕ) → is_up s.table t ≡ stays_up s a Held t) → Right a x → Right a (held_or b s x)
   by_held a true x calm stay h = calmly a (replied s Held) refl refl calm stay
   by_held a false x calm stay h = h
 
@@ -141,7 +143,7 @@ module _ (s : State) where
     abbrev conns : List ConnDef
     conns = s.plan.conns
 
-    module _ (y : State) (table : y.table ≡ s.table) (tick : y.tick ≡ s.tick) (t : ℕ) (h : CallsFor a t) (kind : overlap_code (task s.table t).kind ≡ 3) where
+    module _ (y : State) (table : y.table ≡ s.table) (tick : y.tick ≡ s.tick) (t : ℕ) (h : CallsFor a t) (kind : overlap_code (task s.table t).kind ≡ EVENT_OVERLAP) where
       in_table : (z : Table) → z ≡ s.table → (u : ℕ) → is_up z u ≡ is_up s.table u
       in_table z e u = ap (λ (x : Table). is_up x u) e
 
@@ -153,9 +155,9 @@ module _ (s : State) where
       }
       by_tests false true i u = record {
         released = sym (mask_of_one a t h false true i u);
-        fault = ap (λ (n : ℕ). let f : Fault = record { severity = Minor; kind = 6; code = overlap_code (task y.table t).kind; task = t; program = None; tick = n } in Some f) tick
-            ∙ (ap (λ (z : Table). let f : Fault = record { severity = Minor; kind = 6; code = overlap_code (task z t).kind; task = t; program = None; tick = s.tick } in Some f) table
-            ∙ (ap (λ (n : ℕ). let f : Fault = record { severity = Minor; kind = 6; code = n; task = t; program = None; tick = s.tick } in Some f) kind ∙ sym (fault_of_one a t h false true i u)));
+        fault = ap (λ (n : ℕ). let f : Fault = record { severity = Minor; kind = TASK_FAULT; code = overlap_code (task y.table t).kind; task = t; program = None; tick = n } in Some f) tick
+            ∙ (ap (λ (z : Table). let f : Fault = record { severity = Minor; kind = TASK_FAULT; code = overlap_code (task z t).kind; task = t; program = None; tick = s.tick } in Some f) table
+            ∙ (ap (λ (n : ℕ). let f : Fault = record { severity = Minor; kind = TASK_FAULT; code = n; task = t; program = None; tick = s.tick } in Some f) kind ∙ sym (fault_of_one a t h false true i u)));
         up = ups_same a t h false true i u y refl (in_table y.table table);
       }
       by_tests false false i u = record {
@@ -199,12 +201,12 @@ module _ (s : State) where
           let r = and_parts (nat_lt t (length p.tasks)) (is_event (slice_index_or p.tasks t no_task).kind) q.1 in
           (ltb-true t (length p.tasks) r.0, r.1)
 
-      event_code : (k : TaskKind) → is_event k ≡ true → overlap_code k ≡ 3
+      event_code : (k : TaskKind) → is_event k ≡ true → overlap_code k ≡ EVENT_OVERLAP
       event_code Continuous e = absurd (false≢true e)
       event_code (Periodic m) e = absurd (false≢true e)
       event_code EventTask e = refl
 
-      code_of : (t : ℕ) → c.trigger ≡ Some t → overlap_code (task s.table t).kind ≡ 3
+      code_of : (t : ℕ) → c.trigger ≡ Some t → overlap_code (task s.table t).kind ≡ EVENT_OVERLAP
       code_of t e =
           event_code (task s.table t).kind (ap (λ (ds : List TaskDef). is_event (slice_index_or ds t no_task).kind) known.sizes.same_tasks ∙ (is_known t e).1)
 
@@ -298,10 +300,10 @@ module _ (s : State) where
     stopped_down k = ap (λ (o : Option TaskState). is_some o) (down_state s.table.states k)
 
     -- the change, by the continuous task
-    abbrev ran_by : Option ℕ → Acted
+    abbrev ran_by : Option ℕ → Answered Outcome
     ran_by o = record {
       state = record (to_run s) { table = release_some o s.tick stopped };
-      outcome = record { reply = Done; fault = None; released = mask_of (option_and_then (λ t. if_released (release_answer (stop s.table) t) t) o) };
+      answer = record { reply = Done; fault = None; released = mask_of (option_and_then (λ t. if_released (release_answer (stop s.table) t) t) o) };
     }
 
     -- what is not there isn't continuous
@@ -328,7 +330,7 @@ module _ (s : State) where
               | inr g ↦ absurd (false≢true (sym (past_tasks u g) ∙ q))
             ]
 
-    released_by : (t : ℕ) (h : CallsFor ModeRun t) (inhibited up : Bool) → (task s.table t).inhibited ≡ inhibited → is_up stopped t ≡ up → Right ModeRun (record { state = record (to_run s) { table = put_up_if (cond inhibited Inhibited (cond up Overlap Released)) t s.tick stopped }; outcome = record { reply = Done; fault = None; released = mask_of (if_released (cond inhibited Inhibited (cond up Overlap Released)) t) } })
+    released_by : (t : ℕ) (h : CallsFor ModeRun t) (inhibited up : Bool) → (task s.table t).inhibited ≡ inhibited → is_up stopped t ≡ up → Right ModeRun (record { state = record (to_run s) { table = put_up_if (cond inhibited Inhibited (cond up Overlap Released)) t s.tick stopped }; answer = record { reply = Done; fault = None; released = mask_of (if_released (cond inhibited Inhibited (cond up Overlap Released)) t) } })
     released_by t h true up i u = record {
       released = sym (mask_of_one ModeRun t h true false i (nobody_up t));
       fault = sym (fault_of_one ModeRun t h true false i (nobody_up t));

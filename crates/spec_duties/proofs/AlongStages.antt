@@ -9,7 +9,7 @@ use Rattle.spec_schedule.specs.Stages.{Stage, stages, stages_from}
 use Rattle.spec_reach.proofs.Reached.{IsReached, reached_start, reached_next}
 
 abbrev pub stage : State → Event → Stage
-stage s e = record { before = s; entry = (step s e).entry; after = (step s e).state }
+stage s e = record { before = s; entry = (step s e).answer; after = (step s e).state }
 
 module _ (p : Project) (P : Stage → Type 0) (here : (s : State) (e : Event) → IsReached p s → P (stage s e)) where
   along : (s : State) (es : List Event) → IsReached p s → AllByRecursion P (stages_from s es)

@@ -6,6 +6,7 @@ use Rattle.spec_tables.specs.declared.task.TaskDef.{TaskDef}
 use Rattle.spec_tables.specs.declared.task.TaskKind.{TaskKind}
 use Rattle.spec_tables.specs.declared.task.TaskKind.TheVariants.{Continuous, Periodic, Event as EventTask}
 use Rattle.spec_tables.specs.Tasks.{TaskState, no_task, task, state_of, is_up, chosen, with_rank, rotate, expired, has_expired, divides_by_period}
+use Rattle.spec_machine.specs.declared.answer.TickReport.{TickReport}
 use Rattle.spec_machine.specs.declared.answer.Moment.{Moment}
 use Rattle.spec_machine.specs.declared.answer.What.{What}
 use Rattle.spec_machine.specs.declared.answer.What.TheVariants as what
@@ -16,8 +17,8 @@ use Rattle.spec_machine.specs.declared.reply.Mode.TheVariants.{Program, Run, Fau
 use Rattle.spec_machine.specs.Machine.{after_tick}
 use Rattle.spec_machine.specs.ProcessorStep.{processor_step}
 use Rattle.spec_machine.specs.Project.{Project}
-use Rattle.spec_machine.specs.State.{State}
-use Rattle.spec_machine.specs.Ticks.{Ticked, release_due, after_watchdogs, in_mode}
+use Rattle.spec_machine.specs.State.{State, Answered}
+use Rattle.spec_machine.specs.Ticks.{release_due, after_watchdogs, in_mode}
 use Rattle.spec_machine.specs.ValidProject.{IsValidProject}
 use Rattle.spec_schedule.specs.declared.trace.TraceEvent.{TraceEvent}
 use Rattle.spec_schedule.specs.declared.trace.TraceEvent.TheVariants as event
@@ -117,8 +118,8 @@ module _ (p : Project) (valid : IsValidProject p) (s : State) (cs : List Counted
         first_out (s.tick + 1) out 0 s1.table.defs s1.table.states
         (let a = (unless_open_keeps (chosen s.table) s.table).states in let b = known.sizes.states in let m = many in omega arith) expires
 
-    abbrev seen_after : Ticked → TraceEvent
-    seen_after x = seen p (after_tick x).entry
+    abbrev seen_after : Answered TickReport → TraceEvent
+    seen_after x = seen p (after_tick x).answer
 
     watchdog_run : (o : Option ℕ) → IsFirst (s.tick + 1) out 0 (length s1.table.defs) o → keeps_watchdogs p.tasks past (with_event (seen_after (after_watchdogs s1 o))) ≡ true
     watchdog_run (Some t) f = and_from (out t) _ f.0 (none_before (s.tick + 1) out (length s1.table.defs) t f)
@@ -153,10 +154,10 @@ module _ (p : Project) (valid : IsValidProject p) (s : State) (cs : List Counted
         let w = walked s1 in
         let x = release_due s1 in
         let y = with_event (seen_after x) in
-        ap (λ o. keeps_releases p.tasks past (with_event (event.Tick x.report.released x.report.overlapped o))) w.watchdog
-        ∙ and_from (nat_eq x.report.released (mask_below (comes_up p.tasks past y) (length p.tasks))) (nat_eq x.report.overlapped (mask_below (overlaps p.tasks past y) (length p.tasks)))
-        (eq-eqb x.report.released _ (w.released ∙ mask_of_run (is_new s1) (comes_up p.tasks past y) new_same))
-        (eq-eqb x.report.overlapped _ (w.overlapped ∙ mask_of_run (is_again s1) (overlaps p.tasks past y) again_same))
+        ap (λ o. keeps_releases p.tasks past (with_event (event.Tick x.answer.released x.answer.overlapped o))) w.watchdog
+        ∙ and_from (nat_eq x.answer.released (mask_below (comes_up p.tasks past y) (length p.tasks))) (nat_eq x.answer.overlapped (mask_below (overlaps p.tasks past y) (length p.tasks)))
+        (eq-eqb x.answer.released _ (w.released ∙ mask_of_run (is_new s1) (comes_up p.tasks past y) new_same))
+        (eq-eqb x.answer.overlapped _ (w.overlapped ∙ mask_of_run (is_again s1) (overlaps p.tasks past y) again_same))
 
   -- ---- a tick outside Run
 
@@ -187,12 +188,12 @@ module _ (p : Project) (valid : IsValidProject p) (s : State) (cs : List Counted
   abbrev is_not_run : Mode → Type 0
   is_not_run m = m ≡ Run → ⊥
 
-  watchdog_mode : (m : Mode) → s.mode ≡ m → keeps_watchdogs p.tasks past (with_event (seen p (after_tick (in_mode m (record s { tick = s.tick + 1 }))).entry)) ≡ true
+  watchdog_mode : (m : Mode) → s.mode ≡ m → keeps_watchdogs p.tasks past (with_event (seen p (after_tick (in_mode m (record s { tick = s.tick + 1 }))).answer)) ≡ true
   watchdog_mode Run e = watchdog_run e (expired (s.tick + 1) (rotate s.table)) (first e)
   watchdog_mode Program e = watchdog_quiet (λ r. (let f : is_not_run Program = λ x. cc in f (sym e ∙ r)))
   watchdog_mode Faulted e = watchdog_quiet (λ r. (let f : is_not_run Faulted = λ x. cc in f (sym e ∙ r)))
 
-  release_mode : (m : Mode) → s.mode ≡ m → keeps_releases p.tasks past (with_event (seen p (after_tick (in_mode m (record s { tick = s.tick + 1 }))).entry)) ≡ true
+  release_mode : (m : Mode) → s.mode ≡ m → keeps_releases p.tasks past (with_event (seen p (after_tick (in_mode m (record s { tick = s.tick + 1 }))).answer)) ≡ true
   release_mode Run e = release_run e (expired (s.tick + 1) (rotate s.table))
   release_mode Program e = release_quiet (λ r. (let f : is_not_run Program = λ x. cc in f (sym e ∙ r)))
   release_mode Faulted e = release_quiet (λ r. (let f : is_not_run Faulted = λ x. cc in f (sym e ∙ r)))
@@ -213,11 +214,11 @@ module _ (p : Project) (valid : IsValidProject p) (s : State) (cs : List Counted
   release_step m (what.Left t n ended) = refl
 
   pub watchdogs_here : (e : Event) → keeps_watchdogs p.tasks past (place p s cs ns e) ≡ true
-  watchdogs_here Cpu = watchdog_step (processor_step s).moment (processor_step s).moment.what
+  watchdogs_here Cpu = watchdog_step (processor_step s).answer (processor_step s).answer.what
   watchdogs_here Tick = watchdog_mode s.mode refl
   watchdogs_here (Act lane a) = refl
 
   pub releases_here : (e : Event) → keeps_releases p.tasks past (place p s cs ns e) ≡ true
-  releases_here Cpu = release_step (processor_step s).moment (processor_step s).moment.what
+  releases_here Cpu = release_step (processor_step s).answer (processor_step s).answer.what
   releases_here Tick = release_mode s.mode refl
   releases_here (Act lane a) = refl

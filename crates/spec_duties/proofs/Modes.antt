@@ -17,6 +17,9 @@ use Rattle.spec_scan.specs.declared.bound.Effect.{Effect}
 use Rattle.spec_scan.specs.declared.bound.Effect.TheVariants as effect
 use Rattle.spec_scan.specs.Scan.{Advanced, advance}
 use Rattle.spec_machine.specs.declared.answer.What.TheVariants as what
+use Rattle.spec_machine.specs.declared.answer.Outcome.{Outcome}
+use Rattle.spec_machine.specs.declared.answer.TickReport.{TickReport}
+use Rattle.spec_machine.specs.declared.answer.Moment.{Moment}
 use Rattle.spec_machine.specs.declared.event.Action.{Action}
 use Rattle.spec_machine.specs.declared.event.Action.TheVariants.{WordIn, WordOut, Accept, Test, Untest, Assemble, Cancel, ForceInstall, ForceEnable, ForceDisable, ForceRemove, ModeRun, ModeProgram, Clear}
 use Rattle.spec_machine.specs.declared.event.Event.{Event}
@@ -24,14 +27,14 @@ use Rattle.spec_machine.specs.declared.event.Event.TheVariants as events
 use Rattle.spec_machine.specs.declared.reply.EditFault.{EditFault}
 use Rattle.spec_machine.specs.declared.reply.Mode.{Mode}
 use Rattle.spec_machine.specs.declared.reply.Mode.TheVariants.{Program, Run, Faulted}
-use Rattle.spec_machine.specs.Actions.{Acted, held_or, after_trigger, triggers, put_in, take_out, install_on, force_replied, edit_replied, mode_run_from, mode_program_from, clear_from, act}
+use Rattle.spec_machine.specs.Actions.{held_or, after_trigger, triggers, put_in, take_out, install_on, force_replied, edit_replied, mode_run_from, mode_program_from, clear_from, act}
 use Rattle.spec_machine.specs.Edits.{Edited, accept, on_accepted, test, untest, assemble, cancel}
 use Rattle.spec_machine.specs.Machine.{OfStep, OfTick, OfAction, step}
-use Rattle.spec_machine.specs.ProcessorStep.{Stepped, triggered, plainly, scan_ended, with_progress, after_effect, after_advance, scan_step, task_step}
+use Rattle.spec_machine.specs.ProcessorStep.{triggered, plainly, scan_ended, with_progress, after_effect, after_advance, scan_step, task_step}
 use Rattle.spec_machine.specs.Project.{Project}
 use Rattle.spec_machine.specs.Releases.{after_answer}
-use Rattle.spec_machine.specs.State.{State, Scan, Progress, progress_of, programs_of}
-use Rattle.spec_machine.specs.Ticks.{Ticked, after_watchdogs, in_mode}
+use Rattle.spec_machine.specs.State.{State, Scan, Progress, progress_of, programs_of, Answered}
+use Rattle.spec_machine.specs.Ticks.{after_watchdogs, in_mode}
 use Rattle.spec_schedule.specs.Refusals.{is_mode}
 use Rattle.spec_reach.proofs.Reached.{IsReached, reached_next, known_at}
 use Rattle.spec_duties.specs.Modes.{mode_after, KeepsMode, ModesAreKept}
@@ -40,8 +43,8 @@ use Rattle.spec_duties.proofs.Masks.{walked}
 
 -- ---- a processor step
 
-abbrev Steps : State → Stepped → Type 0
-Steps s x = x.state.mode ≡ mode_after s.mode (OfStep x.moment)
+abbrev Steps : State → Answered Moment → Type 0
+Steps s x = x.state.mode ≡ mode_after s.mode (OfStep x.answer)
 
 by_answer : (s : State) (t n other : ℕ) (answer : Release) → Steps s (triggered (what.Ran t n) other (after_answer answer other s))
 by_answer s t n other Released = refl
@@ -80,8 +83,8 @@ by_task s (Some t) = by_scan s t (progress_of s t) (progress_of s t).scan
 
 -- ---- a tick
 
-abbrev Ticks : State → Ticked → Type 0
-Ticks s x = x.state.mode ≡ mode_after s.mode (OfTick x.report)
+abbrev Ticks : State → Answered TickReport → Type 0
+Ticks s x = x.state.mode ≡ mode_after s.mode (OfTick x.answer)
 
 by_watchdogs : (s y : State) → y.mode ≡ s.mode → (o : Option ℕ) → Ticks s (after_watchdogs y o)
 by_watchdogs s y m (Some t) = refl
@@ -96,8 +99,8 @@ by_mode s Faulted = refl
 -- ---- an action
 
 module _ (s : State) (lane : ℕ) where
-  abbrev Acts : Action → Acted → Type 0
-  Acts a x = x.state.mode ≡ mode_after s.mode (OfAction lane a x.outcome)
+  abbrev Acts : Action → Answered Outcome → Type 0
+  Acts a x = x.state.mode ≡ mode_after s.mode (OfAction lane a x.answer)
 
   by_release : (name : List ℕ) (word t : ℕ) (v : ℤ) (y : State) (answer : Release) → y.mode ≡ s.mode → Acts (WordIn name word v) (after_trigger t (after_answer answer t y))
   by_release name word t v y Released m = m
@@ -116,7 +119,7 @@ module _ (s : State) (lane : ℕ) where
   by_put name word v (Err f) = refl
   by_put name word v (Ok k) = by_trigger name word v (record s { image = write_signed w32 s.image k.byte (forced s.forces k.io v) }) s.mode k.trigger refl
 
-  word_held : (name : List ℕ) (word : ℕ) (v : ℤ) (b : Bool) (x : Acted) → Acts (WordIn name word v) x → Acts (WordIn name word v) (held_or b s x)
+  word_held : (name : List ℕ) (word : ℕ) (v : ℤ) (b : Bool) (x : Answered Outcome) → Acts (WordIn name word v) x → Acts (WordIn name word v) (held_or b s x)
   word_held name word v true x h = refl
   word_held name word v false x h = h
 
@@ -181,7 +184,7 @@ down_in Faulted us h = ap not (all_down us (λ t u g. (let f : Faulted ≡ Run �
 
 -- ---- along a run
 
-mode_of : (s : State) (e : Event) → (step s e).state.mode ≡ mode_after s.mode (step s e).entry
+mode_of : (s : State) (e : Event) → (step s e).state.mode ≡ mode_after s.mode (step s e).answer
 mode_of s events.Cpu = by_task s (chosen s.table)
 mode_of s events.Tick = by_mode s s.mode
 mode_of s (events.Act lane a) = by_act s lane a

@@ -15,6 +15,8 @@ use Rattle.spec_tables.specs.Tasks.{Table, state_of, is_open, chosen, release_an
 use Rattle.spec_scan.specs.declared.bound.Effect.{Effect}
 use Rattle.spec_scan.specs.declared.bound.Effect.TheVariants.{Ran, Up, Down, Trigger, CopyStart, Copied, Left, Minor, Major}
 use Rattle.spec_scan.specs.Scan.{Advanced, advance}
+use Rattle.spec_machine.specs.declared.answer.Outcome.{Outcome}
+use Rattle.spec_machine.specs.declared.answer.TickReport.{TickReport}
 use Rattle.spec_machine.specs.declared.answer.Moment.{Moment}
 use Rattle.spec_machine.specs.declared.answer.What.{What}
 use Rattle.spec_machine.specs.declared.answer.What.TheVariants as what
@@ -25,14 +27,14 @@ use Rattle.spec_machine.specs.declared.event.Action.TheVariants.{WordIn, WordOut
 use Rattle.spec_machine.specs.declared.reply.EditFault.{EditFault}
 use Rattle.spec_machine.specs.declared.reply.Mode.{Mode}
 use Rattle.spec_machine.specs.declared.reply.Mode.TheVariants.{Program, Run, Faulted}
-use Rattle.spec_machine.specs.Actions.{Acted, held_or, triggers, after_trigger, put_in, take_out, install_on, force_replied, edit_replied, mode_run_from, mode_program_from, clear_from, act}
+use Rattle.spec_machine.specs.Actions.{held_or, triggers, after_trigger, put_in, take_out, install_on, force_replied, edit_replied, mode_run_from, mode_program_from, clear_from, act}
 use Rattle.spec_machine.specs.Edits.{Edited, accept, on_accepted, test, untest, assemble, cancel}
 use Rattle.spec_machine.specs.Machine.{after_step, after_tick, after_action, step}
-use Rattle.spec_machine.specs.ProcessorStep.{Stepped, plainly, triggered, with_progress, scan_ended, after_effect, after_advance, scan_step, task_step, processor_step}
+use Rattle.spec_machine.specs.ProcessorStep.{plainly, triggered, with_progress, scan_ended, after_effect, after_advance, scan_step, task_step, processor_step}
 use Rattle.spec_machine.specs.Project.{Project}
 use Rattle.spec_machine.specs.Releases.{after_answer}
-use Rattle.spec_machine.specs.State.{State, Scan, Progress, progress_of, programs_of}
-use Rattle.spec_machine.specs.Ticks.{Ticked, release_due, after_watchdogs, in_mode}
+use Rattle.spec_machine.specs.State.{State, Scan, Progress, progress_of, programs_of, Answered}
+use Rattle.spec_machine.specs.Ticks.{release_due, after_watchdogs, in_mode}
 use Rattle.spec_schedule.specs.declared.trace.TraceAnswer.{TraceAnswer}
 use Rattle.spec_schedule.specs.declared.trace.TraceEvent.{TraceEvent}
 use Rattle.spec_schedule.specs.declared.trace.TraceEvent.TheVariants as event
@@ -97,8 +99,8 @@ rotate_since (Some t) s = cond_both (is_open (state_of s t)) s (to_back t s) (λ
 -- ---- the processor step
 
 module _ (p : Project) where
-  abbrev StepMoves : State → Stepped → Type 0
-  StepMoves s x = Move s x.state (seen p (after_step x).entry)
+  abbrev StepMoves : State → Answered Moment → Type 0
+  StepMoves s x = Move s x.state (seen p (after_step x).answer)
 
   by_answer : (s : State) (t n other : ℕ) (a : Release) → StepMoves s (triggered (what.Ran t n) other (after_answer a other s))
   by_answer s t n other Released = GoesOn refl refl (inl refl) refl
@@ -136,7 +138,7 @@ module _ (p : Project) where
   by_advance s t q scan a =
       let q' : Progress = record { ended = q.ended; scan = Some (record scan { position = a.position }); flags = a.flags } in
       let y : State = record (with_progress t q' s) { image = a.image } in
-      as_of s y (after_advance s t q scan a).state (seen p (after_step (after_advance s t q scan a)).entry) refl refl (by_effect y t q' scan.program a.effect)
+      as_of s y (after_advance s t q scan a).state (seen p (after_step (after_advance s t q scan a)).answer) refl refl (by_effect y t q' scan.program a.effect)
 
   by_scan : (s : State) (t : ℕ) (q : Progress) (o : Option Scan) → StepMoves s (scan_step s t q o)
   by_scan s t q None = GoesOn refl refl (inl refl) refl
@@ -148,14 +150,14 @@ module _ (p : Project) where
 
   -- ---- the tick, once the due tasks are released
 
-  abbrev StepTick : State → Ticked → Type 0
-  StepTick s x = Move s x.state (seen p (after_tick x).entry)
+  abbrev StepTick : State → Answered TickReport → Type 0
+  StepTick s x = Move s x.state (seen p (after_tick x).answer)
 
   by_watchdogs : (s y : State) → y.mode ≡ s.mode → y.table.run_since ≡ s.table.run_since → (o : Option ℕ) → StepTick s (after_watchdogs y o)
   by_watchdogs s y m r (Some t) = Stops refl refl (λ e. cc e)
   by_watchdogs s y m r None =
       let w = walked y in
-      GoesOn refl (ap (λ o. stops (event.Tick (release_due y).report.released (release_due y).report.overlapped o)) w.watchdog) (inl (w.mode ∙ m)) (w.since ∙ r)
+      GoesOn refl (ap (λ o. stops (event.Tick (release_due y).answer.released (release_due y).answer.overlapped o)) w.watchdog) (inl (w.mode ∙ m)) (w.since ∙ r)
 
   by_mode : (m : Mode) (s : State) → s.mode ≡ m → StepTick s (in_mode m (record s { tick = s.tick + 1 }))
   by_mode Run s e =
@@ -167,18 +169,18 @@ module _ (p : Project) where
   -- ---- actions
 
   module _ (lane : ℕ) (a : Action) (s : State) where
-    abbrev ActMoves : Acted → Type 0
-    ActMoves x = Move s x.state (seen p (after_action lane a x).entry)
+    abbrev ActMoves : Answered Outcome → Type 0
+    ActMoves x = Move s x.state (seen p (after_action lane a x).answer)
 
     -- an action that is no change of mode
     abbrev IsPlain : Type 0
     IsPlain = (answer : TraceAnswer) (mask : ℕ) → (comes_to_run (event.Act lane (verb_of a) (program_number p.programs (named a)) answer mask) ≡ false) × (stops (event.Act lane (verb_of a) (program_number p.programs (named a)) answer mask) ≡ false)
 
-    plainly_on : IsPlain → (x : Acted) → x.state.mode ≡ s.mode → x.state.table.run_since ≡ s.table.run_since → ActMoves x
+    plainly_on : IsPlain → (x : Answered Outcome) → x.state.mode ≡ s.mode → x.state.table.run_since ≡ s.table.run_since → ActMoves x
     plainly_on plain x m r =
-        let h = plain (answer_of x.outcome.reply) x.outcome.released in GoesOn h.0 h.1 (inl m) r
+        let h = plain (answer_of x.answer.reply) x.answer.released in GoesOn h.0 h.1 (inl m) r
 
-    by_held : IsPlain → (b : Bool) (x : Acted) → ActMoves x → ActMoves (held_or b s x)
+    by_held : IsPlain → (b : Bool) (x : Answered Outcome) → ActMoves x → ActMoves (held_or b s x)
     by_held plain true x h = plainly_on plain (held_or true s x) refl refl
     by_held plain false x h = h
 
@@ -211,7 +213,7 @@ module _ (p : Project) where
     by_edit plain (Err f) = plainly_on plain (edit_replied s (Err f)) refl refl
     by_edit plain (Ok x) = plainly_on plain (edit_replied s (Ok x)) refl refl
 
-  held_run : (lane : ℕ) (s : State) (b : Bool) (x : Acted) → ActMoves lane ModeRun s x → ActMoves lane ModeRun s (held_or b s x)
+  held_run : (lane : ℕ) (s : State) (b : Bool) (x : Answered Outcome) → ActMoves lane ModeRun s x → ActMoves lane ModeRun s (held_or b s x)
   held_run lane s true x h = GoesOn refl refl (inl refl) refl
   held_run lane s false x h = h
 
@@ -220,7 +222,7 @@ module _ (p : Project) where
   by_run lane Run s = GoesOn refl refl (inl refl) refl
   by_run lane Faulted s = GoesOn refl refl (inl refl) refl
 
-  held_program : (lane : ℕ) (s : State) (b : Bool) (x : Acted) → ActMoves lane ModeProgram s x → ActMoves lane ModeProgram s (held_or b s x)
+  held_program : (lane : ℕ) (s : State) (b : Bool) (x : Answered Outcome) → ActMoves lane ModeProgram s x → ActMoves lane ModeProgram s (held_or b s x)
   held_program lane s true x h = GoesOn refl refl (inl refl) refl
   held_program lane s false x h = h
 
@@ -254,7 +256,7 @@ module _ (p : Project) where
 
   -- ---- an event
 
-  pub moves : (s : State) (e : Event) → Move s (step s e).state (seen p (step s e).entry)
+  pub moves : (s : State) (e : Event) → Move s (step s e).state (seen p (step s e).answer)
   moves s Cpu = by_task s (chosen s.table)
   moves s Tick = by_mode s.mode s refl
   moves s (Act lane a) = by_act s lane a
@@ -267,10 +269,10 @@ module _ (p : Project) where
   step_no_tick m (what.Copied t n) = refl
   step_no_tick m (what.Left t n ended) = refl
 
-  pub ticks_on : (s : State) (e : Event) → (step s e).state.tick ≡ ticks_in (seen p (step s e).entry) + s.tick
+  pub ticks_on : (s : State) (e : Event) → (step s e).state.tick ≡ ticks_in (seen p (step s e).answer) + s.tick
   ticks_on s e = (event_moves s e).tick ∙ go e
     where
-      go : (e : Event) → tick_after s e ≡ ticks_in (seen p (step s e).entry) + s.tick
-      go Cpu = let z = step_no_tick (processor_step s).moment (processor_step s).moment.what in (let e : s.tick ≡ ticks_in (step_seen (processor_step s).moment (processor_step s).moment.what) + s.tick = omega arith in e)
+      go : (e : Event) → tick_after s e ≡ ticks_in (seen p (step s e).answer) + s.tick
+      go Cpu = let z = step_no_tick (processor_step s).answer (processor_step s).answer.what in (let e : s.tick ≡ ticks_in (step_seen (processor_step s).answer (processor_step s).answer.what) + s.tick = omega arith in e)
       go Tick = (let e : s.tick + 1 ≡ 1 + s.tick = omega arith in e)
       go (Act lane a) = (let e : s.tick ≡ 0 + s.tick = omega arith in e)

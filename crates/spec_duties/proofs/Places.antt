@@ -145,7 +145,7 @@ module _ (p : Project) (valid : IsValidProject p) where
   all_with_past test each s [] cs ns past h = refl
   all_with_past test each s (e ∷ es) cs ns past h =
       and_from (test past (place p s cs ns e)) _ (each s e cs ns past h)
-      (all_with_past test each (step s e).state es (counts_next p valid s e cs) (edited_all (seen p (step s e).entry) ns) (place p s cs ns e ∷ past) (stands_next s e cs ns past h))
+      (all_with_past test each (step s e).state es (counts_next p valid s e cs) (edited_all (seen p (step s e).answer) ns) (place p s cs ns e ∷ past) (stands_next s e cs ns past h))
 
   pub all_of_run : (test : List CountedEvent → CountedEvent → Bool) → ((s : State) (e : Event) (cs : List Counted) (ns : List Numbers) (past : List CountedEvent) → Stands p s cs past → test past (place p s cs ns e) ≡ true) → (journal : List Event) → each_with_past test [] (counted_run p journal) ≡ true
   all_of_run test each journal =

@@ -20,6 +20,7 @@ use Rattle.spec_tables.specs.Forces.{installed, no_forces}
 use Rattle.spec_tables.specs.Tasks.{held}
 use Rattle.spec_language.specs.Checked.{CheckScope, checked}
 use Rattle.spec_scan.specs.Position.{Rungs}
+use Rattle.spec_machine.specs.declared.answer.Outcome.{Outcome}
 use Rattle.spec_machine.specs.Commands.{AcceptCommand}
 use Rattle.spec_machine.specs.declared.event.Event.{Event}
 use Rattle.spec_machine.specs.declared.event.Event.TheVariants as events
@@ -34,8 +35,8 @@ use Rattle.spec_machine.specs.declared.reply.Reply.{Reply}
 use Rattle.spec_machine.specs.declared.reply.Reply.TheVariants.{Done, Version, Held, Mode, Conn, Force, Edit}
 use Rattle.spec_machine.specs.Edits.{Change, Book, Edited, book_at, routine_at, accept_in, other_owner, is_misplaced, first_again, taken_by, changes_in, changes_of, merged, scope_of, with_changes, instruction_count, none_or, ok_or_cause, has_accepted, test, untest, assemble, cancel}
 use Rattle.spec_machine.specs.Project.{Project, RoutineText}
-use Rattle.spec_machine.specs.State.{State, Plan}
-use Rattle.spec_machine.specs.Actions.{Acted, held_or, triggers, put_in, take_out, install_on, force_replied, edit_replied, mode_run_from, mode_program_from, clear_from, act}
+use Rattle.spec_machine.specs.State.{State, Plan, Answered}
+use Rattle.spec_machine.specs.Actions.{held_or, triggers, put_in, take_out, install_on, force_replied, edit_replied, mode_run_from, mode_program_from, clear_from, act}
 use Rattle.spec_schedule.specs.Refusals.{when, first_of, is_mode, owner_cause, text_cause, if_read, merged_causes, first_cause}
 use Rattle.spec_schedule.specs.Stages.{is_refusal}
 use Rattle.spec_duties.specs.Answers.{refusal_in, IsAnsweredRightly, AnswersAreRight}
@@ -43,11 +44,11 @@ use Rattle.spec_reach.proofs.Reached.{IsReached, known_at}
 use Rattle.spec_duties.proofs.AlongStages.{stage, each_stage}
 
 -- the first cause is what the reply refuses with
-abbrev Rightly : Option Reply → Acted → Type 0
-Rightly first x = first ≡ refusal_in x.outcome.reply
+abbrev Rightly : Option Reply → Answered Outcome → Type 0
+Rightly first x = first ≡ refusal_in x.answer.reply
 
-taken : (first : Option Reply) (x : Acted) → first ≡ None → is_refusal x.outcome.reply ≡ false → Rightly first x
-taken first x none e = none ∙ sym (ap (λ b. cond b (Some x.outcome.reply) None) e)
+taken : (first : Option Reply) (x : Answered Outcome) → first ≡ None → is_refusal x.answer.reply ≡ false → Rightly first x
+taken first x none e = none ∙ sym (ap (λ b. cond b (Some x.answer.reply) None) e)
 
 -- not less is at most
 le_not_lt : (a b : ℕ) → nat_le a b ≡ not (nat_lt b a)
@@ -70,7 +71,7 @@ module _ (s : State) where
   word_first h o word output =
       first_of (when h Held ∷ when (is_none o) (Conn N1) ∷ when (nat_le (conn_at o).words word) (Conn N2) ∷ when (not (agree (conn_at o).output output)) (Conn N3) ∷ [])
 
-  triggers_done : (x : State) (m : Modes) (o : Option ℕ) → is_refusal (triggers x m o).outcome.reply ≡ false
+  triggers_done : (x : State) (m : Modes) (o : Option ℕ) → is_refusal (triggers x m o).answer.reply ≡ false
   triggers_done x Run (Some t) = refl
   triggers_done x Program (Some t) = refl
   triggers_done x Faulted (Some t) = refl
@@ -230,7 +231,7 @@ module _ (s : State) where
     abbrev source_of : List Change → List Source
     source_of changes = merged (routine_at b.base r).source (changes_in b r ++ changes)
 
-    abbrev booked : Result Book EditFault → Acted
+    abbrev booked : Result Book EditFault → Answered Outcome
     booked x = edit_replied s (x >>= λ b'. Ok (record { books = slice_set s.books n b'; reply = Version b'.newest }))
 
     by_count : (b' : Book) (le gt : Bool) → gt ≡ not le → Rightly (first_of (when gt (Edit E9) ∷ [])) (booked (unless le E9 >>= λ _. Ok b'))

@@ -33,7 +33,7 @@ module _ (s : State) (lane : ℕ) where
   abbrev Here : Bool → Mode → Type 0
   Here b m =
       let x = held_or b s (mode_run_from m s) in
-      KeepsRunStart (record { before = s; entry = OfAction lane ModeRun x.outcome; after = x.state })
+      KeepsRunStart (record { before = s; entry = OfAction lane ModeRun x.answer; after = x.state })
 
   by_run : (b : Bool) (m : Mode) → Here b m
   by_run true m = tt

@@ -8,13 +8,14 @@ use Rattle.spec_tables.proofs.StateLists.{chosen_up}
 use Rattle.spec_scan.specs.declared.bound.Effect.{Effect}
 use Rattle.spec_scan.specs.declared.bound.Effect.TheVariants as effect
 use Rattle.spec_scan.specs.Scan.{Advanced, advance}
+use Rattle.spec_machine.specs.declared.answer.Moment.{Moment}
 use Rattle.spec_machine.specs.declared.event.Event.{Event}
 use Rattle.spec_machine.specs.declared.event.Event.TheVariants.{Cpu, Tick, Act}
 use Rattle.spec_machine.specs.Machine.{after_step, step}
 use Rattle.spec_machine.specs.declared.answer.What.TheVariants as what
-use Rattle.spec_machine.specs.ProcessorStep.{Stepped, plainly, with_progress, with_table, new_scan, next_program, after_effect, scan_step, task_step}
+use Rattle.spec_machine.specs.ProcessorStep.{plainly, with_progress, with_table, new_scan, next_program, after_effect, scan_step, task_step}
 use Rattle.spec_machine.specs.Project.{Project}
-use Rattle.spec_machine.specs.State.{State, Scan, Progress, progress_of, programs_of, dropped, start}
+use Rattle.spec_machine.specs.State.{State, Scan, Progress, progress_of, programs_of, dropped, start, Answered}
 use Rattle.spec_machine.specs.ValidProject.{IsValidProject}
 use Rattle.spec_schedule.specs.declared.trace.AuditTask.{AuditTask}
 use Rattle.spec_schedule.specs.declared.trace.TraceMark.{TraceMark}
@@ -147,9 +148,9 @@ module _ (p : Project) (valid : IsValidProject p) where
 
     -- ---- an event that is no step of the task
 
-    module _ (e : Event) (none : IsStepOf s e t → ⊥) (ne : stepping (seen p (step s e).entry) ≡ Some t → ⊥) where
+    module _ (e : Event) (none : IsStepOf s e t → ⊥) (ne : stepping (seen p (step s e).answer) ≡ Some t → ⊥) where
       abbrev seen_here : TraceEvent
-      seen_here = seen p (step s e).entry
+      seen_here = seen p (step s e).answer
 
       other_needs : (c : Change) → Makes s e t c → Needs s t c
       other_needs Stays m = tt
@@ -183,15 +184,15 @@ module _ (p : Project) (valid : IsValidProject p) where
       abbrev q : Progress
       q = progress_of s t
 
-      abbrev Steps : Stepped → Type 0
-      Steps x = Told (seen p (after_step x).entry) (progress_of x.state t).scan
+      abbrev Steps : Answered Moment → Type 0
+      Steps x = Told (seen p (after_step x).answer) (progress_of x.state t).scan
 
       is_chosen : IsChosen p s t
       is_chosen = chosen_known p s t known c
 
-      made : (x : Stepped) (d : Change) → Made p s x t d → Needs s t d → Fits t (seen p (after_step x).entry) before d → Steps x
+      made : (x : Answered Moment) (d : Change) → Made p s x t d → Needs s t d → Fits t (seen p (after_step x).answer) before d → Steps x
       made x d m needs fits =
-          let e = seen p (after_step x).entry in
+          let e = seen p (after_step x).answer in
           by_change e d needs fits
           (count_at 0 table e cs t (h.place.mirrors.many ∙ sym (table_length p valid)) (let n = table_length p valid in omega arith)
           ∙ (ap (λ n. counted (slice_index_or table t no_audit) n e was) (let z : 0 + t ≡ t = omega arith in z)
@@ -199,7 +200,7 @@ module _ (p : Project) (valid : IsValidProject p) where
           ∙ sym (ap (λ (v : TaskView). program_in v.scan) m.view)
 
       module _ (scan : Scan) (a : Advanced) (is : q.scan ≡ Some scan) where
-        abbrev after : Effect → Stepped
+        abbrev after : Effect → Answered Moment
         after e = after_effect (moved s t q scan a) t (gone_on q scan a) scan.program e
 
         abbrev scan' : Scan
@@ -208,7 +209,7 @@ module _ (p : Project) (valid : IsValidProject p) where
         same_before : before ≡ Some scan.program
         same_before = ap program_in is
 
-        goes : (m : TraceMark) (e : Effect) → Made p s (after e) t (Goes m scan') → scanned_after t (seen p (after_step (after e)).entry) before ≡ before → Steps (after e)
+        goes : (m : TraceMark) (e : Effect) → Made p s (after e) t (Goes m scan') → scanned_after t (seen p (after_step (after e)).answer) before ≡ before → Steps (after e)
         goes m e made_so same = made (after e) (Goes m scan') made_so c (same ∙ same_before)
 
         open_flag : (b : Bool) → is_syncing scan.position.copy ≡ b → has_open_cps (state_of s.table t) ≡ b
@@ -217,11 +218,11 @@ module _ (p : Project) (valid : IsValidProject p) where
         ended_here : scanned_after t (event.Left t scan.program true) before ≡ None
         ended_here = same_number t None before
 
-        by_finish : (b : Bool) (x : Stepped) → Made p s x t (if b then Restarts s.tick s.table.next else GoesDown) → Steps x
+        by_finish : (b : Bool) (x : Answered Moment) → Made p s x t (if b then Restarts s.tick s.table.next else GoesDown) → Steps x
         by_finish true x m = made x (Restarts s.tick s.table.next) m tt tt
         by_finish false x m = made x GoesDown m tt tt
 
-        abbrev finished : Bool → Stepped
+        abbrev finished : Bool → Answered Moment
         finished b = plainly (with_progress t (dropped (gone_on q scan a)) (with_table (release_some (if b then Some t else None) s.tick (record s.table { states = slice_set s.table.states t None })) (moved s t q scan a))) (what.Left t scan.program true)
 
         by_kind : (b : Bool) → is_continuous (task s.table t).kind ≡ b → nat_lt (q.ended + 1) (length (programs_of s t)) ≡ false → Steps (finished (is_continuous (task s.table t).kind))
@@ -271,7 +272,7 @@ module _ (p : Project) (valid : IsValidProject p) where
   module _ (s : State) (cs : List Counted) (ns : List Numbers) (past : List CountedEvent) (h : Stands p s cs past) (k : IsScanned s cs past) where
     -- what is counted after a step of this task
     abbrev After : (t : ℕ) → t < length p.tasks → Option ℕ → Type 0
-    After t l o = let x = task_step s o in Told s cs ns past h k t l (seen p (after_step x).entry) (progress_of x.state t).scan
+    After t l o = let x = task_step s o in Told s cs ns past h k t l (seen p (after_step x).answer) (progress_of x.state t).scan
 
     after_step_of : (t : ℕ) → (l : t < length p.tasks) → (o : Option ℕ) → chosen s.table ≡ o → After t l (chosen s.table)
     after_step_of t l None c =
@@ -288,8 +289,8 @@ module _ (p : Project) (valid : IsValidProject p) where
     scanned_next Tick t l = other_told s cs ns past h k t l Tick (λ m. (let f : Tick ≡ Cpu → ⊥ = λ q. cc in f m.step)) (λ q. cc q)
     scanned_next (Act lane a) t l = other_told s cs ns past h k t l (Act lane a) (λ m. (let f : Act lane a ≡ Cpu → ⊥ = λ q. cc in f m.step)) (λ q. cc q)
 
-    abbrev Keeps : Stepped → Type 0
-    Keeps x = keeps_scans p.schedule past (record { tasks = cs; programs = ns; event = seen p (after_step x).entry }) ≡ true
+    abbrev Keeps : Answered Moment → Type 0
+    Keeps x = keeps_scans p.schedule past (record { tasks = cs; programs = ns; event = seen p (after_step x).answer }) ≡ true
 
     module _ (t : ℕ) (c : chosen s.table ≡ Some t) where
       known_here : Known p s
@@ -310,7 +311,7 @@ module _ (p : Project) (valid : IsValidProject p) where
           and_from (is_none (scanned t cs past)) _ (ap (λ (o : Option ℕ). is_none o) (here_scanned None is)) (eq-eqb n _ (sym same))
 
       module _ (scan : Scan) (a : Advanced) (is : (progress_of s t).scan ≡ Some scan) where
-        abbrev stepped_by : Effect → Stepped
+        abbrev stepped_by : Effect → Answered Moment
         stepped_by e = after_effect (moved s t (progress_of s t) scan a) t (gone_on (progress_of s t) scan a) scan.program e
 
         mine : is_task scan.program (scanned t cs past) ≡ true
@@ -350,7 +351,7 @@ module _ (p : Project) (valid : IsValidProject p) where
   all_along s [] cs ns past h k = refl
   all_along s (e ∷ es) cs ns past h k =
       and_from (keeps_scans p.schedule past (place p s cs ns e)) _ (keeps_here s cs ns past h k e)
-      (all_along (step s e).state es (counts_next p valid s e cs) (edited_all (seen p (step s e).entry) ns) (place p s cs ns e ∷ past) (stands_next p valid s e cs ns past h) (scanned_next s cs ns past h k e))
+      (all_along (step s e).state es (counts_next p valid s e cs) (edited_all (seen p (step s e).answer) ns) (place p s cs ns e ∷ past) (stands_next p valid s e cs ns past h) (scanned_next s cs ns past h k e))
 
   none_scanned : (cs : List Counted) → IsScanned (start p) cs []
   none_scanned cs t l = sym (ap (λ (v : TaskView). program_in v.scan) (start_view p t))

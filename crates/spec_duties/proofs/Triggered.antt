@@ -11,13 +11,14 @@ use Rattle.spec_scan.specs.declared.bound.Effect.{Effect}
 use Rattle.spec_scan.specs.declared.bound.Effect.TheVariants as effect
 use Rattle.spec_scan.specs.Scan.{Advanced, advance}
 use Rattle.spec_machine.specs.declared.answer.What.TheVariants as what
+use Rattle.spec_machine.specs.declared.answer.Moment.{Moment}
 use Rattle.spec_machine.specs.declared.event.Event.{Event}
 use Rattle.spec_machine.specs.declared.event.Event.TheVariants.{Cpu, Tick, Act}
 use Rattle.spec_machine.specs.Machine.{after_step}
-use Rattle.spec_machine.specs.ProcessorStep.{Stepped, triggered, plainly, scan_ended, with_progress, after_effect, after_advance, scan_step, task_step}
+use Rattle.spec_machine.specs.ProcessorStep.{triggered, plainly, scan_ended, with_progress, after_effect, after_advance, scan_step, task_step}
 use Rattle.spec_machine.specs.Project.{Project}
 use Rattle.spec_machine.specs.Releases.{after_answer}
-use Rattle.spec_machine.specs.State.{State, Scan, Progress, progress_of, start}
+use Rattle.spec_machine.specs.State.{State, Scan, Progress, progress_of, start, Answered}
 use Rattle.spec_machine.specs.ValidProject.{IsValidProject}
 use Rattle.spec_schedule.specs.declared.trace.TraceEvent.{TraceEvent}
 use Rattle.spec_schedule.specs.declared.trace.TraceEvent.TheVariants as event
@@ -36,8 +37,8 @@ module _ (p : Project) (s : State) (cs : List Counted) (ns : List Numbers) (h : 
   abbrev with_event : TraceEvent → CountedEvent
   with_event e = record { tasks = cs; programs = ns; event = e }
 
-  abbrev Keeps : Stepped → Type 0
-  Keeps x = keeps_triggers p.tasks (with_event (seen p (after_step x).entry)) ≡ true
+  abbrev Keeps : Answered Moment → Type 0
+  Keeps x = keeps_triggers p.tasks (with_event (seen p (after_step x).answer)) ≡ true
 
   -- a task is counted up if it is up, also one that isn't there
   same_up : (t : ℕ) → (slice_index_or cs t uncounted).up ≡ is_up s.table t

@@ -3,6 +3,7 @@
 -- came in, so this is told of the states.
 use Rattle.std.specs.Prelude.{◌≡◌, ℕ, ◌+◌, List, length, find, Bool, false, not, ◌&&◌, ◌||◌, nat_eq, Option, None, option_map, ⊤}
 use Rattle.std.specs.List.{AllByRecursion, range_with_len}
+use Rattle.spec_tables.specs.declared.fault.TheConstants.{TASK_FAULT, EVENT_OVERLAP}
 use Rattle.spec_tables.specs.declared.fault.Fault.{Fault}
 use Rattle.spec_tables.specs.declared.fault.Severity.TheVariants.{Minor}
 use Rattle.spec_tables.specs.Tasks.{task, is_up, is_continuous}
@@ -35,9 +36,9 @@ comes_up_by s a r t = (calls_for s a r t && not (task s.table t).inhibited) && n
 abbrev pub overlaps_by : State → Action → Reply → ℕ → Bool
 overlaps_by s a r t = (calls_for s a r t && not (task s.table t).inhibited) && is_up s.table t
 
--- the overlap of an event task is the minor fault 6/3
+-- the overlap of an event task is a minor fault
 abbrev pub overlap_of : State → ℕ → Fault
-overlap_of s t = record { severity = Minor; kind = 6; code = 3; task = t; program = None; tick = s.tick }
+overlap_of s t = record { severity = Minor; kind = TASK_FAULT; code = EVENT_OVERLAP; task = t; program = None; tick = s.tick }
 
 -- the mask of the tasks that pass, and the first of them
 abbrev pub mask_where : State → (ℕ → Bool) → ℕ

@@ -33,7 +33,7 @@ use Rattle.spec_explore.proofs.Ends.{PacedEnd, AtStart, AfterAct, AfterStep, Aft
 
 trace_over : (s : State) (xs ys : List Event) → trace_from s (xs ++ ys) ≡ trace_from s xs ++ trace_from (run_from s xs) ys
 trace_over s [] ys = refl
-trace_over s (x ∷ xs) ys = ap (λ (es : List TraceEntry). (step s x).entry ∷ es) (trace_over (step s x).state xs ys)
+trace_over s (x ∷ xs) ys = ap (λ (es : List TraceEntry). (step s x).answer ∷ es) (trace_over (step s x).state xs ys)
 
 -- none of these answers is Held
 abbrev pub are_free : List TraceEntry → Bool

@@ -6,9 +6,9 @@ use Rattle.lgx_num.specs.Image.{number}
 use Rattle.spec_machine.specs.declared.answer.What.TheVariants.{Left}
 use Rattle.spec_machine.specs.declared.event.Event.{Event}
 use Rattle.spec_machine.specs.Events.{steps_of}
-use Rattle.spec_machine.specs.Machine.{TraceEntry, OfStep, Answered, step, run}
+use Rattle.spec_machine.specs.Machine.{TraceEntry, OfStep, step, run}
 use Rattle.spec_machine.specs.Project.{Project, Watch}
-use Rattle.spec_machine.specs.State.{State}
+use Rattle.spec_machine.specs.State.{State, Answered}
 use Rattle.spec_text.specs.declared.script.Timed.{Timed}
 use Rattle.spec_text.specs.Scripts.{Script}
 use Rattle.spec_schedule.specs.Partial.{IsPartial, IsComplete}
@@ -56,14 +56,14 @@ is_asked None x = true
 is_asked (Some q) x = ends_scan q x
 
 -- all of a line's tests hold of what an event left, and the line is asked there
-abbrev pub holds : Project → Answered → Never → Bool
-holds p x line = is_asked line.program x.entry && list_all (passes p x.state) line.tests
+abbrev pub holds : Project → Answered TraceEntry → Never → Bool
+holds p x line = is_asked line.program x.answer && list_all (passes p x.state) line.tests
 
-abbrev pub holds_some : Project → Question → Answered → Bool
+abbrev pub holds_some : Project → Question → Answered TraceEntry → Bool
 holds_some p q x = list_any (holds p x) q.lines
 
 -- the line with this number holds, and none before it
-pub record IsFirstLine (p : Project) (q : Question) (x : Answered) (line : ℕ) : Type 0 where
+pub record IsFirstLine (p : Project) (q : Question) (x : Answered TraceEntry) (line : ℕ) : Type 0 where
   pub this : IsSomeAnd (slice_get q.lines line) (λ l. IsTrue (holds p x l))
   pub none_before : list_any (holds p x) (take line q.lines) ≡ false
 

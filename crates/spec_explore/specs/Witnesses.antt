@@ -1,12 +1,13 @@
 -- When an event that may be made shows a line.
 use Rattle.std.specs.Prelude.{◌≡◌, ℕ, ◌+◌, ◌≤◌, List, [], ◌∷◌, ◌++◌, true, false, Option, Some, IsTrue}
 use Rattle.spec_base.specs.declared.limits.TheConstants.{OWN_LANE}
+use Rattle.spec_machine.specs.State.{Answered}
 use Rattle.spec_machine.specs.declared.event.Action.{Action}
 use Rattle.spec_machine.specs.declared.event.Action.TheVariants.{ModeRun}
 use Rattle.spec_machine.specs.declared.event.Event.{Event}
 use Rattle.spec_machine.specs.declared.event.Event.TheVariants.{Cpu, Tick, Act}
 use Rattle.spec_machine.specs.Events.{steps_of}
-use Rattle.spec_machine.specs.Machine.{Answered, step, run}
+use Rattle.spec_machine.specs.Machine.{step, run, TraceEntry}
 use Rattle.spec_machine.specs.Project.{Project}
 use Rattle.spec_machine.specs.ValidProject.{IsValidProject}
 use Rattle.spec_text.specs.declared.script.Timed.{Timed}
@@ -37,7 +38,7 @@ OpeningsAreInTime = (script : Script) (within : Option ℕ) → InWindow within 
 
 -- where a first line holds, some line holds; so a witness is no moment at which none does
 abbrev pub FirstLinesHold : Type 0
-FirstLinesHold = (p : Project) (q : Question) (x : Answered) (line : ℕ) → IsFirstLine p q x line → holds_some p q x ≡ true
+FirstLinesHold = (p : Project) (q : Question) (x : Answered TraceEntry) (line : ℕ) → IsFirstLine p q x line → holds_some p q x ≡ true
 
 -- the opening
 abbrev pub OpeningsWitness : Type 0

@@ -109,7 +109,7 @@ run_over s (x ∷ xs) ys = run_over (step s x).state xs ys
 
 trace_over : (s : State) (xs ys : List Event) → trace_from s (xs ++ ys) ≡ trace_from s xs ++ trace_from (run_from s xs) ys
 trace_over s [] ys = refl
-trace_over s (x ∷ xs) ys = ap (λ (es : List TraceEntry). (step s x).entry ∷ es) (trace_over (step s x).state xs ys)
+trace_over s (x ∷ xs) ys = ap (λ (es : List TraceEntry). (step s x).answer ∷ es) (trace_over (step s x).state xs ys)
 
 -- no answer is Held, if none was and none of the events after it is
 pub answers_on : (p : Project) (es ds : List Event) → list_all (λ x. not (is_held x)) (trace p es) ≡ true → list_all (λ x. not (is_held x)) (trace_from (run p es) ds) ≡ true → list_all (λ x. not (is_held x)) (trace p (es ++ ds)) ≡ true

@@ -8,6 +8,7 @@ use Rattle.spec_tables.specs.declared.force.ForceFault.{ForceFault}
 use Rattle.spec_tables.specs.Connections.{slot, io_word}
 use Rattle.spec_tables.specs.Forces.{Forces, enable, remove_all}
 use Rattle.spec_tables.specs.Tasks.{held}
+use Rattle.spec_machine.specs.declared.answer.Outcome.{Outcome}
 use Rattle.spec_machine.specs.declared.event.Action.{Action}
 use Rattle.spec_machine.specs.declared.event.Action.TheVariants.{WordIn, WordOut, Accept, Test, Untest, Assemble, Cancel, ForceInstall, ForceEnable, ForceDisable, ForceRemove, ModeRun, ModeProgram, Clear}
 use Rattle.spec_machine.specs.declared.reply.EditFault.{EditFault}
@@ -16,9 +17,9 @@ use Rattle.spec_machine.specs.declared.reply.Mode.TheVariants.{Program, Run, Fau
 use Rattle.spec_machine.specs.declared.reply.Reply.{Reply}
 use Rattle.spec_machine.specs.declared.reply.Reply.TheVariants as reply
 use Rattle.spec_machine.specs.Edits.{Edited, accept, on_accepted, test, untest, assemble, cancel}
-use Rattle.spec_machine.specs.Actions.{Acted, held_or, triggers, put_in, take_out, install_on, force_replied, edit_replied, mode_run_from, mode_program_from, clear_from, act}
+use Rattle.spec_machine.specs.Actions.{held_or, triggers, put_in, take_out, install_on, force_replied, edit_replied, mode_run_from, mode_program_from, clear_from, act}
 use Rattle.spec_machine.specs.Machine.{OfAction, run}
-use Rattle.spec_machine.specs.State.{State}
+use Rattle.spec_machine.specs.State.{State, Answered}
 use Rattle.spec_schedule.specs.Partial.{is_held}
 use Rattle.spec_schedule.specs.Stages.{is_refusal}
 use Rattle.spec_reach.proofs.EditNames.{edit_is_taken}
@@ -26,10 +27,10 @@ use Rattle.spec_lanes.specs.Held.{is_holdable, HoldsWordsAndModes}
 
 module _ (lane : ℕ) (action : Action) where
   -- answered Held
-  abbrev holds : Acted → Bool
-  holds x = is_held (OfAction lane action x.outcome)
+  abbrev holds : Answered Outcome → Bool
+  holds x = is_held (OfAction lane action x.answer)
 
-  held_else : (b : Bool) (s : State) (x : Acted) → holds x ≡ false → holds (held_or b s x) ≡ b
+  held_else : (b : Bool) (s : State) (x : Answered Outcome) → holds x ≡ false → holds (held_or b s x) ≡ b
   held_else true s x h = refl
   held_else false s x h = h
 
@@ -67,10 +68,10 @@ module _ (lane : ℕ) (action : Action) where
   clear_free s Faulted = refl
 
   -- a reply that is no refusal isn't Held
-  abbrev replies : Reply → Acted → Acted
-  replies r x = record x { outcome = record x.outcome { reply = r } }
+  abbrev replies : Reply → Answered Outcome → Answered Outcome
+  replies r x = record x { answer = record x.answer { reply = r } }
 
-  unrefused_free : (x : Acted) (r : Reply) → is_refusal r ≡ false → holds (replies r x) ≡ false
+  unrefused_free : (x : Answered Outcome) (r : Reply) → is_refusal r ≡ false → holds (replies r x) ≡ false
   unrefused_free x reply.Done h = refl
   unrefused_free x (reply.Word v) h = refl
   unrefused_free x (reply.Version n) h = refl
@@ -84,7 +85,7 @@ module _ (lane : ℕ) (action : Action) where
   edit_free s (Err f) h = refl
   edit_free s (Ok e) h = unrefused_free (edit_replied s (Ok e)) e.reply (h e refl)
 
-act_holds : (s : State) (lane : ℕ) (action : Action) → is_held (OfAction lane action (act s lane action).outcome) ≡ (is_holdable action && held s.table)
+act_holds : (s : State) (lane : ℕ) (action : Action) → is_held (OfAction lane action (act s lane action).answer) ≡ (is_holdable action && held s.table)
 act_holds s lane (WordIn conn word v) =
     held_else lane (WordIn conn word v) (held s.table) s _ (put_free lane (WordIn conn word v) s v (slot s.plan.conns conn word false))
 act_holds s lane (WordOut conn word) =

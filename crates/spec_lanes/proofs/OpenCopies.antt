@@ -8,12 +8,12 @@ use Rattle.spec_base.specs.declared.limits.TheConstants.{MAX_IMAGE_BYTES}
 use Rattle.spec_tables.specs.Tasks.{TaskState, state_of, has_open_cps, with_cps_open, with_rank, chosen, held}
 use Rattle.spec_scan.specs.declared.bound.Copying.{Copying}
 use Rattle.spec_scan.specs.Copies.{after_element}
+use Rattle.spec_machine.specs.declared.answer.Moment.{Moment}
 use Rattle.spec_machine.specs.declared.event.Event.{Event}
 use Rattle.spec_machine.specs.declared.event.Event.TheVariants as events
 use Rattle.spec_machine.specs.Machine.{step}
-use Rattle.spec_machine.specs.ProcessorStep.{Stepped}
 use Rattle.spec_machine.specs.Project.{Project}
-use Rattle.spec_machine.specs.State.{State, Scan, Progress, no_progress, progress_of}
+use Rattle.spec_machine.specs.State.{State, Scan, Progress, no_progress, progress_of, Answered}
 use Rattle.spec_machine.specs.ValidProject.{IsValidProject}
 use Rattle.spec_reach.specs.Scans.{is_syncing, syncs}
 use Rattle.spec_reach.proofs.Changes.{TaskView, view_of, Change, Stays, Rotates, GoesDown, ComesUp, Restarts, Begins, Goes, Ends, changed, Makes}
@@ -175,7 +175,7 @@ module _ (p : Project) (s : State) (r : IsReached p s) (t : ℕ) (now : Copying)
   pub takes_element : (q : ℕ) (c : Copying) → HasOpenCps (step s events.Cpu).state q c → TakesElement s q c
   takes_element q c k =
       by_left (nat_le now.left 1) (nat_lt 1 now.left) refl refl q c
-      (subst (λ (x : Stepped). HasOpenCps x.state q c) (copying s t h.scan now is_chosen h.stands h.copy) k)
+      (subst (λ (x : Answered Moment). HasOpenCps x.state q c) (copying s t h.scan now is_chosen h.stands h.copy) k)
 
 -- ---- how much is left
 

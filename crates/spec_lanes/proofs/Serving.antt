@@ -70,7 +70,7 @@ pub opening_is_served : OpeningIsServed
 opening_is_served p script valid proper =
     let zeros : List ℕ = replicate {A = ℕ} (length script.lanes) 0 in
     let none : sum zeros ≡ 0 = sum_by-replicate (λ (k : ℕ). k) (length script.lanes) 0 ∙ mul-zero (length script.lanes) in
-    let free : not (is_held (step (start p) (Act OWN_LANE ModeRun)).entry) ≡ true =
+    let free : not (is_held (step (start p) (Act OWN_LANE ModeRun)).answer) ≡ true =
     not_from_false _ (holds_words_and_modes p [] OWN_LANE ModeRun ∙ shut_at_start p) in
     record {
       valid = valid;

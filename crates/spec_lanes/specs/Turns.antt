@@ -30,7 +30,7 @@ next_of script journal lane = slice_get (lane_of script lane) (done_by lane jour
 
 -- the machine would answer it Held
 abbrev pub would_be_held : Project → List Event → ℕ → Action → Bool
-would_be_held project journal lane action = is_held (step (run project journal) (Act lane action)).entry
+would_be_held project journal lane action = is_held (step (run project journal) (Act lane action)).answer
 
 -- its tick has come, and it wouldn't be held
 abbrev pub is_due : Project → List Event → ℕ → Timed → Bool

@@ -18,7 +18,7 @@ abbrev pub places_from : Project → State → List Counted → List Numbers →
 places_from p s cs ns es = counted_events_from (audit_tasks p.tasks p.schedule) cs ns (map (seen p) (trace_from s es))
 
 abbrev pub place : Project → State → List Counted → List Numbers → Event → CountedEvent
-place p s cs ns e = record { tasks = cs; programs = ns; event = seen p (step s e).entry }
+place p s cs ns e = record { tasks = cs; programs = ns; event = seen p (step s e).answer }
 
 -- a place of a run
 pub record IsPlace (p : Project) (s : State) (cs : List Counted) : Type 0 where
@@ -27,7 +27,7 @@ pub record IsPlace (p : Project) (s : State) (cs : List Counted) : Type 0 where
 
 module _ (p : Project) (valid : IsValidProject p) where
   abbrev pub counts_next : State → Event → List Counted → List Counted
-  counts_next s e cs = counted_all (audit_tasks p.tasks p.schedule) (seen p (step s e).entry) cs
+  counts_next s e cs = counted_all (audit_tasks p.tasks p.schedule) (seen p (step s e).answer) cs
 
   pub place_next : (s : State) (e : Event) (cs : List Counted) → IsPlace p s cs → IsPlace p (step s e).state (counts_next s e cs)
   place_next s e cs h = record { reached = reached_next p s e h.reached; mirrors = mirrors_next p valid s e cs (known_at p s h.reached) h.mirrors }
@@ -40,15 +40,15 @@ module _ (p : Project) (valid : IsValidProject p) where
   all_places test each s [] cs ns h = refl
   all_places test each s (e ∷ es) cs ns h =
       and_from (test (place p s cs ns e)) _ (each s e cs ns h)
-      (all_places test each (step s e).state es (counts_next s e cs) (edited_all (seen p (step s e).entry) ns) (place_next s e cs h))
+      (all_places test each (step s e).state es (counts_next s e cs) (edited_all (seen p (step s e).answer) ns) (place_next s e cs h))
 
   -- the places after an event
   abbrev pub places_after : State → Event → List Event → List Counted → List Numbers → List CountedEvent
-  places_after s e es cs ns = places_from p (step s e).state (counts_next s e cs) (edited_all (seen p (step s e).entry) ns) es
+  places_after s e es cs ns = places_from p (step s e).state (counts_next s e cs) (edited_all (seen p (step s e).answer) ns) es
 
   -- a test of each place with those after it
   pub each_along : (test : CountedEvent → List CountedEvent → Bool) → ((s : State) (e : Event) (es : List Event) (cs : List Counted) (ns : List Numbers) → IsPlace p s cs → test (place p s cs ns e) (places_after s e es cs ns) ≡ true) → (s : State) (es : List Event) (cs : List Counted) (ns : List Numbers) → IsPlace p s cs → each_from test (places_from p s cs ns es) ≡ true
   each_along test each s [] cs ns h = refl
   each_along test each s (e ∷ es) cs ns h =
       and_from (test (place p s cs ns e) (places_after s e es cs ns)) (each_from test (places_after s e es cs ns)) (each s e es cs ns h)
-      (each_along test each (step s e).state es (counts_next s e cs) (edited_all (seen p (step s e).entry) ns) (place_next s e cs h))
+      (each_along test each (step s e).state es (counts_next s e cs) (edited_all (seen p (step s e).answer) ns) (place_next s e cs h))

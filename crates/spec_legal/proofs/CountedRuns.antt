@@ -20,7 +20,7 @@ module _ (p : Project) (valid : IsValidProject p) where
 
   numbered_from : (s : State) (es : List Event) (cs : List Counted) (ns : List Numbers) → IsPlace p s cs → HasNumbers p s.books ns → HasNumbers p (run_from s es).books (fold (λ xs e. edited_all e xs) ns (map (seen p) (trace_from s es)))
   numbered_from s [] cs ns h k = k
-  numbered_from s (e ∷ es) cs ns h k = numbered_from (step s e).state es (counts_next p valid s e cs) (edited_all (seen p (step s e).entry) ns) (place_next p valid s e cs h) (numbers_next p valid s e cs ns h k)
+  numbered_from s (e ∷ es) cs ns h k = numbered_from (step s e).state es (counts_next p valid s e cs) (edited_all (seen p (step s e).answer) ns) (place_next p valid s e cs h) (numbers_next p valid s e cs ns h k)
 
 pub counts_are_the_machines : CountsAreTheMachines
 counts_are_the_machines p journal t valid l =

@@ -75,22 +75,22 @@ module _ (p : Project) (valid : IsValidProject p) where
       ∙ ap (λ (plan : Plan). audit_task (task s.table t) (slice_index_or plan.schedule t [])) (sym known.sizes.same_plan))
 
   -- what is counted of a task after an event
-  pub counted_next : (s : State) (e : Event) (cs : List Counted) (t : ℕ) → Known p s → Mirrors p s cs → (l : t < length p.tasks) → (h : Happens p s e t) → slice_index_or (counted_all (audit_tasks p.tasks p.schedule) (seen p (step s e).entry) cs) t uncounted ≡ counts_after h.change (slice_index_or cs t uncounted)
+  pub counted_next : (s : State) (e : Event) (cs : List Counted) (t : ℕ) → Known p s → Mirrors p s cs → (l : t < length p.tasks) → (h : Happens p s e t) → slice_index_or (counted_all (audit_tasks p.tasks p.schedule) (seen p (step s e).answer) cs) t uncounted ≡ counts_after h.change (slice_index_or cs t uncounted)
   counted_next s e cs t known m l h =
       let ds = audit_tasks p.tasks p.schedule in
       let c = slice_index_or cs t uncounted in
-      count_at 0 ds (seen p (step s e).entry) cs t (m.many ∙ sym table_length) (let n = table_length in omega arith)
-      ∙ (ap (λ n. counted (slice_index_or ds t no_task) n (seen p (step s e).entry) c) (let z : 0 + t ≡ t = omega arith in z)
-      ∙ (ap (λ (d : AuditTask). counted d t (seen p (step s e).entry) c) (same_task s t known l) ∙ h.counts c (m.shows t l)))
+      count_at 0 ds (seen p (step s e).answer) cs t (m.many ∙ sym table_length) (let n = table_length in omega arith)
+      ∙ (ap (λ n. counted (slice_index_or ds t no_task) n (seen p (step s e).answer) c) (let z : 0 + t ≡ t = omega arith in z)
+      ∙ (ap (λ (d : AuditTask). counted d t (seen p (step s e).answer) c) (same_task s t known l) ∙ h.counts c (m.shows t l)))
 
-  pub mirrors_next : (s : State) (e : Event) (cs : List Counted) → Known p s → Mirrors p s cs → Mirrors p (step s e).state (counted_all (audit_tasks p.tasks p.schedule) (seen p (step s e).entry) cs)
+  pub mirrors_next : (s : State) (e : Event) (cs : List Counted) → Known p s → Mirrors p s cs → Mirrors p (step s e).state (counted_all (audit_tasks p.tasks p.schedule) (seen p (step s e).answer) cs)
   mirrors_next s e cs known m = record {
-    many = counts_length 0 (audit_tasks p.tasks p.schedule) (seen p (step s e).entry) cs (m.many ∙ sym table_length) ∙ table_length;
+    many = counts_length 0 (audit_tasks p.tasks p.schedule) (seen p (step s e).answer) cs (m.many ∙ sym table_length) ∙ table_length;
     shows = λ t l.
         (let h = happens p s e t known l in
         let c = slice_index_or cs t uncounted in
         let w = shows_after s e t h.change c (known.sound t) h.makes (m.shows t l) in
-        subst (λ (v : TaskView). Shows v (slice_index_or (counted_all (audit_tasks p.tasks p.schedule) (seen p (step s e).entry) cs) t uncounted)) (sym h.view)
+        subst (λ (v : TaskView). Shows v (slice_index_or (counted_all (audit_tasks p.tasks p.schedule) (seen p (step s e).answer) cs) t uncounted)) (sym h.view)
         (subst (Shows (changed h.change (view_of s t))) (sym (counted_next s e cs t known m l h)) w));
   }
 

@@ -34,14 +34,14 @@ use Rattle.spec_legal.proofs.Mirrors.{table_length, same_task}
 -- ---- whose step it is
 
 -- what is seen of a step is of its task
-by_scan : (p : Project) (s : State) (t : ℕ) (q : Progress) (o : Option Scan) → stepping (seen p (after_step (scan_step s t q o)).entry) ≡ Some t
+by_scan : (p : Project) (s : State) (t : ℕ) (q : Progress) (o : Option Scan) → stepping (seen p (after_step (scan_step s t q o)).answer) ≡ Some t
 by_scan p s t q None = refl
 by_scan p s t q (Some scan) = go (advance scan.rungs scan.position s.image s.tick scan.first q.flags)
   where
-    go : (a : Advanced) → stepping (seen p (after_step (after_advance s t q scan a)).entry) ≡ Some t
+    go : (a : Advanced) → stepping (seen p (after_step (after_advance s t q scan a)).answer) ≡ Some t
     go a = by_effect a.effect
       where
-        by_effect : (e : Effect) → stepping (seen p (after_step (after_advance s t q scan (record a { effect = e }))).entry) ≡ Some t
+        by_effect : (e : Effect) → stepping (seen p (after_step (after_advance s t q scan (record a { effect = e }))).answer) ≡ Some t
         by_effect effect.Ran = refl
         by_effect effect.Up = refl
         by_effect effect.Down = refl
@@ -54,17 +54,17 @@ by_scan p s t q (Some scan) = go (advance scan.rungs scan.position s.image s.tic
         by_effect effect.Minor = refl
         by_effect (effect.Major code) = refl
 
-by_task : (p : Project) (s : State) (o : Option ℕ) → stepping (seen p (after_step (task_step s o)).entry) ≡ o
+by_task : (p : Project) (s : State) (o : Option ℕ) → stepping (seen p (after_step (task_step s o)).answer) ≡ o
 by_task p s None = refl
 by_task p s (Some t) = by_scan p s t (progress_of s t) (progress_of s t).scan
 
 -- a step is of the chosen task
-pub step_of_chosen : (p : Project) (s : State) (e : Event) (t : ℕ) → stepping (seen p (step s e).entry) ≡ Some t → chosen s.table ≡ Some t
+pub step_of_chosen : (p : Project) (s : State) (e : Event) (t : ℕ) → stepping (seen p (step s e).answer) ≡ Some t → chosen s.table ≡ Some t
 step_of_chosen p s Cpu t h = sym (by_task p s (chosen s.table)) ∙ h
 step_of_chosen p s ATick t h = absurd (cc h)
 step_of_chosen p s (AnAct lane a) t h = absurd (cc h)
 
-idle_is_none : (p : Project) (s : State) (e : Event) → seen p (step s e).entry ≡ Idle → chosen s.table ≡ None
+idle_is_none : (p : Project) (s : State) (e : Event) → seen p (step s e).answer ≡ Idle → chosen s.table ≡ None
 idle_is_none p s Cpu h = sym (by_task p s (chosen s.table)) ∙ ap stepping h
 idle_is_none p s ATick h = absurd (cc h)
 idle_is_none p s (AnAct lane a) h = absurd (cc h)
@@ -152,7 +152,7 @@ module _ (p : Project) (valid : IsValidProject p) (s : State) (cs : List Counted
 
   pub priority_here : (e : Event) (ns : List Numbers) → keeps_priority (table_of p) (place p s cs ns e) ≡ true
   priority_here e ns =
-      by_event ns (seen p (step s e).entry) (λ t k. chosen_may_step ns e t (step_of_chosen p s e t k))
+      by_event ns (seen p (step s e).answer) (λ t k. chosen_may_step ns e t (step_of_chosen p s e t k))
       (λ k. not_from_false _ (false_from_ne_true _ (none_is_up ns e (idle_is_none p s e k))))
 
   -- ---- the law of regions
@@ -180,7 +180,7 @@ module _ (p : Project) (valid : IsValidProject p) (s : State) (cs : List Counted
       go (Some t) none = not_from_false (another_open t cs) (none t refl)
 
   pub region_here : (e : Event) (ns : List Numbers) → keeps_region (place p s cs ns e) ≡ true
-  region_here e ns = by_step ns (seen p (step s e).entry) (λ t k. false_from_ne_true (another_open t cs) (no_other t (step_of_chosen p s e t k)))
+  region_here e ns = by_step ns (seen p (step s e).answer) (λ t k. false_from_ne_true (another_open t cs) (no_other t (step_of_chosen p s e t k)))
 
 -- ---- the laws
 

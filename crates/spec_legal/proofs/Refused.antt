@@ -20,6 +20,7 @@ use Rattle.spec_tables.specs.Forces.{installed, no_forces}
 use Rattle.spec_tables.specs.Tasks.{held}
 use Rattle.spec_language.specs.Checked.{CheckScope, checked}
 use Rattle.spec_scan.specs.Position.{Rungs}
+use Rattle.spec_machine.specs.declared.answer.Outcome.{Outcome}
 use Rattle.spec_machine.specs.Commands.{AcceptCommand}
 use Rattle.spec_machine.specs.declared.event.Event.{Event}
 use Rattle.spec_machine.specs.declared.event.Event.TheVariants as events
@@ -34,23 +35,23 @@ use Rattle.spec_machine.specs.declared.reply.Reply.{Reply}
 use Rattle.spec_machine.specs.declared.reply.Reply.TheVariants.{Done, Word, Version, Held, Mode, Conn, Force, Edit}
 use Rattle.spec_machine.specs.Edits.{Change, Book, Edited, book_at, routine_at, accept_in, other_owner, is_misplaced, first_again, taken_by, changes_in, changes_of, merged, scope_of, with_changes, instruction_count, none_or, ok_or_cause, has_accepted, test, untest, assemble, cancel}
 use Rattle.spec_machine.specs.Project.{Project, RoutineText}
-use Rattle.spec_machine.specs.State.{State, Plan, start}
-use Rattle.spec_machine.specs.Actions.{Acted, held_or, triggers, put_in, take_out, install_on, force_replied, edit_replied, mode_run_from, mode_program_from, clear_from, act}
+use Rattle.spec_machine.specs.State.{State, Plan, start, Answered}
+use Rattle.spec_machine.specs.Actions.{held_or, triggers, put_in, take_out, install_on, force_replied, edit_replied, mode_run_from, mode_program_from, clear_from, act}
 use Rattle.spec_machine.specs.Machine.{OfAction, step}
 use Rattle.spec_schedule.specs.Refusals.{when, first_of, is_mode, owner_cause, text_cause, if_read, merged_causes, first_cause}
 use Rattle.spec_schedule.specs.Stages.{stages_from, is_refusal, KeepsState, RefusalsChangeNothing}
 use Rattle.spec_reach.proofs.Reached.{IsReached, reached_start, reached_next, known_at}
 
 -- an outcome that is held or refused carries this cause, and the state is as it was
-abbrev IsRight : Bool → State → Option Reply → Acted → Type 0
-IsRight true s first x = (first ≡ Some x.outcome.reply) × (x.state ≡ s)
+abbrev IsRight : Bool → State → Option Reply → Answered Outcome → Type 0
+IsRight true s first x = (first ≡ Some x.answer.reply) × (x.state ≡ s)
 IsRight false s first x = ⊤
 
-abbrev Rightly : State → Option Reply → Acted → Type 0
-Rightly s first x = IsRight (is_refusal x.outcome.reply) s first x
+abbrev Rightly : State → Option Reply → Answered Outcome → Type 0
+Rightly s first x = IsRight (is_refusal x.answer.reply) s first x
 
-taken : (s : State) (first : Option Reply) (x : Acted) → is_refusal x.outcome.reply ≡ false → Rightly s first x
-taken s first x e = go (is_refusal x.outcome.reply) e
+taken : (s : State) (first : Option Reply) (x : Answered Outcome) → is_refusal x.answer.reply ≡ false → Rightly s first x
+taken s first x e = go (is_refusal x.answer.reply) e
   where
     go : (b : Bool) → b ≡ false → IsRight b s first x
     go true e = absurd (false≢true (sym e))
@@ -77,7 +78,7 @@ module _ (s : State) where
   word_first h o word output =
       first_of (when h Held ∷ when (is_none o) (Conn N1) ∷ when (nat_le (conn_at o).words word) (Conn N2) ∷ when (not (agree (conn_at o).output output)) (Conn N3) ∷ [])
 
-  triggers_done : (x : State) (m : Modes) (o : Option ℕ) → is_refusal (triggers x m o).outcome.reply ≡ false
+  triggers_done : (x : State) (m : Modes) (o : Option ℕ) → is_refusal (triggers x m o).answer.reply ≡ false
   triggers_done x Run (Some t) = refl
   triggers_done x Program (Some t) = refl
   triggers_done x Faulted (Some t) = refl
@@ -223,7 +224,7 @@ module _ (s : State) where
     abbrev source_of : List Change → List Source
     source_of changes = merged (routine_at b.base r).source (changes_in b r ++ changes)
 
-    abbrev booked : Result Book EditFault → Acted
+    abbrev booked : Result Book EditFault → Answered Outcome
     booked x = edit_replied s (x >>= λ b'. Ok (record { books = slice_set s.books n b'; reply = Version b'.newest }))
 
     by_count : (b' : Book) (le gt : Bool) → gt ≡ not le → Rightly s (first_of (when gt (Edit E9) ∷ [])) (booked (unless le E9 >>= λ _. Ok b'))
@@ -317,10 +318,10 @@ module _ (s : State) where
 -- ---- along a run
 
 -- with this reply
-abbrev answered : Acted → Reply → Acted
-answered x r = record x { outcome = record x.outcome { reply = r } }
+abbrev with_reply : Answered Outcome → Reply → Answered Outcome
+with_reply x r = record x { answer = record x.answer { reply = r } }
 
-keeps : (s : State) (lane : ℕ) (a : Action) (x : Acted) (r : Reply) → Rightly s (first_cause s lane a) (answered x r) → KeepsState (record { before = s; entry = OfAction lane a (answered x r).outcome; after = x.state })
+keeps : (s : State) (lane : ℕ) (a : Action) (x : Answered Outcome) (r : Reply) → Rightly s (first_cause s lane a) (with_reply x r) → KeepsState (record { before = s; entry = OfAction lane a (with_reply x r).answer; after = x.state })
 keeps s lane a x Done h = tt
 keeps s lane a x (Word v) h = tt
 keeps s lane a x (Version n) h = tt
@@ -330,12 +331,12 @@ keeps s lane a x (Conn f) h = h
 keeps s lane a x (Force f) h = h
 keeps s lane a x (Edit f) h = h
 
-stage_keeps : (p : Project) (s : State) (e : Event) → IsReached p s → KeepsState (record { before = s; entry = (step s e).entry; after = (step s e).state })
+stage_keeps : (p : Project) (s : State) (e : Event) → IsReached p s → KeepsState (record { before = s; entry = (step s e).answer; after = (step s e).state })
 stage_keeps p s events.Cpu h = tt
 stage_keeps p s events.Tick h = tt
 stage_keeps p s (events.Act lane a) h =
     let z = (known_at p s h).sizes in
-    keeps s lane a (act s lane a) (act s lane a).outcome.reply (act_rightly s (z.words ∙ ap (λ (plan : Plan). words_of plan.conns) (sym z.same_plan)) lane a)
+    keeps s lane a (act s lane a) (act s lane a).answer.reply (act_rightly s (z.words ∙ ap (λ (plan : Plan). words_of plan.conns) (sym z.same_plan)) lane a)
 
 along : (p : Project) (s : State) (es : List Event) → IsReached p s → AllByRecursion KeepsState (stages_from s es)
 along p s [] h = tt

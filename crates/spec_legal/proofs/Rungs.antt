@@ -27,17 +27,17 @@ same_both : {A : Type 0} (b : Bool) (x : A) → cond b x x ≡ x
 same_both true x = refl
 same_both false x = refl
 
-command_books : (s : State) (lane : ℕ) (a : Action) → ActsOnBooks s lane a → commanded s (step s (events.Act lane a)).entry s.books ≡ (act s lane a).state.books
+command_books : (s : State) (lane : ℕ) (a : Action) → ActsOnBooks s lane a → commanded s (step s (events.Act lane a)).answer s.books ≡ (act s lane a).state.books
 command_books s lane a (Keeps none same) =
-    ap (λ (o : Option (Result Edited EditFault)). cond (is_refusal (act s lane a).outcome.reply) s.books (books_or s.books o)) none ∙ (same_both (is_refusal (act s lane a).outcome.reply) s.books ∙ sym same)
+    ap (λ (o : Option (Result Edited EditFault)). cond (is_refusal (act s lane a).answer.reply) s.books (books_or s.books o)) none ∙ (same_both (is_refusal (act s lane a).answer.reply) s.books ∙ sym same)
 command_books s lane a (Edits (Err f) is acts) =
-    ap (λ (o : Option (Result Edited EditFault)). cond (is_refusal (act s lane a).outcome.reply) s.books (books_or s.books o)) is
-    ∙ (same_both (is_refusal (act s lane a).outcome.reply) s.books ∙ ap (λ x. x.state.books) (sym acts))
+    ap (λ (o : Option (Result Edited EditFault)). cond (is_refusal (act s lane a).answer.reply) s.books (books_or s.books o)) is
+    ∙ (same_both (is_refusal (act s lane a).answer.reply) s.books ∙ ap (λ x. x.state.books) (sym acts))
 command_books s lane a (Edits (Ok e) is acts) =
-    ap (λ (o : Option (Result Edited EditFault)). cond (is_refusal (act s lane a).outcome.reply) s.books (books_or s.books o)) is
-    ∙ (ap (λ x. cond (is_refusal x.outcome.reply) s.books e.books) acts ∙ (ap (λ (b : Bool). cond b s.books e.books) (edit_is_taken s.plan.tags s.plan.names s.books lane a e is) ∙ ap (λ x. x.state.books) (sym acts)))
+    ap (λ (o : Option (Result Edited EditFault)). cond (is_refusal (act s lane a).answer.reply) s.books (books_or s.books o)) is
+    ∙ (ap (λ x. cond (is_refusal x.answer.reply) s.books e.books) acts ∙ (ap (λ (b : Bool). cond b s.books e.books) (edit_is_taken s.plan.tags s.plan.names s.books lane a e is) ∙ ap (λ x. x.state.books) (sym acts)))
 
-event_books : (s : State) (e : Event) → commanded s (step s e).entry s.books ≡ (step s e).state.books
+event_books : (s : State) (e : Event) → commanded s (step s e).answer s.books ≡ (step s e).state.books
 event_books s events.Cpu = sym (step_books s)
 event_books s events.Tick = sym (tick_books s)
 event_books s (events.Act lane a) = command_books s lane a (acts_on_books s lane a)
@@ -63,21 +63,21 @@ begun_next s e t Ends begun m h = tt
 no_scan : (s : State) (t : ℕ) → length s.progress ≤ t → (progress_of s t).scan ≡ None
 no_scan s t l = ap (λ (q : Progress). q.scan) (get_or_past s.progress t no_progress l)
 
-scan_next : (p : Project) (s : State) (e : Event) (t : ℕ) (begun : Option ProgramRungs) → Known p s → BegunIs (progress_of s t).scan begun → BegunIs (progress_of (step s e).state t).scan (begins t (step s e).entry s.books begun)
+scan_next : (p : Project) (s : State) (e : Event) (t : ℕ) (begun : Option ProgramRungs) → Known p s → BegunIs (progress_of s t).scan begun → BegunIs (progress_of (step s e).state t).scan (begins t (step s e).answer s.books begun)
 scan_next p s e t begun known h =
     elim (cases_lt t (length p.tasks)) [
       | inl l ↦
           let x = happens p s e t known l in
-          subst (λ (o : Option Scan). BegunIs o (begins t (step s e).entry s.books begun)) (sym (ap (λ (v : TaskView). v.scan) x.view))
+          subst (λ (o : Option Scan). BegunIs o (begins t (step s e).answer s.books begun)) (sym (ap (λ (v : TaskView). v.scan) x.view))
           (subst (BegunIs (changed x.change (view_of s t)).scan) (sym (x.begun s.books begun)) (begun_next s e t x.change begun x.makes h))
-      | inr g ↦ subst (λ (o : Option Scan). BegunIs o (begins t (step s e).entry s.books begun)) (sym (no_scan (step s e).state t (let a = (event_keeps_sizes p s e known.sizes).progresses in omega arith))) tt
+      | inr g ↦ subst (λ (o : Option Scan). BegunIs o (begins t (step s e).answer s.books begun)) (sym (no_scan (step s e).state t (let a = (event_keeps_sizes p s e known.sizes).progresses in omega arith))) tt
     ]
 
 along : (p : Project) (t : ℕ) (s : State) (es : List Event) (begun : Option ProgramRungs) → IsReached p s → BegunIs (progress_of s t).scan begun → BegunIs (scan_in_progress (run_from s es) t) (fold (selected_after t) (record { books = s.books; begun = begun }) (stages_from s es)).begun
 along p t s [] begun r h = h
 along p t s (e ∷ es) begun r h =
     let next = (step s e).state in
-    let b = begins t (step s e).entry s.books begun in
+    let b = begins t (step s e).answer s.books begun in
     subst (λ (books : List Book). BegunIs (scan_in_progress (run_from next es) t) (fold (selected_after t) (record { books = books; begun = b }) (stages_from next es)).begun) (sym (event_books s e))
     (along p t next es b (reached_next p s e r) (scan_next p s e t begun (known_at p s r) h))
 

@@ -32,13 +32,13 @@ only_one t us h = ap (λ (xs : List ℕ). not (list_any (is_number t) xs)) (all_
     all_dropped [] h = refl
     all_dropped (u ∷ us) h = let q = and_parts (nat_eq u t) (list_all (is_number t) us) h in rw (q.0, one-add) (all_dropped us q.1)
 
-pub not_tick : (p : Project) (s : State) (e : Event) → is_tick (seen p (step s e).entry) ≡ false → e ≡ events.Tick → ⊥
+pub not_tick : (p : Project) (s : State) (e : Event) → is_tick (seen p (step s e).answer) ≡ false → e ≡ events.Tick → ⊥
 not_tick p s events.Cpu h is = let f : events.Cpu ≡ events.Tick → ⊥ = λ x. cc in f is
 not_tick p s events.Tick h is = absurd (cc h)
 not_tick p s (events.Act lane a) h is = let f : events.Act lane a ≡ events.Tick → ⊥ = λ x. cc in f is
 
 -- what has a stepping task is no tick
-pub steps_no_tick : (p : Project) (s : State) (e : Event) (t : ℕ) → stepping (seen p (step s e).entry) ≡ Some t → e ≡ events.Tick → ⊥
+pub steps_no_tick : (p : Project) (s : State) (e : Event) (t : ℕ) → stepping (seen p (step s e).answer) ≡ Some t → e ≡ events.Tick → ⊥
 steps_no_tick p s events.Cpu t h is = let f : events.Cpu ≡ events.Tick → ⊥ = λ x. cc in f is
 steps_no_tick p s events.Tick t h is = absurd (cc)
 steps_no_tick p s (events.Act lane a) t h is = absurd (cc h)
@@ -61,7 +61,7 @@ module _ (p : Project) (valid : IsValidProject p) (t : ℕ) (within : t < length
       }
 
   -- a step of t's priority is of t
-  steps_itself : (s : State) (e : Event) (cs : List Counted) (u : ℕ) → IsPlace p s cs → IsLeading s.table t → stepping (seen p (step s e).entry) ≡ Some u → priority_of (table_of p) u ≡ priority_of (table_of p) t → u ≡ t
+  steps_itself : (s : State) (e : Event) (cs : List Counted) (u : ℕ) → IsPlace p s cs → IsLeading s.table t → stepping (seen p (step s e).answer) ≡ Some u → priority_of (table_of p) u ≡ priority_of (table_of p) t → u ≡ t
   steps_itself s e cs u h lead k same =
       let c = step_of_chosen p s e u k in
       let b = chosen_is_leading p valid s cs h u c in
@@ -80,7 +80,7 @@ module _ (p : Project) (valid : IsValidProject p) (t : ℕ) (within : t < length
     abbrev OnlyT : List CountedEvent → Type 0
     OnlyT ys = list_all (is_number t) (who ys) ≡ true
 
-    only_who : (s : State) (e : Event) (cs : List Counted) → IsPlace p s cs → IsLeading s.table t → (o : Option ℕ) → stepping (seen p (step s e).entry) ≡ o → (us : List ℕ) → list_all (is_number t) us ≡ true → list_all (is_number t) (cons_option (of_priority (table_of p) prio o) us) ≡ true
+    only_who : (s : State) (e : Event) (cs : List Counted) → IsPlace p s cs → IsLeading s.table t → (o : Option ℕ) → stepping (seen p (step s e).answer) ≡ o → (us : List ℕ) → list_all (is_number t) us ≡ true → list_all (is_number t) (cons_option (of_priority (table_of p) prio o) us) ≡ true
     only_who s e cs h lead None k us rest = rest
     only_who s e cs h lead (Some u) k us rest = go (nat_eq (priority_of (table_of p) u) prio) refl
       where
@@ -94,14 +94,14 @@ module _ (p : Project) (valid : IsValidProject p) (t : ℕ) (within : t < length
 
       by_stays : (e ≡ events.Tick → ⊥) → (b : Bool) → stays_up t x y ≡ b → list_all (is_number t) (who_steps (table_of p) prio (cond b (y ∷ take_while (stays_up t x) (before_tick rest)) [])) ≡ true
       by_stays no_tick true up =
-          only_who s e cs h (f.leads (sym (eqb-true (at x t).downs (at y t).downs up))) (stepping (seen p (step s e).entry)) refl (who (before_tick rest))
+          only_who s e cs h (f.leads (sym (eqb-true (at x t).downs (at y t).downs up))) (stepping (seen p (step s e).answer)) refl (who (before_tick rest))
           (known (follows_next s e cs (at x t).downs h no_tick f))
       by_stays no_tick false up = refl
 
-      cut : (b : Bool) → is_tick (seen p (step s e).entry) ≡ b → before_tick (y ∷ rest) ≡ cond (not b) (y ∷ before_tick rest) []
+      cut : (b : Bool) → is_tick (seen p (step s e).answer) ≡ b → before_tick (y ∷ rest) ≡ cond (not b) (y ∷ before_tick rest) []
       cut b tick = take_while-cons (λ z. not (is_tick z.event)) y rest ∙ ap (λ (c : Bool). cond (not c) (y ∷ before_tick rest) []) tick
 
-      pub by_tick : (b : Bool) → is_tick (seen p (step s e).entry) ≡ b → OnlyT (before_tick (y ∷ rest))
+      pub by_tick : (b : Bool) → is_tick (seen p (step s e).answer) ≡ b → OnlyT (before_tick (y ∷ rest))
       by_tick true tick = subst OnlyT (sym (cut true tick)) refl
       by_tick false tick =
           subst OnlyT (sym (cut false tick))
@@ -111,27 +111,27 @@ module _ (p : Project) (valid : IsValidProject p) (t : ℕ) (within : t < length
     only_t : (s : State) (es : List Event) (cs : List Counted) (ns : List Numbers) → IsPlace p s cs → Follows s cs t (at x t).downs → OnlyT (before_tick (places_from p s cs ns es))
     only_t s [] cs ns h f = refl
     only_t s (e ∷ es) cs ns h f =
-        let ns' = edited_all (seen p (step s e).entry) ns in
+        let ns' = edited_all (seen p (step s e).answer) ns in
         by_tick s e cs ns h f (places_from p (step s e).state (counts_next p valid s e cs) ns' es)
-        (λ g. only_t (step s e).state es (counts_next p valid s e cs) ns' (place_next p valid s e cs h) g) (is_tick (seen p (step s e).entry)) refl
+        (λ g. only_t (step s e).state es (counts_next p valid s e cs) ns' (place_next p valid s e cs h) g) (is_tick (seen p (step s e).answer)) refl
 
 -- ---- along a run
 
 -- the task of a step leads its priority, and goes on so
-pub follows_first : (p : Project) (valid : IsValidProject p) (s : State) (e : Event) (cs : List Counted) (t : ℕ) → IsPlace p s cs → stepping (seen p (step s e).entry) ≡ Some t → (t < length p.tasks) × Follows (step s e).state (counts_next p valid s e cs) t (downs cs t)
+pub follows_first : (p : Project) (valid : IsValidProject p) (s : State) (e : Event) (cs : List Counted) (t : ℕ) → IsPlace p s cs → stepping (seen p (step s e).answer) ≡ Some t → (t < length p.tasks) × Follows (step s e).state (counts_next p valid s e cs) t (downs cs t)
 follows_first p valid s e cs t h k =
     let c = step_of_chosen p s e t k in
     let b = chosen_is_leading p valid s cs h t c in
     let l = within_tasks p valid s cs h t b.state b.up in
     (l, follows_next p valid t l s e cs (downs cs t) h (steps_no_tick p s e t k) (record { low = omega arith; leads = λ d. b }))
 
-turn_here : (p : Project) (valid : IsValidProject p) (s : State) (e : Event) (es : List Event) (cs : List Counted) (ns : List Numbers) → IsPlace p s cs → (o : Option ℕ) → stepping (seen p (step s e).entry) ≡ o → turn_kept (table_of p) (place p s cs ns e) (places_from p (step s e).state (counts_next p valid s e cs) (edited_all (seen p (step s e).entry) ns) es) o ≡ true
+turn_here : (p : Project) (valid : IsValidProject p) (s : State) (e : Event) (es : List Event) (cs : List Counted) (ns : List Numbers) → IsPlace p s cs → (o : Option ℕ) → stepping (seen p (step s e).answer) ≡ o → turn_kept (table_of p) (place p s cs ns e) (places_from p (step s e).state (counts_next p valid s e cs) (edited_all (seen p (step s e).answer) ns) es) o ≡ true
 turn_here p valid s e es cs ns h None k = refl
 turn_here p valid s e es cs ns h (Some t) k =
     let f = follows_first p valid s e cs t h k in
-    only_one t _ (only_t p valid t f.0 (place p s cs ns e) (step s e).state es (counts_next p valid s e cs) (edited_all (seen p (step s e).entry) ns) (place_next p valid s e cs h) f.1)
+    only_one t _ (only_t p valid t f.0 (place p s cs ns e) (step s e).state es (counts_next p valid s e cs) (edited_all (seen p (step s e).answer) ns) (place_next p valid s e cs h) f.1)
 
 pub runs_keep_turns : RunsKeepTurns
 runs_keep_turns p journal valid =
-    each_along p valid (keeps_turn (table_of p)) (λ s e es cs ns h. turn_here p valid s e es cs ns h (stepping (seen p (step s e).entry)) refl) (start p) journal (map (λ d. uncounted) (audit_tasks p.tasks p.schedule)) (replicate (length p.programs) unedited)
+    each_along p valid (keeps_turn (table_of p)) (λ s e es cs ns h. turn_here p valid s e es cs ns h (stepping (seen p (step s e).answer)) refl) (start p) journal (map (λ d. uncounted) (audit_tasks p.tasks p.schedule)) (replicate (length p.programs) unedited)
     (first_place p valid)

@@ -79,7 +79,7 @@ numbers_by p before after e ns many h gives = record {
 no_edit : (books : List Book) (e : TraceEvent) (after : List Book) → after ≡ books → ((g : ℕ) (n : Numbers) → edited_at g e n ≡ n) → GivesNumbers books e after
 no_edit books e after same keeps g = keeps g (numbers_of (book_at books g)) ∙ ap (λ (bs : List Book). numbers_of (book_at bs g)) (sym same)
 
-effect_edits : (p : Project) (s : State) (t : ℕ) (q : Progress) (scan : Scan) (a : Advanced) (g : ℕ) (n : Numbers) (e : Effect) → edited_at g (seen p (after_step (after_advance s t q scan (record a { effect = e }))).entry) n ≡ n
+effect_edits : (p : Project) (s : State) (t : ℕ) (q : Progress) (scan : Scan) (a : Advanced) (g : ℕ) (n : Numbers) (e : Effect) → edited_at g (seen p (after_step (after_advance s t q scan (record a { effect = e }))).answer) n ≡ n
 effect_edits p s t q scan a g n effect.Ran = refl
 effect_edits p s t q scan a g n effect.Up = refl
 effect_edits p s t q scan a g n effect.Down = refl
@@ -92,11 +92,11 @@ effect_edits p s t q scan a g n (effect.Left false) = refl
 effect_edits p s t q scan a g n effect.Minor = refl
 effect_edits p s t q scan a g n (effect.Major code) = refl
 
-scan_edits : (p : Project) (s : State) (t : ℕ) (q : Progress) (o : Option Scan) (g : ℕ) (n : Numbers) → edited_at g (seen p (after_step (scan_step s t q o)).entry) n ≡ n
+scan_edits : (p : Project) (s : State) (t : ℕ) (q : Progress) (o : Option Scan) (g : ℕ) (n : Numbers) → edited_at g (seen p (after_step (scan_step s t q o)).answer) n ≡ n
 scan_edits p s t q None g n = refl
 scan_edits p s t q (Some scan) g n = let a = advance scan.rungs scan.position s.image s.tick scan.first q.flags in effect_edits p s t q scan a g n a.effect
 
-task_edits : (p : Project) (s : State) (o : Option ℕ) (g : ℕ) (n : Numbers) → edited_at g (seen p (after_step (task_step s o)).entry) n ≡ n
+task_edits : (p : Project) (s : State) (o : Option ℕ) (g : ℕ) (n : Numbers) → edited_at g (seen p (after_step (task_step s o)).answer) n ≡ n
 task_edits p s None g n = refl
 task_edits p s (Some t) g n = scan_edits p s t (progress_of s t) (progress_of s t).scan g n
 
@@ -162,7 +162,7 @@ untest_numbers b c h = go b.testing h
 module _ (p : Project) (s : State) (lane : ℕ) (names : names_of s.books ≡ map (λ q. q.name) p.programs) where
   -- what an edit gives, by its result
   abbrev EditGives : Action → Result Edited EditFault → Type 0
-  EditGives a x = GivesNumbers s.books (seen p (after_action lane a (edit_replied s x)).entry) (edit_replied s x).state.books
+  EditGives a x = GivesNumbers s.books (seen p (after_action lane a (edit_replied s x)).answer) (edit_replied s x).state.books
 
   by_accept : (c : AcceptCommand) (x : Result Edited EditFault) → accept s.plan.tags s.plan.names s.books lane c ≡ x → EditGives (action.Accept c) x
   by_accept c (Err f) is = λ g. refused_at g lane verb.Accept (program_number p.programs (Some c.program)) (numbers_of (book_at s.books g)) (λ m. refl)
@@ -199,10 +199,10 @@ module _ (p : Project) (s : State) (lane : ℕ) (names : names_of s.books ≡ ma
   by_cancel n (Ok e) is = by_change verb.Cancel n cancel e (is_changed cancel s.books lane n e is) (λ b c h. ap numbers_of (ok_inj _ c h))
 
   abbrev Gives : Action → Type 0
-  Gives a = GivesNumbers s.books (seen p (after_action lane a (act s lane a)).entry) (act s lane a).state.books
+  Gives a = GivesNumbers s.books (seen p (after_action lane a (act s lane a)).answer) (act s lane a).state.books
 
-  keeps : (a : Action) → edit s.plan.tags s.plan.names s.books lane a ≡ None → ((g : ℕ) (n : Numbers) → edited_at g (seen p (after_action lane a (act s lane a)).entry) n ≡ n) → Gives a
-  keeps a none same = no_edit s.books (seen p (after_action lane a (act s lane a)).entry) (act s lane a).state.books (kept_books s lane a none) same
+  keeps : (a : Action) → edit s.plan.tags s.plan.names s.books lane a ≡ None → ((g : ℕ) (n : Numbers) → edited_at g (seen p (after_action lane a (act s lane a)).answer) n ≡ n) → Gives a
+  keeps a none same = no_edit s.books (seen p (after_action lane a (act s lane a)).answer) (act s lane a).state.books (kept_books s lane a none) same
 
   act_gives : (a : Action) → Gives a
   act_gives (action.Accept c) = by_accept c (accept s.plan.tags s.plan.names s.books lane c) refl
@@ -220,14 +220,14 @@ module _ (p : Project) (s : State) (lane : ℕ) (names : names_of s.books ≡ ma
   act_gives action.ModeProgram = keeps action.ModeProgram refl (λ g n. refl)
   act_gives action.Clear = keeps action.Clear refl (λ g n. refl)
 
-at_event : (p : Project) (s : State) (e : Event) → names_of s.books ≡ map (λ q. q.name) p.programs → GivesNumbers s.books (seen p (step s e).entry) (step s e).state.books
-at_event p s events.Cpu names = no_edit s.books (seen p (step s events.Cpu).entry) (step s events.Cpu).state.books (step_books s) (task_edits p s (chosen s.table))
-at_event p s events.Tick names = no_edit s.books (seen p (step s events.Tick).entry) (step s events.Tick).state.books (tick_books s) (λ g n. refl)
+at_event : (p : Project) (s : State) (e : Event) → names_of s.books ≡ map (λ q. q.name) p.programs → GivesNumbers s.books (seen p (step s e).answer) (step s e).state.books
+at_event p s events.Cpu names = no_edit s.books (seen p (step s events.Cpu).answer) (step s events.Cpu).state.books (step_books s) (task_edits p s (chosen s.table))
+at_event p s events.Tick names = no_edit s.books (seen p (step s events.Tick).answer) (step s events.Tick).state.books (tick_books s) (λ g n. refl)
 at_event p s (events.Act lane a) names = act_gives p s lane names a
 
 -- ---- the version of a begin
 
-effect_versions : (p : Project) (s : State) (t : ℕ) (q : Progress) (scan : Scan) (a : Advanced) (cs : List Counted) (ns : List Numbers) (e : Effect) → keeps_version (record { tasks = cs; programs = ns; event = seen p (after_step (after_advance s t q scan (record a { effect = e }))).entry }) ≡ true
+effect_versions : (p : Project) (s : State) (t : ℕ) (q : Progress) (scan : Scan) (a : Advanced) (cs : List Counted) (ns : List Numbers) (e : Effect) → keeps_version (record { tasks = cs; programs = ns; event = seen p (after_step (after_advance s t q scan (record a { effect = e }))).answer }) ≡ true
 effect_versions p s t q scan a cs ns effect.Ran = refl
 effect_versions p s t q scan a cs ns effect.Up = refl
 effect_versions p s t q scan a cs ns effect.Down = refl
@@ -240,11 +240,11 @@ effect_versions p s t q scan a cs ns (effect.Left false) = refl
 effect_versions p s t q scan a cs ns effect.Minor = refl
 effect_versions p s t q scan a cs ns (effect.Major code) = refl
 
-version_task : (p : Project) (s : State) (cs : List Counted) (ns : List Numbers) → ((g : ℕ) → slice_index_or ns g unedited ≡ numbers_of (book_at s.books g)) → (o : Option ℕ) → keeps_version (record { tasks = cs; programs = ns; event = seen p (after_step (task_step s o)).entry }) ≡ true
+version_task : (p : Project) (s : State) (cs : List Counted) (ns : List Numbers) → ((g : ℕ) → slice_index_or ns g unedited ≡ numbers_of (book_at s.books g)) → (o : Option ℕ) → keeps_version (record { tasks = cs; programs = ns; event = seen p (after_step (task_step s o)).answer }) ≡ true
 version_task p s cs ns same None = refl
 version_task p s cs ns same (Some t) = by_scan (progress_of s t) (progress_of s t).scan
   where
-    by_scan : (q : Progress) (o : Option Scan) → keeps_version (record { tasks = cs; programs = ns; event = seen p (after_step (scan_step s t q o)).entry }) ≡ true
+    by_scan : (q : Progress) (o : Option Scan) → keeps_version (record { tasks = cs; programs = ns; event = seen p (after_step (scan_step s t q o)).answer }) ≡ true
     by_scan q None = let g = next_program s t q in eq-eqb (book_number (book_at s.books g)) (selected_number (slice_index_or ns g unedited)) (ap selected_number (sym (same g)))
     by_scan q (Some scan) = let a = advance scan.rungs scan.position s.image s.tick scan.first q.flags in effect_versions p s t q scan a cs ns a.effect
 
@@ -258,17 +258,17 @@ version_here p s (events.Act lane a) cs ns h = refl
 books_many : (books : List Book) (programs : List ProgramText) → names_of books ≡ map (λ q. q.name) programs → length books ≡ length programs
 books_many books programs h = sym (length-map books (λ (b : Book). b.name)) ∙ (ap (λ (xs : List (List ℕ)). length xs) h ∙ length-map programs (λ (q : ProgramText). q.name))
 
-pub numbers_next : (p : Project) (valid : IsValidProject p) (s : State) (e : Event) (cs : List Counted) (ns : List Numbers) → IsPlace p s cs → HasNumbers p s.books ns → HasNumbers p (step s e).state.books (edited_all (seen p (step s e).entry) ns)
+pub numbers_next : (p : Project) (valid : IsValidProject p) (s : State) (e : Event) (cs : List Counted) (ns : List Numbers) → IsPlace p s cs → HasNumbers p s.books ns → HasNumbers p (step s e).state.books (edited_all (seen p (step s e).answer) ns)
 numbers_next p valid s e cs ns h k =
     let known = known_at p s h.reached in
     let known' = known_at p (step s e).state (place_next p valid s e cs h).reached in
-    numbers_by p s.books (step s e).state.books (seen p (step s e).entry) ns (books_many (step s e).state.books p.programs known'.sizes.names) k (at_event p s e known.sizes.names)
+    numbers_by p s.books (step s e).state.books (seen p (step s e).answer) ns (books_many (step s e).state.books p.programs known'.sizes.names) k (at_event p s e known.sizes.names)
 
 along : (p : Project) (valid : IsValidProject p) (s : State) (es : List Event) (cs : List Counted) (ns : List Numbers) → IsPlace p s cs → HasNumbers p s.books ns → list_all keeps_version (places_from p s cs ns es) ≡ true
 along p valid s [] cs ns h k = refl
 along p valid s (e ∷ es) cs ns h k =
     and_from (keeps_version (place p s cs ns e)) _ (version_here p s e cs ns k)
-    (along p valid (step s e).state es (counts_next p valid s e cs) (edited_all (seen p (step s e).entry) ns) (place_next p valid s e cs h) (numbers_next p valid s e cs ns h k))
+    (along p valid (step s e).state es (counts_next p valid s e cs) (edited_all (seen p (step s e).answer) ns) (place_next p valid s e cs h) (numbers_next p valid s e cs ns h k))
 
 unedited_at : (n g : ℕ) → slice_index_or (replicate n unedited) g unedited ≡ unedited
 unedited_at zero g = refl

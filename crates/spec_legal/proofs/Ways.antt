@@ -49,13 +49,13 @@ step_no_action m (what.Ran t n) = refl
 step_no_action m (what.Copied t n) = refl
 step_no_action m (what.Left t n ended) = refl
 
-seen_tick : (p : Project) (s : State) (e : Event) → is_tick (seen p (step s e).entry) ≡ true → e ≡ events.Tick
-seen_tick p s events.Cpu h = let m = (processor_step s).moment in absurd (false≢true (sym (step_no_tick m m.what) ∙ h))
+seen_tick : (p : Project) (s : State) (e : Event) → is_tick (seen p (step s e).answer) ≡ true → e ≡ events.Tick
+seen_tick p s events.Cpu h = let m = (processor_step s).answer in absurd (false≢true (sym (step_no_tick m m.what) ∙ h))
 seen_tick p s events.Tick h = refl
 seen_tick p s (events.Act lane a) h = absurd (false≢true h)
 
-seen_action : (p : Project) (s : State) (e : Event) → is_action (seen p (step s e).entry) ≡ true → (lane : ℕ) × (a : Action) × (e ≡ events.Act lane a)
-seen_action p s events.Cpu h = let m = (processor_step s).moment in absurd (false≢true (sym (step_no_action m m.what) ∙ h))
+seen_action : (p : Project) (s : State) (e : Event) → is_action (seen p (step s e).answer) ≡ true → (lane : ℕ) × (a : Action) × (e ≡ events.Act lane a)
+seen_action p s events.Cpu h = let m = (processor_step s).answer in absurd (false≢true (sym (step_no_action m m.what) ∙ h))
 seen_action p s events.Tick h = absurd (false≢true h)
 seen_action p s (events.Act lane a) h = (lane, a, refl)
 
@@ -205,26 +205,26 @@ module _ (p : Project) (valid : IsValidProject p) (t : ℕ) (at_t : t < length p
   keeps_way z = not (steps_here z.event t) || others_went (table_of p) t k z
 
   way_here : (s : State) (e : Event) (cs : List Counted) (ns : List Numbers) → IsPlace p s cs → AllTrail s cs → keeps_way (place p s cs ns e) ≡ true
-  way_here s e cs ns h f = go (is_task t (stepping (seen p (step s e).entry))) refl
+  way_here s e cs ns h f = go (is_task t (stepping (seen p (step s e).answer))) refl
     where
       others : Bool
       others = list_any (is_other_up (table_of p) t k (place p s cs ns e)) (counted_tasks (table_of p).tasks k.tasks)
 
-      go : (b : Bool) → is_task t (stepping (seen p (step s e).entry)) ≡ b → (not b || not others) ≡ true
+      go : (b : Bool) → is_task t (stepping (seen p (step s e).answer)) ≡ b → (not b || not others) ≡ true
       go false is = or_left true (not others) refl
-      go true is = or_right false (not others) (not_from_false others (false_from_ne_true others (none_other s e cs ns h f (step_of_chosen p s e t (is_step_of (stepping (seen p (step s e).entry)) is)))))
+      go true is = or_right false (not others) (not_from_false others (false_from_ne_true others (none_other s e cs ns h f (step_of_chosen p s e t (is_step_of (stepping (seen p (step s e).answer)) is)))))
 
   module _ (s : State) (e : Event) (cs : List Counted) (ns : List Numbers) (h : IsPlace p s cs) (f : AllTrail s cs) (rest : List CountedEvent) (known : AllTrail (step s e).state (counts_next p valid s e cs) → list_all keeps_way (before_tick rest) ≡ true) where
     abbrev y : CountedEvent
     y = place p s cs ns e
 
-    cut : (b : Bool) → is_tick (seen p (step s e).entry) ≡ b → before_tick (y ∷ rest) ≡ cond (not b) (y ∷ before_tick rest) []
+    cut : (b : Bool) → is_tick (seen p (step s e).answer) ≡ b → before_tick (y ∷ rest) ≡ cond (not b) (y ∷ before_tick rest) []
     cut b tick = take_while-cons (λ z. not (is_tick z.event)) y rest ∙ ap (λ (c : Bool). cond (not c) (y ∷ before_tick rest) []) tick
 
     abbrev AllKeep : List CountedEvent → Type 0
     AllKeep zs = list_all keeps_way zs ≡ true
 
-    pub by_tick : (b : Bool) → is_tick (seen p (step s e).entry) ≡ b → AllKeep (before_tick (y ∷ rest))
+    pub by_tick : (b : Bool) → is_tick (seen p (step s e).answer) ≡ b → AllKeep (before_tick (y ∷ rest))
     by_tick true tick = subst AllKeep (sym (cut true tick)) refl
     by_tick false tick =
         subst AllKeep (sym (cut false tick))
@@ -234,8 +234,8 @@ module _ (p : Project) (valid : IsValidProject p) (t : ℕ) (at_t : t < length p
   all_keep s [] cs ns h f = refl
   all_keep s (e ∷ es) cs ns h f =
       by_tick s e cs ns h f (places_after p valid s e es cs ns)
-      (λ g. all_keep (step s e).state es (counts_next p valid s e cs) (edited_all (seen p (step s e).entry) ns) (place_next p valid s e cs h) g)
-      (is_tick (seen p (step s e).entry)) refl
+      (λ g. all_keep (step s e).state es (counts_next p valid s e cs) (edited_all (seen p (step s e).answer) ns) (place_next p valid s e cs h) g)
+      (is_tick (seen p (step s e).answer)) refl
 
 -- ---- up to the tick
 
@@ -295,7 +295,7 @@ module _ (p : Project) (valid : IsValidProject p) (t : ℕ) (at_t : t < length p
       let c = leader_chosen s cs ns events.Tick h lead others closed (not-true (higher_up (table_of p) k t) q.1) in
       let known = known_at p s h.reached in
       let takes : TakesTurn s events.Tick t = record { tick = refl; mode = known.orderly.in_run t lead.state lead.up; chosen = c; closed = sym (counted_open p valid s cs h t at_t) ∙ closed } in
-      all_keep p valid t at_t k (step s events.Tick).state es (counts_next p valid s events.Tick cs) (edited_all (seen p (step s events.Tick).entry) ns) (place_next p valid s events.Tick cs h)
+      all_keep p valid t at_t k (step s events.Tick).state es (counts_next p valid s events.Tick cs) (edited_all (seen p (step s events.Tick).answer) ns) (place_next p valid s events.Tick cs h)
       (λ u o. (let v = counted_up p valid s cs h u o.within o.up in trails_first p valid t u o.within s cs h takes o.differs v.0 v.1))
 
   -- what is open after an action was so before
@@ -342,8 +342,8 @@ module _ (p : Project) (valid : IsValidProject p) (t : ℕ) (at_t : t < length p
   up_to_tick s [] cs ns h f others = refl
   up_to_tick s (e ∷ es) cs ns h f others =
       by_action s e es cs ns h f others
-      (λ g o. up_to_tick (step s e).state es (counts_next p valid s e cs) (edited_all (seen p (step s e).entry) ns) (place_next p valid s e cs h) g o)
-      (is_action (seen p (step s e).entry)) refl
+      (λ g o. up_to_tick (step s e).state es (counts_next p valid s e cs) (edited_all (seen p (step s e).answer) ns) (place_next p valid s e cs h) g o)
+      (is_action (seen p (step s e).answer)) refl
 
 -- ---- along a run
 
@@ -359,14 +359,14 @@ others_first p valid s e cs t h c no_tick q v g o =
       | inr r ↦ absurd (false≢true (sym r.closed ∙ o))
     ]
 
-way_at : (p : Project) (valid : IsValidProject p) (s : State) (e : Event) (es : List Event) (cs : List Counted) (ns : List Numbers) → IsPlace p s cs → (o : Option ℕ) → stepping (seen p (step s e).entry) ≡ o → way_given (table_of p) (place p s cs ns e) (places_after p valid s e es cs ns) o ≡ true
+way_at : (p : Project) (valid : IsValidProject p) (s : State) (e : Event) (es : List Event) (cs : List Counted) (ns : List Numbers) → IsPlace p s cs → (o : Option ℕ) → stepping (seen p (step s e).answer) ≡ o → way_given (table_of p) (place p s cs ns e) (places_after p valid s e es cs ns) o ≡ true
 way_at p valid s e es cs ns h None k = refl
 way_at p valid s e es cs ns h (Some t) k =
     let f = follows_first p valid s e cs t h k in
-    up_to_tick p valid t f.0 (place p s cs ns e) (step s e).state es (counts_next p valid s e cs) (edited_all (seen p (step s e).entry) ns) (place_next p valid s e cs h) f.1
+    up_to_tick p valid t f.0 (place p s cs ns e) (step s e).state es (counts_next p valid s e cs) (edited_all (seen p (step s e).answer) ns) (place_next p valid s e cs h) f.1
     (others_first p valid s e cs t h (step_of_chosen p s e t k) (steps_no_tick p s e t k))
 
 pub runs_give_way : RunsGiveWay
 runs_give_way p journal valid =
-    each_along p valid (gives_way (table_of p)) (λ s e es cs ns h. way_at p valid s e es cs ns h (stepping (seen p (step s e).entry)) refl) (start p) journal (map (λ d. uncounted) (audit_tasks p.tasks p.schedule)) (replicate (length p.programs) unedited)
+    each_along p valid (gives_way (table_of p)) (λ s e es cs ns h. way_at p valid s e es cs ns h (stepping (seen p (step s e).answer)) refl) (start p) journal (map (λ d. uncounted) (audit_tasks p.tasks p.schedule)) (replicate (length p.programs) unedited)
     (first_place p valid)

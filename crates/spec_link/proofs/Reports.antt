@@ -24,7 +24,7 @@ lines_go ws s n [] more = (lines_from ws s n more, refl)
 lines_go ws s n (x ∷ xs) more =
     let y = step s x in
     let next : ℕ = (if is_step x then n + 1 else n) in
-    let here = stamp y.state.tick next (event_lines ws s y.state y.entry) in
+    let here = stamp y.state.tick next (event_lines ws s y.state y.answer) in
     let rest = lines_go ws y.state next xs more in
     (rest.0, ap (λ (l : List Stamped). here ++ l) rest.1 ∙ sym (append_assoc here (lines_from ws y.state next xs) rest.0))
 

@@ -13,13 +13,14 @@ use Rattle.spec_tables.specs.declared.conn.ConnFault.TheVariants.{N2}
 use Rattle.spec_tables.specs.Connections.{conn_named, no_conn, slot, slot_of, slot_in, in_direction as in_slot}
 use Rattle.spec_tables.specs.Forces.{forced}
 use Rattle.spec_tables.specs.Tasks.{held}
+use Rattle.spec_machine.specs.declared.answer.Outcome.{Outcome}
 use Rattle.spec_machine.specs.declared.event.Event.{Event}
 use Rattle.spec_machine.specs.declared.event.Event.TheVariants as events
 use Rattle.spec_machine.specs.declared.event.Action.TheVariants.{WordOut}
 use Rattle.spec_machine.specs.declared.reply.Reply.TheVariants as reply
-use Rattle.spec_machine.specs.Actions.{Acted, held_or, take_out}
-use Rattle.spec_machine.specs.Machine.{Answered, OfAction, after_action, run, step, trace_from}
-use Rattle.spec_machine.specs.State.{State, Plan}
+use Rattle.spec_machine.specs.Actions.{held_or, take_out}
+use Rattle.spec_machine.specs.Machine.{OfAction, after_action, run, step, trace_from, TraceEntry}
+use Rattle.spec_machine.specs.State.{State, Plan, Answered}
 use Rattle.spec_reach.proofs.Sizes.{runs_keep_sizes}
 use Rattle.spec_link.specs.LinkText.{conn_at, connection}
 use Rattle.spec_link.specs.Links.{Pair, answered, words_in, words_out, words_answered, is_held}
@@ -47,13 +48,13 @@ slot_at conns name c k h less =
 
 -- ---- one word out
 
-abbrev told : State → ℕ → List ℕ → ℤ → Answered
-told s k name v = record { state = s; entry = OfAction OWN_LANE (WordOut name k) (record { reply = reply.Word v; fault = None; released = 0 }) }
+abbrev told : State → ℕ → List ℕ → ℤ → Answered TraceEntry
+told s k name v = record { state = s; answer = OfAction OWN_LANE (WordOut name k) (record { reply = reply.Word v; fault = None; released = 0 }) }
 
 word_answer : (s : State) (name : List ℕ) (k : ℕ) (to : Slot) → held s.table ≡ false → slot s.plan.conns name k true ≡ Ok to
     → step s (events.Act OWN_LANE (WordOut name k)) ≡ told s k name (forced s.forces to.io (signed_at w32 s.image to.byte))
 word_answer s name k to free at =
-    ap (λ (a : Acted). after_action OWN_LANE (WordOut name k) a)
+    ap (λ (a : Answered Outcome). after_action OWN_LANE (WordOut name k) a)
     (ap (λ (b : Bool). held_or b s (take_out s (slot s.plan.conns name k true))) free ∙ ap (λ x. take_out s x) at)
 
 -- ---- all words out
@@ -65,7 +66,7 @@ module _ (name : List ℕ) (c : ConnDef) (s : State) (free : held s.table ≡ fa
       let to = slot_at s.plan.conns name c from is (omega arith) in
       let e = word_answer s name from to.0 free to.1 in
       let rest = map (λ k. events.Act OWN_LANE (WordOut name k)) (range_with_len (from + 1) n) in
-      ap (λ (x : Answered). length (flat_map answered (x.entry ∷ trace_from x.state rest))) e ∙ ap (λ m. suc m) (answers n (from + 1) (omega arith))
+      ap (λ (x : Answered TraceEntry). length (flat_map answered (x.answer ∷ trace_from x.state rest))) e ∙ ap (λ m. suc m) (answers n (from + 1) (omega arith))
 
 pub sends_all : (l : Pair) (d : ConnDef) (j : List Event) → connection l.a true l.output ≡ Some d → is_held l.a j ≡ false → length (words_answered l.a j (words_out l)) ≡ d.words
 sends_all l d j is free =

@@ -26,7 +26,7 @@ use Rattle.spec_link.proofs.Unwritten.{IsUnwritten}
 
 trace_over : (s : State) (xs ys : List Event) → trace_from s (xs ++ ys) ≡ trace_from s xs ++ trace_from (run_from s xs) ys
 trace_over s [] ys = refl
-trace_over s (x ∷ xs) ys = ap (λ (es : List TraceEntry). (step s x).entry ∷ es) (trace_over (step s x).state xs ys)
+trace_over s (x ∷ xs) ys = ap (λ (es : List TraceEntry). (step s x).answer ∷ es) (trace_over (step s x).state xs ys)
 
 all_first : {A : Type 0} (p : A → Bool) (xs ys : List A) → list_all p (xs ++ ys) ≡ true → list_all p xs ≡ true
 all_first p xs ys h = and_left (list_all p xs) (list_all p ys) (sym (list_all-append p xs ys) ∙ h)

@@ -47,7 +47,7 @@ ranks_below_next project journal t u g = (run_orderly project journal).below t u
 
 -- ---- a step is of the chosen task
 
-by_effect : (s : State) (t : ℕ) (p : Progress) (n : ℕ) (effect : Effect) → task_of (after_effect s t p n effect).moment.what ≡ Some t
+by_effect : (s : State) (t : ℕ) (p : Progress) (n : ℕ) (effect : Effect) → task_of (after_effect s t p n effect).answer.what ≡ Some t
 by_effect s t p n Ran = refl
 by_effect s t p n Up = refl
 by_effect s t p n Down = refl
@@ -60,14 +60,14 @@ by_effect s t p n (Left false) = refl
 by_effect s t p n Minor = refl
 by_effect s t p n (Major code) = refl
 
-by_scan : (s : State) (t : ℕ) (p : Progress) (o : Option Scan) → task_of (scan_step s t p o).moment.what ≡ Some t
+by_scan : (s : State) (t : ℕ) (p : Progress) (o : Option Scan) → task_of (scan_step s t p o).answer.what ≡ Some t
 by_scan s t p None = refl
 by_scan s t p (Some scan) =
     let a = advance scan.rungs scan.position s.image s.tick scan.first p.flags in
     let p' : Progress = record { ended = p.ended; scan = Some (record scan { position = a.position }); flags = a.flags } in
     by_effect (record (with_progress t p' s) { image = a.image }) t p' scan.program a.effect
 
-by_task : (s : State) (o : Option ℕ) (t : ℕ) → chosen s.table ≡ o → task_of (task_step s o).moment.what ≡ Some t → IsTrue (is_up s.table t)
+by_task : (s : State) (o : Option ℕ) (t : ℕ) → chosen s.table ≡ o → task_of (task_step s o).answer.what ≡ Some t → IsTrue (is_up s.table t)
 by_task s None t c h = absurd (let f : None ≡ Some t → ⊥ = λ p. cc in f h)
 by_task s (Some q) t c h =
     let e = same_Some q t (sym (by_scan s q (progress_of s q) (progress_of s q).scan) ∙ h) in

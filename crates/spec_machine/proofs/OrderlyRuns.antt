@@ -5,6 +5,8 @@ use Rattle.std.specs.Prelude.{ℤ, Result, fold, nat_lt, length}
 use Rattle.std.specs.Int.{w32}
 use Rattle.std.specs.List.{range_with_len}
 use Rattle.lgx_num.specs.Image.{write_signed}
+use Rattle.spec_machine.specs.declared.answer.Outcome.{Outcome}
+use Rattle.spec_machine.specs.declared.answer.TickReport.{TickReport}
 use Rattle.spec_machine.specs.declared.reply.Mode.{Mode}
 use Rattle.spec_machine.specs.declared.reply.Mode.TheVariants.{Program, Run, Faulted}
 use Rattle.spec_tables.specs.declared.conn.ConnFault.{ConnFault}
@@ -25,11 +27,11 @@ use Rattle.spec_tables.specs.Forces.{Forces, forced, enable, remove_all}
 use Rattle.spec_tables.specs.Connections.{slot, io_word}
 use Rattle.spec_machine.specs.Edits.{Edited, accept, on_accepted, test, untest, assemble, cancel}
 use Rattle.spec_machine.specs.Project.{Project}
-use Rattle.spec_machine.specs.State.{State, Scan, Progress, progress_of, programs_of, start}
+use Rattle.spec_machine.specs.State.{State, Scan, Progress, progress_of, programs_of, start, Answered}
 use Rattle.spec_machine.specs.Releases.{after_answer, release_task}
 use Rattle.spec_machine.specs.ProcessorStep.{with_progress, scan_ended, after_effect, after_advance, scan_step, task_step}
-use Rattle.spec_machine.specs.Ticks.{Ticked, quiet, release_if_due, after_watchdogs, tick}
-use Rattle.spec_machine.specs.Actions.{Acted, held_or, triggers, put_in, take_out, install_on, force_replied, edit_replied, mode_run_from, mode_program_from, clear_from, act}
+use Rattle.spec_machine.specs.Ticks.{quiet, release_if_due, after_watchdogs, tick}
+use Rattle.spec_machine.specs.Actions.{held_or, triggers, put_in, take_out, install_on, force_replied, edit_replied, mode_run_from, mode_program_from, clear_from, act}
 use Rattle.spec_machine.specs.Machine.{step, run_from as run_on, run}
 use Rattle.spec_tables.proofs.StateLists.{none_up}
 use Rattle.spec_machine.proofs.OrderlyTables.{Orderly, chosen_in_run, down_orderly, stop_orderly, region_orderly, copy_orderly, put_up_orderly, released_free, start_orderly, finish_orderly, rotate_orderly}
@@ -101,14 +103,14 @@ answer_keeps_mode Inhibited t s = refl
 released_running : (t : ℕ) (s : State) → Running s → Running (release_task t s).state
 released_running t s h = (answer_keeps_mode (release_answer s.table t) t s ∙ h.0, by_release t s h.0 h.1)
 
-due_running : (ts : List ℕ) (x : Ticked) → Running x.state → Running (fold release_if_due x ts).state
+due_running : (ts : List ℕ) (x : Answered TickReport) → Running x.state → Running (fold release_if_due x ts).state
 due_running [] x h = h
 due_running (t ∷ ts) x h =
-    due_running ts (release_if_due x t) (cond_both (due t x.state.tick x.state.table) _ x (λ (y : Ticked). Running y.state) (λ q. released_running t x.state h) (λ q. h))
+    due_running ts (release_if_due x t) (cond_both (due t x.state.tick x.state.table) _ x (λ (y : Answered TickReport). Running y.state) (λ q. released_running t x.state h) (λ q. h))
 
 by_watchdogs : (s : State) (o : Option ℕ) → Running s → IsOrderly (after_watchdogs s o).state
 by_watchdogs s (Some t) h = stop_orderly Faulted s.table
-by_watchdogs s None h = (due_running (range_with_len 0 (length s.table.defs)) (record { state = s; report = quiet }) h).1
+by_watchdogs s None h = (due_running (range_with_len 0 (length s.table.defs)) (record { state = s; answer = quiet }) h).1
 
 -- s in the given mode
 abbrev in_mode : Mode → State → State
@@ -123,7 +125,7 @@ by_tick Faulted s h = h
 
 -- ---- actions
 
-by_held : (b : Bool) (s : State) (a : Acted) → IsOrderly s → IsOrderly a.state → IsOrderly (held_or b s a).state
+by_held : (b : Bool) (s : State) (a : Answered Outcome) → IsOrderly s → IsOrderly a.state → IsOrderly (held_or b s a).state
 by_held true s a h k = h
 by_held false s a h k = k
 

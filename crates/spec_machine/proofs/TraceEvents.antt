@@ -5,7 +5,7 @@ use Rattle.spec_machine.specs.declared.event.Event.TheVariants.{Cpu, Tick, Act}
 use Rattle.spec_machine.specs.State.{State, start}
 use Rattle.spec_machine.specs.Machine.{event_of, step, trace_from, TracesKeepEvents}
 
-event_answered : (s : State) (e : Event) → event_of (step s e).entry ≡ e
+event_answered : (s : State) (e : Event) → event_of (step s e).answer ≡ e
 event_answered s Cpu = refl
 event_answered s Tick = refl
 event_answered s (Act lane a) = refl

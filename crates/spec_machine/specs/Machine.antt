@@ -6,10 +6,10 @@ use Rattle.spec_machine.specs.declared.event.Event.TheVariants.{Cpu, Tick, Act}
 use Rattle.spec_machine.specs.declared.answer.Moment.{Moment}
 use Rattle.spec_machine.specs.declared.answer.TickReport.{TickReport}
 use Rattle.spec_machine.specs.declared.answer.Outcome.{Outcome}
-use Rattle.spec_machine.specs.ProcessorStep.{Stepped, processor_step}
-use Rattle.spec_machine.specs.Ticks.{Ticked, tick}
-use Rattle.spec_machine.specs.Actions.{Acted, act}
-use Rattle.spec_machine.specs.State.{State, start}
+use Rattle.spec_machine.specs.ProcessorStep.{processor_step}
+use Rattle.spec_machine.specs.Ticks.{tick}
+use Rattle.spec_machine.specs.Actions.{act}
+use Rattle.spec_machine.specs.State.{State, start, Answered}
 use Rattle.spec_machine.specs.Project.{Project}
 
 -- An event with its answer: a processor step with what it did, a tick with its report, an action of a lane with its
@@ -24,22 +24,17 @@ event_of (OfStep m) = Cpu
 event_of (OfTick r) = Tick
 event_of (OfAction lane action o) = Act lane action
 
--- the state after an event, and the event with its answer
-pub record Answered : Type 0 where
-  pub state : State
-  pub entry : TraceEntry
+abbrev pub after_step : Answered Moment → Answered TraceEntry
+after_step x = record { state = x.state; answer = OfStep x.answer }
 
-abbrev pub after_step : Stepped → Answered
-after_step x = record { state = x.state; entry = OfStep x.moment }
+abbrev pub after_tick : Answered TickReport → Answered TraceEntry
+after_tick x = record { state = x.state; answer = OfTick x.answer }
 
-abbrev pub after_tick : Ticked → Answered
-after_tick x = record { state = x.state; entry = OfTick x.report }
-
-abbrev pub after_action : ℕ → Action → Acted → Answered
-after_action lane action x = record { state = x.state; entry = OfAction lane action x.outcome }
+abbrev pub after_action : ℕ → Action → Answered Outcome → Answered TraceEntry
+after_action lane action x = record { state = x.state; answer = OfAction lane action x.answer }
 
 -- An event is a processor step, a tick, or an action of a lane.
-abbrev pub step : State → Event → Answered
+abbrev pub step : State → Event → Answered TraceEntry
 step s Cpu = after_step (processor_step s)
 step s Tick = after_tick (tick s)
 step s (Act lane action) = after_action lane action (act s lane action)
@@ -50,7 +45,7 @@ run_from s (e ∷ es) = run_from (step s e).state es
 
 abbrev pub trace_from : State → List Event → List TraceEntry
 trace_from s [] = []
-trace_from s (e ∷ es) = let x = step s e in x.entry ∷ trace_from x.state es
+trace_from s (e ∷ es) = let x = step s e in x.answer ∷ trace_from x.state es
 
 -- the state after a journal
 abbrev pub run : Project → List Event → State

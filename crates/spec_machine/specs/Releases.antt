@@ -1,5 +1,6 @@
 -- Releases, overlaps and faults.
 use Rattle.std.specs.Prelude.{ℕ, ◌^◌, map, Option, Some, None, slice_set}
+use Rattle.spec_tables.specs.declared.fault.TheConstants.{PROGRAM_FAULT, TASK_FAULT, PERIODIC_OVERLAP, EVENT_OVERLAP}
 use Rattle.spec_tables.specs.declared.fault.Fault.{Fault}
 use Rattle.spec_tables.specs.declared.fault.Severity.{Severity}
 use Rattle.spec_tables.specs.declared.fault.Severity.TheVariants.{Minor}
@@ -13,18 +14,17 @@ use Rattle.spec_machine.specs.State.{State, progress_of, dropped, with_fault}
 
 -- ---- faults
 
--- type 4: a fault of an instruction
+-- a fault of an instruction
 abbrev pub program_fault : State → Severity → ℕ → ℕ → ℕ → Fault
-program_fault s severity code t n = record { severity = severity; kind = 4; code = code; task = t; program = Some n; tick = s.tick }
+program_fault s severity code t n = record { severity = severity; kind = PROGRAM_FAULT; code = code; task = t; program = Some n; tick = s.tick }
 
--- type 6: a fault of a task. Code 1 is its watchdog, 2 the overlap of a periodic task, and 3 that of an event task
--- (profile).
+-- a fault of a task: its watchdog, or an overlap
 abbrev pub task_fault : State → Severity → ℕ → ℕ → Fault
-task_fault s severity code t = record { severity = severity; kind = 6; code = code; task = t; program = None; tick = s.tick }
+task_fault s severity code t = record { severity = severity; kind = TASK_FAULT; code = code; task = t; program = None; tick = s.tick }
 
 abbrev pub overlap_code : TaskKind → ℕ
-overlap_code (Periodic n) = 2
-overlap_code _ = 3
+overlap_code (Periodic n) = PERIODIC_OVERLAP
+overlap_code _ = EVENT_OVERLAP
 
 -- A major fault puts every task down, drops its position, and leads to Faulted.
 abbrev pub major_fault : Fault → State → State

@@ -52,7 +52,7 @@ lines_from watches s n [] = []
 lines_from watches s n (e ∷ es) =
     let x = step s e in
     let n' = (if is_step e then n + 1 else n) in
-    stamp x.state.tick n' (event_lines watches s x.state x.entry) ++ lines_from watches x.state n' es
+    stamp x.state.tick n' (event_lines watches s x.state x.answer) ++ lines_from watches x.state n' es
 
 -- all lines of a journal
 abbrev pub report_lines : Project → List Event → List Stamped

@@ -50,6 +50,12 @@ pub record State : Type 0 where
   pub forces : Forces
   pub faults : List Fault
 
+-- the state after an event of the machine or a part of one, and what is answered: what a step did, the report of a tick, the
+-- outcome of an action
+pub record Answered (A : Type 0) : Type 0 where
+  pub state : State
+  pub answer : A
+
 abbrev pub no_flags : Flags
 no_flags = record { v = false; z = false; n = false }
 

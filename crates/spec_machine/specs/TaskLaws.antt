@@ -35,4 +35,4 @@ RanksBelowNext = (project : Project) (journal : List Event) (t : ℕ) (u : TaskS
 -- A step is of a task that was up before it. This too holds of every state: the step is the chosen task's, and that is one
 -- that is up.
 abbrev pub StepOfUpTask : Type 0
-StepOfUpTask = (s : State) (t : ℕ) → task_of (processor_step s).moment.what ≡ Some t → IsTrue (is_up s.table t)
+StepOfUpTask = (s : State) (t : ℕ) → task_of (processor_step s).answer.what ≡ Some t → IsTrue (is_up s.table t)

@@ -14,6 +14,7 @@ use Rattle.spec_tables.specs.declared.task.Release.TheVariants.{Released, Overla
 use Rattle.spec_tables.specs.Connections.{slot, io_word}
 use Rattle.spec_tables.specs.Forces.{Forces, forced, enable, disable, remove_all}
 use Rattle.spec_tables.specs.Tasks.{TaskState, Table, state_of, task, release_answer, continuous_task, held, stop, put_up_if, release_some, if_released}
+use Rattle.spec_machine.specs.declared.answer.Outcome.{Outcome}
 use Rattle.spec_machine.specs.declared.reply.Mode.{Mode}
 use Rattle.spec_machine.specs.declared.reply.Mode.TheVariants.{Program, Run, Faulted}
 use Rattle.spec_machine.specs.declared.reply.EditFault.{EditFault}
@@ -25,9 +26,9 @@ use Rattle.spec_machine.specs.declared.event.Action.{Action}
 use Rattle.spec_machine.specs.declared.event.Action.TheVariants.{WordIn, WordOut, Accept, Test, Untest, Assemble, Cancel, ForceInstall, ForceEnable, ForceDisable, ForceRemove, ModeRun, ModeProgram, Clear}
 use Rattle.spec_machine.specs.Edits.{Book, Edited, accept, on_accepted, test, untest, assemble, cancel}
 use Rattle.spec_machine.specs.Project.{Project}
-use Rattle.spec_machine.specs.State.{State, Progress, no_progress, progress_of, programs_of}
+use Rattle.spec_machine.specs.State.{State, Progress, no_progress, progress_of, programs_of, Answered}
 use Rattle.spec_machine.specs.Releases.{mask_of, after_answer}
-use Rattle.spec_machine.specs.Actions.{Acted, replied, held_or, after_trigger, triggers, put_in, take_out, install_on, force_replied, edit_replied, mode_run_from, mode_program_from, clear_from, act}
+use Rattle.spec_machine.specs.Actions.{replied, held_or, after_trigger, triggers, put_in, take_out, install_on, force_replied, edit_replied, mode_run_from, mode_program_from, clear_from, act}
 use Rattle.spec_machine.specs.Machine.{after_action}
 use Rattle.spec_scan.specs.Position.{ProgramRungs}
 use Rattle.spec_schedule.specs.declared.trace.AuditTask.{AuditTask}
@@ -41,14 +42,14 @@ use Rattle.spec_reach.proofs.Changes.{TaskView, view_at, view_of, Change, Stays,
 use Rattle.spec_reach.proofs.Views.{own_view, other_view, down_state, all_down_view, cleared_progress, released_down}
 
 -- what an action makes of task k
-pub record ActMakes (p : Project) (s : State) (lane : ℕ) (a : Action) (x : Acted) (k : ℕ) : Type 0 where
+pub record ActMakes (p : Project) (s : State) (lane : ℕ) (a : Action) (x : Answered Outcome) (k : ℕ) : Type 0 where
   pub change : Change
   pub makes : Makes s (Act lane a) k change
   pub view : view_of x.state k ≡ changed change (view_of s k)
-  pub counts : (c : Counted) → counted (audit_task (task s.table k) (programs_of s k)) k (seen p (after_action lane a x).entry) c ≡ counts_after change c
-  pub begun : (books : List Book) (b : Option ProgramRungs) → begins k (after_action lane a x).entry books b ≡ begun_after change books b
-  pub starts : is_task k (sync_start (after_action lane a x).entry) ≡ starts_copy change
-  pub ends : is_task k (sync_end (after_action lane a x).entry) ≡ ends_copy change
+  pub counts : (c : Counted) → counted (audit_task (task s.table k) (programs_of s k)) k (seen p (after_action lane a x).answer) c ≡ counts_after change c
+  pub begun : (books : List Book) (b : Option ProgramRungs) → begins k (after_action lane a x).answer books b ≡ begun_after change books b
+  pub starts : is_task k (sync_start (after_action lane a x).answer) ≡ starts_copy change
+  pub ends : is_task k (sync_end (after_action lane a x).answer) ≡ ends_copy change
 
 no_turn : (s : State) (lane : ℕ) (a : Action) (k : ℕ) → TakesTurn s (Act lane a) k → ⊥
 no_turn s lane a k h = let f : Act lane a ≡ Tick → ⊥ = λ e. cc in f h.tick
@@ -69,7 +70,7 @@ tells_other : (t k : ℕ) (c : Counted) → (k ≡ t → ⊥) → cond (nat_eq (
 tells_other t k c ne = ap (λ n. cond (nat_eq n 1) (released c) c) (bit_at-pow_other t k ne)
 
 module _ (p : Project) (s : State) (lane : ℕ) (a : Action) (k : ℕ) where
-  abbrev Acts : Acted → Type 0
+  abbrev Acts : Answered Outcome → Type 0
   Acts x = ActMakes p s lane a x k
 
   -- nothing happens to the task
@@ -266,7 +267,7 @@ module _ (p : Project) (s : State) (known : Known p s) (lane : ℕ) (k : ℕ) (w
   by_clear Run = quiet p s lane Clear k s _ refl refl
   by_clear Program = quiet p s lane Clear k s _ refl refl
 
-  or_held : (a : Action) (b : Bool) (x : Acted) → ActMakes p s lane a (replied s Held) k → ActMakes p s lane a x k → ActMakes p s lane a (held_or b s x) k
+  or_held : (a : Action) (b : Bool) (x : Answered Outcome) → ActMakes p s lane a (replied s Held) k → ActMakes p s lane a x k → ActMakes p s lane a (held_or b s x) k
   or_held a true x h k' = h
   or_held a false x h k' = k'
 

@@ -9,7 +9,7 @@ use Rattle.spec_scan.specs.declared.bound.Copying.{Copying}
 use Rattle.spec_scan.specs.declared.bound.Effect.{Effect}
 use Rattle.spec_scan.specs.declared.bound.Effect.TheVariants.{CopyStart, Copied}
 use Rattle.spec_scan.specs.Copies.{after_element}
-use Rattle.spec_scan.specs.Instructions.{Control, Nothing, Call, Return, Jump, ToggleZone, RegionUp, RegionDown, TriggerTask, StartCopy, MinorFault, MajorFault, row}
+use Rattle.spec_scan.specs.Instructions.{Control, Nothing, Call, Return, Jump, ToggleZone, Up, Down, TriggerTask, StartCopy, MinorFault, MajorFault, row}
 use Rattle.spec_scan.specs.Position.{ProgramRungs, Frame, Position}
 use Rattle.spec_scan.specs.Scan.{Advanced, after_row, in_frame, in_frames, in_progress, advance}
 use Rattle.spec_reach.specs.Scans.{is_syncing}
@@ -31,8 +31,8 @@ module _ (program : ProgramRungs) (position : Position) (image : List ℕ) (now 
   by_control on im fl Return f outer = (refl, refl)
   by_control on im fl (Jump label) f outer = (refl, refl)
   by_control on im fl ToggleZone f outer = (refl, refl)
-  by_control on im fl RegionUp f outer = (refl, refl)
-  by_control on im fl RegionDown f outer = (refl, refl)
+  by_control on im fl Up f outer = (refl, refl)
+  by_control on im fl Down f outer = (refl, refl)
   by_control on im fl (TriggerTask t) f outer = (refl, refl)
   by_control on im fl (StartCopy c) f outer = (refl, refl)
   by_control on im fl MinorFault f outer = (refl, refl)

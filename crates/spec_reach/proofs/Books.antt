@@ -15,13 +15,15 @@ use Rattle.spec_tables.specs.Tasks.{release_answer, chosen, rotate, expired, due
 use Rattle.spec_scan.specs.declared.bound.Effect.{Effect}
 use Rattle.spec_scan.specs.declared.bound.Effect.TheVariants.{Ran, Up, Down, Trigger, CopyStart, Copied, Left, Minor, Major}
 use Rattle.spec_scan.specs.Scan.{Advanced, advance}
+use Rattle.spec_machine.specs.declared.answer.Outcome.{Outcome}
+use Rattle.spec_machine.specs.declared.answer.TickReport.{TickReport}
 use Rattle.spec_machine.specs.declared.reply.Mode.{Mode}
 use Rattle.spec_machine.specs.declared.reply.Mode.TheVariants.{Program, Run, Faulted}
-use Rattle.spec_machine.specs.State.{State, Scan, Progress, progress_of, programs_of}
+use Rattle.spec_machine.specs.State.{State, Scan, Progress, progress_of, programs_of, Answered}
 use Rattle.spec_machine.specs.Releases.{after_answer, release_task}
 use Rattle.spec_machine.specs.ProcessorStep.{processor_step, with_progress, scan_ended, after_effect, after_advance, scan_step, task_step}
-use Rattle.spec_machine.specs.Ticks.{Ticked, quiet, release_if_due, after_watchdogs, in_mode, tick}
-use Rattle.spec_machine.specs.Actions.{Acted, held_or, triggers, put_in, take_out, force_replied, mode_run_from, mode_program_from, clear_from}
+use Rattle.spec_machine.specs.Ticks.{quiet, release_if_due, after_watchdogs, in_mode, tick}
+use Rattle.spec_machine.specs.Actions.{held_or, triggers, put_in, take_out, force_replied, mode_run_from, mode_program_from, clear_from}
 
 abbrev SameBooks : State → State → Type 0
 SameBooks s x = x.books ≡ s.books
@@ -70,14 +72,14 @@ step_books s = by_task s (chosen s.table)
 
 -- ---- the tick
 
-by_due : (ts : List ℕ) (x : Ticked) → SameBooks x.state (fold release_if_due x ts).state
+by_due : (ts : List ℕ) (x : Answered TickReport) → SameBooks x.state (fold release_if_due x ts).state
 by_due [] x = refl
 by_due (t ∷ ts) x =
-    by_due ts (release_if_due x t) ∙ cond_both (due t x.state.tick x.state.table) _ x (λ (y : Ticked). SameBooks x.state y.state) (λ b. by_release t x.state) (λ b. refl)
+    by_due ts (release_if_due x t) ∙ cond_both (due t x.state.tick x.state.table) _ x (λ (y : Answered TickReport). SameBooks x.state y.state) (λ b. by_release t x.state) (λ b. refl)
 
 by_watchdogs : (s : State) (o : Option ℕ) → SameBooks s (after_watchdogs s o).state
 by_watchdogs s (Some t) = refl
-by_watchdogs s None = by_due (range_with_len 0 (length s.table.defs)) (record { state = s; report = quiet })
+by_watchdogs s None = by_due (range_with_len 0 (length s.table.defs)) (record { state = s; answer = quiet })
 
 by_mode : (m : Mode) (s : State) → SameBooks s (in_mode m s).state
 by_mode Run s = by_watchdogs (record s { table = rotate s.table }) (expired s.tick (rotate s.table))
@@ -89,7 +91,7 @@ tick_books s = by_mode s.mode (record s { tick = s.tick + 1 })
 
 -- ---- actions but for edits
 
-pub held_books : (b : Bool) (s : State) (a : Acted) → SameBooks s a.state → SameBooks s (held_or b s a).state
+pub held_books : (b : Bool) (s : State) (a : Answered Outcome) → SameBooks s a.state → SameBooks s (held_or b s a).state
 held_books true s a h = refl
 held_books false s a h = h
 

@@ -163,10 +163,10 @@ pub record Happens (p : Project) (s : State) (e : Event) (t : ℕ) : Type 0 wher
   pub change : Change
   pub makes : Makes s e t change
   pub view : view_of (step s e).state t ≡ changed change (view_of s t)
-  pub counts : (c : Counted) → Shows (view_of s t) c → counted (audit_task (task s.table t) (programs_of s t)) t (seen p (step s e).entry) c ≡ counts_after change c
-  pub begun : (books : List Book) (b : Option ProgramRungs) → begins t (step s e).entry books b ≡ begun_after change books b
-  pub starts : is_task t (sync_start (step s e).entry) ≡ starts_copy change
-  pub ends : is_task t (sync_end (step s e).entry) ≡ ends_copy change
+  pub counts : (c : Counted) → Shows (view_of s t) c → counted (audit_task (task s.table t) (programs_of s t)) t (seen p (step s e).answer) c ≡ counts_after change c
+  pub begun : (books : List Book) (b : Option ProgramRungs) → begins t (step s e).answer books b ≡ begun_after change books b
+  pub starts : is_task t (sync_start (step s e).answer) ≡ starts_copy change
+  pub ends : is_task t (sync_end (step s e).answer) ≡ ends_copy change
 
 -- ---- what is known of a state
 

@@ -8,7 +8,7 @@ use Rattle.lgx_num.specs.declared.place.Place.{Place}
 use Rattle.lgx_rung.specs.Tree.{Tree, end, one, fork, Legs, last, leg, instructions, leg_instructions}
 use Rattle.lgx_rung.specs.declared.ins.Ins.{Ins}
 use Rattle.spec_scan.specs.declared.bound.Copying.{Copying}
-use Rattle.spec_scan.specs.Instructions.{Control, Nothing, Call, Return, Jump, ToggleZone, RegionUp, RegionDown, TriggerTask, StartCopy, MinorFault, MajorFault, row}
+use Rattle.spec_scan.specs.Instructions.{Control, Nothing, Call, Return, Jump, ToggleZone, Up, Down, TriggerTask, StartCopy, MinorFault, MajorFault, row}
 use Rattle.spec_scan.specs.Next.{FirstHas, NextHas}
 use Rattle.spec_scan.specs.Position.{Rungs, ProgramRungs, routine_rungs, OpenFork, NoZone, Cursor, Frame, Position, starts, along, along_legs, joined, next_rung, settled, enter, first_position}
 use Rattle.spec_reach.specs.Positions.{TreeHas, RungsHave, ForkHas, CursorHas, FrameHas, PositionHas, ProgramHas}
@@ -73,8 +73,8 @@ module _ (P : Ins → Type 0) where
     by_control on im fl Return f outer h k = (next_has (starts f.zone) [] f.cursor.on tt, k)
     by_control on im fl (Jump label) f outer h k = (next_has (starts f.zone) (drop label (routine_rungs program f.routine)) f.cursor.on (drop_has label (routine_rungs program f.routine) (routine_has program.routines f.routine has)), k)
     by_control on im fl ToggleZone f outer h k = (settled_has (starts (zone_after f.zone f.cursor.on)) f.cursor h, k)
-    by_control on im fl RegionUp f outer h k = (settled_has (starts f.zone) f.cursor h, k)
-    by_control on im fl RegionDown f outer h k = (settled_has (starts f.zone) f.cursor h, k)
+    by_control on im fl Up f outer h k = (settled_has (starts f.zone) f.cursor h, k)
+    by_control on im fl Down f outer h k = (settled_has (starts f.zone) f.cursor h, k)
     by_control on im fl (TriggerTask t) f outer h k = (settled_has (starts f.zone) f.cursor h, k)
     by_control on im fl (StartCopy c) f outer h k = (settled_has (starts f.zone) f.cursor h, k)
     by_control on im fl MinorFault f outer h k = (settled_has (starts f.zone) f.cursor h, k)

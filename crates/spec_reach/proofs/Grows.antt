@@ -17,6 +17,8 @@ use Rattle.spec_tables.specs.Tasks as tasks
 use Rattle.spec_scan.specs.declared.bound.Effect.{Effect}
 use Rattle.spec_scan.specs.declared.bound.Effect.TheVariants.{Ran, Up, Down, Trigger, CopyStart, Copied, Left, Minor, Major}
 use Rattle.spec_scan.specs.Scan.{Advanced, advance}
+use Rattle.spec_machine.specs.declared.answer.Outcome.{Outcome}
+use Rattle.spec_machine.specs.declared.answer.TickReport.{TickReport}
 use Rattle.spec_machine.specs.declared.reply.Mode.{Mode}
 use Rattle.spec_machine.specs.declared.reply.Mode.TheVariants.{Program, Run, Faulted}
 use Rattle.spec_machine.specs.declared.reply.EditFault.{EditFault}
@@ -25,11 +27,11 @@ use Rattle.spec_machine.specs.declared.event.Event.TheVariants as events
 use Rattle.spec_machine.specs.declared.event.Action.{Action}
 use Rattle.spec_machine.specs.declared.event.Action.TheVariants.{WordIn, WordOut, Accept, Test, Untest, Assemble, Cancel, ForceInstall, ForceEnable, ForceDisable, ForceRemove, ModeRun, ModeProgram, Clear}
 use Rattle.spec_machine.specs.Edits.{Edited, accept, on_accepted, test, untest, assemble, cancel}
-use Rattle.spec_machine.specs.State.{State, Scan, Progress, progress_of, programs_of}
+use Rattle.spec_machine.specs.State.{State, Scan, Progress, progress_of, programs_of, Answered}
 use Rattle.spec_machine.specs.Releases.{after_answer}
 use Rattle.spec_machine.specs.ProcessorStep.{processor_step, with_progress, scan_ended, after_effect, after_advance, scan_step, task_step}
-use Rattle.spec_machine.specs.Ticks.{Ticked, quiet, release_if_due, after_watchdogs, in_mode}
-use Rattle.spec_machine.specs.Actions.{Acted, held_or, triggers, put_in, take_out, install_on, force_replied, edit_replied, mode_run_from, mode_program_from, clear_from, act}
+use Rattle.spec_machine.specs.Ticks.{quiet, release_if_due, after_watchdogs, in_mode}
+use Rattle.spec_machine.specs.Actions.{held_or, triggers, put_in, take_out, install_on, force_replied, edit_replied, mode_run_from, mode_program_from, clear_from, act}
 use Rattle.spec_machine.specs.Machine.{step}
 use Rattle.spec_tables.specs.declared.task.TaskDef.{TaskDef}
 use Rattle.spec_reach.proofs.Changes.{tick_after}
@@ -131,20 +133,20 @@ on k s x y g h =
       };
     }
 
-by_due : (k n j : ℕ) (s : State) (x : Ticked) → Moves k s x.state → Moves (k + n) s (fold release_if_due x (range_with_len j n)).state
+by_due : (k n j : ℕ) (s : State) (x : Answered TickReport) → Moves k s x.state → Moves (k + n) s (fold release_if_due x (range_with_len j n)).state
 by_due k zero j s x g = subst (λ i. Moves i s x.state) (let e : k ≡ k + 0 = omega arith in e) g
 by_due k (suc n) j s x g =
     subst (λ i. Moves i s (fold release_if_due (release_if_due x j) (range_with_len (j + 1) n)).state) (let e : k + 1 + n ≡ k + suc n = omega arith in e)
     (by_due (k + 1) n (j + 1) s (release_if_due x j)
-    (on k s x.state (release_if_due x j).state g (cond_both (due j x.state.tick x.state.table) _ x (λ (y : Ticked). Moves 1 x.state y.state) (λ b. by_answer (release_answer x.state.table j) j x.state) (λ b. still 1 x.state))))
+    (on k s x.state (release_if_due x j).state g (cond_both (due j x.state.tick x.state.table) _ x (λ (y : Answered TickReport). Moves 1 x.state y.state) (λ b. by_answer (release_answer x.state.table j) j x.state) (λ b. still 1 x.state))))
 
 by_watchdogs : (s x : State) (o : Option ℕ) → Moves 1 s x → Moves (1 + length x.table.defs) s (after_watchdogs x o).state
 by_watchdogs s x (Some t) g = (let a = g.table.next in record { tick = g.tick; table = record { since = g.table.since; next = omega arith } })
-by_watchdogs s x None g = by_due 1 (length x.table.defs) 0 s (record { state = x; report = quiet }) g
+by_watchdogs s x None g = by_due 1 (length x.table.defs) 0 s (record { state = x; answer = quiet }) g
 
 -- ---- actions
 
-held_grows : (b : Bool) (s : State) (a : Acted) → Moves 1 s a.state → Moves 1 s (held_or b s a).state
+held_grows : (b : Bool) (s : State) (a : Answered Outcome) → Moves 1 s a.state → Moves 1 s (held_or b s a).state
 held_grows true s a h = still 1 s
 held_grows false s a h = h
 

@@ -14,7 +14,10 @@ use Rattle.lgx_num.proofs.Images.{length-splice, write_keeps_length}
 use Rattle.lgx_rung.specs.Tree.{Tree, end, one, fork}
 use Rattle.lgx_rung.specs.declared.ins.Ins.{Ins}
 use Rattle.lgx_rung.specs.declared.op.Op.{Op}
-use Rattle.lgx_rung.specs.declared.op.Op.TheVariants.{Xic, Xio, Ote, Otl, Otu, Ons, Osr, Osf, Ton, Rto, Tof, Ctu, Ctd, Res, Add, Sub, Mul, Div, Mod, Neg, Abs, Mov, And, Or, Xor, Not, Mvm, Clr, Cop, Cps, Fll, Jsr, Sbr, Ret, Afi}
+use Rattle.lgx_rung.specs.declared.op.Op.TheVariants.{Xic, Xio, Ote, Otl, Otu, Ons, Osr, Osf, Ton, Rto, Tof, Ctu, Ctd, Jsr, Sbr, Ret, Afi}
+use Rattle.lgx_rung.specs.declared.operands.Family.{Family}
+use Rattle.lgx_rung.specs.declared.operands.Family.TheVariants.{Bit, Timer, Counter, Reset, Comparison, Arithmetic, Copy, ProgramControl}
+use Rattle.lgx_rung.specs.OperandTable.{family_of}
 use Rattle.spec_base.specs.declared.limits.TheConstants.{MAX_FRAMES}
 use Rattle.spec_scan.specs.declared.bound.Arg.{Arg}
 use Rattle.spec_scan.specs.declared.bound.Copying.{Copying}
@@ -23,7 +26,7 @@ use Rattle.spec_scan.specs.Arithmetic.{math}
 use Rattle.spec_scan.specs.Bits.{bits}
 use Rattle.spec_scan.specs.Copies.{start_copy, element_bytes}
 use Rattle.spec_scan.specs.Counters.{counter, one_up, one_down, with_done}
-use Rattle.spec_scan.specs.Instructions.{Control, Nothing, Call, Return, Jump, ToggleZone, RegionUp, RegionDown, TriggerTask, StartCopy, MinorFault, MajorFault, Row, row, executed, with_bound, timer_row, copy_row, store_row, call_row, acts_when_false}
+use Rattle.spec_scan.specs.Instructions.{Control, Nothing, Call, Return, Jump, ToggleZone, Up, Down, TriggerTask, StartCopy, MinorFault, MajorFault, Row, row, program_control, family_row, with_bound, timer_row, copy_row, store_row, call_row, acts_when_false}
 use Rattle.spec_scan.specs.Parameters.{inputs_handed, returns_wanted, store_all}
 use Rattle.spec_scan.specs.Position.{ProgramRungs, Frame, Position}
 use Rattle.spec_scan.specs.Prescan.{prescan_one, prescan_bound, prescan_ins, prescan, reached_instructions}
@@ -183,45 +186,24 @@ module _ (args : List Operand) (on : Bool) (now : ℕ) (first : Bool) (frames : 
   store_row_length : (ps : List Place) (vs : List ℤ) (control : Control) → SameLength image (store_row args on now first frames flags image ps vs control).image
   store_row_length ps vs control = cond_both (nat_lt (length vs) (length ps)) _ _ (λ (r : Row). SameLength image r.image) (λ b. refl) (λ b. store_length image ps vs)
 
-  executed_length : (op : Op) (bound : List Arg) → SameLength image (executed args on now first frames flags image op bound).image
-  executed_length Xic bound = refl
-  executed_length Xio bound = refl
-  executed_length Ote bound = bits_length Ote bound on first flags image
-  executed_length Otl bound = bits_length Otl bound on first flags image
-  executed_length Otu bound = bits_length Otu bound on first flags image
-  executed_length Ons bound = bits_length Ons bound on first flags image
-  executed_length Osr bound = bits_length Osr bound on first flags image
-  executed_length Osf bound = bits_length Osf bound on first flags image
-  executed_length Ton bound = timer_row_length _ (timer_length Ton (byte_of (arg bound 0)) on now image)
-  executed_length Rto bound = timer_row_length _ (timer_length Rto (byte_of (arg bound 0)) on now image)
-  executed_length Tof bound = timer_row_length _ (timer_length Tof (byte_of (arg bound 0)) on now image)
-  executed_length Ctu bound = counter_length Ctu (byte_of (arg bound 0)) on image
-  executed_length Ctd bound = counter_length Ctd (byte_of (arg bound 0)) on image
-  executed_length Res bound = reset_length (byte_of (arg bound 0)) on image
-  executed_length Add bound = math_length Add bound image
-  executed_length Sub bound = math_length Sub bound image
-  executed_length Mul bound = math_length Mul bound image
-  executed_length Div bound = math_length Div bound image
-  executed_length Mod bound = math_length Mod bound image
-  executed_length Neg bound = math_length Neg bound image
-  executed_length Abs bound = math_length Abs bound image
-  executed_length Mov bound = math_length Mov bound image
-  executed_length And bound = math_length And bound image
-  executed_length Or bound = math_length Or bound image
-  executed_length Xor bound = math_length Xor bound image
-  executed_length Not bound = math_length Not bound image
-  executed_length Mvm bound = math_length Mvm bound image
-  executed_length Clr bound = math_length Clr bound image
-  executed_length Cop bound = copy_row_length (start_copy Cop bound image)
-  executed_length Cps bound = copy_row_length (start_copy Cps bound image)
-  executed_length Fll bound = copy_row_length (start_copy Fll bound image)
-  executed_length Jsr bound = call_row_length bound
-  executed_length Sbr bound = store_row_length (map place_of bound) (inputs_handed frames) Nothing
-  executed_length Ret bound = store_row_length (returns_wanted frames) (map (value_of image) bound) Return
-  executed_length _ bound = refl
+  control_length : (op : Op) (bound : List Arg) → SameLength image (program_control args on now first frames flags image op bound).image
+  control_length Jsr bound = call_row_length bound
+  control_length Sbr bound = store_row_length (map place_of bound) (inputs_handed frames) Nothing
+  control_length Ret bound = store_row_length (returns_wanted frames) (map (value_of image) bound) Return
+  control_length _ bound = refl
+
+  family_length : (f : Family) (op : Op) (bound : List Arg) → SameLength image (family_row args on now first frames flags image f op bound).image
+  family_length Bit op bound = bits_length op bound on first flags image
+  family_length Timer op bound = timer_row_length _ (timer_length op (byte_of (arg bound 0)) on now image)
+  family_length Counter op bound = counter_length op (byte_of (arg bound 0)) on image
+  family_length Reset op bound = reset_length (byte_of (arg bound 0)) on image
+  family_length Comparison op bound = refl
+  family_length Arithmetic op bound = math_length op bound image
+  family_length Copy op bound = copy_row_length (start_copy op bound image)
+  family_length ProgramControl op bound = control_length op bound
 
   bound_length : (op : Op) (o : Option (List Arg)) → SameLength image (with_bound args on now first frames flags image op o).image
-  bound_length op (Some bound) = executed_length op bound
+  bound_length op (Some bound) = family_length (family_of op) op bound
   bound_length op None = refl
 
   pub row_length : (op : Op) → SameLength image (row op args on now first frames flags image).image
@@ -236,8 +218,8 @@ module _ (program : ProgramRungs) (position : Position) (image : List ℕ) (now 
   by_control on im fl Return f outer h = h
   by_control on im fl (Jump label) f outer h = h
   by_control on im fl ToggleZone f outer h = h
-  by_control on im fl RegionUp f outer h = h
-  by_control on im fl RegionDown f outer h = h
+  by_control on im fl Up f outer h = h
+  by_control on im fl Down f outer h = h
   by_control on im fl (TriggerTask t) f outer h = h
   by_control on im fl (StartCopy c) f outer h = h
   by_control on im fl MinorFault f outer h = h

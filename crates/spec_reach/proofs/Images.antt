@@ -16,6 +16,8 @@ use Rattle.spec_tables.specs.Tasks.{release_answer, chosen, held, rotate, expire
 use Rattle.spec_scan.specs.declared.bound.Effect.{Effect}
 use Rattle.spec_scan.specs.declared.bound.Effect.TheVariants.{Ran, Up, Down, Trigger, CopyStart, Copied, Left, Minor, Major}
 use Rattle.spec_scan.specs.Scan.{Advanced, advance}
+use Rattle.spec_machine.specs.declared.answer.Outcome.{Outcome}
+use Rattle.spec_machine.specs.declared.answer.TickReport.{TickReport}
 use Rattle.spec_machine.specs.declared.reply.Mode.{Mode}
 use Rattle.spec_machine.specs.declared.reply.Mode.TheVariants.{Program, Run, Faulted}
 use Rattle.spec_machine.specs.declared.reply.EditFault.{EditFault}
@@ -24,11 +26,11 @@ use Rattle.spec_machine.specs.declared.event.Event.TheVariants as events
 use Rattle.spec_machine.specs.declared.event.Action.{Action}
 use Rattle.spec_machine.specs.declared.event.Action.TheVariants.{WordIn, WordOut, Accept, Test, Untest, Assemble, Cancel, ForceInstall, ForceEnable, ForceDisable, ForceRemove, ModeRun, ModeProgram, Clear}
 use Rattle.spec_machine.specs.Edits.{Book, Edited, accept, on_accepted, test, untest, assemble, cancel, selected}
-use Rattle.spec_machine.specs.State.{State, Scan, Progress, progress_of, programs_of, start}
+use Rattle.spec_machine.specs.State.{State, Scan, Progress, progress_of, programs_of, start, Answered}
 use Rattle.spec_machine.specs.Releases.{after_answer, release_task}
 use Rattle.spec_machine.specs.ProcessorStep.{with_progress, scan_ended, after_effect, after_advance, scan_step, task_step}
-use Rattle.spec_machine.specs.Ticks.{Ticked, quiet, release_if_due, after_watchdogs, in_mode, tick}
-use Rattle.spec_machine.specs.Actions.{Acted, held_or, triggers, put_in, take_out, install_on, force_replied, edit_replied, prescan_all, mode_run_from, mode_program_from, clear_from, act}
+use Rattle.spec_machine.specs.Ticks.{quiet, release_if_due, after_watchdogs, in_mode, tick}
+use Rattle.spec_machine.specs.Actions.{held_or, triggers, put_in, take_out, install_on, force_replied, edit_replied, prescan_all, mode_run_from, mode_program_from, clear_from, act}
 use Rattle.spec_machine.specs.Machine.{step, run_from}
 use Rattle.spec_reach.specs.Images.{ImagesKeepLength}
 use Rattle.spec_reach.proofs.ImageLengths.{SameLength, step_length, prescan_length, word_length}
@@ -69,14 +71,14 @@ advance_image s t q scan a =
     let q' : Progress = record { ended = q.ended; scan = Some (record scan { position = a.position }); flags = a.flags } in
     effect_image (record (with_progress t q' s) { image = a.image }) t q' scan.program a.effect
 
-by_due : (ts : List ℕ) (x : Ticked) → SameImage x.state (fold release_if_due x ts).state
+by_due : (ts : List ℕ) (x : Answered TickReport) → SameImage x.state (fold release_if_due x ts).state
 by_due [] x = refl
 by_due (t ∷ ts) x =
-    by_due ts (release_if_due x t) ∙ cond_both (due t x.state.tick x.state.table) _ x (λ (y : Ticked). SameImage x.state y.state) (λ b. by_release t x.state) (λ b. refl)
+    by_due ts (release_if_due x t) ∙ cond_both (due t x.state.tick x.state.table) _ x (λ (y : Answered TickReport). SameImage x.state y.state) (λ b. by_release t x.state) (λ b. refl)
 
 by_watchdogs : (s : State) (o : Option ℕ) → SameImage s (after_watchdogs s o).state
 by_watchdogs s (Some t) = refl
-by_watchdogs s None = by_due (range_with_len 0 (length s.table.defs)) (record { state = s; report = quiet })
+by_watchdogs s None = by_due (range_with_len 0 (length s.table.defs)) (record { state = s; answer = quiet })
 
 by_mode : (m : Mode) (s : State) → SameImage s (in_mode m s).state
 by_mode Run s = by_watchdogs (record s { table = rotate s.table }) (expired s.tick (rotate s.table))
@@ -101,7 +103,7 @@ by_task : (s : State) (o : Option ℕ) → Kept s (task_step s o).state
 by_task s None = refl
 by_task s (Some t) = by_scan s t (progress_of s t) (progress_of s t).scan
 
-by_held : (b : Bool) (s : State) (a : Acted) → Kept s a.state → Kept s (held_or b s a).state
+by_held : (b : Bool) (s : State) (a : Answered Outcome) → Kept s a.state → Kept s (held_or b s a).state
 by_held true s a h = refl
 by_held false s a h = h
 

@@ -9,10 +9,11 @@ use Rattle.spec_scan.specs.declared.bound.Effect.{Effect}
 use Rattle.spec_scan.specs.declared.bound.Effect.TheVariants.{Ran, Up, Down, CopyStart, Copied, Left, Minor, Major}
 use Rattle.spec_scan.specs.Scan.{Advanced}
 use Rattle.spec_machine.specs.declared.answer.What.TheVariants as what
+use Rattle.spec_machine.specs.declared.answer.Moment.{Moment}
 use Rattle.spec_machine.specs.Project.{Project}
-use Rattle.spec_machine.specs.State.{State, Scan, Progress, no_progress, progress_of, programs_of}
+use Rattle.spec_machine.specs.State.{State, Scan, Progress, no_progress, progress_of, programs_of, Answered}
 use Rattle.spec_machine.specs.Releases.{after_answer}
-use Rattle.spec_machine.specs.ProcessorStep.{Stepped, triggered, plainly, scan_ended, after_effect, begin_program}
+use Rattle.spec_machine.specs.ProcessorStep.{triggered, plainly, scan_ended, after_effect, begin_program}
 use Rattle.spec_machine.proofs.OrderlyTables.{released_free}
 use Rattle.spec_schedule.specs.Counting.{Counted, released}
 use Rattle.spec_reach.proofs.Changes.{view_at, view_of, Change, Stays, GoesDown, ComesUp}
@@ -32,7 +33,7 @@ module _ (p : Project) (s : State) (t k : ℕ) (h : IsAnother s t k) (scan : Sca
   abbrev s' : State
   s' = moved s t (progress_of s t) scan a
 
-  abbrev after : Effect → Stepped
+  abbrev after : Effect → Answered Moment
   after e = after_effect s' t q' scan.program e
 
   kept : view_of s' k ≡ view_of s k
@@ -46,7 +47,7 @@ module _ (p : Project) (s : State) (t k : ℕ) (h : IsAnother s t k) (scan : Sca
 
   -- ---- releases
 
-  abbrev pub by_trigger_of : ℕ → Release → Stepped
+  abbrev pub by_trigger_of : ℕ → Release → Answered Moment
   by_trigger_of other answer = triggered (what.Ran t scan.program) other (after_answer answer other s')
 
   -- what is told of a trigger of another task than k
@@ -90,7 +91,7 @@ module _ (p : Project) (s : State) (t k : ℕ) (h : IsAnother s t k) (scan : Sca
 
   -- ---- the end of a scan
 
-  abbrev ended : State → Stepped
+  abbrev ended : State → Answered Moment
   ended x = plainly x (what.Left t scan.program true)
 
   put_other : (answer : Release) (x : Table) (u : Option TaskState) → state_of x k ≡ u → state_of (put_up_if answer t s.tick x) k ≡ u

@@ -7,6 +7,8 @@ use Rattle.std.specs.Prelude.{ℤ, if◌then◌else◌, Result, Ok, Err, fold, n
 use Rattle.std.specs.Int.{w32}
 use Rattle.std.specs.List.{range_with_len}
 use Rattle.lgx_num.specs.Image.{write_signed}
+use Rattle.spec_machine.specs.declared.answer.Outcome.{Outcome}
+use Rattle.spec_machine.specs.declared.answer.TickReport.{TickReport}
 use Rattle.spec_machine.specs.declared.reply.Mode.{Mode}
 use Rattle.spec_machine.specs.declared.reply.Mode.TheVariants.{Program, Run, Faulted}
 use Rattle.spec_tables.specs.declared.conn.ConnFault.{ConnFault}
@@ -32,11 +34,11 @@ use Rattle.spec_machine.specs.declared.event.Action.{Action}
 use Rattle.spec_machine.specs.declared.event.Action.TheVariants.{WordIn, WordOut, Accept, Test, Untest, Assemble, Cancel, ForceInstall, ForceEnable, ForceDisable, ForceRemove, ModeRun, ModeProgram, Clear}
 use Rattle.spec_machine.specs.Edits.{Book, book_of, Edited, accept, on_accepted, test, untest, assemble, cancel}
 use Rattle.spec_machine.specs.Project.{Project, ProgramText}
-use Rattle.spec_machine.specs.State.{State, Scan, Progress, no_progress, dropped, progress_of, programs_of, start}
+use Rattle.spec_machine.specs.State.{State, Scan, Progress, no_progress, dropped, progress_of, programs_of, start, Answered}
 use Rattle.spec_machine.specs.Releases.{after_answer, release_task}
 use Rattle.spec_machine.specs.ProcessorStep.{with_progress, scan_ended, after_effect, after_advance, scan_step, task_step}
-use Rattle.spec_machine.specs.Ticks.{Ticked, quiet, release_if_due, after_watchdogs, tick}
-use Rattle.spec_machine.specs.Actions.{Acted, held_or, triggers, put_in, take_out, install_on, force_replied, edit_replied, mode_run_from, mode_program_from, clear_from, act}
+use Rattle.spec_machine.specs.Ticks.{quiet, release_if_due, after_watchdogs, tick}
+use Rattle.spec_machine.specs.Actions.{held_or, triggers, put_in, take_out, install_on, force_replied, edit_replied, mode_run_from, mode_program_from, clear_from, act}
 use Rattle.spec_machine.specs.Machine.{step, run_from as run_on}
 use Rattle.spec_reach.specs.Sizes.{KeepsSizes, RunsKeepSizes}
 use Rattle.spec_reach.proofs.EditNames.{names_of, accept_names, accepted_names, test_name, untest_name, assemble_name, cancel_name}
@@ -153,14 +155,14 @@ module _ (p : Project) where
 
   -- ---- the tick
 
-  due_keep : (ts : List ℕ) (x : Ticked) → Sized x.state → Sized (fold release_if_due x ts).state
+  due_keep : (ts : List ℕ) (x : Answered TickReport) → Sized x.state → Sized (fold release_if_due x ts).state
   due_keep [] x h = h
   due_keep (t ∷ ts) x h =
-      due_keep ts (release_if_due x t) (cond_both (due t x.state.tick x.state.table) _ x (λ (y : Ticked). Sized y.state) (λ b. by_release t x.state h) (λ b. h))
+      due_keep ts (release_if_due x t) (cond_both (due t x.state.tick x.state.table) _ x (λ (y : Answered TickReport). Sized y.state) (λ b. by_release t x.state h) (λ b. h))
 
   by_watchdogs : (s : State) (o : Option ℕ) → Sized s → Sized (after_watchdogs s o).state
   by_watchdogs s (Some t) h = all_down s h
-  by_watchdogs s None h = due_keep (range_with_len 0 (length s.table.defs)) (record { state = s; report = quiet }) h
+  by_watchdogs s None h = due_keep (range_with_len 0 (length s.table.defs)) (record { state = s; answer = quiet }) h
 
   abbrev in_mode : Mode → State → State
   in_mode m s = record s { mode = m }
@@ -174,7 +176,7 @@ module _ (p : Project) where
 
   -- ---- actions
 
-  by_held : (b : Bool) (s : State) (a : Acted) → Sized s → Sized a.state → Sized (held_or b s a).state
+  by_held : (b : Bool) (s : State) (a : Answered Outcome) → Sized s → Sized a.state → Sized (held_or b s a).state
   by_held true s a h k = h
   by_held false s a h k = k
 

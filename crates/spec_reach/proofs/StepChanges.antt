@@ -10,11 +10,12 @@ use Rattle.spec_scan.specs.declared.bound.Effect.{Effect}
 use Rattle.spec_scan.specs.declared.bound.Effect.TheVariants.{Ran, Up, Down, CopyStart, Copied, Left, Minor, Major}
 use Rattle.spec_scan.specs.Scan.{Advanced}
 use Rattle.spec_machine.specs.declared.answer.What.TheVariants as what
+use Rattle.spec_machine.specs.declared.answer.Moment.{Moment}
 use Rattle.spec_machine.specs.Edits.{Book}
 use Rattle.spec_machine.specs.Project.{Project}
-use Rattle.spec_machine.specs.State.{State, Scan, Progress, no_progress, dropped, progress_of, programs_of}
+use Rattle.spec_machine.specs.State.{State, Scan, Progress, no_progress, dropped, progress_of, programs_of, Answered}
 use Rattle.spec_machine.specs.Releases.{after_answer}
-use Rattle.spec_machine.specs.ProcessorStep.{Stepped, triggered, plainly, with_table, with_progress, after_effect}
+use Rattle.spec_machine.specs.ProcessorStep.{triggered, plainly, with_table, with_progress, after_effect}
 use Rattle.spec_machine.specs.Machine.{after_step}
 use Rattle.spec_schedule.specs.declared.trace.TraceMark.TheVariants as mark
 use Rattle.spec_schedule.specs.Counting.{Counted, counted, gone_down, released, is_task}
@@ -26,12 +27,12 @@ use Rattle.spec_reach.proofs.Views.{own_view, own_progress, other_view, all_down
 -- ---- what a step of task t makes of task k
 
 -- a state after a step and its moment, as an event makes them
-pub record Made (p : Project) (s : State) (x : Stepped) (k : ℕ) (change : Change) : Type 0 where
+pub record Made (p : Project) (s : State) (x : Answered Moment) (k : ℕ) (change : Change) : Type 0 where
   pub view : view_of x.state k ≡ changed change (view_of s k)
-  pub counts : (c : Counted) → Shows (view_of s k) c → counted (audit_task (task s.table k) (programs_of s k)) k (seen p (after_step x).entry) c ≡ counts_after change c
-  pub begun : (books : List Book) (b : Option ProgramRungs) → begins k (after_step x).entry books b ≡ begun_after change books b
-  pub starts : is_task k (sync_start (after_step x).entry) ≡ starts_copy change
-  pub ends : is_task k (sync_end (after_step x).entry) ≡ ends_copy change
+  pub counts : (c : Counted) → Shows (view_of s k) c → counted (audit_task (task s.table k) (programs_of s k)) k (seen p (after_step x).answer) c ≡ counts_after change c
+  pub begun : (books : List Book) (b : Option ProgramRungs) → begins k (after_step x).answer books b ≡ begun_after change books b
+  pub starts : is_task k (sync_start (after_step x).answer) ≡ starts_copy change
+  pub ends : is_task k (sync_end (after_step x).answer) ≡ ends_copy change
 
 -- the scan goes on from here
 abbrev pub gone_on : Progress → Scan → Advanced → Progress
@@ -54,7 +55,7 @@ module _ (p : Project) (s : State) (t : ℕ) (h : IsChosen p s t) (scan : Scan) 
   abbrev scan' : Scan
   scan' = record scan { position = a.position }
 
-  abbrev after : Effect → Stepped
+  abbrev after : Effect → Answered Moment
   after e = after_effect s' t q' scan.program e
 
   -- the table's state of the task becomes u
@@ -100,7 +101,7 @@ module _ (p : Project) (s : State) (t : ℕ) (h : IsChosen p s t) (scan : Scan) 
 
   -- ---- a trigger
 
-  abbrev by_trigger : ℕ → Release → Stepped
+  abbrev by_trigger : ℕ → Release → Answered Moment
   by_trigger other answer = triggered (what.Ran t scan.program) other (after_answer answer other s')
 
   -- the task of the step is up, so that a trigger of it releases nothing
@@ -129,7 +130,7 @@ module _ (p : Project) (s : State) (t : ℕ) (h : IsChosen p s t) (scan : Scan) 
   abbrev many : ℕ
   many = length (programs_of s t)
 
-  abbrev ended : State → Stepped
+  abbrev ended : State → Answered Moment
   ended x = plainly x (what.Left t scan.program true)
 
   -- what is counted at the end of a program

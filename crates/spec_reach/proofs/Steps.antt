@@ -9,11 +9,12 @@ use Rattle.spec_scan.specs.declared.bound.Copying.{Copying}
 use Rattle.spec_scan.specs.declared.bound.Effect.{Effect}
 use Rattle.spec_scan.specs.declared.bound.Effect.TheVariants.{Ran, Up, Down, Trigger, CopyStart, Copied, Left, Minor, Major}
 use Rattle.spec_scan.specs.Scan.{Advanced, advance}
+use Rattle.spec_machine.specs.declared.answer.Moment.{Moment}
 use Rattle.spec_machine.specs.declared.event.Event.TheVariants.{Cpu, Tick}
 use Rattle.spec_machine.specs.declared.answer.What.TheVariants as what
 use Rattle.spec_machine.specs.Project.{Project}
-use Rattle.spec_machine.specs.State.{State, Scan, Progress, dropped, progress_of, programs_of}
-use Rattle.spec_machine.specs.ProcessorStep.{Stepped, plainly, scan_ended, with_progress, with_table, after_effect, begin_program, scan_step, task_step, new_scan, next_program}
+use Rattle.spec_machine.specs.State.{State, Scan, Progress, dropped, progress_of, programs_of, Answered}
+use Rattle.spec_machine.specs.ProcessorStep.{plainly, scan_ended, with_progress, with_table, after_effect, begin_program, scan_step, task_step, new_scan, next_program}
 use Rattle.spec_schedule.specs.declared.trace.TraceMark.{TraceMark}
 use Rattle.spec_schedule.specs.declared.trace.TraceMark.TheVariants as mark
 use Rattle.spec_reach.specs.Scans.{is_syncing, syncs}
@@ -24,7 +25,7 @@ use Rattle.spec_reach.proofs.StepChanges.{Made, gone_on, moved, own_ran, own_up,
 use Rattle.spec_reach.proofs.OtherChanges.{IsAnother, by_trigger_of, apart_trigger, here_trigger, end_other, other_ran, other_up, other_down, other_start, other_last, other_copied, other_left, other_minor, other_major, other_begin}
 
 -- what a step makes of task k, and that a step of the state makes it
-pub record StepMakes (p : Project) (s : State) (x : Stepped) (k : ℕ) : Type 0 where
+pub record StepMakes (p : Project) (s : State) (x : Answered Moment) (k : ℕ) : Type 0 where
   pub change : Change
   pub makes : Makes s Cpu k change
   pub made : Made p s x k change
@@ -32,7 +33,7 @@ pub record StepMakes (p : Project) (s : State) (x : Stepped) (k : ℕ) : Type 0 
 no_turn : (s : State) (k : ℕ) → TakesTurn s Cpu k → ⊥
 no_turn s k h = let f : Cpu ≡ Tick → ⊥ = λ e. cc in f h.tick
 
-stays : (p : Project) (s : State) (x : Stepped) (k : ℕ) → Made p s x k Stays → StepMakes p s x k
+stays : (p : Project) (s : State) (x : Answered Moment) (k : ℕ) → Made p s x k Stays → StepMakes p s x k
 stays p s x k m = record { change = Stays; makes = no_turn s k; made = m }
 
 -- ---- the task of the step
@@ -44,17 +45,17 @@ module _ (p : Project) (s : State) (t : ℕ) (h : IsChosen p s t) (scan : Scan) 
   abbrev scan' : Scan
   scan' = record scan { position = a.position }
 
-  abbrev after : Effect → Stepped
+  abbrev after : Effect → Answered Moment
   after e = after_effect (moved s t q scan a) t (gone_on q scan a) scan.program e
 
   is_step : IsStepOf s Cpu t
   is_step = record { step = refl; chosen = h.is }
 
-  goes : (m : TraceMark) (x : Stepped) → CopyGoes m scan.position.copy a.position.copy → Made p s x t (Goes m scan') → StepMakes p s x t
+  goes : (m : TraceMark) (x : Answered Moment) → CopyGoes m scan.position.copy a.position.copy → Made p s x t (Goes m scan') → StepMakes p s x t
   goes m x copy m' = record { change = Goes m scan'; makes = (is_step, record { before = scan; was = was; goes = ap (λ x. record scan { position = x }) goes_on; program = refl; rungs = refl; copy = copy }); made = m' }
 
   -- no copy before and after
-  none_goes : (x : Stepped) (b n : Option Copying) → (b ≡ None) × (n ≡ None) → is_syncing n ≡ is_syncing b
+  none_goes : (x : Answered Moment) (b n : Option Copying) → (b ≡ None) × (n ≡ None) → is_syncing n ≡ is_syncing b
   none_goes x b n e = ap is_syncing (e.1 ∙ sym e.0)
 
   plain : (m : TraceMark) (e : Effect) → CopyGoes m scan.position.copy a.position.copy → Made p s (after e) t (Goes m scan') → StepMakes p s (after e) t
@@ -76,7 +77,7 @@ module _ (p : Project) (s : State) (t : ℕ) (h : IsChosen p s t) (scan : Scan) 
   many = length (programs_of s t)
 
   -- the task goes down with its last program, and comes up again if it is continuous
-  abbrev finished_by : Bool → Stepped
+  abbrev finished_by : Bool → Answered Moment
   finished_by b = plainly (with_progress t (dropped (gone_on q scan a)) (with_table (release_some (if b then Some t else None) s.tick (record s.table { states = slice_set s.table.states t None })) (moved s t q scan a))) (what.Left t scan.program true)
 
   finishes : (b : Bool) → Made p s (finished_by b) t (if b then Restarts s.tick s.table.next else GoesDown) → StepMakes p s (finished_by b) t
@@ -108,7 +109,7 @@ module _ (p : Project) (s : State) (t : ℕ) (h : IsChosen p s t) (scan : Scan) 
 -- ---- another task
 
 module _ (p : Project) (s : State) (t k : ℕ) (h : IsAnother s t k) (scan : Scan) (a : Advanced) where
-  abbrev after_other : Effect → Stepped
+  abbrev after_other : Effect → Answered Moment
   after_other e = after_effect (moved s t (progress_of s t) scan a) t (gone_on (progress_of s t) scan a) scan.program e
 
   here : (answer : Release) → release_answer s.table k ≡ answer → StepMakes p s (by_trigger_of p s t k h scan a k answer) k

@@ -8,14 +8,15 @@ use Rattle.std.proofs.lemmas.Nat.Bits.{bit_at-zero, bit_at_above, bit_at_cat_low
 use Rattle.spec_tables.specs.declared.task.Release.{Release}
 use Rattle.spec_tables.specs.declared.task.Release.TheVariants.{Released, Overlap, Inhibited}
 use Rattle.spec_tables.specs.Tasks.{Table, state_of, task, release_answer, chosen, is_open, with_rank, to_back, unless_open, rotate, expired, due}
+use Rattle.spec_machine.specs.declared.answer.TickReport.{TickReport}
 use Rattle.spec_machine.specs.declared.reply.Mode.{Mode}
 use Rattle.spec_machine.specs.declared.reply.Mode.TheVariants.{Program, Run, Faulted}
 use Rattle.spec_machine.specs.declared.event.Event.TheVariants.{Tick}
 use Rattle.spec_machine.specs.Edits.{Book}
 use Rattle.spec_machine.specs.Project.{Project}
-use Rattle.spec_machine.specs.State.{State, Progress, no_progress, progress_of, programs_of}
+use Rattle.spec_machine.specs.State.{State, Progress, no_progress, progress_of, programs_of, Answered}
 use Rattle.spec_machine.specs.Releases.{after_answer, release_task}
-use Rattle.spec_machine.specs.Ticks.{Ticked, quiet, after_release, release_if_due, release_due, after_watchdogs, in_mode, tick}
+use Rattle.spec_machine.specs.Ticks.{quiet, after_release, release_if_due, release_due, after_watchdogs, in_mode, tick}
 use Rattle.spec_machine.specs.Machine.{after_tick}
 use Rattle.spec_scan.specs.Position.{ProgramRungs}
 use Rattle.spec_schedule.specs.declared.trace.TraceEvent.TheVariants as event
@@ -42,32 +43,32 @@ bit_here m k l =
 
 module _ (s : State) where
   -- what became of a task that was passed: nothing, or it came up and its bit tells it
-  pub record CameUp (i : ℕ) (x : Ticked) : Type 0 where
+  pub record CameUp (i : ℕ) (x : Answered TickReport) : Type 0 where
     pub was : state_of s.table i ≡ None
     pub rank : ℕ
     pub above : s.table.next ≤ rank
     pub is : view_of x.state i ≡ record { state = Some (fresh s.tick rank); ended = 0; scan = None }
-    pub told : bit_at x.report.released i ≡ 1
+    pub told : bit_at x.answer.released i ≡ 1
 
-  pub record Stayed (i : ℕ) (x : Ticked) : Type 0 where
+  pub record Stayed (i : ℕ) (x : Answered TickReport) : Type 0 where
     pub is : view_of x.state i ≡ view_of s i
-    pub told : bit_at x.report.released i ≡ 0
+    pub told : bit_at x.answer.released i ≡ 0
 
-  abbrev pub Fate : ℕ → Ticked → Type 0
+  abbrev pub Fate : ℕ → Answered TickReport → Type 0
   Fate i x = Stayed i x ⊎ CameUp i x
 
   -- after the tasks below k
-  record SoFar (k : ℕ) (x : Ticked) : Type 0 where
+  record SoFar (k : ℕ) (x : Answered TickReport) : Type 0 where
     tick : x.state.tick ≡ s.tick
     next : s.table.next ≤ x.state.table.next
     states : length x.state.table.states ≡ length s.table.states
     progress : length x.state.progress ≡ length s.progress
-    watchdog : x.report.watchdog ≡ None
-    small : x.report.released < 2 ^ k
+    watchdog : x.answer.watchdog ≡ None
+    small : x.answer.released < 2 ^ k
     passed : (i : ℕ) → i < k → Fate i x
     to_come : (i : ℕ) → k ≤ i → view_of x.state i ≡ view_of s i
 
-  begins_walk : SoFar 0 (record { state = s; report = quiet })
+  begins_walk : SoFar 0 (record { state = s; answer = quiet })
   begins_walk = record {
     tick = refl;
     next = omega arith;
@@ -84,15 +85,15 @@ module _ (s : State) where
   up_to k P below here i l = elim (cases_eq i k) [ inl e ↦ subst P (sym e) here | inr ne ↦ below i (omega arith) ]
 
   -- nothing is told of task k, and no view changes
-  passes : (k : ℕ) (x y : Ticked) → SoFar k x → y.state.tick ≡ x.state.tick → y.state.table ≡ x.state.table → y.state.progress ≡ x.state.progress → y.report.watchdog ≡ x.report.watchdog → y.report.released ≡ x.report.released → SoFar (suc k) y
+  passes : (k : ℕ) (x y : Answered TickReport) → SoFar k x → y.state.tick ≡ x.state.tick → y.state.table ≡ x.state.table → y.state.progress ≡ x.state.progress → y.answer.watchdog ≡ x.answer.watchdog → y.answer.released ≡ x.answer.released → SoFar (suc k) y
   passes k x y h tick table progress watchdog told = record {
     tick = tick ∙ h.tick;
     next = subst (λ (z : Table). s.table.next ≤ z.next) (sym table) h.next;
     states = ap (λ (z : Table). length z.states) table ∙ h.states;
     progress = ap (λ (z : List Progress). length z) progress ∙ h.progress;
     watchdog = watchdog ∙ h.watchdog;
-    small = subst (λ m. m < 2 ^ suc k) (sym told) (wider x.report.released k h.small);
-    passed = up_to k (λ i. Fate i y) (λ i l. moved i (h.passed i l)) (inl (record { is = same k ∙ h.to_come k (omega arith); told = ap (λ m. bit_at m k) told ∙ bit_at_above x.report.released k k h.small (omega arith) }));
+    small = subst (λ m. m < 2 ^ suc k) (sym told) (wider x.answer.released k h.small);
+    passed = up_to k (λ i. Fate i y) (λ i l. moved i (h.passed i l)) (inl (record { is = same k ∙ h.to_come k (omega arith); told = ap (λ m. bit_at m k) told ∙ bit_at_above x.answer.released k k h.small (omega arith) }));
     to_come = λ i l. (same i ∙ h.to_come i (omega arith));
   }
     where
@@ -104,27 +105,27 @@ module _ (s : State) where
       moved i (inr f) = inr (record { was = f.was; rank = f.rank; above = f.above; is = same i ∙ f.is; told = ap (λ m. bit_at m i) told ∙ f.told })
 
   -- task k comes up
-  comes_up : (k : ℕ) (x : Ticked) → SoFar k x → k < length s.table.states → k < length s.progress → release_answer x.state.table k ≡ Released → SoFar (suc k) (after_release k x.report (after_answer Released k x.state))
+  comes_up : (k : ℕ) (x : Answered TickReport) → SoFar k x → k < length s.table.states → k < length s.progress → release_answer x.state.table k ≡ Released → SoFar (suc k) (after_release k x.answer (after_answer Released k x.state))
   comes_up k x h ls lp r = record {
     tick = h.tick;
     next = (let l = h.next in omega arith);
     states = length-set x.state.table.states k _ ∙ h.states;
     progress = length-set x.state.progress k _ ∙ h.progress;
     watchdog = h.watchdog;
-    small = wide_sum x.report.released k h.small;
+    small = wide_sum x.answer.released k h.small;
     passed = up_to k (λ i. Fate i y) (λ i l. moved i l (h.passed i l)) (inr here);
     to_come = λ i l. (other i (omega arith) ∙ h.to_come i (omega arith));
   }
     where
-      y : Ticked
-      y = after_release k x.report (after_answer Released k x.state)
+      y : Answered TickReport
+      y = after_release k x.answer (after_answer Released k x.state)
 
       other : (i : ℕ) → (i ≡ k → ⊥) → view_of y.state i ≡ view_of x.state i
       other i ne = other_view x.state.table.states x.state.progress k i _ _ ne
 
       moved : (i : ℕ) → i < k → Fate i x → Fate i y
-      moved i l (inl f) = inl (record { is = other i (omega arith) ∙ f.is; told = bit_below x.report.released k i l ∙ f.told })
-      moved i l (inr f) = inr (record { was = f.was; rank = f.rank; above = f.above; is = other i (omega arith) ∙ f.is; told = bit_below x.report.released k i l ∙ f.told })
+      moved i l (inl f) = inl (record { is = other i (omega arith) ∙ f.is; told = bit_below x.answer.released k i l ∙ f.told })
+      moved i l (inr f) = inr (record { was = f.was; rank = f.rank; above = f.above; is = other i (omega arith) ∙ f.is; told = bit_below x.answer.released k i l ∙ f.told })
 
       here : CameUp k y
       here = record {
@@ -132,47 +133,47 @@ module _ (s : State) where
         rank = x.state.table.next;
         above = h.next;
         is = own_view x.state.table.states x.state.progress k _ _ (let e = h.states in omega arith) (let e = h.progress in omega arith) ∙ ap (λ (now : ℕ). record { state = Some (fresh now x.state.table.next); ended = 0; scan = None }) h.tick;
-        told = bit_here x.report.released k h.small;
+        told = bit_here x.answer.released k h.small;
       }
 
-  by_answer : (k : ℕ) (x : Ticked) (a : Release) → SoFar k x → k < length s.table.states → k < length s.progress → release_answer x.state.table k ≡ a → SoFar (suc k) (after_release k x.report (after_answer a k x.state))
+  by_answer : (k : ℕ) (x : Answered TickReport) (a : Release) → SoFar k x → k < length s.table.states → k < length s.progress → release_answer x.state.table k ≡ a → SoFar (suc k) (after_release k x.answer (after_answer a k x.state))
   by_answer k x Released h ls lp r = comes_up k x h ls lp r
   by_answer k x Overlap h ls lp r = passes k x _ h refl refl refl refl refl
   by_answer k x Inhibited h ls lp r = passes k x _ h refl refl refl refl refl
 
-  one_task : (k : ℕ) (x : Ticked) → SoFar k x → k < length s.table.states → k < length s.progress → SoFar (suc k) (release_if_due x k)
+  one_task : (k : ℕ) (x : Answered TickReport) → SoFar k x → k < length s.table.states → k < length s.progress → SoFar (suc k) (release_if_due x k)
   one_task k x h ls lp =
-      cond_both (due k x.state.tick x.state.table) (after_release k x.report (release_task k x.state)) x (SoFar (suc k))
+      cond_both (due k x.state.tick x.state.table) (after_release k x.answer (release_task k x.state)) x (SoFar (suc k))
       (λ b. by_answer k x (release_answer x.state.table k) h ls lp refl) (λ b. passes k x x h refl refl refl refl refl)
 
-  walk : (k n : ℕ) (x : Ticked) → SoFar k x → k + n ≤ length s.table.states → k + n ≤ length s.progress → SoFar (k + n) (fold release_if_due x (range_with_len k n))
+  walk : (k n : ℕ) (x : Answered TickReport) → SoFar k x → k + n ≤ length s.table.states → k + n ≤ length s.progress → SoFar (k + n) (fold release_if_due x (range_with_len k n))
   walk k zero x h ls lp = subst (λ i. SoFar i x) (let e : k ≡ k + 0 = omega arith in e) h
   walk k (suc n) x h ls lp =
       let more : suc k ≡ k + 1 = omega arith in
       subst (λ i. SoFar i (fold release_if_due (release_if_due x k) (range_with_len (k + 1) n))) (let e : k + 1 + n ≡ k + suc n = omega arith in e)
       (walk (k + 1) n (release_if_due x k) (subst (λ i. SoFar i (release_if_due x k)) more (one_task k x h (omega arith) (omega arith))) (omega arith) (omega arith))
 
-  pub record Walked (n : ℕ) (x : Ticked) : Type 0 where
+  pub record Walked (n : ℕ) (x : Answered TickReport) : Type 0 where
     pub tick : x.state.tick ≡ s.tick
-    pub watchdog : x.report.watchdog ≡ None
+    pub watchdog : x.answer.watchdog ≡ None
     pub fate : (i : ℕ) → i < n → Fate i x
 
-  pub walked : (n : ℕ) → n ≤ length s.table.states → n ≤ length s.progress → Walked n (fold release_if_due (record { state = s; report = quiet }) (range_with_len 0 n))
+  pub walked : (n : ℕ) → n ≤ length s.table.states → n ≤ length s.progress → Walked n (fold release_if_due (record { state = s; answer = quiet }) (range_with_len 0 n))
   walked n ls lp =
-      let h = walk 0 n (record { state = s; report = quiet }) begins_walk (omega arith) (omega arith) in
+      let h = walk 0 n (record { state = s; answer = quiet }) begins_walk (omega arith) (omega arith) in
       record { tick = h.tick; watchdog = h.watchdog; fate = λ i l. h.passed i (omega arith) }
 
 -- ---- the tick
 
 -- what a tick makes of task k
-pub record TickMakes (p : Project) (s : State) (x : Ticked) (k : ℕ) : Type 0 where
+pub record TickMakes (p : Project) (s : State) (x : Answered TickReport) (k : ℕ) : Type 0 where
   pub change : Change
   pub makes : Makes s Tick k change
   pub view : view_of x.state k ≡ changed change (view_of s k)
-  pub counts : (c : Counted) → counted (audit_task (task s.table k) (programs_of s k)) k (seen p (after_tick x).entry) c ≡ counts_after change c
-  pub begun : (books : List Book) (b : Option ProgramRungs) → begins k (after_tick x).entry books b ≡ begun_after change books b
-  pub starts : is_task k (sync_start (after_tick x).entry) ≡ starts_copy change
-  pub ends : is_task k (sync_end (after_tick x).entry) ≡ ends_copy change
+  pub counts : (c : Counted) → counted (audit_task (task s.table k) (programs_of s k)) k (seen p (after_tick x).answer) c ≡ counts_after change c
+  pub begun : (books : List Book) (b : Option ProgramRungs) → begins k (after_tick x).answer books b ≡ begun_after change books b
+  pub starts : is_task k (sync_start (after_tick x).answer) ≡ starts_copy change
+  pub ends : is_task k (sync_end (after_tick x).answer) ≡ ends_copy change
 
 -- the turn of task k
 abbrev pub IsTurned : State → Table → ℕ → Change → Type 0
@@ -218,14 +219,14 @@ module _ (p : Project) (s : State) (known : Known p s) (mode : s.mode ≡ Run) (
 
   -- ---- after the turn
 
-  untold : (x : Ticked) → x.report.watchdog ≡ None → bit_at x.report.released k ≡ 0 → (c : Counted) → counted (audit_task (task s.table k) (programs_of s k)) k (seen p (after_tick x).entry) c ≡ c
+  untold : (x : Answered TickReport) → x.answer.watchdog ≡ None → bit_at x.answer.released k ≡ 0 → (c : Counted) → counted (audit_task (task s.table k) (programs_of s k)) k (seen p (after_tick x).answer) c ≡ c
   untold x w b c =
-      ap (λ o. counted (audit_task (task s.table k) (programs_of s k)) k (event.Tick x.report.released x.report.overlapped o) c) w
+      ap (λ o. counted (audit_task (task s.table k) (programs_of s k)) k (event.Tick x.answer.released x.answer.overlapped o) c) w
       ∙ ap (λ n. cond (nat_eq n 1) (released c) c) b
 
-  told_up : (x : Ticked) → x.report.watchdog ≡ None → bit_at x.report.released k ≡ 1 → (c : Counted) → counted (audit_task (task s.table k) (programs_of s k)) k (seen p (after_tick x).entry) c ≡ released c
+  told_up : (x : Answered TickReport) → x.answer.watchdog ≡ None → bit_at x.answer.released k ≡ 1 → (c : Counted) → counted (audit_task (task s.table k) (programs_of s k)) k (seen p (after_tick x).answer) c ≡ released c
   told_up x w b c =
-      ap (λ o. counted (audit_task (task s.table k) (programs_of s k)) k (event.Tick x.report.released x.report.overlapped o) c) w
+      ap (λ o. counted (audit_task (task s.table k) (programs_of s k)) k (event.Tick x.answer.released x.answer.overlapped o) c) w
       ∙ ap (λ n. cond (nat_eq n 1) (released c) c) b
 
   next_grows : s.table.next ≤ (rotate s.table).next
@@ -235,7 +236,7 @@ module _ (p : Project) (s : State) (known : Known p s) (mode : s.mode ≡ Run) (
       go None = omega arith
       go (Some t) = cond_both (is_open (state_of s.table t)) s.table (to_back t s.table) (λ (x : Table). s.table.next ≤ x.next) (λ b. omega arith) (λ b. omega arith)
 
-  by_fate : (x : Ticked) → x.report.watchdog ≡ None → Turned s (rotate s.table) k → Fate s1 k x → TickMakes p s x k
+  by_fate : (x : Answered TickReport) → x.answer.watchdog ≡ None → Turned s (rotate s.table) k → Fate s1 k x → TickMakes p s x k
   by_fate x w (NoTurn t) (inl f) = record { change = Stays; makes = t.0; view = f.is ∙ t.1; counts = untold x w f.told; begun = λ books b. refl; starts = refl; ends = refl }
   by_fate x w (NoTurn t) (inr f) = record {
     change = ComesUp (s.tick + 1) f.rank;
@@ -263,7 +264,7 @@ module _ (p : Project) (s : State) (known : Known p s) (mode : s.mode ≡ Run) (
       let w = walked s1 n (let e = a.states in omega arith) (let e = a.progresses in omega arith) in
       by_fate (release_due s1) w.watchdog turned (w.fate k (omega arith))
 
-quiet_ticks : (p : Project) (s : State) (k : ℕ) → (s.mode ≡ Run → ⊥) → TickMakes p s (record { state = record s { tick = s.tick + 1 }; report = quiet }) k
+quiet_ticks : (p : Project) (s : State) (k : ℕ) → (s.mode ≡ Run → ⊥) → TickMakes p s (record { state = record s { tick = s.tick + 1 }; answer = quiet }) k
 quiet_ticks p s k ne = record {
   change = Stays;
   makes = λ h. ne h.mode;

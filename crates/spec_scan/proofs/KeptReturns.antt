@@ -21,7 +21,7 @@ use Rattle.spec_scan.specs.declared.bound.Copying.{Copying}
 use Rattle.spec_scan.specs.Arguments.{bind, bind_one, arg, cell_at, place_of}
 use Rattle.spec_scan.specs.Executable.{IsExecutable}
 use Rattle.spec_scan.specs.Fits.{IsCell, IsRoutine, AllFit, OperandsFit}
-use Rattle.spec_scan.specs.Instructions.{Control, Nothing, Call, Return, Jump, ToggleZone, RegionUp, RegionDown, TriggerTask, StartCopy, MinorFault, MajorFault, Row, row}
+use Rattle.spec_scan.specs.Instructions.{Control, Nothing, Call, Return, Jump, ToggleZone, Up, Down, TriggerTask, StartCopy, MinorFault, MajorFault, Row, row}
 use Rattle.spec_scan.specs.Parameters.{count_told, input_count, returns_of}
 use Rattle.spec_scan.specs.Position.{ProgramRungs, Frame, Position}
 use Rattle.spec_scan.specs.Returns.{ReturnsInBounds, NextIsExecutable, StepsKeepReturns}
@@ -108,6 +108,7 @@ instruction_hands i on now first frames flags image len can =
     row_asks (HandsOver len) (other_hands len) i.args on now first frames flags image i.op (λ args found. record {
       call = λ is. call_lies image len i.args args (subst (λ (op : Op). OperandsFit op i.args) is can.fit) (each_of (λ o. OperandInBounds o len) i.args can.lie) found;
       trigger = λ is. tt;
+      copy = λ is c started. tt;
     })
 
 -- ---- a step
@@ -122,8 +123,8 @@ module _ (program : ProgramRungs) (position : Position) (image : List ℕ) (now 
       go Return h = (here, others)
       go (Jump label) h = (here, others)
       go ToggleZone h = (here, others)
-      go RegionUp h = (here, others)
-      go RegionDown h = (here, others)
+      go Up h = (here, others)
+      go Down h = (here, others)
       go (TriggerTask t) h = (here, others)
       go (StartCopy c) h = (here, others)
       go MinorFault h = (here, others)

@@ -14,7 +14,7 @@ use Rattle.lgx_rung.specs.Tree.{Tree, end, one, fork}
 use Rattle.spec_scan.specs.declared.bound.Copying.{Copying}
 use Rattle.spec_scan.specs.Executable.{IsExecutable}
 use Rattle.spec_scan.specs.Fits.{AllFit, OperandsFit}
-use Rattle.spec_scan.specs.Instructions.{Control, Nothing, Call, Return, Jump, ToggleZone, RegionUp, RegionDown, TriggerTask, StartCopy, MinorFault, MajorFault, Row, row, target}
+use Rattle.spec_scan.specs.Instructions.{Control, Nothing, Call, Return, Jump, ToggleZone, Up, Down, TriggerTask, StartCopy, MinorFault, MajorFault, Row, row, target}
 use Rattle.spec_scan.specs.KnownTasks.{KnowsTask, NamesKnownTasks, TriggersKnownTask}
 use Rattle.spec_scan.specs.Position.{ProgramRungs, Frame, Position}
 use Rattle.spec_scan.specs.Next.{FirstHas, NextHas}
@@ -46,6 +46,7 @@ instruction_asks i on now first frames flags image len count can known =
     row_asks (AsksKnownTask count) (other_asks count) i.args on now first frames flags image i.op (λ args found. record {
       call = λ is. tt;
       trigger = λ is. target_known count i.args (subst (λ (op : Op). OperandsFit op i.args) is can.fit) known;
+      copy = λ is c started. tt;
     })
 
 -- ---- a step
@@ -60,8 +61,8 @@ module _ (program : ProgramRungs) (position : Position) (image : List ℕ) (now 
       go Return h = tt
       go (Jump label) h = tt
       go ToggleZone h = tt
-      go RegionUp h = tt
-      go RegionDown h = tt
+      go Up h = tt
+      go Down h = tt
       go (TriggerTask t) h = h
       go (StartCopy c) h = tt
       go MinorFault h = tt

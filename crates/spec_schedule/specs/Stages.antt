@@ -32,7 +32,7 @@ pub record Stage : Type 0 where
 abbrev pub stages_from : State → List Event → List Stage
 stages_from s [] = []
 stages_from s (e ∷ es) =
-    let x = step s e in record { before = s; entry = x.entry; after = x.state } ∷ stages_from x.state es
+    let x = step s e in record { before = s; entry = x.answer; after = x.state } ∷ stages_from x.state es
 
 abbrev pub stages : Project → List Event → List Stage
 stages p journal = stages_from (start p) journal

@@ -11,9 +11,9 @@ use Rattle.spec_machine.specs.Events.{is_tick}
 use Rattle.spec_machine.specs.Machine.{run, run_from, step}
 use Rattle.spec_machine.specs.Project.{Project}
 use Rattle.spec_machine.specs.State.{State, start}
-use Rattle.lgx_hmi.specs.declared.published.TheConstants.{MAX_SNAPSHOTS}
-use Rattle.lgx_hmi.specs.declared.snapshot.Snapshot.{Snapshot}
-use Rattle.lgx_hmi.specs.Stories.{with_next}
+use Rattle.spec_board.specs.declared.snapshot.TheConstants.{MAX_SNAPSHOTS}
+use Rattle.spec_board.specs.declared.snapshot.Snapshot.{Snapshot}
+use Rattle.spec_board.specs.Stories.{with_next}
 use Rattle.spec_story.specs.Snapshots.{snapshot, snapshots_from, snapshots, StoriesGoOn, TicksAddOne, OthersAddNone, TicksAreNumbers}
 
 run_over : (s : State) (xs ys : List Event) → run_from s (xs ++ ys) ≡ run_from (run_from s xs) ys

@@ -7,9 +7,9 @@ use Rattle.spec_machine.specs.Events.{is_tick}
 use Rattle.spec_machine.specs.Machine.{run, step}
 use Rattle.spec_machine.specs.Project.{Project}
 use Rattle.spec_machine.specs.State.{State, start}
-use Rattle.lgx_hmi.specs.declared.published.TheConstants.{MAX_SNAPSHOTS}
-use Rattle.lgx_hmi.specs.declared.snapshot.Snapshot.{Snapshot}
-use Rattle.lgx_hmi.specs.Stories.{IsPrefix, with_next}
+use Rattle.spec_board.specs.declared.snapshot.TheConstants.{MAX_SNAPSHOTS}
+use Rattle.spec_board.specs.declared.snapshot.Snapshot.{Snapshot}
+use Rattle.spec_board.specs.Stories.{IsPrefix, with_next}
 
 -- the tick of a state, and its watched values
 abbrev pub snapshot : Project → State → Snapshot

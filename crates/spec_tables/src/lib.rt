@@ -8,6 +8,9 @@ mod force;
 mod task;
 
 pub use conn::{ConnDef, ConnFault, Slot};
-pub use fault::{Fault, Severity};
+pub use fault::{
+    BAD_SUBSCRIPT, BAD_TIMER, EVENT_OVERLAP, Fault, MISSING_PARAMETERS, OVERFLOW, PERIODIC_OVERLAP,
+    PROGRAM_FAULT, Severity, TASK_FAULT, TOO_DEEP, WATCHDOG,
+};
 pub use force::ForceFault;
 pub use task::{Release, TaskDef, TaskKind};

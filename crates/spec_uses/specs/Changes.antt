@@ -64,7 +64,7 @@ last_of t xs = fold (executed_last t) None xs
 -- The program and the instruction of an event after a journal: a step that executes it, or that copies an element of the copy
 -- that it started. Other events have none.
 abbrev pub acting : Project → List Event → Event → Option (ℕ × Ins)
-acting p journal e = go (step (run p journal) e).entry
+acting p journal e = go (step (run p journal) e).answer
   where
     of_program : ℕ → Option Ins → Option (ℕ × Ins)
     of_program n None = None

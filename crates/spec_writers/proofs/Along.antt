@@ -150,7 +150,7 @@ module _ (p : Project) (valid : IsValidProject p) where
   -- ---- an event
 
   abbrev stage : State → Event → Stage
-  stage s e = record { before = s; entry = (step s e).entry; after = (step s e).state }
+  stage s e = record { before = s; entry = (step s e).answer; after = (step s e).state }
 
   module _ (s : State) (k : ℕ) (last : Option Ins) (reached : IsReached p s) (plain : ArePlain p.programs s) (h : Stands (progress_of s k).scan last) where
     known : Known p s

@@ -8,12 +8,13 @@ use Rattle.spec_tables.specs.declared.task.Release.TheVariants.{Released, Overla
 use Rattle.spec_tables.specs.Tasks.{release_answer}
 use Rattle.spec_scan.specs.declared.bound.Effect.{Effect}
 use Rattle.spec_scan.specs.declared.bound.Effect.TheVariants.{Ran, Up, Down, Trigger, CopyStart, Copied, Left, Minor, Major}
+use Rattle.spec_machine.specs.declared.answer.Moment.{Moment}
 use Rattle.spec_machine.specs.declared.answer.What.{What}
 use Rattle.spec_machine.specs.declared.answer.What.TheVariants as what
 use Rattle.spec_machine.specs.Machine.{OfStep}
-use Rattle.spec_machine.specs.ProcessorStep.{Stepped, after_effect}
+use Rattle.spec_machine.specs.ProcessorStep.{after_effect}
 use Rattle.spec_machine.specs.Releases.{after_answer}
-use Rattle.spec_machine.specs.State.{State, Progress, no_progress, progress_of, programs_of, dropped}
+use Rattle.spec_machine.specs.State.{State, Progress, no_progress, progress_of, programs_of, dropped, Answered}
 use Rattle.spec_schedule.specs.Stages.{Stage}
 use Rattle.spec_reach.proofs.Views.{dropped_view}
 use Rattle.spec_reach.proofs.Changes.{TaskView}
@@ -23,8 +24,8 @@ use Rattle.spec_writers.proofs.Steps.{doer, last_by, of_program}
 -- ---- the instruction
 
 -- the stage of a step, as far as it is read
-abbrev pub step_stage : State → Stepped → Stage
-step_stage s x = record { before = s; entry = OfStep x.moment; after = x.state }
+abbrev pub step_stage : State → Answered Moment → Stage
+step_stage s x = record { before = s; entry = OfStep x.answer; after = x.state }
 
 -- the program and the instruction that act, as `acting` tells them of a step
 abbrev pub acting_by : (next last : ℕ → Option Ins) → What → Option (ℕ × Ins)
@@ -33,7 +34,7 @@ acting_by next last (what.Copied t n) = of_program n (last t)
 acting_by next last _ = None
 
 module _ (s s' : State) (t n : ℕ) (q : Progress) where
-  abbrev after : Effect → Stepped
+  abbrev after : Effect → Answered Moment
   after e = after_effect s' t q n e
 
   -- what is executed last in task k, where the step is t's
@@ -76,7 +77,7 @@ module _ (s s' : State) (t n : ℕ) (q : Progress) where
   told_other k last (Major code) other = ran_other k last other
 
   -- the one that acts
-  pub told_acting : (next last : ℕ → Option Ins) (e : Effect) → acting_by next last (after e).moment.what ≡ of_program n (doer e (next t) (last t))
+  pub told_acting : (next last : ℕ → Option Ins) (e : Effect) → acting_by next last (after e).answer.what ≡ of_program n (doer e (next t) (last t))
   told_acting next last Ran = refl
   told_acting next last Up = refl
   told_acting next last Down = refl

@@ -86,21 +86,21 @@ module _ (ps : List ProgramText) where
   taken s lane (action.Cancel n) e plain is = absurd (is_refused cancel ps lane n e (subst (λ (b : List Book). on_accepted cancel b lane n ≡ Ok e) plain (cc is)))
   taken s lane _ e plain is = absurd (cc is)
 
-  act_plain : (s : State) (lane : ℕ) (a : Action) → ArePlain s → not (is_version (act s lane a).outcome.reply) ≡ true → ActsOnBooks s lane a → (act s lane a).state.books ≡ s.books
+  act_plain : (s : State) (lane : ℕ) (a : Action) → ArePlain s → not (is_version (act s lane a).answer.reply) ≡ true → ActsOnBooks s lane a → (act s lane a).state.books ≡ s.books
   act_plain s lane a plain none (Keeps no_edit same) = same
   act_plain s lane a plain none (Edits (Err f) is acts) = ap (λ x. x.state.books) acts
   act_plain s lane a plain none (Edits (Ok e) is acts) =
-      absurd (false≢true (ap not (sym (ap (λ x. is_version x.outcome.reply) acts ∙ taken s lane a e plain is)) ∙ none))
+      absurd (false≢true (ap not (sym (ap (λ x. is_version x.answer.reply) acts ∙ taken s lane a e plain is)) ∙ none))
 
-  event_plain : (s : State) (e : Event) → ArePlain s → is_unaccepted (step s e).entry ≡ true → ArePlain (step s e).state
+  event_plain : (s : State) (e : Event) → ArePlain s → is_unaccepted (step s e).answer ≡ true → ArePlain (step s e).state
   event_plain s events.Cpu plain none = step_books s ∙ plain
   event_plain s events.Tick plain none = tick_books s ∙ plain
   event_plain s (events.Act lane a) plain none = act_plain s lane a plain none (acts_on_books s lane a) ∙ plain
 
   -- ---- runs
 
-  pub parts : (s : State) (e : Event) (es : List Event) → list_all is_unaccepted (trace_from s (e ∷ es)) ≡ true → (is_unaccepted (step s e).entry ≡ true) × (list_all is_unaccepted (trace_from (step s e).state es) ≡ true)
-  parts s e es h = and_parts (is_unaccepted (step s e).entry) (list_all is_unaccepted (trace_from (step s e).state es)) h
+  pub parts : (s : State) (e : Event) (es : List Event) → list_all is_unaccepted (trace_from s (e ∷ es)) ≡ true → (is_unaccepted (step s e).answer ≡ true) × (list_all is_unaccepted (trace_from (step s e).state es) ≡ true)
+  parts s e es h = and_parts (is_unaccepted (step s e).answer) (list_all is_unaccepted (trace_from (step s e).state es)) h
 
   pub plain_next : (s : State) (e : Event) (es : List Event) → ArePlain s → list_all is_unaccepted (trace_from s (e ∷ es)) ≡ true → ArePlain (step s e).state
   plain_next s e es plain h = event_plain s e plain (parts s e es h).0
@@ -113,5 +113,5 @@ module _ (ps : List ProgramText) where
 pub unaccepted_before : (s : State) (xs ys : List Event) → list_all is_unaccepted (trace_from s (xs ++ ys)) ≡ true → list_all is_unaccepted (trace_from s xs) ≡ true
 unaccepted_before s [] ys h = refl
 unaccepted_before s (x ∷ xs) ys h =
-    let a = and_parts (is_unaccepted (step s x).entry) (list_all is_unaccepted (trace_from (step s x).state (xs ++ ys))) h in
-    and_from (is_unaccepted (step s x).entry) (list_all is_unaccepted (trace_from (step s x).state xs)) a.0 (unaccepted_before (step s x).state xs ys a.1)
+    let a = and_parts (is_unaccepted (step s x).answer) (list_all is_unaccepted (trace_from (step s x).state (xs ++ ys))) h in
+    and_from (is_unaccepted (step s x).answer) (list_all is_unaccepted (trace_from (step s x).state xs)) a.0 (unaccepted_before (step s x).state xs ys a.1)

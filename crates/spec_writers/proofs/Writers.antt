@@ -14,6 +14,7 @@ use Rattle.spec_tables.specs.Tasks.{chosen, held, release_answer}
 use Rattle.spec_tables.specs.declared.task.Release.{Release}
 use Rattle.spec_tables.specs.declared.task.Release.TheVariants.{Released, Overlap, Inhibited}
 use Rattle.spec_scan.specs.Scan.{advance}
+use Rattle.spec_machine.specs.declared.answer.Outcome.{Outcome}
 use Rattle.spec_machine.specs.declared.reply.EditFault.{EditFault}
 use Rattle.spec_machine.specs.declared.reply.Mode.{Mode}
 use Rattle.spec_machine.specs.declared.reply.Mode.TheVariants.{Program, Run, Faulted}
@@ -21,13 +22,13 @@ use Rattle.spec_machine.specs.declared.event.Action.{Action}
 use Rattle.spec_machine.specs.declared.event.Action.TheVariants.{WordIn, WordOut, Accept, Test, Untest, Assemble, Cancel, ForceInstall, ForceEnable, ForceDisable, ForceRemove, ModeRun, ModeProgram, Clear}
 use Rattle.spec_machine.specs.declared.event.Event.{Event}
 use Rattle.spec_machine.specs.declared.event.Event.TheVariants as events
-use Rattle.spec_machine.specs.Actions.{Acted, held_or, triggers, put_in, take_out, install_on, force_replied, edit_replied, mode_run_from, mode_program_from, clear_from, act}
+use Rattle.spec_machine.specs.Actions.{held_or, triggers, put_in, take_out, install_on, force_replied, edit_replied, mode_run_from, mode_program_from, clear_from, act}
 use Rattle.spec_machine.specs.Edits.{Edited, book_of, selected, accept, on_accepted, test, untest, assemble, cancel}
 use Rattle.spec_machine.specs.Machine.{step, run, trace}
 use Rattle.spec_machine.specs.ProcessorStep.{with_progress, scan_step, task_step}
 use Rattle.spec_machine.specs.Project.{Project, ProgramText}
 use Rattle.spec_machine.specs.Releases.{after_answer}
-use Rattle.spec_machine.specs.State.{State, Scan, Plan, Progress, progress_of, start}
+use Rattle.spec_machine.specs.State.{State, Scan, Plan, Progress, progress_of, start, Answered}
 use Rattle.spec_machine.specs.ValidProject.{IsValidProject}
 use Rattle.spec_schedule.specs.Stages.{stages}
 use Rattle.spec_reach.proofs.Images.{advance_image, tick_image}
@@ -59,7 +60,7 @@ module _ (p : Project) (valid : IsValidProject p) (k b : ℕ) (byte : IsByteOf p
     same : (a : Action) (x : State) → x.image ≡ s.image → Differs s x → Causes a
     same a x e differs = absurd (differs (ap (λ (xs : List ℕ). slice_index xs b) e))
 
-    or_held : (a : Action) (h : Bool) (x : Acted) → (Differs s x.state → Causes a) → Differs s (held_or h s x).state → Causes a
+    or_held : (a : Action) (h : Bool) (x : Answered Outcome) → (Differs s x.state → Causes a) → Differs s (held_or h s x).state → Causes a
     or_held a true x go differs = same a s refl differs
     or_held a false x go differs = go differs
 
@@ -136,7 +137,7 @@ module _ (p : Project) (valid : IsValidProject p) (k b : ℕ) (byte : IsByteOf p
     abbrev last : ℕ → Option Ins
     last t = last_of t (stages p journal)
 
-    by_scan : (t : ℕ) (o : Option Scan) → (progress_of s t).scan ≡ o → Differs s (scan_step s t (progress_of s t) o).state → IsWriter p k (acting_by (next_of s) last (scan_step s t (progress_of s t) o).moment.what)
+    by_scan : (t : ℕ) (o : Option Scan) → (progress_of s t).scan ≡ o → Differs s (scan_step s t (progress_of s t) o).state → IsWriter p k (acting_by (next_of s) last (scan_step s t (progress_of s t) o).answer.what)
     by_scan t None e differs = absurd (differs refl)
     by_scan t (Some scan) e differs =
         let q = progress_of s t in
@@ -150,7 +151,7 @@ module _ (p : Project) (valid : IsValidProject p) (k b : ℕ) (byte : IsByteOf p
           | inr w ↦ subst (IsWriter p k) (sym told) w
         ]
 
-    by_task : (o : Option ℕ) → Differs s (task_step s o).state → IsWriter p k (acting_by (next_of s) last (task_step s o).moment.what)
+    by_task : (o : Option ℕ) → Differs s (task_step s o).state → IsWriter p k (acting_by (next_of s) last (task_step s o).answer.what)
     by_task None differs = absurd (differs refl)
     by_task (Some t) differs = by_scan t (progress_of s t).scan refl differs
 

@@ -50,7 +50,7 @@ abbrev pub triggered_event : Project
 triggered_event = with_words (array (codes "x") Dint 1 ∷ bool (codes "s") ∷ bool (codes "q") ∷ []) (with_watchdog 1 (continuous (codes "NOP();" ∷ [])) ∷ task (codes "E") EventTask 3 (program (codes "Q") (codes "ONS(s)OTL(q);" ∷ []) ∷ []) ∷ []) (with_trigger 1 (input (codes "I") (codes "x")) ∷ []) [] []
 
 abbrev pub stage_at : State → Event → Stage
-stage_at s e = let x = step s e in record { before = s; entry = x.entry; after = x.state }
+stage_at s e = let x = step s e in record { before = s; entry = x.answer; after = x.state }
 
 abbrev pub word : Event
 word = Act 0 (WordIn (codes "I") 0 (pos 5))

@@ -5,7 +5,7 @@ use Rattle.std.specs.Fmt.{signed_decimal}
 use Rattle.spec_machine.specs.declared.event.Event.{Event}
 use Rattle.spec_machine.specs.Project.{Project}
 use Rattle.spec_text.specs.ReportText.{report}
-use Rattle.lgx_hmi.specs.declared.snapshot.Snapshot.{Snapshot}
+use Rattle.spec_board.specs.declared.snapshot.Snapshot.{Snapshot}
 use Rattle.spec_story.specs.Snapshots.{snapshots}
 use Rattle.lgx_stations.specs.declared.watcher.Readings.{Readings}
 use Rattle.lgx_stations.specs.Telling.{AreReadingsOf}

@@ -64,7 +64,7 @@ length_take (suc n) (x ∷ xs) h = ap suc (length_take n xs (omega arith))
 
 trace_on : (s : State) (xs ys : List Event) → trace_from s (xs ++ ys) ≡ trace_from s xs ++ trace_from (run_from s xs) ys
 trace_on s [] ys = refl
-trace_on s (x ∷ xs) ys = ap (λ es. (step s x).entry ∷ es) (trace_on (step s x).state xs ys)
+trace_on s (x ∷ xs) ys = ap (λ es. (step s x).answer ∷ es) (trace_on (step s x).state xs ys)
 
 trace_length : (s : State) (es : List Event) → length (trace_from s es) ≡ length es
 trace_length s [] = refl

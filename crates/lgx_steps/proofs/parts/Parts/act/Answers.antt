@@ -7,7 +7,7 @@ use Rattle.spec_machine.specs.declared.event.Action.TheVariants as action
 use Rattle.std.specs.Prelude.{IfOk}
 use Rattle.spec_machine.specs.declared.event.Action.{Action}
 use Rattle.spec_machine.specs.Actions.{act}
-use Rattle.lgx_steps.specs.Gives.{ActionGives}
+use Rattle.lgx_steps.specs.Gives.{ViewGives}
 use Rattle.lgx_steps.proofs.AcceptGives.{acts, gives-out}
 use Rattle.lgx_steps.proofs.parts.Parts.act.Goals as goal
 
@@ -17,7 +17,7 @@ returns-in-WordIn-clause-gives c = λ n s h.
     let k = c.in-WordIn in
     let f : SFits w32 k.value = record { sfits = omega arith } in
     acts n v s c.args.lane c.word_in.result c.args.action.now (action.WordIn k.conn k.word k.value) k.is
-    (subst (λ (z : ℤ). ActionGives n v c.word_in.result (act s c.args.lane (action.WordIn k.conn k.word z))) (to_z-of_z w32 k.value f) (c.word_in.ensures.gives n s h))
+    (subst (λ (z : ℤ). ViewGives n v c.word_in.result (act s c.args.lane (action.WordIn k.conn k.word z))) (to_z-of_z w32 k.value f) (c.word_in.ensures.gives n s h))
 
 pub returns-in-Test-clause-gives : goal.returns-in-Test-clause-gives
 returns-in-Test-clause-gives c = λ n s h. acts n (view_of c.test.new.self) s c.args.lane c.test.result c.args.action.now _ c.in-Test.is (c.test.ensures.gives n s h)
@@ -38,8 +38,8 @@ returns-in-ForceInstall-clause-gives c = λ n s h.
     let f : SFits w32 k.value = record { sfits = omega arith } in
     let g : SFits w32 k.mask = record { sfits = omega arith } in
     acts n v s c.args.lane c.install_force.result c.args.action.now (action.ForceInstall k.conn k.word k.mask k.value) k.is
-    (subst (λ (z : ℤ). ActionGives n v c.install_force.result (act s c.args.lane (action.ForceInstall k.conn k.word z k.value))) (to_z-of_z w32 k.mask g)
-    (subst (λ (z : ℤ). ActionGives n v c.install_force.result (act s c.args.lane (action.ForceInstall k.conn k.word (to_z w32 (of_z w32 k.mask)) z))) (to_z-of_z w32 k.value f) (c.install_force.ensures.gives n s h)))
+    (subst (λ (z : ℤ). ViewGives n v c.install_force.result (act s c.args.lane (action.ForceInstall k.conn k.word z k.value))) (to_z-of_z w32 k.mask g)
+    (subst (λ (z : ℤ). ViewGives n v c.install_force.result (act s c.args.lane (action.ForceInstall k.conn k.word (to_z w32 (of_z w32 k.mask)) z))) (to_z-of_z w32 k.value f) (c.install_force.ensures.gives n s h)))
 
 pub returns-in-ForceEnable-clause-gives : goal.returns-in-ForceEnable-clause-gives
 returns-in-ForceEnable-clause-gives c = λ n s h. acts n (view_of c.enable_forces.new.self) s c.args.lane c.enable_forces.result c.args.action.now _ c.in-ForceEnable.is (c.enable_forces.ensures.gives n s h)
@@ -66,4 +66,4 @@ returns-in-WordOut-clause-gives c = λ n s h.
 
 pub returns-in-Accept-clause-gives : goal.returns-in-Accept-clause-gives
 returns-in-Accept-clause-gives c = λ n s h.
-    subst (λ (a : Action). IfOk c.accept.result (λ o. ActionGives (n + 1) (view_of c.accept.new.self) o (act s c.args.lane a))) (sym c.in-Accept.is) (c.accept.ensures.gives n s h)
+    subst (λ (a : Action). IfOk c.accept.result (λ o. ViewGives (n + 1) (view_of c.accept.new.self) o (act s c.args.lane a))) (sym c.in-Accept.is) (c.accept.ensures.gives n s h)

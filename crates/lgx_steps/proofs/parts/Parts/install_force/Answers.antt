@@ -8,7 +8,7 @@ use Rattle.spec_tables.specs.Forces.{Forces, install}
 use Rattle.spec_machine.specs.State.{Plan}
 use Rattle.spec_machine.specs.Actions.{force_replied, install_on}
 use Rattle.lgx_force.specs.Seen.{Answers}
-use Rattle.lgx_steps.specs.Gives.{ActionGives}
+use Rattle.lgx_steps.specs.Gives.{ViewGives}
 use Rattle.lgx_steps.proofs.Forcing.{gives-forced}
 use Rattle.lgx_steps.proofs.parts.Parts.install_force.Goals as goal
 
@@ -22,5 +22,5 @@ returns-in-Some-clause-gives c = λ n s h.
     let a₃ = subst (λ (f : Forces). Answers (install f io c.args.mask c.args.value) v.forces new c.install-done.result) h.forces a₂ in
     let e : Some io ≡ io_word s.plan.conns c.args.conn.now c.args.word = c.in-Some.ensures.number ∙ ap (λ (p : Plan). io_word p.conns c.args.conn.now c.args.word) h.plan in
     let g = gives-forced n v s h (install s.forces io c.args.mask c.args.value) new c.install-done.result a₃ c.install-done.ensures.words in
-    subst (λ (o : Option ℕ). ActionGives n (record v { forces = new }) c.answered.result (force_replied s (install_on s.forces o c.args.mask c.args.value))) e
-    (subst (λ (x : Outcome). ActionGives n (record v { forces = new }) x (force_replied s (install s.forces io c.args.mask c.args.value))) (sym c.answered.ensures) g)
+    subst (λ (o : Option ℕ). ViewGives n (record v { forces = new }) c.answered.result (force_replied s (install_on s.forces o c.args.mask c.args.value))) e
+    (subst (λ (x : Outcome). ViewGives n (record v { forces = new }) x (force_replied s (install s.forces io c.args.mask c.args.value))) (sym c.answered.ensures) g)

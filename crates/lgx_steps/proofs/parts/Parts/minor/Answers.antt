@@ -2,6 +2,7 @@ use Rattle.std.proofs.Common.{◌≡◌, [], ◌∷◌, ◌++◌, Some, ap, ◌�
 use Rattle.lgx_steps.specs.PartsView.{view_of}
 use Rattle.spec_machine.specs.declared.answer.What.TheVariants as what
 use Rattle.spec_machine.specs.declared.answer.Mark.TheVariants as mark
+use Rattle.spec_tables.specs.declared.fault.TheConstants.{OVERFLOW}
 use Rattle.spec_tables.specs.declared.fault.Fault.{Fault}
 use Rattle.spec_tables.specs.declared.fault.Severity.TheVariants.{Minor}
 use Rattle.spec_machine.specs.State.{with_fault}
@@ -12,7 +13,7 @@ use Rattle.lgx_steps.proofs.parts.Parts.minor.Goals as goal
 
 pub returns-clause-gives : goal.returns-clause-gives
 returns-clause-gives c = λ k s h.
-    let f : Fault = program_fault s Minor 4 c.args.t c.args.n in
+    let f : Fault = program_fault s Minor OVERFLOW c.args.t c.args.n in
     let e : c.program_fault-fault.result ≡ f = c.program_fault-fault.ensures s h.tick in
     record {
       answers = ap (λ (x : Fault). record { what = what.Ran c.args.t c.args.n; mark = mark.Plain; fault = Some x }) e;

@@ -85,6 +85,6 @@ returns-clause-gives c = λ n s h.
     let h₅ = with-table n v₄ s₄ h₄ c.start.new.self (start s.tick s.table) table c.start.ensures.defs (at_most-start n s.table s.tick) in
     let h₆ = with-mode n v₅ s₅ h₅ mode.Run in
     record {
-      outcome_is = ap (λ (m : ℕ). record { reply = Done; fault = None; released = m }) (c.mask_of-released.ensures ∙ ap (λ (o : Option ℕ). mask_of o) (c.released_at_run.ensures.represents s.table h.table));
+      answers = ap (λ (m : ℕ). record { reply = Done; fault = None; released = m }) (c.mask_of-released.ensures ∙ ap (λ (o : Option ℕ). mask_of o) (c.released_at_run.ensures.represents s.table h.table));
       represents = subst (λ (ps : List Progress). RepresentsState n (record v₅ { mode = mode.Run }) (record s₅ { mode = mode.Run; progress = ps })) (flags-cleared s.progress) h₆;
     }

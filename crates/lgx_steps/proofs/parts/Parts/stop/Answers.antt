@@ -15,4 +15,4 @@ returns-clause-gives c = λ n s h.
     let s₂ : State = record s₁ { table = stop s.table } in
     let v₂ = record v₁ { table = c.stop.new.self } in
     let h₂ = with-table n v₁ s₁ h₁ c.stop.new.self (stop s.table) (c.stop.ensures.represents s.table h₁.table) c.stop.ensures.defs (at_most-stop n s.table) in
-    record { outcome_is = c.replied.ensures; represents = with-mode n v₂ s₂ h₂ mode.Program }
+    record { answers = c.replied.ensures; represents = with-mode n v₂ s₂ h₂ mode.Program }

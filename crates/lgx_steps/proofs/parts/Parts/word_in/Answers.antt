@@ -8,7 +8,7 @@ use Rattle.spec_tables.specs.declared.conn.ConnFault.{ConnFault}
 use Rattle.spec_tables.specs.Connections.{slot}
 use Rattle.spec_machine.specs.State.{Plan}
 use Rattle.spec_machine.specs.Actions.{put_in}
-use Rattle.lgx_steps.specs.Gives.{ActionGives}
+use Rattle.lgx_steps.specs.Gives.{ViewGives}
 use Rattle.lgx_steps.proofs.IoWords.{word-fits, words-of}
 use Rattle.lgx_steps.proofs.Running.{gives-free}
 use Rattle.lgx_steps.proofs.parts.Parts.word_in.Goals as goal
@@ -27,13 +27,13 @@ returns-in-Ok-clause-gives c = λ n s h.
     let v = view_of c.take_in.new.self in
     let k = c.in-Ok.slot in
     let e : Ok k ≡ slot s.plan.conns c.args.conn.now c.args.word false = c.in-Ok.ensures.slot ∙ ap (λ (p : Plan). slot p.conns c.args.conn.now c.args.word false) h.plan in
-    let g₁ = subst (λ (z : ℤ). ActionGives n v c.take_in.result (put_in s z (Ok k))) (to_z-of_z w32 c.args.value c.ranges.value) (c.take_in.ensures.gives n s h) in
+    let g₁ = subst (λ (z : ℤ). ViewGives n v c.take_in.result (put_in s z (Ok k))) (to_z-of_z w32 c.args.value c.ranges.value) (c.take_in.ensures.gives n s h) in
     gives-free n v s c.take_in.result c.held.result (put_in s c.args.value (slot s.plan.conns c.args.conn.now c.args.word false)) (c.held.ensures s.table h.table) c.if-held.false
-    (subst (λ (r : Result Slot ConnFault). ActionGives n v c.take_in.result (put_in s c.args.value r)) e g₁)
+    (subst (λ (r : Result Slot ConnFault). ViewGives n v c.take_in.result (put_in s c.args.value r)) e g₁)
 
 pub returns-in-Err-clause-gives : goal.returns-in-Err-clause-gives
 returns-in-Err-clause-gives c = λ n s h.
     let v = view_of c.args.self.now in
     let e : Err c.in-Err.fault ≡ slot s.plan.conns c.args.conn.now c.args.word false = c.in-Err.ensures.slot ∙ ap (λ (p : Plan). slot p.conns c.args.conn.now c.args.word false) h.plan in
     gives-free n v s c.replied-in-Err.result c.held.result (put_in s c.args.value (slot s.plan.conns c.args.conn.now c.args.word false)) (c.held.ensures s.table h.table) c.if-held.false
-    (subst (λ (r : Result Slot ConnFault). ActionGives n v c.replied-in-Err.result (put_in s c.args.value r)) e (record { outcome_is = c.replied-in-Err.ensures; represents = h }))
+    (subst (λ (r : Result Slot ConnFault). ViewGives n v c.replied-in-Err.result (put_in s c.args.value r)) e (record { answers = c.replied-in-Err.ensures; represents = h }))

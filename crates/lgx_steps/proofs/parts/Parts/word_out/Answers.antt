@@ -30,10 +30,10 @@ returns-in-Ok c = λ n s h.
     let free : false ≡ _ = sym c.if-held.false ∙ c.held.ensures s.table h.table in
     let value = to_z-of_z w32 c.get_word.result (record { sfits = c.get_word.type_inv }) ∙ (c.get_word.ensures ∙ (ap (λ (f : Forces). forced f k.io (signed_at w32 c.args.self.now.image.bytes k.byte)) h.forces ∙ ap (λ (b : List ℕ). forced s.forces k.io (signed_at w32 b k.byte)) h.image)) in
     ap (λ (z : ℤ). reply.Word z) value
-    ∙ (ap (λ (r : Result Slot ConnFault). (take_out s r).outcome.reply) e ∙ ap (λ (b : Bool). (held_or b s (take_out s (slot s.plan.conns c.args.conn.now c.args.word true))).outcome.reply) free)
+    ∙ (ap (λ (r : Result Slot ConnFault). (take_out s r).answer.reply) e ∙ ap (λ (b : Bool). (held_or b s (take_out s (slot s.plan.conns c.args.conn.now c.args.word true))).answer.reply) free)
 
 pub returns-in-Err : goal.returns-in-Err
 returns-in-Err c = λ n s h.
     let e : Err c.in-Err.fault ≡ slot s.plan.conns c.args.conn.now c.args.word true = c.in-Err.ensures.slot ∙ ap (λ (p : Plan). slot p.conns c.args.conn.now c.args.word true) h.plan in
     let free : false ≡ _ = sym c.if-held.false ∙ c.held.ensures s.table h.table in
-    ap (λ (r : Result Slot ConnFault). (take_out s r).outcome.reply) e ∙ ap (λ (b : Bool). (held_or b s (take_out s (slot s.plan.conns c.args.conn.now c.args.word true))).outcome.reply) free
+    ap (λ (r : Result Slot ConnFault). (take_out s r).answer.reply) e ∙ ap (λ (b : Bool). (held_or b s (take_out s (slot s.plan.conns c.args.conn.now c.args.word true))).answer.reply) free

@@ -1,6 +1,6 @@
 -- Lists that go on.
 use Rattle.std.specs.Prelude.{◌≡◌, List, [], ◌∷◌, ◌++◌, length, take, nat_lt, if◌then◌else◌}
-use Rattle.lgx_hmi.specs.declared.published.TheConstants.{MAX_SNAPSHOTS}
+use Rattle.spec_board.specs.declared.snapshot.TheConstants.{MAX_SNAPSHOTS}
 
 -- the second list begins with the first
 abbrev pub IsPrefix : {A : Type 0} → List A → List A → Type 0

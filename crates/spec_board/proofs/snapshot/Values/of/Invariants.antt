@@ -1,5 +1,5 @@
 use Rattle.std.proofs.Common.{◌≡◌, take}
-use Rattle.lgx_hmi.proofs.snapshot.Values.of.Given as goal
+use Rattle.spec_board.proofs.snapshot.Values.of.Given as goal
 
 -- the values so far
 abbrev pub invariant-loop-value : goal.invariant-loop-value

@@ -1,12 +1,15 @@
 // The watched values right after a tick.
 ghost use Rattle.std.specs.Prelude.{◌≡◌, ◌≤◌, ◌<◌, List, [], ◌∷◌, ◌++◌, length};
-ghost use Rattle.lgx_hmi.specs.declared.snapshot.TheConstants.{MAX_VALUES};
+ghost use Rattle.spec_board.specs.declared.snapshot.TheConstants.{MAX_VALUES};
 
 use arrayvec::ArrayVec;
 use std::marker::Model;
 
 /// How many values a snapshot has at most.
 pub const MAX_VALUES: usize = 256;
+
+/// How many snapshots are published at most: those after them are left out.
+pub const MAX_SNAPSHOTS: usize = 4096;
 
 /// The watched values in the order of the watch list, at most [`MAX_VALUES`]. They lie in the value itself: no call takes memory.
 #[derive(Drop)]
@@ -16,7 +19,7 @@ pub struct Values {
 
 impl Model for Values {
     ghost use Rattle.std.specs.Prelude.{List, ℤ, ◌≤◌, length};
-    ghost use Rattle.lgx_hmi.specs.declared.snapshot.TheConstants.{MAX_VALUES};
+    ghost use Rattle.spec_board.specs.declared.snapshot.TheConstants.{MAX_VALUES};
 
     ghost Value = { List ℤ };
 

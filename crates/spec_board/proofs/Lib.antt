@@ -1,0 +1,1 @@
+-- No lemma: search closes every goal.
