@@ -239,7 +239,7 @@ impl Queues {
     {
         empty(&mut self.queues);
         self.ready = 0;
-        self.front = None;
+        self.front = front_of(&self.queues, self.ready);
     }
 
     /// Puts a task last in the queue at `place`.

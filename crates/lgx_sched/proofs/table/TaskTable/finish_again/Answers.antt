@@ -1,7 +1,7 @@
 -- Nothing is open, so the task's new state is all that changes; and nothing does if it has that state.
-use Rattle.std.proofs.Common.{◌≡◌, Some, ◌∙◌, ap, subst, sym}
+use Rattle.std.proofs.Common.{Some, ◌∙◌, ap, subst, sym}
 use Rattle.spec_tables.specs.Tasks.{finish}
-use Rattle.lgx_sched.specs.TableView.{TableView, restarted}
+use Rattle.lgx_sched.specs.TableView.{TableView}
 use Rattle.lgx_sched.specs.Represents.{Represents}
 use Rattle.lgx_sched.proofs.Again.{restarted-same, restarted-with, represents-finish_again, chosen-finish_again}
 use Rattle.lgx_sched.proofs.table.TaskTable.finish_again.Goals as goal
