@@ -31,7 +31,7 @@ pub(crate) fn numbers_at(
 
 /// Puts a line into the log for each watched place whose number has changed since it was last compared, in watch order, and
 /// clears the hits if there are any. Only places that have a byte in a word that is hit are looked at.
-#[inline]
+#[inline(always)]
 pub(crate) fn log_changes(
     log: &mut Log,
     values: &mut [i32],
@@ -52,6 +52,26 @@ pub(crate) fn log_changes(
     if !controller.is_hit() {
         return;
     }
+    log_hits(log, values, at, controller, watches);
+}
+
+/// The same where words are hit.
+fn log_hits(
+    log: &mut Log,
+    values: &mut [i32],
+    at: Stamp,
+    controller: &mut Controller,
+    watches: &WatchIndex,
+)
+    requires inside { AreInside watches.now controller.old.parts.image.bytes }
+    requires compared { AreAsCompared watches.now values.old controller.old.parts.image }
+    requires room { log.old.lost + MAX_WATCHES < 2 ^ 63 }
+    ensures compared { (s : State) → Represents controller.old s → Compared log.old log.new at values.old values.new (numbers_at s.image watches.now) }
+    ensures represents { (s : State) → Represents controller.old s → Represents controller.new s }
+    ensures spent { controller.new.spent ≡ controller.old.spent }
+    ensures none_hit { NoneIsHit controller.new.parts.image }
+    ensures watched { controller.new.parts.image.watched ≡ controller.old.parts.image.watched }
+{
     let written = written_watches(controller, watches);
     compare_all(log, values, at, controller, watches.places(), &written);
     controller.clear_hits();

@@ -9,7 +9,7 @@ use Rattle.spec_tables.specs.declared.task.TaskDef.{TaskDef}
 use Rattle.spec_tables.specs.declared.task.Release.TheVariants.{Released, Inhibited}
 use Rattle.spec_tables.specs.Tasks.{Table, chosen, is_continuous, rotate, release, finish}
 use Rattle.lgx_sched.specs.declared.table.ActiveTask.{ActiveTask}
-use Rattle.lgx_sched.specs.TableView.{TableView, def_of, queue_at, place_of, front_of, next_task, answer_of, pushed, popped, enqueued, dequeued, with_active, restarted, is_alone, runs_again}
+use Rattle.lgx_sched.specs.TableView.{TableView, up_of, def_of, queue_at, place_of, front_of, next_task, answer_of, pushed, popped, enqueued, dequeued, with_active, restarted, is_alone, runs_again}
 use Rattle.lgx_sched.specs.Represents.{Represents, IsSound, IsTable}
 use Rattle.lgx_sched.proofs.Chosen.{next_task-chosen}
 use Rattle.lgx_sched.proofs.Steps.{place_fits}
@@ -64,6 +64,11 @@ started now = record { start = now; region_count = 0; cps_open = false }
 pub restarted-with : (v : TableView) (t now : ℕ) → runs_again v t ≡ true → with_active t (started now) v ≡ restarted t now v
 restarted-with v t now again =
     ap (λ (o : Option ℕ). record (restarted t now v) { open_task = o }) (sym (runs_again-parts v t again).none_open)
+
+-- nothing changes if it is as it starts
+pub restarted-same : (v : TableView) (t now : ℕ) → up_of v t ≡ Some (started now) → v ≡ restarted t now v
+restarted-same v t now e =
+    ap (λ (us : List (Option ActiveTask)). record v { ups = us }) (sym (ap (λ (o : Option ActiveTask). set v.ups t o) (sym e) ∙ set-get_or v.ups t None))
 
 -- to take it out and to put it last is to start it where it stands
 restarted-last : (v : TableView) (t now : ℕ) → IsTable v → next_task v ≡ Some t → runs_again v t ≡ true → enqueued t now (dequeued t v) ≡ restarted t now v

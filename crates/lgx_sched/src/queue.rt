@@ -3,7 +3,7 @@ ghost use Rattle.std.specs.Prelude.{◌≡◌, ◌≢◌, ◌<◌, ◌≤◌, tr
 ghost use Rattle.std.specs.Int.{bit_at};
 ghost use Rattle.spec_base.specs.declared.limits.TheConstants.{MAX_TASKS, LEAST_PRIORITY};
 ghost use Rattle.lgx_sched.specs.TableView.{front_of, pushed, popped};
-ghost use Rattle.lgx_sched.specs.ReadyBits.{FirstBit};
+ghost use Rattle.lgx_sched.specs.ReadyBits.{AreReady, FirstBit};
 
 use arrayvec::ArrayVec;
 use spec_base::limits::{LEAST_PRIORITY, MAX_TASKS};
@@ -153,17 +153,20 @@ pub struct Queues {
     queues: Vec<Queue>,
     /// A bit for each queue: whether it has a task.
     ready: u32,
+    /// The front of the first queue that has a task.
+    front: Option<u32>,
 }
 
 impl Model for Queues {
-    ghost use Rattle.std.specs.Prelude.{ℕ, List};
+    ghost use Rattle.std.specs.Prelude.{◌≡◌, ℕ, List};
+    ghost use Rattle.lgx_sched.specs.TableView.{front_of};
     ghost use Rattle.lgx_sched.specs.ReadyBits.{AreReady};
 
     ghost Value = { List (List ℕ) };
 
     ghost view = { λ q. q.queues.items };
 
-    ghost invariant = { λ q. AreReady q.queues.items q.ready };
+    ghost invariant = { λ q. AreReady q.queues.items q.ready × (q.front ≡ front_of q.queues.items) };
 }
 
 impl Queues {
@@ -175,7 +178,11 @@ impl Queues {
         for _place in 0..LEAST_PRIORITY {
             queues.push(Queue::new())?;
         }
-        Ok(Queues { queues, ready: 0 })
+        Ok(Queues {
+            queues,
+            ready: 0,
+            front: None,
+        })
     }
 
     /// The queues once more.
@@ -186,6 +193,7 @@ impl Queues {
         Ok(Queues {
             queues,
             ready: self.ready,
+            front: self.front,
         })
     }
 
@@ -197,14 +205,11 @@ impl Queues {
     }
 
     /// The front of the first queue that has a task.
-    #[inline]
+    #[inline(always)]
     pub fn front(&self) -> Option<u32>
         ensures { result ≡ front_of self.now }
     {
-        match first_bit(self.ready) {
-            Some(place) => self.queues[place].get(0),
-            None => None,
-        }
+        self.front
     }
 
     /// Task number `i` of the queue at `place`.
@@ -234,6 +239,7 @@ impl Queues {
     {
         empty(&mut self.queues);
         self.ready = 0;
+        self.front = front_of(&self.queues, self.ready);
     }
 
     /// Puts a task last in the queue at `place`.
@@ -245,6 +251,7 @@ impl Queues {
         let queue = &mut self.queues[place];
         queue.push(t);
         self.ready = with_bit(self.ready, place);
+        self.front = front_of(&self.queues, self.ready);
     }
 
     /// Takes out the first task of the queue at `place`, if there is one.
@@ -257,6 +264,18 @@ impl Queues {
         if queue.is_empty() {
             self.ready = without_bit(self.ready, place);
         }
+        self.front = front_of(&self.queues, self.ready);
+    }
+}
+
+/// The front of the first queue that has a task; the word tells which queues have one.
+fn front_of(queues: &[Queue], ready: u32) -> Option<u32>
+    requires { AreReady queues.now ready }
+    ensures { result ≡ front_of queues.now }
+{
+    match first_bit(ready) {
+        Some(place) => queues[place].get(0),
+        None => None,
     }
 }
 

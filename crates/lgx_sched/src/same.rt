@@ -30,15 +30,21 @@ fn same_defs(a: &[TaskDef], b: &[TaskDef]) -> bool
     true
 }
 
+/// Whether the same is kept of two tasks that are up.
+#[inline(always)]
+pub(crate) fn same_active(a: ActiveTask, b: ActiveTask) -> bool
+    ensures { result ≡ true → a ≡ b }
+{
+    a.start == b.start && a.region_count == b.region_count && a.cps_open == b.cps_open
+}
+
 /// Whether a task is up the same.
 fn same_up(a: Option<ActiveTask>, b: Option<ActiveTask>) -> bool
     ensures { result ≡ true → a ≡ b }
 {
     match (a, b) {
         (None, None) => true,
-        (Some(x), Some(y)) => {
-            x.start == y.start && x.region_count == y.region_count && x.cps_open == y.cps_open
-        }
+        (Some(x), Some(y)) => same_active(x, y),
         _ => false,
     }
 }

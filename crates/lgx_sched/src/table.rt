@@ -11,6 +11,7 @@ use crate::expiry::first_expired;
 use crate::queue::Queues;
 use crate::quiet::{Quiet, all_idle_until, kept_until};
 use crate::releases::{answer_of, continuous_task, if_released, is_continuous};
+use crate::same::same_active;
 use lgx_num::{Items, Memory};
 use spec_tables::{Release, TaskDef, TaskKind};
 use std::alloc::Global;
@@ -86,7 +87,7 @@ impl TaskTable {
     /// The task that is to run: the one that has something open, else the first of the first queue that has one.
     ///
     /// It is None exactly if no task is up.
-    #[inline]
+    #[inline(always)]
     pub fn chosen(&self) -> Option<u32>
         ensures front { result ≡ next_task self.now }
         ensures known { IfSome result (λ t. t < length self.now.defs) }
@@ -173,14 +174,15 @@ impl TaskTable {
         ensures represents { (s : Table) → Represents self.old s → Represents self.new (finish t now s) }
         ensures chosen { (s : Table) → Represents self.old s → chosen (finish t now s) ≡ Some t }
     {
-        self.change(
-            t,
-            ActiveTask {
-                start: now,
-                region_count: 0,
-                cps_open: false,
-            },
-        );
+        let up = ActiveTask {
+            start: now,
+            region_count: 0,
+            cps_open: false,
+        };
+        if same_active(self.active_task(t), up) {
+            return;
+        }
+        self.change(t, up);
     }
 
     /// The change to Run at the tick `now`: every task goes down, and the continuous one is released.

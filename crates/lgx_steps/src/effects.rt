@@ -16,7 +16,26 @@ use spec_tables::{Fault, OVERFLOW, PROGRAM_FAULT, Severity};
 
 impl Parts {
     /// What the effect of a scan's step of program `n` does.
+    #[inline(always)]
     pub(crate) fn after_effect(&mut self, t: u32, n: u32, effect: Effect) -> Moment
+        requires live { IsLive self.old }
+        requires chosen { next_task self.old.table ≡ Some t }
+        requires known { t < length self.old.progress.items }
+        requires target { TriggersKnownTask (length self.old.progress.items) effect }
+        ensures gives { (k : ℕ) (s : State) → Represents k self.old s → Gives (k + 1) self.new result (after_effect s t (progress_of s t) n effect) }
+        ensures image { self.new.image ≡ self.old.image }
+    {
+        match effect {
+            Effect::Ran => plainly(What::Ran {
+                task: t,
+                program: n,
+            }),
+            _ => self.after_any_effect(t, n, effect),
+        }
+    }
+
+    /// The same, by a call of its own: most steps have the effect `Ran`, and it takes no call.
+    fn after_any_effect(&mut self, t: u32, n: u32, effect: Effect) -> Moment
         requires live { IsLive self.old }
         requires chosen { next_task self.old.table ≡ Some t }
         requires known { t < length self.old.progress.items }

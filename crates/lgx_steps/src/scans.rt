@@ -63,7 +63,7 @@ impl Parts {
     }
 
     /// A program scan of the chosen task has ended.
-    #[inline]
+    #[inline(always)]
     pub(crate) fn end_scan(&mut self, t: u32)
         requires live { IsLive self.old }
         requires chosen { next_task self.old.table ≡ Some t }

@@ -3,7 +3,6 @@ use Rattle.std.proofs.Common.{refl, sym, ap, subst, List, map}
 use Rattle.spec_machine.specs.Project.{Project}
 use Rattle.lgx_edit.specs.declared.texts.ProgramText.{ProgramText as KeptProgram}
 use Rattle.lgx_edit.specs.Texts.{program_of}
-use Rattle.lgx_edit.specs.Plants.{project_of}
 use Rattle.lgx_steps.specs.declared.fresh.Kept.{Kept}
 use Rattle.lgx_steps.specs.Fresh.{IsTakenApart}
 use Rattle.lgx_steps.proofs.fresh.take_parts.Goals as goal
