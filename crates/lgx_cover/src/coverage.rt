@@ -1,0 +1,85 @@
+// A controller whose executions are counted.
+ghost use Rattle.std.specs.Prelude.{◌≡◌, ◌+◌, ◌<◌, ◌≤◌, [], ◌∷◌, ◌++◌, List, replicate, IfOk, OnOk};
+ghost use Rattle.spec_base.specs.declared.limits.TheConstants.{MAX_EVENTS};
+ghost use Rattle.spec_machine.specs.declared.event.Event.{Event as Events};
+ghost use Rattle.spec_machine.specs.declared.event.Event.TheVariants.{Cpu};
+ghost use Rattle.spec_machine.specs.Project.{Project as Projects};
+ghost use Rattle.lgx_cover.specs.Covers.{Covers, IsCoverage};
+
+use crate::tables::Tables;
+use lgx_core::Controller;
+use lgx_journal::Event;
+use lgx_num::Memory;
+use lgx_project::Project;
+use std::alloc::Global;
+
+/// A controller, and how often each instruction was executed.
+#[derive(Drop)]
+pub struct Coverage {
+    controller: Controller,
+    tables: Tables,
+}
+
+impl Coverage {
+    /// Of a project's run without an event.
+    pub(crate) fn new(alloc: Global, project: Project) -> Result<Coverage, Memory>
+        ensures { IfOk result (λ coverage. Covers coverage project []) }
+    {
+        let controller = Controller::new(alloc, project)?;
+        Ok(Coverage {
+            controller,
+            tables: Tables::new(alloc),
+        })
+    }
+
+    /// The counts.
+    pub(crate) fn tables(&self) -> &Tables
+        ensures { result.now ≡ self.now.tables }
+    {
+        &self.tables
+    }
+
+    /// One processor step.
+    #[inline(always)]
+    fn step(&mut self) -> Result<(), Memory>
+        requires coverage { IsCoverage self.old }
+        requires room { self.old.controller.spent < MAX_EVENTS }
+        ensures covers { (project : Projects) (events : List Events) → Covers self.old project events → OnOk result (Covers self.new project (events ++ Cpu ∷ [])) }
+        ensures spent { OnOk result (self.new.controller.spent ≡ self.old.controller.spent + 1) }
+    {
+        let executed = self.controller.executing();
+        let moment = self.controller.cpu();
+        self.tables.take(executed, moment.what)
+    }
+
+    /// So many processor steps.
+    pub(crate) fn steps(&mut self, count: u32) -> Result<(), Memory>
+        requires coverage { IsCoverage self.old }
+        requires room { self.old.controller.spent + count ≤ MAX_EVENTS }
+        ensures covers { (project : Projects) (events : List Events) → Covers self.old project events → OnOk result (Covers self.new project (events ++ replicate count Cpu)) }
+    {
+        for _ in 0..count {
+            self.step()?;
+        }
+        Ok(())
+    }
+
+    /// One event.
+    pub(crate) fn apply(&mut self, event: &Event) -> Result<(), Memory>
+        requires coverage { IsCoverage self.old }
+        requires room { self.old.controller.spent < MAX_EVENTS }
+        ensures covers { (project : Projects) (events : List Events) → Covers self.old project events → OnOk result (Covers self.new project (events ++ event.now ∷ [])) }
+    {
+        match event {
+            Event::Cpu => self.step(),
+            Event::Tick => {
+                self.controller.tick();
+                Ok(())
+            }
+            Event::Act(lane, action) => {
+                self.controller.act(*lane, action)?;
+                Ok(())
+            }
+        }
+    }
+}

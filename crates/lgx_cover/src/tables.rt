@@ -1,0 +1,126 @@
+// The tables of all versions.
+ghost use Rattle.std.specs.Prelude.{◌≡◌, ◌×◌, ◌<◌, ◌∷◌, ◌++◌, [], List, ℕ, length, map, OnOk, IfSome, None, slice_index_or, true};
+ghost use Rattle.std.specs.List.{list_any};
+ghost use Rattle.spec_base.specs.declared.limits.TheConstants.{MAX_EVENTS};
+ghost use Rattle.lgx_cover.specs.declared.version.Version.{Version as Versions};
+ghost use Rattle.lgx_cover.specs.TableView.{no_table};
+ghost use Rattle.lgx_cover.specs.Executions.{Occurrence, version_in, occurrences};
+ghost use Rattle.lgx_cover.specs.Counts.{is_version};
+ghost use Rattle.lgx_cover.specs.Tables.{KeepCounts};
+
+use crate::growth::grow;
+use crate::table::Table;
+use crate::version::Version;
+use lgx_core::{Executed, What};
+use lgx_num::Memory;
+use std::alloc::Global;
+
+/// The counts of all versions that programs began with.
+#[derive(Drop)]
+pub(crate) struct Tables {
+    alloc: Global,
+    /// One for each version, in the order of their first begins.
+    tables: Vec<Table>,
+    /// For each program the place of the table of the version that it began with last.
+    current: Vec<Option<usize>>,
+}
+
+impl Tables {
+    /// No program has begun.
+    pub(crate) fn new(alloc: Global) -> Tables
+        ensures { KeepCounts result [] [] }
+    {
+        Tables {
+            alloc,
+            tables: Vec::new(alloc),
+            current: Vec::new(alloc),
+        }
+    }
+
+    /// The tables, in the order of their versions' first begins.
+    pub(crate) fn as_slice(&self) -> &[Table]
+        ensures { result.now ≡ self.now.tables.items }
+    {
+        &self.tables
+    }
+
+    /// The place of the table of the version that a program began with last; None if it has not begun.
+    #[inline(always)]
+    fn place_of(&self, program: u32) -> Option<usize>
+        ensures { result ≡ slice_index_or self.now.current.items program None }
+    {
+        match self.current.get(program as usize) {
+            Some(place) => *place,
+            None => None,
+        }
+    }
+
+    /// The place of the table of a version; None if there is none.
+    fn find(&self, version: Version) -> Option<usize>
+        ensures below { IfSome result (λ k. k < length self.now.tables.items) }
+        ensures found { IfSome result (λ k. is_version version (slice_index_or self.now.tables.items k no_table).version ≡ true) }
+        ensures none { result ≡ None → list_any (is_version version) (map (λ t. t.version) self.now.tables.items) ≡ false }
+    {
+        for k in 0..self.tables.len() {
+            if version.is(self.tables[k].version()) {
+                return Some(k);
+            }
+        }
+        None
+    }
+
+    /// The table of a program's present version stands there.
+    fn set_place(&mut self, program: u32, place: usize) -> Result<(), Memory>
+        ensures current { OnOk result ((q : ℕ) → slice_index_or self.new.current.items q None ≡ (if nat_eq q program then Some place else slice_index_or self.old.current.items q None)) }
+        ensures tables { self.new.tables ≡ self.old.tables }
+    {
+        grow(&mut self.current, program as usize, None)?;
+        self.current[program as usize] = Some(place);
+        Ok(())
+    }
+
+    /// A program begins with a version.
+    #[inline]
+    fn begin(&mut self, version: Version) -> Result<(), Memory>
+        ensures { (begun : List Versions) (all : List Occurrence) → KeepCounts self.old begun all → OnOk result (KeepCounts self.new (begun ++ version ∷ []) all) }
+    {
+        match self.find(version) {
+            Some(place) => self.set_place(version.program, place),
+            None => {
+                let place = self.tables.len();
+                self.tables.push(Table::new(self.alloc, version))?;
+                self.set_place(version.program, place)
+            }
+        }
+    }
+
+    /// Counts an execution more, in the version that its program began with last.
+    #[inline]
+    fn count(&mut self, x: Executed) -> Result<(), Memory>
+        requires room { (begun : List Versions) × (all : List Occurrence) × KeepCounts self.old begun all × (length all < MAX_EVENTS) }
+        ensures { (begun : List Versions) (all : List Occurrence) → KeepCounts self.old begun all → OnOk result (KeepCounts self.new begun (all ++ occurrences begun (Some x))) }
+    {
+        match self.place_of(x.program) {
+            Some(place) => self.tables[place].count(self.alloc, x.execution),
+            None => Ok(()),
+        }
+    }
+
+    /// Takes in a processor step: the instruction that it executed, and what was told of it.
+    #[inline(always)]
+    pub(crate) fn take(&mut self, executed: Option<Executed>, what: What) -> Result<(), Memory>
+        requires room { (begun : List Versions) × (all : List Occurrence) × KeepCounts self.old begun all × (length all < MAX_EVENTS) }
+        ensures { (begun : List Versions) (all : List Occurrence) → KeepCounts self.old begun all → OnOk result (KeepCounts self.new (begun ++ version_in what) (all ++ occurrences begun executed)) }
+    {
+        if let Some(x) = executed {
+            self.count(x)?;
+        }
+        if let What::Began { program, version, .. } = what {
+            self.begin(Version {
+                program,
+                number: version,
+            })?;
+        }
+        Ok(())
+    }
+}
