@@ -1,12 +1,10 @@
 // The tables of all versions.
-ghost use Rattle.std.specs.Prelude.{◌≡◌, ◌×◌, ◌<◌, ◌∷◌, ◌++◌, [], List, ℕ, length, map, OnOk, IfSome, None, slice_index_or, true};
-ghost use Rattle.std.specs.List.{list_any};
+ghost use Rattle.std.specs.Prelude.{◌≡◌, ◌×◌, ◌<◌, ◌∷◌, ◌++◌, [], List, ℕ, length, OnOk, IfSome, Some, None, nat_eq, if◌then◌else◌, slice_index_or, true, false};
 ghost use Rattle.spec_base.specs.declared.limits.TheConstants.{MAX_EVENTS};
 ghost use Rattle.lgx_cover.specs.declared.version.Version.{Version as Versions};
-ghost use Rattle.lgx_cover.specs.TableView.{no_table};
 ghost use Rattle.lgx_cover.specs.Executions.{Occurrence, version_in, occurrences};
 ghost use Rattle.lgx_cover.specs.Counts.{is_version};
-ghost use Rattle.lgx_cover.specs.Tables.{KeepCounts};
+ghost use Rattle.lgx_cover.specs.Tables.{KeepCounts, version_at, versions_of, has};
 
 use crate::growth::grow;
 use crate::table::Table;
@@ -58,11 +56,11 @@ impl Tables {
     /// The place of the table of a version; None if there is none.
     fn find(&self, version: Version) -> Option<usize>
         ensures below { IfSome result (λ k. k < length self.now.tables.items) }
-        ensures found { IfSome result (λ k. is_version version (slice_index_or self.now.tables.items k no_table).version ≡ true) }
-        ensures none { result ≡ None → list_any (is_version version) (map (λ t. t.version) self.now.tables.items) ≡ false }
+        ensures found { IfSome result (λ k. is_version (version_at self.now.tables.items k) version ≡ true) }
+        ensures none { result ≡ None → has (versions_of self.now.tables.items) version ≡ false }
     {
         for k in 0..self.tables.len() {
-            if version.is(self.tables[k].version()) {
+            if self.tables[k].version().is(version) {
                 return Some(k);
             }
         }

@@ -1,0 +1,11 @@
+pub mod Executed
+pub mod Ends
+pub mod Onces
+pub mod Rows
+pub mod TableRows
+pub mod Lookups
+pub mod Found
+pub mod Counted
+pub mod Begun
+pub mod Stepping
+pub mod Texts
