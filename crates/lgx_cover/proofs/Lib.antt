@@ -8,4 +8,5 @@ pub mod Found
 pub mod Counted
 pub mod Begun
 pub mod Stepping
+pub mod Idle
 pub mod Texts

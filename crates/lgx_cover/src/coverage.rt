@@ -1,13 +1,15 @@
 // A controller whose executions are counted.
-ghost use Rattle.std.specs.Prelude.{◌≡◌, ◌+◌, ◌<◌, ◌≤◌, [], ◌∷◌, ◌++◌, List, replicate, IfOk, OnOk};
+ghost use Rattle.std.specs.Prelude.{◌≡◌, ◌+◌, ◌<◌, ◌≤◌, [], ◌∷◌, ◌++◌, List, replicate, Ok, None, IfOk, OnOk};
 ghost use Rattle.spec_base.specs.declared.limits.TheConstants.{MAX_EVENTS};
 ghost use Rattle.spec_machine.specs.declared.event.Event.{Event as Events};
 ghost use Rattle.spec_machine.specs.declared.event.Event.TheVariants.{Cpu};
+ghost use Rattle.spec_machine.specs.Machine.{run};
 ghost use Rattle.spec_machine.specs.Project.{Project as Projects};
+ghost use Rattle.spec_tables.specs.Tasks.{chosen};
 ghost use Rattle.lgx_cover.specs.Covers.{Covers, IsCoverage};
 
 use crate::tables::Tables;
-use lgx_core::Controller;
+use lgx_core::{Controller, What};
 use lgx_journal::Event;
 use lgx_num::Memory;
 use lgx_project::Project;
@@ -39,27 +41,46 @@ impl Coverage {
         &self.tables
     }
 
-    /// One processor step.
+    /// One processor step, and what it did.
     #[inline(always)]
-    fn step(&mut self) -> Result<(), Memory>
+    fn step(&mut self) -> Result<What, Memory>
         requires coverage { IsCoverage self.old }
         requires room { self.old.controller.spent < MAX_EVENTS }
         ensures covers { (project : Projects) (events : List Events) → Covers self.old project events → OnOk result (Covers self.new project (events ++ Cpu ∷ [])) }
+        ensures idle { (project : Projects) (events : List Events) → Covers self.old project events → result ≡ Ok What.Idle → chosen (run project events).table ≡ None }
         ensures spent { OnOk result (self.new.controller.spent ≡ self.old.controller.spent + 1) }
     {
         let executed = self.controller.executing();
         let moment = self.controller.cpu();
-        self.tables.take(executed, moment.what)
+        self.tables.take(executed, moment.what)?;
+        Ok(moment.what)
+    }
+
+    /// So many processor steps while no task is up.
+    fn rest(&mut self, count: u32)
+        requires room { self.old.controller.spent + count ≤ MAX_EVENTS }
+        ensures { (project : Projects) (events : List Events) → Covers self.old project events → chosen (run project events).table ≡ None → Covers self.new project (events ++ replicate count Cpu) }
+    {
+        let mut left = count;
+        while left > 0 {
+            left -= self.controller.stretch(left).steps;
+        }
     }
 
     /// So many processor steps.
     pub(crate) fn steps(&mut self, count: u32) -> Result<(), Memory>
         requires coverage { IsCoverage self.old }
         requires room { self.old.controller.spent + count ≤ MAX_EVENTS }
-        ensures covers { (project : Projects) (events : List Events) → Covers self.old project events → OnOk result (Covers self.new project (events ++ replicate count Cpu)) }
+        ensures { (project : Projects) (events : List Events) → Covers self.old project events → OnOk result (Covers self.new project (events ++ replicate count Cpu)) }
     {
-        for _ in 0..count {
-            self.step()?;
+        let mut left = count;
+        while left > 0 {
+            let what = self.step()?;
+            left -= 1;
+            if let What::Idle = what {
+                self.rest(left);
+                return Ok(());
+            }
         }
         Ok(())
     }
@@ -68,10 +89,13 @@ impl Coverage {
     pub(crate) fn apply(&mut self, event: &Event) -> Result<(), Memory>
         requires coverage { IsCoverage self.old }
         requires room { self.old.controller.spent < MAX_EVENTS }
-        ensures covers { (project : Projects) (events : List Events) → Covers self.old project events → OnOk result (Covers self.new project (events ++ event.now ∷ [])) }
+        ensures { (project : Projects) (events : List Events) → Covers self.old project events → OnOk result (Covers self.new project (events ++ event.now ∷ [])) }
     {
         match event {
-            Event::Cpu => self.step(),
+            Event::Cpu => {
+                self.step()?;
+                Ok(())
+            }
             Event::Tick => {
                 self.controller.tick();
                 Ok(())
