@@ -106,8 +106,8 @@ module _ (tables : List TableView) (old new : List (Option ℕ)) (begun : List V
   distinct_behind =
       by_place (λ (j : ℕ). is_version (version_at more last) (version_at more j) ≡ true → last ≡ j)
       (λ j g e.
-          let same : v ≡ version_at more j = same_version v (version_at more j) (subst (λ (w : Version). is_version w (version_at more j) ≡ true) version_behind e) in
-          absurd (both_ways (is_version (version_at more j) v) (apart j g) (subst (λ (w : Version). is_version w v ≡ true) same (own_version v))))
+      let same : v ≡ version_at more j = same_version v (version_at more j) (subst (λ (w : Version). is_version w (version_at more j) ≡ true) version_behind e) in
+      absurd (both_ways (is_version (version_at more j) v) (apart j g) (subst (λ (w : Version). is_version w v ≡ true) same (own_version v))))
       (λ e. refl)
 
   distinct_more : (i j : ℕ) → i < length more → j < length more → is_version (version_at more i) (version_at more j) ≡ true → i ≡ j
@@ -128,7 +128,7 @@ module _ (tables : List TableView) (old new : List (Option ℕ)) (begun : List V
   elsewhere_more : (w : Version) → has (versions_of more) w ≡ false → in_version w all ≡ []
   elsewhere_more w h =
       let parts : (has (versions_of tables) w || has (t.version ∷ []) w) ≡ false =
-          sym (list_any-append (λ (u : Version). is_version u w) (versions_of tables) (t.version ∷ [])) ∙ (ap (λ (vs : List Version). has vs w) (sym (map-append (λ (u : TableView). u.version) tables (t ∷ []))) ∙ h)
+      sym (list_any-append (λ (u : Version). is_version u w) (versions_of tables) (t.version ∷ [])) ∙ (ap (λ (vs : List Version). has vs w) (sym (map-append (λ (u : TableView). u.version) tables (t ∷ []))) ∙ h)
       in
       is.elsewhere w (or_parts (has (versions_of tables) w) (has (t.version ∷ []) w) parts).0
 

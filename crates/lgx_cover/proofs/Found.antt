@@ -42,11 +42,8 @@ not_begun tables current begun all q is none = go (latest q begun) (is.known q)
 
 pub latest_more : (q : ℕ) (begun : List Version) (v : Version) → latest q (begun ++ v ∷ []) ≡ (if nat_eq q v.program then Some v.number else latest q begun)
 latest_more q [] v = refl
-latest_more q (b ∷ bs) v = ap (λ o. option_or o first) (latest_more q bs v) ∙ go (nat_eq q v.program)
+latest_more q (b ∷ bs) v = ap (λ o. option_or o (if nat_eq q b.program then Some b.number else None)) (latest_more q bs v) ∙ go (nat_eq q v.program)
   where
-    abbrev first : Option ℕ
-    first = if nat_eq q b.program then Some b.number else None
-
-    go : (here : Bool) → option_or (if here then Some v.number else latest q bs) first ≡ (if here then Some v.number else option_or (latest q bs) first)
+    go : (here : Bool) → option_or (if here then Some v.number else latest q bs) (if nat_eq q b.program then Some b.number else None) ≡ (if here then Some v.number else option_or (latest q bs) (if nat_eq q b.program then Some b.number else None))
     go true = refl
     go false = refl

@@ -1,11 +1,11 @@
 -- An execution more in a version's table.
-use Rattle.std.proofs.Common.{◌≡◌, ℕ, ◌+◌, ◌<◌, max, List, [], ◌∷◌, ◌++◌, length, map, get_or, set, Bool, true, false, cond, filter, nat_eq, inl, inr, refl, sym, ap, ◌∙◌, subst, append-nil, arith}
+use Rattle.std.proofs.Common.{◌≡◌, ℕ, ◌+◌, ◌<◌, max, List, [], ◌∷◌, ◌++◌, length, map, get_or, set, Bool, true, false, cond, filter, nat_eq, inl, inr, refl, sym, ap, ◌∙◌, subst, subst₂, append-nil, arith}
 use Rattle.std.proofs.lemmas.Bool.{cases_eq, eq-eqb, ne_eqb}
 use Rattle.std.proofs.lemmas.List.{get_or-set_same, get_or-set_other, map-append}
 use Rattle.std.proofs.lemmas.List.Elements.{filter-append}
 use Rattle.lgx_engine.specs.declared.place.Execution.{Execution}
 use Rattle.lgx_cover.specs.declared.row.Counts.{Counts}
-use Rattle.lgx_cover.specs.Counts.{above, in_routine}
+use Rattle.lgx_cover.specs.Counts.{above, in_routine, routines_end}
 use Rattle.lgx_cover.specs.Tables.{grown, IsRowOf, IsTableOf}
 use Rattle.lgx_cover.proofs.Ends.{above_more, get_grown, length_grown, length_written}
 
@@ -27,31 +27,34 @@ other_routine r xs x other = routine_more r xs x false (ne_eqb r x.routine other
 pub found_row : (rows : List (List Counts)) (xs : List Execution) (r : ℕ) → IsTableOf rows xs → IsRowOf (get_or (grown rows r []) r []) (in_routine r xs)
 found_row rows xs r is = subst (λ row. IsRowOf row (in_routine r xs)) (sym (get_grown rows r r [])) (is.rows_are r)
 
-pub table_more : (rows : List (List Counts)) (xs : List Execution) (x : Execution) (row : List Counts) → IsTableOf rows xs → IsRowOf row (in_routine x.routine xs ++ x ∷ [])
-    → IsTableOf (set (grown rows x.routine []) x.routine row) (xs ++ x ∷ [])
-table_more rows xs x row is now = record {
-  end =
+module _ (rows : List (List Counts)) (xs : List Execution) (x : Execution) (row : List Counts) (is : IsTableOf rows xs) (now : IsRowOf row (in_routine x.routine xs ++ x ∷ [])) where
+  abbrev written : List (List Counts)
+  written = set (grown rows x.routine []) x.routine row
+
+  at_place : get_or written x.routine [] ≡ row
+  at_place =
+      get_or-set_same (grown rows x.routine []) x.routine row [] (let n = length_grown rows x.routine [] in omega arith)
+
+  here : IsRowOf (get_or written x.routine []) (in_routine x.routine (xs ++ x ∷ []))
+  here =
+      subst₂ (λ (q : List Counts) (ys : List Execution). IsRowOf q ys) (sym at_place) (sym (same_routine xs x)) now
+
+  elsewhere : (r : ℕ) → (r ≡ x.routine → ⊥) → IsRowOf (get_or written r []) (in_routine r (xs ++ x ∷ []))
+  elsewhere r other =
+      let row_is : get_or written r [] ≡ get_or rows r [] = get_or-set_other (grown rows x.routine []) x.routine r row [] other ∙ get_grown rows x.routine r [] in
+      subst₂ (λ (q : List Counts) (ys : List Execution). IsRowOf q ys) (sym row_is) (sym (other_routine r xs x other)) (is.rows_are r)
+
+  ends : length written ≡ routines_end (xs ++ x ∷ [])
+  ends =
       length_written rows x.routine [] row
-      ∙ (ap (λ n. max n (x.routine + 1)) is.end ∙ sym (ap above (map-append routine_of xs (x ∷ [])) ∙ above_more (map routine_of xs) x.routine));
-  rows_are = λ r. elim (cases_eq r x.routine) [
-    | inl same ↦ subst (λ k. IsRowOf (get_or written k []) (in_routine k (xs ++ x ∷ []))) (sym same) here
-    | inr other ↦ elsewhere r other
-  ];
-}
-  where
-    abbrev routine_of : Execution → ℕ
-    routine_of y = y.routine
+      ∙ (ap (λ n. max n (x.routine + 1)) is.end
+      ∙ sym (ap above (map-append (λ (y : Execution). y.routine) xs (x ∷ [])) ∙ above_more (map (λ (y : Execution). y.routine) xs) x.routine))
 
-    abbrev written : List (List Counts)
-    written = set (grown rows x.routine []) x.routine row
-
-    at_place : get_or written x.routine [] ≡ row
-    at_place = get_or-set_same (grown rows x.routine []) x.routine row [] (let n = length_grown rows x.routine [] in omega arith)
-
-    here : IsRowOf (get_or written x.routine []) (in_routine x.routine (xs ++ x ∷ []))
-    here = subst (λ q. IsRowOf q (in_routine x.routine (xs ++ x ∷ []))) (sym at_place) (subst (λ ys. IsRowOf row ys) (sym (same_routine xs x)) now)
-
-    elsewhere : (r : ℕ) → (r ≡ x.routine → ⊥) → IsRowOf (get_or written r []) (in_routine r (xs ++ x ∷ []))
-    elsewhere r other =
-        let row_is : get_or written r [] ≡ get_or rows r [] = get_or-set_other (grown rows x.routine []) x.routine r row [] other ∙ get_grown rows x.routine r [] in
-        subst (λ q. IsRowOf q (in_routine r (xs ++ x ∷ []))) (sym row_is) (subst (λ ys. IsRowOf (get_or rows r []) ys) (sym (other_routine r xs x other)) (is.rows_are r))
+  pub table_more : IsTableOf written (xs ++ x ∷ [])
+  table_more = record {
+    end = ends;
+    rows_are = λ r. elim (cases_eq r x.routine) [
+      | inl same ↦ subst (λ (k : ℕ). IsRowOf (get_or written k []) (in_routine k (xs ++ x ∷ []))) (sym same) here
+      | inr other ↦ elsewhere r other
+    ];
+  }

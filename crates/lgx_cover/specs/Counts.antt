@@ -1,6 +1,6 @@
 -- How often each instruction was executed: how many of a run's executions are of one version, of one routine and of one place in
 -- its code.
-use Rattle.std.specs.Prelude.{ℕ, zero, suc, ◌+◌, max, List, [], ◌∷◌, map, filter, count_by, Bool, not, ◌&&◌, nat_eq}
+use Rattle.std.specs.Prelude.{ℕ, zero, suc, ◌+◌, max, List, [], ◌∷◌, map, filter, count_by, Bool, true, false, not, ◌&&◌, nat_eq}
 use Rattle.lgx_engine.specs.declared.place.Execution.{Execution}
 use Rattle.lgx_cover.specs.declared.version.Version.{Version}
 use Rattle.lgx_cover.specs.declared.row.Counts.{Counts}
@@ -37,6 +37,11 @@ is_false_at l x = nat_eq l x.left && not x.on
 -- of the executions those at a place, with a true and with a false condition
 abbrev pub counts : ℕ → List Execution → Counts
 counts l xs = record { with_true = count_by (is_true_at l) xs; with_false = count_by (is_false_at l) xs }
+
+-- with one execution more
+abbrev pub one_more : Counts → Bool → Counts
+one_more c true = record { with_true = c.with_true + 1; with_false = c.with_false }
+one_more c false = record { with_true = c.with_true; with_false = c.with_false + 1 }
 
 -- ---- which numbers there are
 

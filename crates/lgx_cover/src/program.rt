@@ -16,12 +16,7 @@ use std::io::Write;
 pub const USAGE: &[u8] = b"usage: logix_cover P J\n";
 
 /// Follows the plan of the words.
-fn follow<F: Files, K: Sink>(
-    alloc: Global,
-    words: &[String],
-    files: &mut F,
-    sink: &mut K,
-) -> Status
+fn follow<F: Files, K: Sink>(alloc: Global, words: &[String], files: &mut F, sink: &mut K) -> Status
     ensures { Answered (plan_of (map string_bytes words.now)) (record {
       told = F.told files.old;
       failures = record { old = F.failures files.old; new = F.failures files.new };

@@ -1,7 +1,8 @@
 // The counts of a routine's instructions.
-ghost use Rattle.std.specs.Prelude.{◌≡◌, ◌×◌, ◌<◌, ◌∷◌, ◌++◌, [], List, length, OnOk};
+ghost use Rattle.std.specs.Prelude.{◌≡◌, ◌+◌, ◌^◌, ◌<◌, ◌∷◌, ◌++◌, [], List, length, OnOk};
 ghost use Rattle.spec_base.specs.declared.limits.TheConstants.{MAX_EVENTS};
 ghost use Rattle.lgx_engine.specs.declared.place.Execution.{Execution as Executions};
+ghost use Rattle.lgx_cover.specs.Counts.{one_more};
 ghost use Rattle.lgx_cover.specs.Tables.{IsRowOf};
 
 use crate::growth::grow;
@@ -15,6 +16,27 @@ use std::marker::Model;
 pub(crate) struct Counts {
     pub with_true: u32,
     pub with_false: u32,
+}
+
+impl Counts {
+    /// With an execution more, by its condition.
+    #[inline(always)]
+    fn one_more(self, on: bool) -> Counts
+        requires { (self.with_true + 1 < 2 ^ 32) × (self.with_false + 1 < 2 ^ 32) }
+        ensures { result ≡ one_more self on }
+    {
+        if on {
+            Counts {
+                with_true: self.with_true + 1,
+                with_false: self.with_false,
+            }
+        } else {
+            Counts {
+                with_true: self.with_true,
+                with_false: self.with_false + 1,
+            }
+        }
+    }
 }
 
 /// Never.
@@ -62,12 +84,8 @@ impl Row {
         ensures { (xs : List Executions) → IsRowOf self.old xs → OnOk result (IsRowOf self.new (xs ++ x ∷ [])) }
     {
         grow(&mut self.counts, x.left, NO_COUNTS)?;
-        let counts = &mut self.counts[x.left];
-        if x.on {
-            counts.with_true += 1;
-        } else {
-            counts.with_false += 1;
-        }
+        let counts = self.counts[x.left];
+        self.counts[x.left] = counts.one_more(x.on);
         Ok(())
     }
 }

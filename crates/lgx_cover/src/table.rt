@@ -1,5 +1,5 @@
 // The counts of a version's instructions.
-ghost use Rattle.std.specs.Prelude.{◌≡◌, ◌×◌, ◌<◌, ◌∷◌, ◌++◌, [], List, length, OnOk};
+ghost use Rattle.std.specs.Prelude.{◌≡◌, ◌<◌, ◌∷◌, ◌++◌, [], List, length, OnOk};
 ghost use Rattle.spec_base.specs.declared.limits.TheConstants.{MAX_EVENTS};
 ghost use Rattle.lgx_engine.specs.declared.place.Execution.{Execution as Executions};
 ghost use Rattle.lgx_cover.specs.Tables.{IsTableOf, grown};

@@ -1,5 +1,5 @@
 // The tables of all versions.
-ghost use Rattle.std.specs.Prelude.{◌≡◌, ◌×◌, ◌<◌, ◌∷◌, ◌++◌, [], List, ℕ, length, OnOk, IfSome, Some, None, nat_eq, if◌then◌else◌, slice_index_or, true, false};
+ghost use Rattle.std.specs.Prelude.{◌≡◌, ◌<◌, ◌∷◌, ◌++◌, [], List, ℕ, length, OnOk, IfSome, Some, None, nat_eq, if◌then◌else◌, slice_index_or, true, false};
 ghost use Rattle.spec_base.specs.declared.limits.TheConstants.{MAX_EVENTS};
 ghost use Rattle.lgx_cover.specs.declared.version.Version.{Version as Versions};
 ghost use Rattle.lgx_cover.specs.Executions.{Occurrence, version_in, occurrences};
@@ -113,7 +113,12 @@ impl Tables {
         if let Some(x) = executed {
             self.count(x)?;
         }
-        if let What::Began { program, version, .. } = what {
+        if let What::Began {
+            program,
+            version,
+            ..
+        } = what
+        {
             self.begin(Version {
                 program,
                 number: version,
