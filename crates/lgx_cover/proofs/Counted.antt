@@ -5,7 +5,7 @@ use Rattle.std.proofs.Math.Seq.{map-set_same}
 use Rattle.std.proofs.lemmas.Bool.{cases_eq, false_from_ne_true, both_ways}
 use Rattle.std.proofs.lemmas.List.{get_or-set_same, get_or-set_other, map-append, length-map}
 use Rattle.std.proofs.lemmas.List.Elements.{filter-append}
-use Rattle.std.proofs.lemmas.List.Sums.{length-filter}
+use Rattle.std.proofs.lemmas.List.Sums.{length-filter, count_by-le-length}
 use Rattle.lgx_engine.specs.declared.place.Execution.{Execution}
 use Rattle.lgx_steps.specs.declared.executing.Executed.{Executed}
 use Rattle.lgx_cover.specs.declared.version.Version.{Version}
@@ -34,7 +34,9 @@ other_version_more v all o is = version_more v all o false is ∙ append-nil (in
 pub few_in_version : (v : Version) (all : List Occurrence) → length (in_version v all) ≤ length all
 few_in_version v all =
     let kept = length-map (filter (λ (o : Occurrence). is_version v o.version) all) (λ (o : Occurrence). o.execution) in
-    omega (arith, kept, length-filter (λ (o : Occurrence). is_version v o.version) all)
+    let passed = length-filter (λ (o : Occurrence). is_version v o.version) all in
+    let few = count_by-le-length (λ (o : Occurrence). is_version v o.version) all in
+    omega (arith, kept, passed, few)
 
 -- ---- what is executed
 

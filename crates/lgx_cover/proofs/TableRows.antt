@@ -1,8 +1,9 @@
 -- An execution more in a version's table.
-use Rattle.std.proofs.Common.{◌≡◌, ℕ, ◌+◌, ◌<◌, max, List, [], ◌∷◌, ◌++◌, length, map, get_or, set, Bool, true, false, cond, filter, nat_eq, inl, inr, refl, sym, ap, ◌∙◌, subst, subst₂, append-nil, arith}
+use Rattle.std.proofs.Common.{◌≡◌, ℕ, ◌+◌, ◌<◌, ◌≤◌, max, List, [], ◌∷◌, ◌++◌, length, map, get_or, set, Bool, true, false, cond, filter, nat_eq, inl, inr, refl, sym, ap, ◌∙◌, subst, subst₂, append-nil, arith}
 use Rattle.std.proofs.lemmas.Bool.{cases_eq, eq-eqb, ne_eqb}
 use Rattle.std.proofs.lemmas.List.{get_or-set_same, get_or-set_other, map-append}
 use Rattle.std.proofs.lemmas.List.Elements.{filter-append}
+use Rattle.std.proofs.lemmas.List.Sums.{length-filter, count_by-le-length}
 use Rattle.lgx_engine.specs.declared.place.Execution.{Execution}
 use Rattle.lgx_cover.specs.declared.row.Counts.{Counts}
 use Rattle.lgx_cover.specs.Counts.{above, in_routine, routines_end}
@@ -20,6 +21,12 @@ same_routine xs x = routine_more x.routine xs x true (eq-eqb x.routine x.routine
 
 other_routine : (r : ℕ) (xs : List Execution) (x : Execution) → (r ≡ x.routine → ⊥) → in_routine r (xs ++ x ∷ []) ≡ in_routine r xs
 other_routine r xs x other = routine_more r xs x false (ne_eqb r x.routine other) ∙ append-nil (in_routine r xs)
+
+pub few_in_routine : (r : ℕ) (xs : List Execution) → length (in_routine r xs) ≤ length xs
+few_in_routine r xs =
+    let passed = length-filter (λ (x : Execution). nat_eq r x.routine) xs in
+    let few = count_by-le-length (λ (x : Execution). nat_eq r x.routine) xs in
+    omega (arith, passed, few)
 
 -- ---- the table
 
