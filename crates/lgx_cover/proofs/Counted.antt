@@ -3,7 +3,7 @@ use Rattle.std.proofs.Common.{◌≡◌, ℕ, ◌<◌, ◌≤◌, List, [], ◌�
 use Rattle.std.specs.Prelude.{slice_index_or, slice_set, option_map, option_to_list}
 use Rattle.std.proofs.Math.Seq.{map-set_same}
 use Rattle.std.proofs.lemmas.Bool.{cases_eq, false_from_ne_true, both_ways}
-use Rattle.std.proofs.lemmas.List.{get_or-set_same, get_or-set_other, map-append, length-map}
+use Rattle.std.proofs.lemmas.List.{get_or-set_same, get_or-set_other, get_or_default, map-append, length-map}
 use Rattle.std.proofs.lemmas.List.Elements.{filter-append}
 use Rattle.std.proofs.lemmas.List.Sums.{length-filter, count_by-le-length}
 use Rattle.lgx_engine.specs.declared.place.Execution.{Execution}
@@ -135,3 +135,13 @@ pub nothing_counted : (tables : List TableView) (current : List (Option ℕ)) (b
     → AreTablesOf tables current begun all → latest x.program begun ≡ None → AreTablesOf tables current begun (all ++ occurrences begun (Some x))
 nothing_counted tables current begun all x is last =
     subst (λ (os : List Occurrence). AreTablesOf tables current begun os) (sym (ap (λ os. all ++ os) (no_occurrence begun x last) ∙ append-nil all)) is
+
+-- ---- what is read
+
+pub read_table : (tables : List TableView) (k : ℕ) (t : TableView) → k < length tables → t ≡ slice_index_or tables k t → t ≡ slice_index_or tables k no_table
+read_table tables k t below read = read ∙ get_or_default tables k t no_table below
+
+-- the table of the version that a program began with last has its counts
+pub read_counted : (tables : List TableView) (current : List (Option ℕ)) (begun : List Version) (all : List Occurrence) (k : ℕ) (t : TableView) → AreTablesOf tables current begun all → k < length tables → t ≡ slice_index_or tables k t → IsTableOf t.rows (in_version (version_at tables k) all)
+read_counted tables current begun all k t is below read =
+    subst (λ (u : TableView). IsTableOf u.rows (in_version (version_at tables k) all)) (sym (read_table tables k t below read)) (is.counted k below)

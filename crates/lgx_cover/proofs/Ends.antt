@@ -1,7 +1,7 @@
 -- The least number above others, and lists that grow.
-use Rattle.std.proofs.Common.{◌≡◌, ℕ, suc, ◌+◌, ◌-◌, ◌<◌, ◌≤◌, max, List, [], ◌∷◌, ◌++◌, length, get_or, set, replicate, inl, inr, refl, sym, ap, ◌∙◌, length-append, length-set, arith}
+use Rattle.std.proofs.Common.{◌≡◌, ℕ, suc, ◌+◌, ◌-◌, ◌<◌, ◌≤◌, max, List, [], ◌∷◌, ◌++◌, length, get_or, set, replicate, take, inl, inr, refl, sym, ap, ◌∙◌, append_assoc, append-nil, take_all, length-append, length-set, arith}
 use Rattle.std.proofs.lemmas.Bool.{cases_lt}
-use Rattle.std.proofs.lemmas.List.{get_or_append_left, get_or-append_right, get_or_past, get_or-replicate, length-replicate}
+use Rattle.std.proofs.lemmas.List.{get_or_append_left, get_or-append_right, get_or_past, get_or-replicate, length-replicate, replicate-append-replicate}
 use Rattle.lgx_cover.specs.Counts.{above}
 use Rattle.lgx_cover.specs.Tables.{grown}
 
@@ -34,3 +34,26 @@ length_grown xs i none =
 -- its length once it was written
 pub length_written : {A : Type 0} (xs : List A) (i : ℕ) (none x : A) → length (set (grown xs i none) i x) ≡ max (length xs) (i + 1)
 length_written xs i none x = length-set (grown xs i none) i x ∙ length_grown xs i none
+
+-- ---- how a list grows
+
+-- one element more
+pub one_longer : {A : Type 0} (xs : List A) (n : ℕ) (none : A) → (xs ++ replicate n none) ++ none ∷ [] ≡ xs ++ replicate (n + 1) none
+one_longer xs n none =
+    append_assoc xs (replicate n none) (none ∷ []) ∙ ap (λ t. xs ++ t) (replicate-append-replicate n 1 none)
+
+-- to a place, and one element more
+pub grown_by : {A : Type 0} (xs : List A) (i : ℕ) (none : A) → length xs ≤ i → (take i xs ++ replicate (i - length xs) none) ++ none ∷ [] ≡ grown xs i none
+grown_by xs i none h =
+    ap (λ t. (t ++ replicate (i - length xs) none) ++ none ∷ []) (take_all i xs h)
+    ∙ (one_longer xs (i - length xs) none ∙ ap (λ n. xs ++ replicate n none) (let n : (i - length xs) + 1 ≡ suc i - length xs = omega arith in n))
+
+-- it has the place already
+pub grown_already : {A : Type 0} (xs : List A) (i : ℕ) (none : A) → i < length xs → xs ≡ grown xs i none
+grown_already xs i none h =
+    sym (append-nil xs) ∙ ap (λ n. xs ++ replicate n none) (let n : 0 ≡ suc i - length xs = omega arith in n)
+
+-- it has as many elements as it is to have
+pub grown_to : {A : Type 0} (xs ys : List A) (i : ℕ) (none : A) → ys ≡ xs ++ replicate (length ys - length xs) none → length xs ≤ length ys → length ys ≤ max (length xs) (i + 1) → i < length ys → ys ≡ grown xs i none
+grown_to xs ys i none is more few has =
+    is ∙ ap (λ n. xs ++ replicate n none) (let n : length ys - length xs ≡ suc i - length xs = omega arith in n)

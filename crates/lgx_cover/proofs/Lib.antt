@@ -1,3 +1,4 @@
+pub mod Stage
 pub mod Executed
 pub mod Ends
 pub mod Onces

@@ -1,6 +1,6 @@
 -- Whether a version is among those of tables, by their numbers.
-use Rattle.std.proofs.Common.{◌≡◌, ℕ, zero, suc, ◌<◌, List, [], ◌∷◌, length, Bool, true, false, ◌||◌, ap, ◌∙◌, arith}
-use Rattle.std.proofs.lemmas.Bool.{or_parts, or_left, or_right}
+use Rattle.std.proofs.Common.{◌≡◌, ℕ, zero, suc, ◌<◌, List, [], ◌∷◌, length, Bool, true, false, ◌||◌, refl, arith}
+use Rattle.std.proofs.lemmas.Bool.{or_parts, or_from, or_left, or_right}
 use Rattle.lgx_cover.specs.declared.version.Version.{Version}
 use Rattle.lgx_cover.specs.TableView.{TableView}
 use Rattle.lgx_cover.specs.Counts.{is_version}
@@ -19,3 +19,9 @@ some_at [] w k h is = absurd (omega arith)
 some_at (t ∷ ts) w zero h is = or_left (is_version t.version w) (has (versions_of ts) w) is
 some_at (t ∷ ts) w (suc k) h is =
     or_right (is_version t.version w) (has (versions_of ts) w) (some_at ts w k (omega arith) is)
+
+-- none is that version, one by one
+pub none_of : (tables : List TableView) (w : Version) → ((k : ℕ) → k < length tables → is_version (version_at tables k) w ≡ false) → has (versions_of tables) w ≡ false
+none_of [] w none = refl
+none_of (t ∷ ts) w none =
+    or_from (is_version t.version w) (has (versions_of ts) w) (none zero (omega arith)) (none_of ts w (λ k h. none (suc k) (omega arith)))

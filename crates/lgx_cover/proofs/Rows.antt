@@ -1,7 +1,7 @@
 -- An execution more in a routine's row.
 use Rattle.std.proofs.Common.{◌≡◌, ℕ, ◌+◌, ◌<◌, ◌≤◌, max, List, [], ◌∷◌, ◌++◌, length, map, get_or, set, Bool, true, false, cond, not, ◌&&◌, count_by, nat_eq, inl, inr, refl, sym, ap, ◌∙◌, subst, arith}
 use Rattle.std.proofs.lemmas.Bool.{cases_eq, eq-eqb, ne_eqb}
-use Rattle.std.proofs.lemmas.List.{get_or-set_same, get_or-set_other, map-append}
+use Rattle.std.proofs.lemmas.List.{get_or-set_same, get_or-set_other, get_or_default, map-append}
 use Rattle.std.proofs.lemmas.List.Sums.{sum_by-append, sum_by-cons, count_by-le-length}
 use Rattle.lgx_engine.specs.declared.place.Execution.{Execution}
 use Rattle.lgx_cover.specs.declared.row.Counts.{Counts}
@@ -67,6 +67,11 @@ few_counts l xs = (count_by-le-length (is_true_at l) xs, count_by-le-length (is_
 -- what is found at the place of an execution, once there is room for it
 pub found_counts : (row : List Counts) (xs : List Execution) (x : Execution) → IsRowOf row xs → get_or (grown row x.left no_counts) x.left no_counts ≡ counts x.left xs
 found_counts row xs x is = get_grown row x.left x.left no_counts ∙ is.counted x.left
+
+-- what is read there
+pub read_counts : (row new : List Counts) (xs : List Execution) (x : Execution) (c : Counts) → IsRowOf row xs → new ≡ grown row x.left no_counts → x.left < length new → c ≡ get_or new x.left c → c ≡ counts x.left xs
+read_counts row new xs x c is grew has read =
+    read ∙ (get_or_default new x.left c no_counts has ∙ (ap (λ (l : List Counts). get_or l x.left no_counts) grew ∙ found_counts row xs x is))
 
 module _ (row : List Counts) (xs : List Execution) (x : Execution) (c : Counts) (is : IsRowOf row xs) (now : c ≡ counts x.left (xs ++ x ∷ [])) where
   abbrev written : List Counts

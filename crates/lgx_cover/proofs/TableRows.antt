@@ -1,7 +1,7 @@
 -- An execution more in a version's table.
 use Rattle.std.proofs.Common.{◌≡◌, ℕ, ◌+◌, ◌<◌, ◌≤◌, max, List, [], ◌∷◌, ◌++◌, length, map, get_or, set, Bool, true, false, cond, filter, nat_eq, inl, inr, refl, sym, ap, ◌∙◌, subst, subst₂, append-nil, arith}
 use Rattle.std.proofs.lemmas.Bool.{cases_eq, eq-eqb, ne_eqb}
-use Rattle.std.proofs.lemmas.List.{get_or-set_same, get_or-set_other, map-append}
+use Rattle.std.proofs.lemmas.List.{get_or-set_same, get_or-set_other, get_or_default, map-append}
 use Rattle.std.proofs.lemmas.List.Elements.{filter-append}
 use Rattle.std.proofs.lemmas.List.Sums.{length-filter, count_by-le-length}
 use Rattle.lgx_engine.specs.declared.place.Execution.{Execution}
@@ -33,6 +33,12 @@ few_in_routine r xs =
 -- the row that is found for an execution, once there is room for it
 pub found_row : (rows : List (List Counts)) (xs : List Execution) (r : ℕ) → IsTableOf rows xs → IsRowOf (get_or (grown rows r []) r []) (in_routine r xs)
 found_row rows xs r is = subst (λ row. IsRowOf row (in_routine r xs)) (sym (get_grown rows r r [])) (is.rows_are r)
+
+-- what is read there
+pub read_row : (rows inside : List (List Counts)) (xs : List Execution) (r : ℕ) (row : List Counts) → IsTableOf rows xs → inside ≡ grown rows r [] → r < length inside → row ≡ get_or inside r row → IsRowOf row (in_routine r xs)
+read_row rows inside xs r row is grew has read =
+    let there : row ≡ get_or (grown rows r []) r [] = read ∙ (get_or_default inside r row [] has ∙ ap (λ (l : List (List Counts)). get_or l r []) grew) in
+    subst (λ (q : List Counts). IsRowOf q (in_routine r xs)) (sym there) (found_row rows xs r is)
 
 module _ (rows : List (List Counts)) (xs : List Execution) (x : Execution) (row : List Counts) (is : IsTableOf rows xs) (now : IsRowOf row (in_routine x.routine xs ++ x ∷ [])) where
   abbrev written : List (List Counts)

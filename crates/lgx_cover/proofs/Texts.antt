@@ -1,5 +1,5 @@
 -- The text of tables is that of what they count.
-use Rattle.std.proofs.Common.{◌≡◌, ℕ, zero, suc, ◌<◌, List, [], ◌∷◌, ◌++◌, length, map, flat_map, get_or, Option, refl, sym, ap, ap₂, ◌∙◌, arith}
+use Rattle.std.proofs.Common.{◌≡◌, ℕ, zero, suc, ◌+◌, ◌<◌, List, [], ◌∷◌, ◌++◌, length, map, flat_map, get_or, Option, refl, sym, ap, ap₂, ◌∙◌, append_assoc, append-nil, add-one, arith}
 use Rattle.std.specs.List.{range_with_len}
 use Rattle.std.proofs.lemmas.List.Folds.{flat_map-map}
 use Rattle.lgx_engine.specs.declared.place.Execution.{Execution}
@@ -38,3 +38,17 @@ tables_say tables current begun all is =
     (each_same table_text (λ (t : TableView). version_text t.version (in_version t.version all)) tables no_table (λ k h. table_says (get_or tables k no_table) (in_version (get_or tables k no_table).version all) (is.counted k h))
     ∙ (sym (flat_map-map (λ (v : Version). version_text v (in_version v all)) (λ (t : TableView). t.version) tables)
     ∙ ap (λ vs. flat_map (λ (v : Version). version_text v (in_version v all)) vs) is.versions))
+
+-- ---- texts that grow
+
+-- one number more
+from_more : (f : ℕ → List ℕ) (a n : ℕ) → flat_map f (range_with_len a (suc n)) ≡ flat_map f (range_with_len a n) ++ f (a + n)
+from_more f a zero = append-nil (f a) ∙ ap f (let same : a ≡ a + 0 = omega arith in same)
+from_more f a (suc n) =
+    ap (λ t. f a ++ t) (from_more f (a + 1) n ∙ ap (λ k. flat_map f (range_with_len (a + 1) n) ++ f k) (let same : (a + 1) + n ≡ a + suc n = omega arith in same))
+    ∙ sym (append_assoc (f a) (flat_map f (range_with_len (a + 1) n)) (f (a + suc n)))
+
+pub rows_more : (f : ℕ → List ℕ) (n : ℕ) → flat_map f (range_with_len 0 n) ++ f n ≡ flat_map f (range_with_len 0 (n + 1))
+rows_more f n =
+    ap (λ k. flat_map f (range_with_len 0 n) ++ f k) (let same : n ≡ 0 + n = omega arith in same)
+    ∙ (sym (from_more f 0 n) ∙ ap (λ k. flat_map f (range_with_len 0 k)) (sym (add-one n)))

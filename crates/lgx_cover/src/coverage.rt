@@ -10,9 +10,9 @@ ghost use Rattle.lgx_cover.specs.Covers.{Covers, IsCoverage};
 
 use crate::tables::Tables;
 use lgx_core::{Controller, What};
+use lgx_edit::Plant;
 use lgx_journal::Event;
 use lgx_num::Memory;
-use lgx_project::Project;
 use std::alloc::Global;
 
 /// A controller, and how often each instruction was executed.
@@ -24,7 +24,7 @@ pub struct Coverage {
 
 impl Coverage {
     /// Of a project's run without an event.
-    pub(crate) fn new(alloc: Global, project: Project) -> Result<Coverage, Memory>
+    pub(crate) fn new(alloc: Global, project: Plant) -> Result<Coverage, Memory>
         ensures { IfOk result (λ coverage. Covers coverage project []) }
     {
         let controller = Controller::new(alloc, project)?;
@@ -52,7 +52,8 @@ impl Coverage {
     {
         let executed = self.controller.executing();
         let moment = self.controller.cpu();
-        self.tables.take(executed, moment.what)?;
+        self.tables.count(executed)?;
+        self.tables.note(moment.what)?;
         Ok(moment.what)
     }
 

@@ -6,6 +6,7 @@ use lgx_num::Memory;
 
 /// Makes sure that the list has this place. What is added is `none`.
 #[inline]
+#[tactic(auto, using(crate::proofs::Ends::grown_already))]
 pub(crate) fn grow<T: Copy>(list: &mut Vec<T>, place: usize, none: T) -> Result<(), Memory>
     ensures items { OnOk result (list.new.items ≡ grown list.old.items place none) }
     ensures has { OnOk result (place < length list.new.items) }

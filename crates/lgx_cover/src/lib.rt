@@ -5,20 +5,13 @@
 //! order of the code.
 #![tactic(auto)]
 
-mod cover;
 mod coverage;
-mod covered;
 mod growth;
-mod host;
-mod program;
 mod row;
 mod table;
 mod tables;
 mod text_out;
 mod version;
 
-pub use cover::cover_journal;
 pub use coverage::Coverage;
-pub use host::process;
-pub use program::{USAGE, cover, program};
 pub use version::Version;

@@ -57,6 +57,7 @@ impl Table {
 
     /// Makes sure that a routine has a row.
     #[inline]
+    #[tactic(auto, using(crate::proofs::Ends::one_longer, crate::proofs::Ends::grown_to))]
     fn grow(&mut self, alloc: Global, routine: usize) -> Result<(), Memory>
         ensures rows { OnOk result (self.new.rows ≡ grown self.old.rows routine []) }
         ensures has { OnOk result (routine < length self.new.rows) }

@@ -54,6 +54,7 @@ impl Tables {
     }
 
     /// The place of the table of a version; None if there is none.
+    #[tactic(auto, using(crate::proofs::Lookups::none_of))]
     fn find(&self, version: Version) -> Option<usize>
         ensures below { IfSome result (λ k. k < length self.now.tables.items) }
         ensures found { IfSome result (λ k. is_version (version_at self.now.tables.items k) version ≡ true) }
@@ -94,7 +95,7 @@ impl Tables {
 
     /// Counts an execution more, in the version that its program began with last.
     #[inline]
-    fn count(&mut self, x: Executed) -> Result<(), Memory>
+    fn count_one(&mut self, x: Executed) -> Result<(), Memory>
         requires room { (begun : List Versions) × (all : List Occurrence) × KeepCounts self.old begun all × (length all < MAX_EVENTS) }
         ensures { (begun : List Versions) (all : List Occurrence) → KeepCounts self.old begun all → OnOk result (KeepCounts self.new begun (all ++ occurrences begun (Some x))) }
     {
@@ -104,26 +105,33 @@ impl Tables {
         }
     }
 
-    /// Takes in a processor step: the instruction that it executed, and what was told of it.
+    /// Counts what a processor step executed.
     #[inline(always)]
-    pub(crate) fn take(&mut self, executed: Option<Executed>, what: What) -> Result<(), Memory>
+    pub(crate) fn count(&mut self, executed: Option<Executed>) -> Result<(), Memory>
         requires room { (begun : List Versions) × (all : List Occurrence) × KeepCounts self.old begun all × (length all < MAX_EVENTS) }
-        ensures { (begun : List Versions) (all : List Occurrence) → KeepCounts self.old begun all → OnOk result (KeepCounts self.new (begun ++ version_in what) (all ++ occurrences begun executed)) }
+        ensures { (begun : List Versions) (all : List Occurrence) → KeepCounts self.old begun all → OnOk result (KeepCounts self.new begun (all ++ occurrences begun executed)) }
     {
-        if let Some(x) = executed {
-            self.count(x)?;
+        match executed {
+            Some(x) => self.count_one(x),
+            None => Ok(()),
         }
-        if let What::Began {
-            program,
-            version,
-            ..
-        } = what
-        {
-            self.begin(Version {
+    }
+
+    /// Notes the version that a program begins with, if a processor step tells one.
+    #[inline(always)]
+    pub(crate) fn note(&mut self, what: What) -> Result<(), Memory>
+        ensures { (begun : List Versions) (all : List Occurrence) → KeepCounts self.old begun all → OnOk result (KeepCounts self.new (begun ++ version_in what) all) }
+    {
+        match what {
+            What::Began {
+                program,
+                version,
+                ..
+            } => self.begin(Version {
                 program,
                 number: version,
-            })?;
+            }),
+            _ => Ok(()),
         }
-        Ok(())
     }
 }

@@ -19,9 +19,9 @@ loop-left-init c = record {
 
 pub loop-left-preserved : goal.loop-left-preserved
 loop-left-preserved c =
-    let made = c.stretch.result.steps in
-    let most = c.stretch.ensures.most in
-    let more = c.stretch.ensures.spent in
+    let made = c.stretch-left.result.steps in
+    let most = c.stretch-left.ensures.most in
+    let more = c.stretch-left.ensures.spent in
     let within = c.loop-left.invariant.within in
     let spent = c.loop-left.invariant.spent in
     let done = c.args.count - c.loop-left.left in
@@ -35,7 +35,7 @@ loop-left-preserved c =
           let all : before ++ replicate made Cpu ≡ events ++ replicate (c.args.count - (c.loop-left.left - made)) Cpu =
           append_assoc events (replicate done Cpu) (replicate made Cpu) ∙ ap (λ (es : List Event). events ++ es) (replicate-append-replicate done made Cpu ∙ ap (λ n. replicate n Cpu) next)
           in
-          subst (λ (es : List Event). StandsFor project es c.stretch.new.self.controller) all (c.stretch.ensures.runs project before (c.loop-left.invariant.stands project events h)).stands;
+          subst (λ (es : List Event). StandsFor project es c.stretch-left.new.self) all (c.stretch-left.ensures.runs project before (c.loop-left.invariant.stands project events h)).stands;
     }
 
 pub returns : goal.returns
