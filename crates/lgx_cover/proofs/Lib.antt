@@ -1,4 +1,5 @@
-pub mod Stage
+pub mod Runs
+pub mod Judging
 pub mod Executed
 pub mod Ends
 pub mod Onces

@@ -5,13 +5,20 @@
 //! order of the code.
 #![tactic(auto)]
 
+mod call;
 mod coverage;
+mod covered;
 mod growth;
+mod host;
 mod row;
 mod table;
 mod tables;
 mod text_out;
 mod version;
+mod word;
 
+pub use call::{USAGE, cover, program};
 pub use coverage::Coverage;
+pub use host::process;
 pub use version::Version;
+pub use word::cover_journal;
