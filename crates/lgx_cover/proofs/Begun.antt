@@ -1,10 +1,9 @@
 -- A begin more in the tables.
-use Rattle.std.proofs.Common.{◌≡◌, ℕ, ◌+◌, ◌<◌, ◌≤◌, List, [], ◌∷◌, ◌++◌, length, map, Bool, true, false, cond, ◌||◌, nat_eq, if◌then◌else◌, Option, Some, None, inl, inr, refl, sym, ap, ◌∙◌, subst, subst₂, append-nil, length-append, arith}
+use Rattle.std.proofs.Common.{◌≡◌, ℕ, ◌+◌, ◌<◌, List, [], ◌∷◌, ◌++◌, length, Bool, true, false, cond, ◌||◌, nat_eq, if◌then◌else◌, Option, Some, None, inl, inr, refl, sym, ap, ◌∙◌, subst, subst₂, append-nil, length-append, arith}
 use Rattle.std.specs.Prelude.{slice_index_or}
-use Rattle.std.specs.List.{list_any}
 use Rattle.std.proofs.Math.Seq.{get_or-append_seam}
-use Rattle.std.proofs.lemmas.Bool.{cases_eq, cases_lt, cases_Bool, both_ways, eqb-true, or_parts}
-use Rattle.std.proofs.lemmas.List.{get_or_append_left, get_or_past, map-append}
+use Rattle.std.proofs.lemmas.Bool.{cases_lt, both_ways, eqb-true, or_parts}
+use Rattle.std.proofs.lemmas.List.{get_or_append_left, map-append}
 use Rattle.std.proofs.lemmas.List.Folds.{list_any-append}
 use Rattle.lgx_engine.specs.declared.place.Execution.{Execution}
 use Rattle.lgx_cover.specs.declared.version.Version.{Version}
@@ -12,7 +11,7 @@ use Rattle.lgx_cover.specs.declared.row.Counts.{Counts}
 use Rattle.lgx_cover.specs.TableView.{TableView, no_table}
 use Rattle.lgx_cover.specs.Executions.{Occurrence, latest}
 use Rattle.lgx_cover.specs.Counts.{is_version, once, in_version}
-use Rattle.lgx_cover.specs.Tables.{version_at, rows_at, versions_of, has, no_counts, IsRowOf, IsTableOf, IsPlaceOf, AreTablesOf}
+use Rattle.lgx_cover.specs.Tables.{version_at, rows_at, versions_of, has, IsRowOf, IsTableOf, IsPlaceOf, AreTablesOf}
 use Rattle.lgx_cover.proofs.Onces.{same_version, own_version, once_more}
 use Rattle.lgx_cover.proofs.Lookups.{none_at, some_at}
 use Rattle.lgx_cover.proofs.Found.{latest_more}

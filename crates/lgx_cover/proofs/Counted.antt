@@ -1,5 +1,5 @@
 -- An execution more in the tables.
-use Rattle.std.proofs.Common.{◌≡◌, ℕ, ◌<◌, ◌≤◌, List, [], ◌∷◌, ◌++◌, length, map, filter, Bool, true, false, cond, Option, Some, None, inl, inr, refl, sym, ap, ◌∙◌, subst, subst₂, append-nil, length-set, arith}
+use Rattle.std.proofs.Common.{◌≡◌, ℕ, ◌<◌, ◌≤◌, List, [], ◌∷◌, ◌++◌, length, map, filter, Bool, true, false, cond, Option, Some, None, inl, inr, sym, ap, ◌∙◌, subst, subst₂, append-nil, length-set, arith}
 use Rattle.std.specs.Prelude.{slice_index_or, slice_set, option_map, option_to_list}
 use Rattle.std.proofs.Math.Seq.{map-set_same}
 use Rattle.std.proofs.lemmas.Bool.{cases_eq, false_from_ne_true, both_ways}
@@ -16,7 +16,7 @@ use Rattle.lgx_cover.specs.Counts.{is_version, in_version}
 use Rattle.lgx_cover.specs.Tables.{version_at, rows_at, versions_of, has, IsTableOf, IsPlaceOf, AreTablesOf}
 use Rattle.lgx_cover.proofs.Onces.{same_version, own_version}
 use Rattle.lgx_cover.proofs.Lookups.{none_at}
-use Rattle.lgx_cover.proofs.Found.{IsFound, found_table}
+use Rattle.lgx_cover.proofs.Found.{found_table}
 
 -- ---- the executions of a version
 

@@ -1,5 +1,5 @@
 -- One event more: what it executes stands behind what was executed, and the version that it tells behind the others.
-use Rattle.std.proofs.Common.{◌≡◌, ℕ, ◌+◌, ◌≤◌, List, [], ◌∷◌, ◌++◌, length, flat_map, Option, Some, None, sym, ap, ◌∙◌, append_assoc, append-nil, length-append, arith}
+use Rattle.std.proofs.Common.{◌≡◌, ◌≤◌, List, [], ◌∷◌, ◌++◌, length, flat_map, Option, Some, None, sym, ap, ◌∙◌, append_assoc, append-nil, length-append, arith}
 use Rattle.std.specs.Prelude.{option_map, option_to_list}
 use Rattle.std.proofs.lemmas.Grind.{flat_map-append}
 use Rattle.spec_machine.specs.declared.event.Event.{Event}
@@ -9,7 +9,7 @@ use Rattle.spec_machine.specs.Project.{Project}
 use Rattle.lgx_steps.specs.declared.executing.Executed.{Executed}
 use Rattle.lgx_steps.specs.Executing.{executed}
 use Rattle.lgx_cover.specs.declared.version.Version.{Version}
-use Rattle.lgx_cover.specs.Executions.{Occurrence, occurrence, latest, occurrences, begun_by, begins, executed_by, executed_after, executions}
+use Rattle.lgx_cover.specs.Executions.{occurrence, latest, occurrences, begun_by, begins, executed_by, executed_after, executions}
 
 -- ---- what is executed
 

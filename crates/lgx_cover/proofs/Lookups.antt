@@ -1,5 +1,5 @@
 -- Whether a version is among those of tables, by their numbers.
-use Rattle.std.proofs.Common.{◌≡◌, ℕ, zero, suc, ◌<◌, List, [], ◌∷◌, length, Bool, true, false, ◌||◌, refl, arith}
+use Rattle.std.proofs.Common.{◌≡◌, ℕ, zero, suc, ◌<◌, List, [], ◌∷◌, length, true, false, refl, arith}
 use Rattle.std.proofs.lemmas.Bool.{or_parts, or_from, or_left, or_right}
 use Rattle.lgx_cover.specs.declared.version.Version.{Version}
 use Rattle.lgx_cover.specs.TableView.{TableView}

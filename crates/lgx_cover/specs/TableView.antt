@@ -1,6 +1,6 @@
 -- The table of a version as contracts see it.
-use Rattle.std.specs.Prelude.{ℕ, List, [], refl}
-use Rattle.std.specs.Coded.{Coded, code_by, coded×}
+use Rattle.std.specs.Prelude.{List, [], refl}
+use Rattle.std.specs.Coded.{Coded, code_by}
 use Rattle.lgx_cover.specs.declared.version.Version.{Version}
 use Rattle.lgx_cover.specs.declared.row.Counts.{Counts}
 

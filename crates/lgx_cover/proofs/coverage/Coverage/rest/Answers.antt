@@ -3,7 +3,6 @@ use Rattle.std.proofs.lemmas.List.{replicate-append-replicate}
 use Rattle.spec_machine.specs.declared.event.Event.{Event}
 use Rattle.spec_machine.specs.declared.event.Event.TheVariants.{Cpu}
 use Rattle.lgx_core.specs.Represents.{StandsFor}
-use Rattle.lgx_cover.specs.Covers.{Covers}
 use Rattle.lgx_cover.proofs.Idle.{covers_still}
 use Rattle.lgx_cover.proofs.coverage.Coverage.rest.Goals as goal
 

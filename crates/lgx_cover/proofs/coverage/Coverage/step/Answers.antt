@@ -1,9 +1,6 @@
-use Rattle.std.proofs.Common.{◌++◌, List, sym, ap, ◌∙◌}
-use Rattle.spec_machine.specs.declared.answer.Moment.{Moment}
+use Rattle.std.proofs.Common.{◌++◌}
 use Rattle.spec_machine.specs.Machine.{run}
 use Rattle.lgx_cover.specs.Executions.{begins, executions, occurrences}
-use Rattle.lgx_cover.specs.Covers.{Covers}
-use Rattle.lgx_cover.proofs.Idle.{none_up}
 use Rattle.lgx_cover.proofs.Stepping.{room_for_one, covers_step}
 use Rattle.lgx_cover.proofs.coverage.Coverage.step.Goals as goal
 

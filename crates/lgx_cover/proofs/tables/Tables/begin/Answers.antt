@@ -1,4 +1,4 @@
-use Rattle.std.proofs.Common.{◌≡◌, ◌++◌, ◌∷◌, [], List, length, vec_len, refl, sym, ap, ◌∙◌, subst, rules, arith}
+use Rattle.std.proofs.Common.{◌≡◌, ◌++◌, ◌∷◌, [], List, length, vec_len, refl, sym, ap, ◌∙◌, subst, rules}
 use Rattle.std.proofs.lemmas.Result.{on_ok_weaker}
 use Rattle.lgx_cover.specs.TableView.{TableView}
 use Rattle.lgx_cover.specs.Tables.{AreTablesOf}
