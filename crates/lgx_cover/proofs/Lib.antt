@@ -1,0 +1,14 @@
+pub mod Runs
+pub mod Judging
+pub mod Executed
+pub mod Ends
+pub mod Onces
+pub mod Rows
+pub mod TableRows
+pub mod Lookups
+pub mod Found
+pub mod Counted
+pub mod Begun
+pub mod Stepping
+pub mod Idle
+pub mod Texts

@@ -1,0 +1,9 @@
+pub mod Executions
+pub mod Counts
+pub mod Texts
+pub mod CoverPlan
+pub mod TableView
+pub mod Tables
+pub mod RowTexts
+pub mod Covers
+pub mod CoverState

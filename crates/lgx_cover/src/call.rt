@@ -1,0 +1,75 @@
+// The program `logix_cover`, over any files and any sink.
+ghost use Rattle.std.specs.Prelude.{◌≡◌, map, string_bytes};
+ghost use Rattle.lgx_answer.specs.Endings.{ending_of};
+ghost use Rattle.lgx_answer.specs.Answered.{Answered};
+ghost use Rattle.lgx_answer.specs.Laws.{FollowsPlan};
+ghost use Rattle.lgx_answer.specs.Process.{IsProcess};
+ghost use Rattle.lgx_cover.specs.CoverPlan.{plan_of};
+
+use crate::word::cover_journal;
+use lgx_answer::{Status, Verdict, exit_number, say};
+use lgx_io::{Files, Gathered, Sink};
+use std::alloc::Global;
+use std::io::Write;
+
+/// The line that says how to use the program.
+pub const USAGE: &[u8] = b"usage: logix_cover P J\n";
+
+/// Follows the plan of the words.
+fn follow<F: Files, K: Sink>(alloc: Global, words: &[String], files: &mut F, sink: &mut K) -> Status
+    ensures { Answered (plan_of (map string_bytes words.now)) (record {
+      told = F.told files.old;
+      failures = record { old = F.failures files.old; new = F.failures files.new };
+      held = record { old = K.held sink.old; new = K.held sink.new };
+      faults = record { old = K.faults sink.old; new = K.faults sink.new };
+      answer = ending_of result;
+    }) }
+{
+    match words {
+        [project, journal] => {
+            cover_journal(alloc, project.as_str(), journal.as_str(), files, sink)
+        }
+        _ => say(Verdict::Usage, USAGE, files, sink),
+    }
+}
+
+/// The program `logix_cover P J`: runs the journal of the file `J` on the project of the file `P`, and writes how often each
+/// instruction was executed, by one put. A line has six numbers: the program's, in the project's order; the version's, that the
+/// scan began with; the routine's, in its program; how many pieces of flat code the routine has left from the instruction on; and
+/// how many processor steps executed it with a true and with a false condition. Instructions that were never executed have no
+/// line. Versions come in the order in which programs first began with them, routines by their numbers, and the instructions of a
+/// routine in the order of its code. The last line is `end`. Files that are no project or no journal are refused as `logix`
+/// refuses them; any other words are answered with the usage line.
+#[tactic(auto, using(lgx_answer::proofs::Follows::follows_plan))]
+pub fn cover<F: Files, K: Sink>(
+    alloc: Global,
+    words: &[String],
+    files: &mut F,
+    sink: &mut K,
+) -> Status
+    ensures { FollowsPlan (plan_of (map string_bytes words.now)) (record {
+      told = F.told files.old;
+      failures = record { old = F.failures files.old; new = F.failures files.new };
+      held = record { old = K.held sink.old; new = K.held sink.new };
+      faults = record { old = K.faults sink.old; new = K.faults sink.new };
+      answer = ending_of result;
+    }) }
+{
+    follow(alloc, words, files, sink)
+}
+
+/// All that the process does with its words: what [`cover`] does, and then what still waits to be written is written. Answers
+/// the number that the process ends with.
+pub fn program<F: Files, W: Write + Drop>(
+    alloc: Global,
+    words: &[String],
+    files: &mut F,
+    output: &mut Gathered<W>,
+) -> u8
+    ensures { IsProcess (plan_of (map string_bytes words.now)) (F.told files.old)
+        (record { old = F.failures files.old; new = F.failures files.new })
+        output.old output.new result }
+{
+    let status = cover(alloc, words, files, output);
+    exit_number(status, output)
+}

@@ -1,0 +1,24 @@
+//! How often each instruction was executed by the run of a journal, and the program that tells it.
+//!
+//! A [`Coverage`] is a controller with a table for each version that a program began with: before each processor step the controller
+//! is asked which instruction it will execute, and that is counted. The text tells the counts, instruction by instruction, in the
+//! order of the code.
+#![tactic(auto)]
+
+mod call;
+mod coverage;
+mod covered;
+mod growth;
+mod host;
+mod row;
+mod table;
+mod tables;
+mod text_out;
+mod version;
+mod word;
+
+pub use call::{USAGE, cover, program};
+pub use coverage::Coverage;
+pub use host::process;
+pub use version::Version;
+pub use word::cover_journal;
