@@ -31,7 +31,7 @@ class Program(stored_runs.StoredRun):
     def test_statuses(self) -> None:
         bad, long = self.put("bad.txt", "cpu x\n"), self.put("long.json", b"")
         os.truncate(long, stored_runs.MOST_BYTES + 1)
-        for words in ([], FILES[:1], [*FILES, "x"]):
+        for words in ([], FILES[:1], [*FILES, "x"], [b"\xff", b"\xfe"]):
             self.call(words, b"usage: logix_cover P J\n", 1)
         self.call([FILES[1], "nothing"], b"project P1\n", 2)
         self.call([FILES[0], bad], b"journal J1 line 1\n", 3)
