@@ -1,3 +1,4 @@
+pub mod Opened
 pub mod Views
 pub mod Represents
 pub mod Settling

@@ -1,16 +1,10 @@
 // Where a program scan stands in flat code.
+use crate::branches::Branches;
 use arrayvec::ArrayVec;
 use lgx_num::Place;
-use spec_base::limits::{MAX_FORKS, MAX_FRAMES, MAX_PARAMETERS};
+use spec_base::limits::{MAX_FRAMES, MAX_PARAMETERS};
 use spec_scan::Copying;
 use std::marker::Model;
-
-/// An open branch: the condition at its start, and whether a leg that is done, or one without instructions, gave true.
-#[derive(Clone, Copy, Default)]
-pub(crate) struct OpenBranch {
-    pub(crate) start: bool,
-    pub(crate) any: bool,
-}
 
 /// The MCR zone of a routine in progress.
 #[derive(Clone, Copy, Default)]
@@ -27,26 +21,56 @@ pub(crate) type Inputs = ArrayVec<i32, MAX_PARAMETERS>;
 /// The places of the numbers that come back from a call.
 pub(crate) type Returns = ArrayVec<Place, MAX_PARAMETERS>;
 
-/// A routine in progress: its number, the place in its code, the condition, its zone, its open branches, the innermost last,
-/// and what its call handed over.
+/// Where a routine in progress stands: the place in its code, the condition and the open branches.
+#[derive(Drop, Default)]
+pub(crate) struct RungState {
+    pub(crate) pc: usize,
+    pub(crate) on: bool,
+    pub(crate) branches: Branches,
+}
+
+impl RungState {
+    ghost use Rattle.std.specs.Prelude.{◌≡◌};
+
+    /// The same once more.
+    #[inline(always)]
+    pub(crate) fn again(&self) -> RungState
+        ensures { result ≡ self.now }
+    {
+        RungState {
+            pc: self.pc,
+            on: self.on,
+            branches: self.branches.again(),
+        }
+    }
+
+    /// It becomes the same as the other.
+    #[inline(always)]
+    pub(crate) fn copy_from(&mut self, other: &RungState)
+        ensures { self.new ≡ other.now }
+    {
+        self.pc = other.pc;
+        self.on = other.on;
+        self.branches.copy_from(&other.branches);
+    }
+}
+
+/// A routine in progress: its number, where it stands, its zone, and what its call handed over.
 #[derive(Drop, Default)]
 pub(crate) struct Frame {
     pub(crate) routine: u32,
-    pub(crate) pc: usize,
-    pub(crate) on: bool,
+    pub(crate) rung: RungState,
     pub(crate) zone: Zone,
-    pub(crate) branches: ArrayVec<OpenBranch, MAX_FORKS>,
     pub(crate) inputs: Inputs,
     pub(crate) returns: Returns,
 }
 
 impl Model for Frame {
-    ghost use Rattle.std.specs.Prelude.{reverse};
     ghost use Rattle.lgx_engine.specs.Views.{FrameView, zone_of};
 
     ghost Value = { FrameView };
 
-    ghost view = { λ f. record { routine = f.routine; pc = f.pc; on = f.on; zone = zone_of f.zone; branches = reverse f.branches.items; inputs = f.inputs.items; returns = f.returns.items } };
+    ghost view = { λ f. record { routine = f.routine; pc = f.rung.pc; on = f.rung.on; zone = zone_of f.zone; branches = f.rung.branches; inputs = f.inputs.items; returns = f.returns.items } };
 }
 
 /// What a scan tells its instructions: the tick, and whether it is the first scan, which is the flag `S:FS`.

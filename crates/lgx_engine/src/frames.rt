@@ -60,7 +60,7 @@ impl Frames {
         ensures { (f : MachineFrame) (outer : List MachineFrame) (program : Program) → RepresentsFrames program self.now (f ∷ outer) → result ≡ f.cursor.on }
     {
         match self.top() {
-            Some(frame) => frame.on,
+            Some(frame) => frame.rung.on,
             None => false,
         }
     }
@@ -140,7 +140,7 @@ fn ins_at<'a>(program: &'a FlatProgram, frame: &Frame) -> Option<&'a Prepared>
     ensures next { (f : MachineFrame) → RepresentsIn program.now frame.now f → NextFor f (option_map (λ i. i.now) result) }
     ensures room { IsSome result → frame.now.pc + 1 < 2 ^ 64 }
 {
-    match piece_at(code_of(program, frame), frame) {
+    match piece_at(code_of(program, frame), frame.rung.pc) {
         Some(Code::Execute(ins)) => Some(ins),
         _ => None,
     }

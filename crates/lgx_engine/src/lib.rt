@@ -5,6 +5,7 @@
 //! many of them at once.
 #![tactic(auto)]
 
+mod branches;
 mod frame;
 mod frames;
 mod handing;

@@ -49,7 +49,7 @@ fn execution_of(program: &FlatProgram, frame: &Frame) -> Execution
 {
     Execution {
         routine: frame.routine,
-        left: code_of(program, frame).len().saturating_sub(frame.pc),
-        on: frame.on,
+        left: code_of(program, frame).len().saturating_sub(frame.rung.pc),
+        on: frame.rung.on,
     }
 }

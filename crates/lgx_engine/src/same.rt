@@ -1,12 +1,12 @@
 // Places in flat code copied and compared.
 ghost use Rattle.std.specs.Prelude.{◌≡◌, ◌≤◌, true, length, take};
-ghost use Rattle.spec_base.specs.declared.limits.TheConstants.{MAX_FORKS, MAX_FRAMES, MAX_PARAMETERS};
+ghost use Rattle.spec_base.specs.declared.limits.TheConstants.{MAX_FRAMES, MAX_PARAMETERS};
 ghost use Rattle.lgx_engine.specs.Views.{zone_of};
 
-use crate::frame::{Frame, Frames, Inputs, OpenBranch, Position, Returns, Zone};
+use crate::frame::{Frame, Frames, Inputs, Position, Returns, RungState, Zone};
 use arrayvec::ArrayVec;
 use lgx_num::Place;
-use spec_base::limits::{MAX_FORKS, MAX_FRAMES, MAX_PARAMETERS};
+use spec_base::limits::{MAX_FRAMES, MAX_PARAMETERS};
 use spec_scan::Copying;
 
 fn same_zone(a: Zone, b: Zone) -> bool
@@ -18,26 +18,6 @@ fn same_zone(a: Zone, b: Zone) -> bool
         (Zone::Disabled, Zone::Disabled) => true,
         _ => false,
     }
-}
-
-fn same_branch(a: OpenBranch, b: OpenBranch) -> bool
-    ensures { result ≡ true → a ≡ b }
-{
-    a.start == b.start && a.any == b.any
-}
-
-fn same_branches(a: &[OpenBranch], b: &[OpenBranch]) -> bool
-    ensures { result ≡ true → a.now ≡ b.now }
-{
-    if a.len() != b.len() {
-        return false;
-    }
-    for i in 0..a.len() {
-        if !same_branch(a[i], b[i]) {
-            return false;
-        }
-    }
-    true
 }
 
 fn same_inputs(a: &[i32], b: &[i32]) -> bool
@@ -85,16 +65,13 @@ fn same_copying(a: &Copying, b: &Copying) -> bool
         && a.left == b.left
 }
 
-/// The open branches once more.
-fn branches_again(list: &[OpenBranch]) -> ArrayVec<OpenBranch, MAX_FORKS>
-    requires { length list.now ≤ MAX_FORKS }
-    ensures { result.items ≡ list.now }
-{
-    let mut copy = ArrayVec::new();
-    for branch in list {
-        copy.push(*branch);
+impl RungState {
+    /// Whether the states are the same.
+    fn is_same(&self, other: &RungState) -> bool
+        ensures { result ≡ true → self.now ≡ other.now }
+    {
+        self.pc == other.pc && self.on == other.on && self.branches.is_same(&other.branches)
     }
-    copy
 }
 
 impl Frame {
@@ -103,10 +80,8 @@ impl Frame {
         ensures { self.new ≡ other.now }
     {
         self.routine = other.routine;
-        self.pc = other.pc;
-        self.on = other.on;
+        self.rung.copy_from(&other.rung);
         self.zone = other.zone;
-        self.branches = branches_again(other.branches.as_slice());
         self.inputs = inputs_again(other.inputs.as_slice());
         self.returns = returns_again(other.returns.as_slice());
     }
@@ -116,10 +91,8 @@ impl Frame {
         ensures { result ≡ true → self.now ≡ other.now }
     {
         self.routine == other.routine
-            && self.pc == other.pc
-            && self.on == other.on
+            && self.rung.is_same(&other.rung)
             && same_zone(self.zone, other.zone)
-            && same_branches(self.branches.as_slice(), other.branches.as_slice())
             && same_inputs(self.inputs.as_slice(), other.inputs.as_slice())
             && same_returns(self.returns.as_slice(), other.returns.as_slice())
     }
