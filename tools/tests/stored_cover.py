@@ -2,6 +2,7 @@
 
 from __future__ import annotations
 
+import json
 import os
 import re
 import subprocess
@@ -44,6 +45,52 @@ class Program(stored_runs.StoredRun):
     def test_want_of_memory_ends_with_6(self) -> None:
         self.put("long.json", b" " * stored_runs.MOST_BYTES)
         self.call(["long.json", FILES[1]], b"", 6, most_memory=24_000_000)
+
+
+def project(*rungs: str, sub: tuple[str, ...] = ()) -> str:
+    """The text of a project with one program and some tags; its second routine has the rungs of `sub`."""
+    routines = [{"name": "M", "rungs": rungs}, {"name": "Sub", "rungs": sub}]
+    tags = [*({"name": name, "type": "BOOL"} for name in "abc"), *({"name": name, "type": "DINT", "dim": 4} for name in ("from", "to")), {"name": "t", "type": "TIMER"}]
+    return json.dumps({
+        "schema": 1, "controller": "C", "tags": tags, "programs": [{"name": "P", "main": "M", "routines": routines}],
+        "tasks": [{"name": "T", "kind": "continuous", "programs": ["P"]}], "initial": [{"tag": "t.PRE", "value": -1}],
+    })  # fmt: skip
+
+
+@is_built
+class Rows(stored_runs.StoredRun):
+    """What is counted, worked out by hand: a scan begins by a step, each instruction is one, each element of a copy, each end of a routine."""
+
+    def counts(self, text: str, events: str, *lines: str) -> None:
+        files = [self.put("project.json", text), self.put("journal.txt", f"{events}\nend\n")]
+        self.runs(files, "".join(f"{line}\n" for line in [*lines, "end"]).encode(), 0, name=NAME)
+
+    def test_a_false_condition(self) -> None:
+        self.counts(project("XIC(a)OTE(b);"), "mode run\ncpu 8", "0 0 0 2 2 0", "0 0 0 1 0 2")
+
+    def test_legs_of_a_branch(self) -> None:
+        """The code: rung, fork, XIC, end of leg, XIO, end of leg, join, OTE."""
+        self.counts(project("[XIC(a),XIO(a)]OTE(b);"), "mode run\ncpu 4", "0 0 0 6 1 0", "0 0 0 4 1 0", "0 0 0 1 1 0")
+
+    def test_what_a_jump_passes_is_not_counted(self) -> None:
+        self.counts(project("JMP(l);", "OTE(b);", "LBL(l)OTE(c);"), "mode run\ncpu 5", "0 0 0 6 1 0", "0 0 0 2 1 0", "0 0 0 1 1 0")
+
+    def test_the_elements_of_a_copy_are_no_instructions(self) -> None:
+        self.counts(project("COP(from,to,3)OTE(b);"), "mode run\ncpu 7", "0 0 0 2 1 0", "0 0 0 1 1 0")
+
+    def test_a_routine_that_is_called(self) -> None:
+        self.counts(project("JSR(Sub,0);", sub=("OTE(b);",)), "mode run\ncpu 5", "0 0 0 1 1 0", "0 0 1 1 1 0")
+
+    def test_versions_each_by_itself(self) -> None:
+        """The scan in progress goes on in its own."""
+        events = "mode run\ncpu 2\n@0 accept P M r 0 XIO(a)OTE(b);\n@0 test P\ncpu 2\ncpu 4\n@0 untest P\ncpu 4"
+        self.counts(project("XIC(a)OTE(b);"), events, "0 0 0 2 2 0", "0 0 0 1 0 2", "0 1 0 2 1 0", "0 1 0 1 1 0")
+
+    def test_an_instruction_that_is_at_fault(self) -> None:
+        self.counts(project("TON(t,?,?)OTE(b);"), "mode run\ncpu 9", "0 0 0 2 1 0")
+
+    def test_nothing_is_executed(self) -> None:
+        self.counts(project("OTE(b);"), "cpu 1000\nmode run\ntick 3\ncpu 1")
 
 
 @is_built
