@@ -46,11 +46,12 @@ class Samples(unittest.TestCase):
                 self.assertEqual(ended.status, status)
 
     def test_the_document_shows_a_sample(self) -> None:
+        """The rungs of a call and of its routine, in lines of their own, are those that the tool makes of the sample."""
         with open(os.path.join(TOP, "docs", "L5X.md"), encoding="utf-8") as file:
-            shown = dict(re.findall(r"^```(\w+)\n(.*?)^```$", file.read(), re.M | re.S))
-        self.assertEqual(json.loads(shown["project"]), json.loads(sample("tally.project.json")))
-        self.assertEqual(shown["journal"], sample("tally.journal.txt"))
-        self.assertEqual(shown["report"], sample("tally.report.txt"))
+            example = file.read().partition("**An example**")[2].partition("**Listed**")[0]
+        shown = "".join(re.findall(r"^ {4}(.*)$", example, re.M))
+        routines = json.loads(sample("tally.project.json"))["programs"][0]["routines"]
+        self.assertEqual(shown, "".join(rung for routine in routines for rung in routine["rungs"]))
 
     def test_runs_are_those_of_the_rules(self) -> None:
         for name in WORDS:
