@@ -15,7 +15,7 @@ use std::marker::Model;
 ///
 /// A name is found by a walk over all names: a map would have to take memory for a key without case at each call.
 pub struct Conns {
-    defs: Items<ConnDef>,
+    pub(crate) defs: Items<ConnDef>,
     /// For each the number of its first word among the words of all.
     firsts: Vec<u32>,
     /// How many words all have.

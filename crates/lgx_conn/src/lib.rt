@@ -2,6 +2,7 @@
 #![tactic(auto)]
 
 mod conns;
+mod same;
 
 pub use conns::Conns;
 pub use spec_tables::{ConnDef, ConnFault, Slot};

@@ -4,3 +4,4 @@ mod Opened
 mod Replies
 mod Marks
 pub mod Lawful
+mod Copied

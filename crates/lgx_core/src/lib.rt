@@ -8,6 +8,7 @@ mod actions;
 mod controller;
 mod place;
 mod readers;
+mod same;
 
 pub use controller::Controller;
 pub use lgx_steps::{Executed, Stretch};

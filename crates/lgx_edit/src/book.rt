@@ -15,7 +15,7 @@ use std::marker::Model;
 ///
 /// A program is found by a walk over their names: edit commands are rare, and a walk takes no memory.
 pub struct EditBook {
-    programs: Vec<ProgramEdits>,
+    pub(crate) programs: Vec<ProgramEdits>,
 }
 
 impl Drop for EditBook {

@@ -15,12 +15,12 @@ use std::marker::Model;
 /// A program's rungs with the accepted edits, seen as the machine's book, and its versions as they run.
 #[derive(Drop)]
 pub struct ProgramEdits {
-    name: Name,
-    main: u32,
-    routines: Vec<EditedRoutine>,
-    accepted: Vec<KeptEdit>,
-    owner: Option<u32>,
-    versions: Versions,
+    pub(crate) name: Name,
+    pub(crate) main: u32,
+    pub(crate) routines: Vec<EditedRoutine>,
+    pub(crate) accepted: Vec<KeptEdit>,
+    pub(crate) owner: Option<u32>,
+    pub(crate) versions: Versions,
 }
 
 impl Model for ProgramEdits {

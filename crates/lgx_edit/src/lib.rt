@@ -14,6 +14,8 @@ mod merge;
 mod owner;
 mod plant;
 mod read;
+mod same;
+mod same_texts;
 mod texts;
 
 pub use book::EditBook;

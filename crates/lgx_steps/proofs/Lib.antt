@@ -22,3 +22,4 @@ pub mod Accepting
 pub mod ValidPlans
 pub mod Making
 pub mod AcceptGives
+pub mod Programs

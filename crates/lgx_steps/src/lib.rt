@@ -15,6 +15,7 @@ mod fresh;
 mod modes;
 mod parts;
 mod release;
+mod same;
 mod scans;
 mod step;
 mod stretch;

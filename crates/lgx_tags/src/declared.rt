@@ -74,14 +74,14 @@ fn push_within(entries: &mut Vec<Entry>, entry: Entry)
 /// in the same order, and the length of the image is counted as they come, since it doesn't depend on their order.
 #[derive(Drop)]
 pub(crate) struct Declared {
-    alloc: Global,
-    types: TypeTable,
-    programs: u32,
-    keys: IndexSet<Key>,
-    entries: Vec<Entry>,
-    bytes: u32,
+    pub(crate) alloc: Global,
+    pub(crate) types: TypeTable,
+    pub(crate) programs: u32,
+    pub(crate) keys: IndexSet<Key>,
+    pub(crate) entries: Vec<Entry>,
+    pub(crate) bytes: u32,
     /// Whether a program has an entry of its own.
-    any_own: bool,
+    pub(crate) any_own: bool,
 }
 
 impl Model for Declared {

@@ -20,9 +20,9 @@ pub(crate) enum Meaning {
 /// A tag or an alias, with its scope and its name as it was written.
 #[derive(Drop)]
 pub(crate) struct Entry {
-    scope: Scope,
-    name: Items<u8>,
-    meaning: Meaning,
+    pub(crate) scope: Scope,
+    pub(crate) name: Items<u8>,
+    pub(crate) meaning: Meaning,
 }
 
 impl Model for Entry {
@@ -35,7 +35,8 @@ impl Model for Entry {
     ghost view = { λ e. record { scope = e.scope; name = e.name; meaning = meaning_of e.meaning } };
 }
 
-fn copied(alloc: Global, text: &[u8]) -> Result<Items<u8>, Memory>
+/// The text once more.
+pub(crate) fn copied(alloc: Global, text: &[u8]) -> Result<Items<u8>, Memory>
     ensures { IfOk result (λ copy. copy ≡ text.now) }
 {
     Ok(Items::of(Vec::from_slice(alloc, text)?))

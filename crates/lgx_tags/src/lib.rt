@@ -14,6 +14,7 @@ mod key;
 mod layout;
 mod part;
 mod resolve;
+mod same;
 mod seal;
 mod subscript;
 mod table;

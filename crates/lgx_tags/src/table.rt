@@ -29,15 +29,15 @@ use std::marker::Model;
 /// What is worked out when a table is sealed: its tags as they are laid, and what each entry stands for.
 #[derive(Drop)]
 pub(crate) struct Seal {
-    laid: Vec<PlacedTag>,
-    known: Vec<Resolved>,
+    pub(crate) laid: Vec<PlacedTag>,
+    pub(crate) known: Vec<Resolved>,
 }
 
 /// The table of tags and aliases: declared first, then sealed, and then resolved from.
 ///
 /// Contracts see its declarations, and whether it is sealed.
 pub struct TagTable {
-    parts: Box<TableParts>,
+    pub(crate) parts: Box<TableParts>,
 }
 
 impl Drop for TagTable {
@@ -48,9 +48,9 @@ impl Drop for TagTable {
 
 /// What is declared, and what was worked out when it was sealed.
 #[derive(Drop)]
-struct TableParts {
-    declared: Declared,
-    seal: Option<Seal>,
+pub(crate) struct TableParts {
+    pub(crate) declared: Declared,
+    pub(crate) seal: Option<Seal>,
 }
 
 impl Model for TagTable {

@@ -1,0 +1,159 @@
+// Rungs as they were written, and routines, copied and compared.
+ghost use Rattle.std.specs.Prelude.{◌≡◌, true, IfOk};
+
+use crate::texts::{RoutineText, SourceRungs};
+use lgx_num::{Items, Memory, Name};
+use lgx_prog::{rungs_again, same_rungs};
+use lgx_rung::{Element, Legs, Op, SourceRung, Texts};
+use std::alloc::Global;
+
+/// Whether the names are the same, in case too.
+pub fn same_name(a: &Name, b: &Name) -> bool
+    ensures { result ≡ true → a.now ≡ b.now }
+{
+    a.bytes() == b.bytes()
+}
+
+/// Whether the texts are the same, in case too.
+fn same_text(a: &[u8], b: &[u8]) -> bool
+    ensures { result ≡ true → a.now ≡ b.now }
+{
+    a == b
+}
+
+/// Whether the mnemonics are the same.
+fn same_op(a: Op, b: Op) -> bool
+    ensures { result ≡ true → a ≡ b }
+{
+    a == b
+}
+
+/// Whether the texts are the same, one by one.
+fn same_operands(a: &[Items<u8>], b: &[Items<u8>]) -> bool
+    ensures { result ≡ true → a.now ≡ b.now }
+{
+    if a.len() != b.len() {
+        return false;
+    }
+    for i in 0..a.len() {
+        if !same_text(a[i].as_slice(), b[i].as_slice()) {
+            return false;
+        }
+    }
+    true
+}
+
+/// Whether the operands are the same, as they were written.
+fn same_texts(a: &Texts, b: &Texts) -> bool
+    ensures { result ≡ true → a.now ≡ b.now }
+{
+    same_operands(a.as_slice(), b.as_slice())
+}
+
+/// Whether two rungs or legs were written the same: mnemonics, operands as they are spelled, and forks.
+///
+/// It recurses as deep as forks nest, which is `MAX_FORKS` at most.
+#[cycle(same)]
+fn same_source(a: &SourceRung, b: &SourceRung) -> bool
+    ensures { result ≡ true → a.now ≡ b.now }
+{
+    let ours = a.elements();
+    let others = b.elements();
+    if ours.len() != others.len() {
+        return false;
+    }
+    for (number, element) in ours.iter().enumerate() {
+        if !same_element(element, &others[number]) {
+            return false;
+        }
+    }
+    true
+}
+
+/// Whether two instructions or forks were written the same.
+#[cycle(same)]
+fn same_element(a: &Element, b: &Element) -> bool
+    ensures { result ≡ true → a.now ≡ b.now }
+{
+    match (a, b) {
+        (Element::Ins(op, texts), Element::Ins(other, others)) => {
+            same_op(*op, *other) && same_texts(texts, others)
+        }
+        (Element::Fork(legs), Element::Fork(others)) => same_legs(legs, others),
+        _ => false,
+    }
+}
+
+/// Whether the legs of two forks were written the same.
+#[cycle(same)]
+fn same_legs(a: &Legs, b: &Legs) -> bool
+    ensures { result ≡ true → a.now ≡ b.now }
+{
+    let ours = a.as_slice();
+    let others = b.as_slice();
+    if ours.len() != others.len() {
+        return false;
+    }
+    for (number, leg) in ours.iter().enumerate() {
+        if !same_source(leg, &others[number]) {
+            return false;
+        }
+    }
+    true
+}
+
+/// Whether two rungs were written the same: mnemonics, operands as they are spelled, and forks.
+pub fn same_rung(a: &SourceRung, b: &SourceRung) -> bool
+    ensures { result ≡ true → a.now ≡ b.now }
+{
+    same_source(a, b)
+}
+
+/// Whether the rungs were written the same, one by one.
+fn same_sources(a: &[SourceRung], b: &[SourceRung]) -> bool
+    ensures { result ≡ true → a.now ≡ b.now }
+{
+    if a.len() != b.len() {
+        return false;
+    }
+    for i in 0..a.len() {
+        if !same_rung(&a[i], &b[i]) {
+            return false;
+        }
+    }
+    true
+}
+
+/// The rungs once more, as they were written.
+fn sources_again(alloc: Global, rungs: &[SourceRung]) -> Result<SourceRungs, Memory>
+    ensures { IfOk result (λ copy. copy ≡ rungs.now) }
+{
+    let mut list = Vec::with_capacity(alloc, rungs.len())?;
+    for rung in rungs {
+        let copy = rung.copied(alloc)?;
+        list.push(copy)?;
+    }
+    Ok(Items::of(list))
+}
+
+/// The routine once more.
+pub fn routine_again(alloc: Global, routine: &RoutineText) -> Result<RoutineText, Memory>
+    ensures { IfOk result (λ copy. copy ≡ routine.now) }
+{
+    let source = sources_again(alloc, routine.source.as_slice())?;
+    let checked = rungs_again(alloc, routine.checked.as_slice())?;
+    Ok(RoutineText {
+        name: routine.name.copied(),
+        source,
+        checked,
+    })
+}
+
+/// Whether the routines are the same.
+pub fn same_routine(a: &RoutineText, b: &RoutineText) -> bool
+    ensures { result ≡ true → a.now ≡ b.now }
+{
+    same_name(&a.name, &b.name)
+        && same_sources(a.source.as_slice(), b.source.as_slice())
+        && same_rungs(a.checked.as_slice(), b.checked.as_slice())
+}
