@@ -1,2 +1,3 @@
 mod Unchanged
+pub mod EditByEdit
 pub mod MergedBooks

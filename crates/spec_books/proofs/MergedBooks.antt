@@ -30,13 +30,14 @@ use Rattle.spec_scan.specs.Position.{Rungs}
 use Rattle.spec_reach.proofs.BookActions.{ActsOnBooks, Edits, Keeps, acts_on_books}
 use Rattle.spec_reach.proofs.Books.{step_books, tick_books}
 use Rattle.spec_reach.proofs.EditNames.{source_with, accepted_parts, IsChanged, is_changed}
-use Rattle.spec_books.specs.Merged.{IsMerged, RunsKeepMerged}
+use Rattle.spec_books.specs.Merged.{RunsKeepMerged}
+use Rattle.spec_books.proofs.EditByEdit.{merges-edits}
 use Rattle.spec_books.proofs.Unchanged.{merged-none, edits_of, changes-here, changes-elsewhere, first-within}
 
 -- the merged rungs are of as many routines as the base
 record Fits (b : Book) : Type 0 where
   many : length b.merged ≡ length b.base
-  texts : IsMerged b
+  texts : (r : ℕ) → (routine_at b.merged r).source ≡ merged (routine_at b.base r).source (changes_in b r)
 
 -- ---- one book
 
@@ -181,4 +182,6 @@ at-fits (b ∷ books) zero h = h.0
 at-fits (b ∷ books) (suc n) h = at-fits books n h.1
 
 pub books-are-merged : RunsKeepMerged
-books-are-merged p journal n r = (at-fits (run p journal).books n (from-fits (start p) journal (start-fits p.programs))).texts r
+books-are-merged p journal n r =
+    let b = book_at (run p journal).books n in
+    (at-fits (run p journal).books n (from-fits (start p) journal (start-fits p.programs))).texts r ∙ merges-edits (routine_at b.base r).source (changes_in b r)

@@ -1,1 +1,2 @@
+pub mod EditByEdit
 pub mod Merged

@@ -25,6 +25,7 @@ use Rattle.spec_reach.proofs.BookActions.{ActsOnBooks, Edits, Keeps, acts_on_boo
 use Rattle.spec_reach.proofs.Books.{step_books, tick_books}
 use Rattle.spec_reach.proofs.EditNames.{accepted_parts, is_accepted, IsChanged, is_changed}
 use Rattle.spec_reach.proofs.Reached.{IsReached, reached_start, reached_next, known_at}
+use Rattle.spec_books.specs.EditByEdit.{with_edits}
 use Rattle.spec_books.proofs.MergedBooks.{books-are-merged}
 use Rattle.spec_duties.specs.CheckedBooks.{BooksAreChecked}
 use Rattle.spec_duties.proofs.TakenOnce.{TakesOnce, accepted_once}
@@ -191,7 +192,7 @@ module _ (p : Project) where
         base = of_base n b h;
         many = same_many n b h;
         merged_ones = λ r k.
-            (ap (λ names. checked (scope_by n names) (merged (routine_at b.base r).source (changes_in b r))) h.base_names
+            (ap (λ names. checked (scope_by n names) (with_edits (routine_at b.base r).source (changes_in b r))) h.base_names
             ∙ (ap (λ source. checked (scope_by n (names_at n)) source) (sym (books-are-merged p journal n r)) ∙ text_at n b.merged r h.merged_ones (let m = same_many n b h in omega arith)));
         taken_once = h.once;
       }

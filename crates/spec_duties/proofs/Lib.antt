@@ -14,4 +14,10 @@ mod ActionReleases
 mod Modes
 mod RunStarts
 mod Scans
+mod RowAsks
+mod MarkedRows
+mod Marks
+mod Cursors
+mod InOrder
+mod Orders
 pub mod Duties

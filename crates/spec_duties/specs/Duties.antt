@@ -5,11 +5,14 @@ use Rattle.spec_machine.specs.declared.event.Event.{Event}
 use Rattle.spec_machine.specs.Project.{Project}
 use Rattle.spec_machine.specs.ValidProject.{IsValidProject}
 use Rattle.spec_legal.specs.LegalRuns.{counted_run}
+use Rattle.spec_books.specs.EditByEdit.{MergesEdits}
 use Rattle.spec_duties.specs.ActionReleases.{ActionsRelease}
 use Rattle.spec_duties.specs.Answers.{AnswersAreRight}
 use Rattle.spec_duties.specs.CheckedBooks.{BooksAreChecked}
 use Rattle.spec_duties.specs.CountedBack.{each_with_past}
+use Rattle.spec_duties.specs.Marks.{StepsAreMarked}
 use Rattle.spec_duties.specs.Modes.{ModesAreKept}
+use Rattle.spec_duties.specs.Orders.{ScansRunInOrder}
 use Rattle.spec_duties.specs.RunStarts.{RunsStartAnew}
 use Rattle.spec_duties.specs.Scans.{keeps_scans}
 use Rattle.spec_duties.specs.TakenRungs.{AgainIsCounted}
@@ -35,8 +38,14 @@ pub record KeepsDuties (p : Project) : Type 0 where
   pub run_starts : RunsStartAnew p
   -- the law of scans
   pub scans : (events : List Event) → IsTrue (each_with_past (keeps_scans p.schedule) [] (counted_run p events))
+  -- the law of marks
+  pub marks : StepsAreMarked p
+  -- the law of order
+  pub order : ScansRunInOrder p
   -- what runs is what was checked
   pub books : BooksAreChecked p
+  -- what accepted edits make of a base
+  pub merges : MergesEdits
   -- which edit is refused because its rung is taken
   pub retaken : AgainIsCounted
 

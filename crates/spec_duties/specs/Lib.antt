@@ -9,4 +9,6 @@ pub mod ActionReleases
 pub mod Modes
 pub mod RunStarts
 pub mod Scans
+pub mod Marks
+pub mod Orders
 pub mod Duties

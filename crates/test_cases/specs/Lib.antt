@@ -10,6 +10,8 @@ pub mod JournalCases
 pub mod LegalCases
 pub mod DutyCases
 pub mod DutyStages
+pub mod MergeCases
+pub mod MarkStages
 pub mod LadderRuns
 pub mod ParameterRuns
 pub mod TimerRuns

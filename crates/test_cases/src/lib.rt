@@ -8,6 +8,7 @@ mod journal_cases;
 mod law_runs;
 mod legal_cases;
 mod link_cases;
+mod mark_stages;
 mod project_cases;
 mod question_cases;
 mod runs;
@@ -27,6 +28,7 @@ pub use law_runs::{
 };
 pub use legal_cases::{laws_are_broken, laws_hold};
 pub use link_cases::{links_are_refused, links_are_run};
+pub use mark_stages::{base_is_edited, marks_and_order_are_broken, marks_and_order_are_kept};
 pub use project_cases::{project_is_valid, projects_are_invalid};
 pub use question_cases::{
     lines_are_shown, questions_are_read, questions_are_refused, windows_and_moments,

@@ -5,13 +5,14 @@ use Rattle.std.specs.List.{cons_option, count_by}
 use Rattle.std.proofs.lemmas.List.Sums.{count_by-le-length}
 use Rattle.lgx_rung.specs.Tree.{end}
 use Rattle.spec_language.specs.Checked.{checked}
-use Rattle.spec_machine.specs.Edits.{Change, Replaced, routine_at, changes_in, merged, scope_of}
+use Rattle.spec_machine.specs.Edits.{Change, Replaced, routine_at, changes_in, scope_of}
+use Rattle.spec_books.specs.EditByEdit.{with_edits}
 use Rattle.spec_duties.specs.TakenRungs.{took_rung}
 use Rattle.test_cases.specs.DutyStages.{book}
 use Rattle.test_cases.specs.LawRuns.{one_nop}
 use Rattle.test_cases.proofs.duty_stages.books_are_broken.Goals as goal
 
-merged_ones : (r : ℕ) → r < length book.base → checked (scope_of one_nop.tags one_nop.names 0 book) (merged (routine_at book.base r).source (changes_in book r)) ≡ Ok (routine_at book.merged r).checked
+merged_ones : (r : ℕ) → r < length book.base → checked (scope_of one_nop.tags one_nop.names 0 book) (with_edits (routine_at book.base r).source (changes_in book r)) ≡ Ok (routine_at book.merged r).checked
 merged_ones zero l = refl
 merged_ones (suc r) l = absurd (omega arith)
 
