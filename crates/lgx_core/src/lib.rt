@@ -11,5 +11,5 @@ mod readers;
 mod same;
 
 pub use controller::Controller;
-pub use lgx_steps::{Executed, Stretch};
+pub use lgx_steps::{Begins, Executed, Stretch};
 pub use spec_machine::{Mark, Moment, Outcome, TickReport, What};
