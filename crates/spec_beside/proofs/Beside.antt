@@ -100,7 +100,7 @@ miss_from image (kind ∷ kinds) (o ∷ os) args b i found fit h = go (is_writte
     go false k rest = (tt, rest k)
 
 -- the kinds of an instruction that has no operands but those that it always has
-own_kinds : (i : Ins) → further i.op ≡ NoMore → OperandsFit i.op i.args → (kinds_of i ≡ fixed_kinds i.op) × AllFit (fixed_kinds i.op) i.args
+pub own_kinds : (i : Ins) → further i.op ≡ NoMore → OperandsFit i.op i.args → (kinds_of i ≡ fixed_kinds i.op) × AllFit (fixed_kinds i.op) i.args
 own_kinds i no_more fit = go (operand_kinds i.op (number_told (operand_at i.args 1)) (length i.args)) refl fit
   where
     go : (kinds : Option (List OperandKind)) → operand_kinds i.op (number_told (operand_at i.args 1)) (length i.args) ≡ kinds → FitSome kinds i.args → (unwrap_or kinds [] ≡ fixed_kinds i.op) × AllFit (fixed_kinds i.op) i.args

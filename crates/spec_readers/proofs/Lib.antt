@@ -1,0 +1,5 @@
+mod Images
+mod Words
+mod Rows
+mod Bound
+pub mod ReadRows
