@@ -11,6 +11,7 @@ use Rattle.spec_machine.specs.ProcessorStep.{processor_step}
 use Rattle.spec_machine.specs.State.{State, start}
 use Rattle.spec_reach.proofs.Reached.{run_more}
 use Rattle.lgx_steps.specs.declared.parts.Parts.{Parts}
+use Rattle.lgx_steps.specs.declared.begins.Begins.{Begins}
 use Rattle.lgx_steps.specs.declared.stretch.Stretch.{Stretch}
 use Rattle.lgx_steps.specs.PartsView.{view_of as parts_of}
 use Rattle.lgx_steps.specs.Represents.{RepresentsState}
@@ -44,11 +45,11 @@ module _ (p : Project) (events : List Event) where
       ∙ (trace-more (start p) (events ++ replicate k Cpu) Cpu
       ∙ ap (λ (s : State). trace p (events ++ replicate k Cpu) ++ OfStep (processor_step s).answer ∷ []) (run-steps k))
 
-module _ (old now : ControllerView) (x : Stretch) where
+module _ (old now : ControllerView) (b : Begins) (x : Stretch) where
   -- whatever state was represented, so the runs go on
-  pub goes-on-by : 0 < x.steps → now.spent ≡ old.spent + x.steps → ((s : State) → Represents old s → StretchGives now x s) → GoesOnBy old now x
+  pub goes-on-by : 0 < x.steps → now.spent ≡ old.spent + x.steps → ((s : State) → Represents old s → StretchGives now b x s) → GoesOnBy old now x
   goes-on-by some counted gives p events h =
-      let g : StretchGives now x (run p events) = gives (run p events) h.represents in
+      let g : StretchGives now b x (run p events) = gives (run p events) h.represents in
       let longer : length (events ++ replicate x.steps Cpu) ≡ length events + x.steps = length-append events (replicate x.steps Cpu) ∙ ap (λ k. length events + k) (length-replicate x.steps Cpu) in
       let many : suc (x.steps - 1) ≡ x.steps = omega arith in
       record {
@@ -62,18 +63,19 @@ module _ (old now : ControllerView) (x : Stretch) where
             (trace-steps p events (x.steps - 1) ∙ ap (λ (m : Moment). trace p (events ++ replicate (x.steps - 1) Cpu) ++ OfStep m ∷ []) (sym g.is_stretch.last));
       }
 
+module _ (old now : ControllerView) (x : Stretch) where
   -- it still stands for a run
   pub still-by : GoesOnBy old now x → IsController old → IsController now
   still-by goes i = record { project = i.project; events = i.events ++ replicate x.steps Cpu; stands = (goes i.project i.events i.stands).stands }
 
 -- ---- from the parts to the whole
 
-module _ (old now : Parts) (spent : ℕ) (x : Stretch) (l : spent + x.steps ≤ MAX_EVENTS) (gives : (n : ℕ) (s : State) → RepresentsState n (parts_of old) s → PartsStretch n (parts_of now) x s) where
-  pub stretch-gives : (s : State) → Represents (view_of old spent) s → StretchGives (view_of now (spent + x.steps)) x s
+module _ (old now : Parts) (spent : ℕ) (b : Begins) (x : Stretch) (l : spent + x.steps ≤ MAX_EVENTS) (gives : (n : ℕ) (s : State) → RepresentsState n (parts_of old) s → PartsStretch n (parts_of now) b x s) where
+  pub stretch-gives : (s : State) → Represents (view_of old spent) s → StretchGives (view_of now (spent + x.steps)) b x s
   stretch-gives s h = let g = gives spent s h.parts in record { represents = record { room = l; parts = g.represents }; is_stretch = g.is_stretch }
 
   pub stretch-goes : 0 < x.steps → GoesOnBy (view_of old spent) (view_of now (spent + x.steps)) x
-  stretch-goes some = goes-on-by (view_of old spent) (view_of now (spent + x.steps)) x some refl stretch-gives
+  stretch-goes some = goes-on-by (view_of old spent) (view_of now (spent + x.steps)) b x some refl stretch-gives
 
 -- one that is opened
 module _ (parts : Parts) (spent : ℕ) (now : ControllerView) (e : view_of parts spent ≡ now) where

@@ -3,6 +3,7 @@ use Rattle.std.specs.Prelude.{Bool, true, false}
 use Rattle.spec_machine.specs.declared.event.Action.{Action}
 use Rattle.spec_machine.specs.declared.event.Action.TheVariants.{Accept, Test, Untest, Assemble, Cancel, ForceInstall, ForceEnable, ForceDisable, ForceRemove}
 use Rattle.spec_machine.specs.State.{State, Answered}
+use Rattle.lgx_steps.specs.declared.begins.Begins.{Begins}
 use Rattle.lgx_steps.specs.declared.stretch.Stretch.{Stretch}
 use Rattle.lgx_steps.specs.Gives.{MatchesAnswer}
 use Rattle.lgx_steps.specs.Stretches.{IsStretch, after_steps}
@@ -14,9 +15,9 @@ abbrev pub Gives : {A : Type 0} → ControllerView → A → Answered A → Type
 Gives v answer x = MatchesAnswer (Represents v) answer x
 
 -- after a stretch of processor steps from this state
-pub record StretchGives (v : ControllerView) (x : Stretch) (s : State) : Type 0 where
+pub record StretchGives (v : ControllerView) (b : Begins) (x : Stretch) (s : State) : Type 0 where
   pub represents : Represents v (after_steps x.steps s)
-  pub is_stretch : IsStretch v.parts.image.watched x s
+  pub is_stretch : IsStretch v.parts.image.watched b x s
 
 -- ---- kinds of actions
 

@@ -1,7 +1,7 @@
 // The controller, with its processor step, its tick and its actions.
 use lgx_edit::Plant;
 use lgx_num::Memory;
-use lgx_steps::{Parts, Stretch};
+use lgx_steps::{Begins, Parts, Stretch};
 use spec_machine::{Action, Moment, Outcome, TickReport};
 use std::alloc::Global;
 use std::marker::Model;
@@ -49,7 +49,7 @@ impl Controller {
     ghost use Rattle.spec_machine.specs.Ticks.{tick};
     ghost use Rattle.spec_machine.specs.Actions.{act};
     ghost use Rattle.lgx_image.specs.Grains.{ChangesOnlyMarked, SomeIsHit};
-    ghost use Rattle.lgx_steps.specs.Stretches.{is_plain};
+    ghost use Rattle.lgx_steps.specs.Stretches.{IsRefused, is_plain, is_told};
     ghost use Rattle.lgx_core.specs.Represents.{Represents, StandsFor, IsController, GoesOn, GoesOnBy};
     ghost use Rattle.lgx_core.specs.Gives.{Gives, StretchGives};
     ghost use Rattle.lgx_core.specs.Lawful.{IsLawful};
@@ -82,23 +82,26 @@ impl Controller {
         self.parts.cpu()
     }
 
-    /// Processor steps, up to one of which more is told than that it was made, or after which a word of the image is hit; at
-    /// most `most`. It does what so many calls of [`Controller::cpu`] do, and counts each of them.
+    /// Processor steps, up to one of which more is told than that it was made, but for begins that `begins` notes, or after
+    /// which a word of the image is hit; at most `most`. It does what so many calls of [`Controller::cpu`] do, and counts each of
+    /// them.
     ///
-    /// A hit that stood there before ends it too, so hits are to be cleared first. While no task is up, all of them are made at once.
+    /// A hit that stood there before ends it too, so hits are to be cleared first. While no task is up, all of them are made at
+    /// once. What `begins` told before is lost.
     #[inline(always)]
-    pub fn stretch(&mut self, most: u32) -> Stretch
+    pub fn stretch(&mut self, most: u32, begins: &mut Begins) -> Stretch
         requires some { 0 < most }
         requires room { self.old.spent + most ≤ MAX_EVENTS }
-        ensures step { (s : State) → Represents self.old s → StretchGives self.new result s }
+        ensures step { (s : State) → Represents self.old s → StretchGives self.new begins.new result s }
         ensures runs { GoesOnBy self.old self.new result }
         ensures some { 0 < result.steps }
         ensures most { result.steps ≤ most }
         ensures full { result.steps < most → is_plain result.last ≡ true → SomeIsHit self.new.parts.image }
+        ensures refused { result.steps < most → is_told result.last.what ≡ true → IsRefused begins.new result.last.what }
         ensures spent { self.new.spent ≡ self.old.spent + result.steps }
         ensures only_marked { ChangesOnlyMarked self.old.parts.image self.new.parts.image }
     {
-        let made = self.parts.stretch(most);
+        let made = self.parts.stretch(most, begins);
         self.spent += made.steps;
         made
     }

@@ -10,5 +10,5 @@ mod place;
 mod readers;
 
 pub use controller::Controller;
-pub use lgx_steps::{Executed, Stretch};
+pub use lgx_steps::{Begins, Executed, Stretch};
 pub use spec_machine::{Mark, Moment, Outcome, TickReport, What};

@@ -9,7 +9,7 @@ ghost use Rattle.spec_tables.specs.Tasks.{chosen};
 ghost use Rattle.lgx_cover.specs.Covers.{Covers, IsCoverage};
 
 use crate::tables::Tables;
-use lgx_core::{Controller, What};
+use lgx_core::{Begins, Controller, What};
 use lgx_edit::Plant;
 use lgx_journal::Event;
 use lgx_num::Memory;
@@ -63,8 +63,9 @@ impl Coverage {
         ensures { (project : Projects) (events : List Events) → Covers self.old project events → chosen (run project events).table ≡ None → Covers self.new project (events ++ replicate count Cpu) }
     {
         let mut left = count;
+        let mut begins = Begins::new();
         while left > 0 {
-            left -= self.controller.stretch(left).steps;
+            left -= self.controller.stretch(left, &mut begins).steps;
         }
     }
 

@@ -2,14 +2,17 @@
 use Rattle.std.proofs.Common.{◌≡◌, ℕ, ◌+◌, ◌^◌, ◌<◌, ◌≤◌, List, [], ◌∷◌, length, map, ℤ, sym, ap, ◌∙◌, subst}
 use Rattle.spec_base.specs.declared.limits.TheConstants.{MAX_TASKS}
 use Rattle.lgx_image.specs.Grains.{NoneIsHit}
+use Rattle.spec_machine.specs.declared.answer.Moment.{Moment}
 use Rattle.spec_machine.specs.declared.answer.TickReport.{TickReport}
 use Rattle.spec_machine.specs.declared.answer.Outcome.{Outcome}
 use Rattle.spec_machine.specs.declared.event.Action.{Action}
 use Rattle.spec_machine.specs.declared.event.Event.{Event}
-use Rattle.spec_machine.specs.declared.event.Event.TheVariants.{Tick, Act}
+use Rattle.spec_machine.specs.declared.event.Event.TheVariants.{Cpu, Tick, Act}
 use Rattle.spec_machine.specs.declared.line.Line.TheVariants.{Fault as FaultLine, Reply}
 use Rattle.spec_machine.specs.Project.{Project}
 use Rattle.spec_machine.specs.State.{State}
+use Rattle.spec_machine.specs.ProcessorStep.{processor_step}
+use Rattle.spec_machine.specs.Report.{begin_lines}
 use Rattle.spec_machine.specs.Ticks.{tick}
 use Rattle.spec_machine.specs.Actions.{act}
 use Rattle.spec_machine.specs.TickLaws.{report_faults}
@@ -71,6 +74,25 @@ module _ (old new : FollowerView) (c : ControllerView) (start first second end :
         tick = k.tick x.state g.represents;
         step_is = k.step_is;
         log = three-parts start first second end at [] (map FaultLine (report_faults x.state x.answer)) (change_lines 0 old.values new.values) begun faults (changes-kept second end at old.values new.values _ (k.compared x.state g.represents));
+        values = kept-values old new c second end at k x.state g.represents;
+        watched = k.watched ∙ same_watched;
+        none_hit = k.none_hit;
+      })
+
+  pub step-taken : (moment : Moment) → Gives c moment (processor_step (run project events)) → new.steps ≡ old.steps + 1 → first ≡ with_event_lines start at (begin_lines moment.what) → second ≡ with_event_lines first at (map FaultLine (faults_in moment.fault)) → TakesEvent new start end project events Cpu
+  step-taken moment g steps begun faulted =
+      let x = processor_step (run project events) in
+      let begins = begun ∙ ap (λ (m : Moment). with_event_lines start at (begin_lines m.what)) g.answers in
+      let faults = faulted ∙ ap (λ (m : Moment). with_event_lines first at (map FaultLine (faults_in m.fault))) g.answers in
+      follows-more old new start end project events Cpu at (has-taken old project events r) (record {
+        represents = k.represents x.state g.represents;
+        spent = k.spent ∙ spent;
+        names = k.names;
+        places = k.places;
+        steps = steps;
+        tick = k.tick x.state g.represents;
+        step_is = k.step_is;
+        log = three-parts start first second end at (begin_lines x.answer.what) (map FaultLine (faults_in x.answer.fault)) (change_lines 0 old.values new.values) begins faults (changes-kept second end at old.values new.values _ (k.compared x.state g.represents));
         values = kept-values old new c second end at k x.state g.represents;
         watched = k.watched ∙ same_watched;
         none_hit = k.none_hit;

@@ -1,5 +1,7 @@
--- The lines of processor steps: those of which nothing is told, and which leave the watched places as they were, have none.
-use Rattle.std.proofs.Common.{◌≡◌, ℕ, zero, suc, ◌+◌, ◌<◌, ◌≤◌, ◌&&◌, Bool, true, false, not, cond, List, [], ◌∷◌, ◌++◌, length, map, drop, replicate, ℤ, Option, Some, None, is_none, refl, sym, ap, ◌∙◌, append_assoc, add-one, add-zero, arith, length-append}
+-- The lines of processor steps: those of which nothing is told, and which leave the watched places as they were, have none; and of
+-- begins each has its line.
+use Rattle.std.proofs.Common.{◌≡◌, ℕ, zero, suc, ◌+◌, ◌<◌, ◌≤◌, ◌&&◌, Bool, true, false, not, cond, if◌then◌else◌, List, [], ◌∷◌, ◌++◌, length, map, drop, replicate, ℤ, Option, Some, None, is_none, refl, sym, ap, ◌∙◌, subst, append_assoc, add-one, add-zero, arith, length-append}
+use Rattle.std.specs.List.{AllByRecursion as Each}
 use Rattle.std.proofs.lemmas.Bool.{and_parts, false≢true}
 use Rattle.std.proofs.lemmas.List.{append-nil, length-replicate, replicate-append-replicate}
 use Rattle.std.proofs.lemmas.List.Sums.{sum_by-cons, sum_by-append}
@@ -21,7 +23,9 @@ use Rattle.spec_machine.specs.ProcessorStep.{processor_step}
 use Rattle.spec_machine.specs.Machine.{OfStep, step, run_from, run}
 use Rattle.spec_machine.specs.Report.{Stamped, is_step, steps_of, stamp, begin_lines, set_lines, event_lines, lines_from, report_lines}
 use Rattle.lgx_watch.specs.JournalLines.{lines_of_event}
-use Rattle.lgx_steps.specs.Stretches.{after_steps, moment_after, is_told, is_plain_mark, is_plain}
+use Rattle.lgx_steps.specs.Stretches.{after_steps, moment_after, is_told, is_plain_mark, is_plain, told_steps, plainly}
+use Rattle.lgx_record.specs.EventLines.{begins_lines}
+use Rattle.spec_reach.proofs.Grows.{event_moves}
 use Rattle.lgx_record.specs.Faults.{faults_in}
 use Rattle.lgx_record.specs.Changes.{numbers_at, change_line, change_lines, AreWatched}
 use Rattle.lgx_record.specs.FollowsRun.{step_lines}
@@ -132,13 +136,6 @@ has-no-line watches s plain same =
     ∙ ap (λ (fs : List Fault). map FaultLine fs ++ sets) (new_faults s Cpu ∙ no-fault m.fault faults.1)
     ∙ no_sets
 
-have-no-lines : (watches : List Watch) (s : State) (n m : ℕ) → ((k : ℕ) → k < m → event_lines watches (after_steps k s) (processor_step (after_steps k s)).state (OfStep (moment_after k s)) ≡ []) → lines_from watches s n (replicate m Cpu) ≡ []
-have-no-lines watches s n zero none = refl
-have-no-lines watches s n (suc m) none =
-    let after = (processor_step s).state in
-    ap (λ (ls : List Line). stamp after.tick (n + 1) ls ++ lines_from watches after (n + 1) (replicate m Cpu)) (none 0 (omega arith))
-    ∙ have-no-lines watches after (n + 1) m (λ k below. none (suc k) (omega arith))
-
 -- ---- watched places
 
 -- in two images with the same bytes in watched words
@@ -148,13 +145,112 @@ numbers-stay watched old new (p ∷ ps) same lie =
     ap (λ v. v ∷ numbers_at new ps) (watched_places_stay watched old new p same (lie 0 p refl))
     ∙ ap (λ (vs : List ℤ). number old p ∷ vs) (numbers-stay watched old new ps same (λ w. lie (suc w)))
 
+-- ---- begins
+
+-- some begins, and then another
+pub begins-more : (tick n : ℕ) (began : What) (xs : List ℕ) (k : ℕ) → begins_lines tick n began (xs ++ k ∷ []) ≡ begins_lines tick n began xs ++ stamp tick (n + k + 1) (begin_lines began)
+begins-more tick n began [] k = append-nil (stamp tick (n + k + 1) (begin_lines began))
+begins-more tick n began (x ∷ xs) k =
+    let first = stamp tick (n + x + 1) (begin_lines began) in
+    ap (λ (rest : List Stamped). first ++ rest) (begins-more tick n began xs k) ∙ sym (append_assoc first (begins_lines tick n began xs) _)
+
+-- the tick stays
+steps_keep_tick : (s : State) → (processor_step s).state.tick ≡ s.tick
+steps_keep_tick s = (event_moves s Cpu).tick
+
+pub same-tick : (k : ℕ) (s : State) → (after_steps k s).tick ≡ s.tick
+same-tick zero s = refl
+same-tick (suc k) s = same-tick k (processor_step s).state ∙ steps_keep_tick s
+
+-- their numbers are below that of the steps, and there are no more
+each-wider : (n : ℕ) (xs : List ℕ) → Each (λ k. k < n) xs → Each (λ k. k < suc n) xs
+each-wider n [] h = tt
+each-wider n (x ∷ xs) h = (omega (arith, h.0), each-wider n xs h.1)
+
+each-put : (n : ℕ) (xs : List ℕ) (k : ℕ) → Each (λ i. i < n) xs → k < n → Each (λ i. i < n) (xs ++ k ∷ [])
+each-put n [] k h l = (l, tt)
+each-put n (x ∷ xs) k h l = (h.0, each-put n xs k h.1 l)
+
+each-told : (b : Bool) (n : ℕ) (xs : List ℕ) → Each (λ k. k < suc n) xs → Each (λ k. k < suc n) (xs ++ (if b then [] else n ∷ []))
+each-told true n xs h = subst (λ (ks : List ℕ). Each (λ k. k < suc n) ks) (sym (append-nil xs)) h
+each-told false n xs h = each-put (suc n) xs n h (omega arith)
+
+pub told-below : (n : ℕ) (s : State) → Each (λ k. k < n) (told_steps n s)
+told-below zero s = tt
+told-below (suc n) s = each-told (is_plain (moment_after n s)) n (told_steps n s) (each-wider n (told_steps n s) (told-below n s))
+
+few-told : (b : Bool) (n : ℕ) (xs : List ℕ) → length xs ≤ n → length (xs ++ (if b then [] else n ∷ [])) ≤ suc n
+few-told true n xs h = (let e = ap (λ (ks : List ℕ). length ks) (append-nil xs) in omega arith)
+few-told false n xs h = (let e = length-append xs (n ∷ []) in omega arith)
+
+pub told-few : (n : ℕ) (s : State) → length (told_steps n s) ≤ n
+told-few zero s = omega arith
+told-few (suc n) s = few-told (is_plain (moment_after n s)) n (told_steps n s) (told-few n s)
+
+-- a begin has its line and no other
+pub has-begin : (watches : List Watch) (s : State) (began : What) → (processor_step s).answer ≡ plainly began → numbers_at (processor_step s).state.image (map (λ w. w.place) watches) ≡ numbers_at s.image (map (λ w. w.place) watches) → event_lines watches s (processor_step s).state (OfStep (processor_step s).answer) ≡ begin_lines began
+has-begin watches s began is same =
+    let x = processor_step s in
+    let places = map (λ (w : Watch). w.place) watches in
+    let sets = set_lines 0 watches s.image x.state.image in
+    let no_sets : sets ≡ [] =
+    set_lines-changes 0 watches s.image x.state.image
+    ∙ ap (λ (now : List ℤ). change_lines 0 (numbers_at s.image places) now) same
+    ∙ no-changes 0 (numbers_at s.image places) in
+    ap (λ (m : Moment). begin_lines m.what ++ (map FaultLine (drop (length s.faults) x.state.faults) ++ sets)) is
+    ∙ ap (λ (fs : List Fault). begin_lines began ++ (map FaultLine fs ++ sets)) (new_faults s Cpu ∙ ap (λ (m : Moment). faults_in m.fault) is)
+    ∙ ap (λ (ls : List Line). begin_lines began ++ ls) no_sets
+    ∙ append-nil (begin_lines began)
+
 module _ (project : Project) (events : List Event) (places : List Place) (watched : List Bool) (is : places ≡ map (λ w. w.place) project.watches) (lie : AreWatched places watched) where
-  -- plain steps that leave the bytes of watched words
-  pub plain-steps : (m : ℕ) → (let s = run project events in ((k : ℕ) → k < m → is_plain (moment_after k s) ≡ true) → ((k : ℕ) → k ≤ m → SameInWatched watched s.image (after_steps k s).image) → step_lines project events m ≡ [])
-  plain-steps m plain same =
-      let s = run project events in
-      let numbers : (k : ℕ) → k ≤ m → numbers_at (after_steps k s).image (map (λ w. w.place) project.watches) ≡ numbers_at s.image (map (λ w. w.place) project.watches) =
-      (λ k below. ap (numbers_at (after_steps k s).image) (sym is) ∙ numbers-stay watched s.image (after_steps k s).image places (same k below) lie ∙ ap (numbers_at s.image) is) in
-      have-no-lines project.watches s (steps_of events) m
-      (λ k below. has-no-line project.watches (after_steps k s) (plain k below)
-      (ap (λ (t : State). numbers_at t.image (map (λ w. w.place) project.watches)) (sym (last-step k s)) ∙ numbers (suc k) (omega arith) ∙ sym (numbers k (omega arith))))
+  abbrev s : State
+  s = run project events
+
+  abbrev next : ℕ → State
+  next k = (processor_step (after_steps k s)).state
+
+  -- the lines of one step after k others
+  abbrev lines_after : ℕ → List Stamped
+  lines_after k = stamp (next k).tick (steps_of events + k + 1) (event_lines project.watches (after_steps k s) (next k) (OfStep (moment_after k s)))
+
+  one-line : (k : ℕ) → step_lines project (events ++ replicate k Cpu) 1 ≡ lines_after k
+  one-line k =
+      append-nil (lines_of_event project.watches (run project (events ++ replicate k Cpu)) (steps_of (events ++ replicate k Cpu)) Cpu)
+      ∙ ap (λ (t : State). lines_of_event project.watches t (steps_of (events ++ replicate k Cpu)) Cpu) (run-steps project events k)
+      ∙ ap (λ n. lines_of_event project.watches (after_steps k s) n Cpu) (more-steps events k)
+
+  one-more : (k : ℕ) → step_lines project events (suc k) ≡ step_lines project events k ++ lines_after k
+  one-more k =
+      let next_one : k + 1 ≡ suc k = omega arith in
+      ap (step_lines project events) (sym next_one)
+      ∙ sym (lines-join project events k 1)
+      ∙ ap (λ (ls : List Stamped). step_lines project events k ++ ls) (one-line k)
+
+  numbers-after : (m : ℕ) → ((k : ℕ) → k ≤ m → SameInWatched watched s.image (after_steps k s).image) → (k : ℕ) → k < m → numbers_at (next k).image (map (λ w. w.place) project.watches) ≡ numbers_at (after_steps k s).image (map (λ w. w.place) project.watches)
+  numbers-after m same k below =
+      let numbers : (i : ℕ) → i ≤ m → numbers_at (after_steps i s).image (map (λ w. w.place) project.watches) ≡ numbers_at s.image (map (λ w. w.place) project.watches) =
+      (λ i below. ap (numbers_at (after_steps i s).image) (sym is) ∙ numbers-stay watched s.image (after_steps i s).image places (same i below) lie ∙ ap (numbers_at s.image) is) in
+      ap (λ (t : State). numbers_at t.image (map (λ w. w.place) project.watches)) (sym (last-step k s)) ∙ numbers (suc k) (omega arith) ∙ sym (numbers k (omega arith))
+
+  -- one step's lines are those of its begin, if it is one
+  told-line : (began : What) (k : ℕ) (b : Bool) → is_plain (moment_after k s) ≡ b → (b ≡ false → moment_after k s ≡ plainly began) → numbers_at (next k).image (map (λ w. w.place) project.watches) ≡ numbers_at (after_steps k s).image (map (λ w. w.place) project.watches)
+      → (xs : List ℕ) → begins_lines s.tick (steps_of events) began xs ++ lines_after k ≡ begins_lines s.tick (steps_of events) began (xs ++ (if b then [] else k ∷ []))
+  told-line began k true plain told same xs =
+      let all = begins_lines s.tick (steps_of events) began xs in
+      ap (λ (ls : List Line). all ++ stamp (next k).tick (steps_of events + k + 1) ls) (has-no-line project.watches (after_steps k s) plain same)
+      ∙ append-nil all
+      ∙ ap (begins_lines s.tick (steps_of events) began) (sym (append-nil xs))
+  told-line began k false plain told same xs =
+      let all = begins_lines s.tick (steps_of events) began xs in
+      ap (λ (ls : List Line). all ++ stamp (next k).tick (steps_of events + k + 1) ls) (has-begin project.watches (after_steps k s) began (told refl) same)
+      ∙ ap (λ n. all ++ stamp n (steps_of events + k + 1) (begin_lines began)) (steps_keep_tick (after_steps k s) ∙ same-tick k s)
+      ∙ sym (begins-more s.tick (steps_of events) began xs k)
+
+  -- steps that leave the bytes of watched words: those of which something is told begin the same
+  pub told-lines : (began : What) (m : ℕ) → ((k : ℕ) → k < m → is_plain (moment_after k s) ≡ false → moment_after k s ≡ plainly began) → ((k : ℕ) → k ≤ m → SameInWatched watched s.image (after_steps k s).image)
+      → step_lines project events m ≡ begins_lines s.tick (steps_of events) began (told_steps m s)
+  told-lines began zero told same = refl
+  told-lines began (suc m) told same =
+      one-more m
+      ∙ (ap (λ (ls : List Stamped). ls ++ lines_after m) (told-lines began m (λ k below. told k (omega arith)) (λ k below. same k (omega arith)))
+      ∙ told-line began m (is_plain (moment_after m s)) refl (told m (omega arith)) (numbers-after (suc m) same m (omega arith)) (told_steps m s))

@@ -1,6 +1,8 @@
 -- A follower, or a recording, that takes so many processor steps.
-use Rattle.std.proofs.Common.{◌≡◌, ℕ, zero, suc, ◌+◌, ◌-◌, ◌*◌, ◌^◌, ◌<◌, ◌≤◌, true, List, [], ◌∷◌, ◌++◌, length, map, replicate, refl, sym, ap, ◌∙◌, subst, append-nil, add-one, arith}
+use Rattle.std.proofs.Common.{◌≡◌, ℕ, zero, suc, ◌+◌, ◌-◌, ◌*◌, ◌^◌, ◌<◌, ◌≤◌, Bool, List, [], ◌∷◌, ◌++◌, length, map, take, get_or, replicate, refl, sym, ap, ◌∙◌, subst, append-nil, add-one, arith}
+use Rattle.std.specs.List.{AllByRecursion as Each}
 use Rattle.lgx_image.specs.Grains.{SameInWatched}
+use Rattle.spec_machine.specs.declared.answer.What.{What}
 use Rattle.spec_machine.specs.declared.answer.Moment.{Moment}
 use Rattle.spec_machine.specs.declared.line.Line.TheVariants.{Fault as FaultLine}
 use Rattle.spec_machine.specs.declared.event.Event.{Event}
@@ -9,10 +11,11 @@ use Rattle.spec_machine.specs.Project.{Project}
 use Rattle.spec_machine.specs.State.{State}
 use Rattle.spec_machine.specs.ProcessorStep.{processor_step}
 use Rattle.spec_machine.specs.Machine.{step, run}
-use Rattle.spec_machine.specs.Report.{Stamped, begin_lines, steps_of, report_lines}
+use Rattle.spec_machine.specs.Report.{Stamped, stamp, begin_lines, steps_of, report_lines}
 use Rattle.lgx_watch.specs.Kept.{Kept, kept_of, with_lines}
+use Rattle.lgx_steps.specs.declared.begins.Begins.{Begins}
 use Rattle.lgx_steps.specs.declared.stretch.Stretch.{Stretch}
-use Rattle.lgx_steps.specs.Stretches.{after_steps, moment_after}
+use Rattle.lgx_steps.specs.Stretches.{IsStretch, after_steps, moment_after, told_steps}
 use Rattle.lgx_core.specs.ControllerView.{ControllerView}
 use Rattle.lgx_core.specs.Represents.{Represents}
 use Rattle.lgx_core.specs.Gives.{StretchGives}
@@ -21,20 +24,29 @@ use Rattle.lgx_record.specs.FollowerView.{FollowerView}
 use Rattle.lgx_record.specs.RecordingView.{RecordingView, follower_of}
 use Rattle.lgx_record.specs.Faults.{faults_in}
 use Rattle.lgx_record.specs.Changes.{numbers_at, change_lines, AreInside, AreWatched}
-use Rattle.lgx_record.specs.EventLines.{with_event_lines}
-use Rattle.lgx_record.specs.FollowsRun.{FollowsRun, IsFollower, TakesEvent, TakesSteps, next_lines, step_lines}
+use Rattle.lgx_record.specs.EventLines.{begins_lines, with_event_lines}
+use Rattle.lgx_record.specs.FollowsRun.{FollowsRun, IsFollower, TakesSteps, next_lines, step_lines}
 use Rattle.lgx_record.specs.Records.{Records}
-use Rattle.std.proofs.lemmas.List.{length-replicate}
+use Rattle.std.proofs.lemmas.List.{length-replicate, take_more}
 use Rattle.lgx_record.specs.declared.lines.TheConstants.{MAX_EVENT_LINES}
 use Rattle.lgx_record.proofs.FewLines.{few_from}
 use Rattle.lgx_record.proofs.Logs.{few-more-lost, three-parts, with_lines-append, kept_of-more}
 use Rattle.lgx_record.proofs.Taking.{HasTaken, Takes, follows-more, are_inside}
 use Rattle.lgx_record.proofs.Events.{Closes, changes-kept, kept-values}
-use Rattle.lgx_record.proofs.StepLines.{run-steps, last-step, more-steps, more-events, steps-join, lines-join, lines-of-steps, numbers-stay, plain-steps}
+use Rattle.lgx_record.proofs.StepLines.{run-steps, last-step, more-steps, more-events, steps-join, lines-join, lines-of-steps, numbers-stay, told-lines, told-few, told-below, begins-more}
+
+-- ---- the begins of a stretch
+
+module _ (watched : List Bool) (b : Begins) (x : Stretch) (s : State) (h : IsStretch watched b x s) where
+  pub few-begins : length b.steps.items ≤ x.steps - 1
+  few-begins = subst (λ (xs : List ℕ). length xs ≤ x.steps - 1) (sym h.begins) (told-few (x.steps - 1) s)
+
+  pub begins-below : Each (λ k. k < x.steps - 1) b.steps.items
+  begins-below = subst (λ (xs : List ℕ). Each (λ k. k < x.steps - 1) xs) (sym h.begins) (told-below (x.steps - 1) s)
 
 -- ---- a stretch of steps
 
-module _ (old new : FollowerView) (c : ControllerView) (start first second end : Kept) (at : Stamp) (project : Project) (events : List Event) (r : FollowsRun old project events) (k : Closes old new c second end at) (same_watched : c.parts.image.watched ≡ old.controller.parts.image.watched) (x : Stretch) (m : ℕ) (many : x.steps ≡ suc m) (g : StretchGives c x (run project events)) where
+module _ (old new : FollowerView) (c : ControllerView) (base start first second end : Kept) (from at : Stamp) (project : Project) (events : List Event) (r : FollowsRun old project events) (k : Closes old new c second end at) (same_watched : c.parts.image.watched ≡ old.controller.parts.image.watched) (b : Begins) (x : Stretch) (m : ℕ) (many : x.steps ≡ suc m) (g : StretchGives c b x (run project events)) where
   abbrev s : State
   s = run project events
 
@@ -47,9 +59,14 @@ module _ (old new : FollowerView) (c : ControllerView) (start first second end :
   same : (i : ℕ) → i ≤ m → SameInWatched c.parts.image.watched s.image (after_steps i s).image
   same i below = g.is_stretch.images i (omega (arith, many))
 
-  -- the steps before the last have no lines
-  no_lines : step_lines project events m ≡ []
-  no_lines = plain-steps project events old.places c.parts.image.watched r.places lie m (λ i below. g.is_stretch.plain i (omega (arith, many))) same
+  -- of the steps before the last the begins have lines
+  begins : b.steps.items ≡ told_steps m s
+  begins = g.is_stretch.begins ∙ ap (λ k. told_steps k s) (let one : x.steps - 1 ≡ m = omega (arith, many) in one)
+
+  begin_lines_of : step_lines project events m ≡ begins_lines s.tick (steps_of events) b.began b.steps.items
+  begin_lines_of =
+      told-lines project events old.places c.parts.image.watched r.places lie b.began m (λ i below. g.is_stretch.began i (omega (arith, many))) same
+      ∙ ap (begins_lines s.tick (steps_of events) b.began) (sym begins)
 
   -- what the follower would be after these
   abbrev middle : FollowerView
@@ -82,8 +99,8 @@ module _ (old new : FollowerView) (c : ControllerView) (start first second end :
   represents : Represents c (processor_step (run project before)).state
   represents = subst (λ (t : State). Represents c t) last g.represents
 
-  pub stretch-taken : c.spent ≡ old.controller.spent + x.steps → new.steps ≡ old.steps + x.steps → first ≡ with_event_lines start at (begin_lines x.last.what) → second ≡ with_event_lines first at (map FaultLine (faults_in x.last.fault)) → TakesSteps new start end project events x.steps
-  stretch-taken spent steps begun faulted =
+  pub stretch-taken : from.tick ≡ s.tick → from.step ≡ old.steps → start ≡ with_lines base (begins_lines from.tick from.step b.began b.steps.items) → c.spent ≡ old.controller.spent + x.steps → new.steps ≡ old.steps + x.steps → first ≡ with_event_lines start at (begin_lines x.last.what) → second ≡ with_event_lines first at (map FaultLine (faults_in x.last.fault)) → TakesSteps new base end project events x.steps
+  stretch-taken tick_is step_is started spent steps begun faulted =
       let y = processor_step (run project before) in
       let begins = begun ∙ ap (λ (w : Moment). with_event_lines start at (begin_lines w.what)) told in
       let faults = faulted ∙ ap (λ (w : Moment). with_event_lines first at (map FaultLine (faults_in w.fault))) told in
@@ -102,14 +119,23 @@ module _ (old new : FollowerView) (c : ControllerView) (start first second end :
       } in
       let one = follows-more middle new start end project before Cpu at has_taken takes in
       let all : m + 1 ≡ x.steps = omega (arith, many) in
-      let lines : next_lines project before Cpu ≡ step_lines project events x.steps =
-      sym (append-nil (next_lines project before Cpu))
-      ∙ ap (λ (ls : List Stamped). ls ++ step_lines project before 1) (sym no_lines)
+      let lines : step_lines project events m ++ next_lines project before Cpu ≡ step_lines project events x.steps =
+      ap (λ (ls : List Stamped). step_lines project events m ++ ls) (sym (append-nil (next_lines project before Cpu)))
       ∙ lines-join project events m 1
       ∙ ap (step_lines project events) all in
+      let starts : start ≡ with_lines base (step_lines project events m) =
+      started
+      ∙ ap (with_lines base)
+      (ap (λ n. begins_lines n from.step b.began b.steps.items) tick_is
+      ∙ ap (λ n. begins_lines s.tick n b.began b.steps.items) (step_is ∙ r.steps)
+      ∙ sym begin_lines_of) in
       record {
         follows = subst (λ (es : List Event). FollowsRun new project es) (steps-join events m 1 ∙ ap (λ n. events ++ replicate n Cpu) all) one.follows;
-        lines = one.lines ∙ ap (with_lines start) lines;
+        lines =
+            one.lines
+            ∙ ap (λ (k : Kept). with_lines k (next_lines project before Cpu)) starts
+            ∙ sym (with_lines-append base (step_lines project events m) (next_lines project before Cpu))
+            ∙ ap (with_lines base) lines;
       }
 
 -- before the watched places are compared
@@ -148,12 +174,6 @@ few-lost-by-steps old new start after i n t =
 pub follows-still : (old new : FollowerView) (start after : Kept) (i : IsFollower old) (n : ℕ) → TakesSteps new start after i.project i.events n → IsFollower new
 follows-still old new start after i n t = record { project = i.project; events = i.events ++ replicate n Cpu; follows = t.follows }
 
--- one step is an event
-pub one-step : (v : FollowerView) (start after : Kept) (project : Project) (events : List Event) (n : ℕ) → n ≡ 1 → TakesSteps v start after project events n → TakesEvent v start after project events Cpu
-one-step v start after project events n is t =
-    let u = subst (TakesSteps v start after project events) is t in
-    record { follows = u.follows; lines = u.lines ∙ ap (with_lines start) (append-nil (next_lines project events Cpu)) }
-
 -- ---- a recording
 
 -- a recording whose follower took the steps, and whose journal has them
@@ -167,3 +187,16 @@ records-steps old new project events n r t journal = record {
       ∙ kept_of-more (report_lines project events) (step_lines project events n)
       ∙ ap kept_of (sym (lines-of-steps project events n));
 }
+
+-- ---- the lines of begins, one after another
+
+-- the next of them is put into the log
+pub begin-logged : (start log next : Kept) (tick n : ℕ) (began : What) (xs ys : List ℕ) (i : ℕ) → ys ≡ xs → i < length ys → log ≡ with_lines start (begins_lines tick n began (take i xs)) → next ≡ with_lines log (stamp tick (n + get_or ys i 0 + 1) (begin_lines began)) → next ≡ with_lines start (begins_lines tick n began (take (i + 1) xs))
+begin-logged start log next tick n began xs ys i same below before put =
+    let line = λ (zs : List ℕ). stamp tick (n + get_or zs i 0 + 1) (begin_lines began) in
+    let within : i < length xs = subst (λ (zs : List ℕ). i < length zs) same below in
+    put
+    ∙ ap (λ (zs : List ℕ). with_lines log (line zs)) same
+    ∙ ap (λ (k : Kept). with_lines k (line xs)) before
+    ∙ sym (with_lines-append start (begins_lines tick n began (take i xs)) (line xs))
+    ∙ ap (with_lines start) (sym (begins-more tick n began (take i xs) (get_or xs i 0)) ∙ ap (begins_lines tick n began) (sym (take_more xs i 0 within)))

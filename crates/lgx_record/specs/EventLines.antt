@@ -1,5 +1,5 @@
 -- The lines of an event, as they are put into the log, and how many there can be.
-use Rattle.std.specs.Prelude.{◌≡◌, ℕ, ◌*◌, ◌≤◌, List, length, map, ℤ}
+use Rattle.std.specs.Prelude.{◌≡◌, ℕ, ◌+◌, ◌*◌, ◌≤◌, List, [], ◌∷◌, ◌++◌, length, map, ℤ}
 use Rattle.lgx_record.specs.declared.lines.TheConstants.{MAX_EVENT_LINES}
 use Rattle.lgx_record.specs.declared.lines.Stamp.{Stamp}
 use Rattle.spec_tables.specs.declared.fault.TheConstants.{PERIODIC_OVERLAP}
@@ -11,7 +11,8 @@ use Rattle.spec_machine.specs.Releases.{task_fault}
 use Rattle.spec_machine.specs.TickLaws.{tasks_in}
 use Rattle.spec_machine.specs.declared.event.Event.{Event}
 use Rattle.spec_machine.specs.Project.{Project}
-use Rattle.spec_machine.specs.Report.{stamp, report_lines}
+use Rattle.spec_machine.specs.declared.answer.What.{What}
+use Rattle.spec_machine.specs.Report.{Stamped, stamp, begin_lines, report_lines}
 use Rattle.spec_machine.specs.ValidProject.{IsValidProject}
 use Rattle.lgx_watch.specs.Kept.{Kept, with_lines}
 use Rattle.lgx_record.specs.Changes.{change_lines}
@@ -32,3 +33,10 @@ pub record Compared (old new : Kept) (at : Stamp) (before after now : List ℤ) 
 -- a report has few lines for its events
 abbrev pub EventsHaveFewLines : Type 0
 EventsHaveFewLines = (project : Project) (journal : List Event) → IsValidProject project → length (report_lines project journal) ≤ MAX_EVENT_LINES * length journal
+
+-- ---- the begins of a stretch
+
+-- the lines of steps that began the same, where so many steps were made before the first, which is number 0
+abbrev pub begins_lines : ℕ → ℕ → What → List ℕ → List Stamped
+begins_lines tick step began [] = []
+begins_lines tick step began (k ∷ ks) = stamp tick (step + k + 1) (begin_lines began) ++ begins_lines tick step began ks

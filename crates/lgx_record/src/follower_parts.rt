@@ -17,9 +17,9 @@ ghost use Rattle.lgx_record.specs.FollowerView.{view_of};
 ghost use Rattle.lgx_record.specs.FollowsRun.{FollowsRun, IsFollower, TakesEvent, TakesSteps};
 
 use crate::changes::{log_changes, numbers_at, watch_all};
-use crate::lines::{Stamp, log_begin, log_fault, log_line, log_tick_faults};
+use crate::lines::{Stamp, log_begin, log_begins, log_fault, log_line, log_tick_faults};
 use crate::names::names_and_watches;
-use lgx_core::Controller;
+use lgx_core::{Begins, Controller};
 use lgx_edit::Plant;
 use lgx_journal::Action;
 use lgx_num::Memory;
@@ -35,6 +35,8 @@ pub(crate) struct FollowerParts {
     pub watches: WatchIndex,
     /// The numbers of the watched places when they were last compared.
     pub values: Vec<i32>,
+    /// The begins that the last stretch noted.
+    pub begins: Begins,
 }
 
 impl FollowerParts {
@@ -66,6 +68,7 @@ impl FollowerParts {
             steps: 0,
             watches,
             values,
+            begins: Begins::new(),
         })
     }
 
@@ -78,7 +81,12 @@ impl FollowerParts {
         ensures takes { (project : Project) (events : List Events) → FollowsRun (view_of self.old) project events → TakesEvent (view_of self.new) log.old log.new project events Cpu }
         ensures spent { self.new.controller.spent ≡ self.old.controller.spent + 1 }
     {
-        self.stretch(1, log);
+        let moment = self.controller.cpu();
+        self.steps += 1;
+        let at = self.stamp();
+        log_begin(log, at, moment.what);
+        log_fault(log, at, moment.fault);
+        self.log_changes(log, at);
     }
 
     /// So many processor steps. It takes no memory.
@@ -95,19 +103,22 @@ impl FollowerParts {
         }
     }
 
-    /// Processor steps, up to one of which the report may have lines; at least one, and at most `most`. It takes no memory.
+    /// Processor steps, up to one of which the report may have lines other than that of a begin; at least one, and at most
+    /// `most`. It takes no memory.
     #[inline(always)]
     fn stretch(&mut self, most: u32, log: &mut Log) -> u32
         requires follower { IsFollower (view_of self.old) }
         requires some { 0 < most }
         requires room { self.old.controller.spent + most ≤ MAX_EVENTS }
-        requires lost { log.old.lost + MAX_EVENT_LINES < 2 ^ 63 }
+        requires lost { log.old.lost + MAX_EVENT_LINES * most < 2 ^ 63 }
         ensures takes { (project : Project) (events : List Events) → FollowsRun (view_of self.old) project events → TakesSteps (view_of self.new) log.old log.new project events result }
         ensures some { 0 < result }
         ensures most { result ≤ most }
         ensures spent { self.new.controller.spent ≡ self.old.controller.spent + result }
     {
-        let made = self.controller.stretch(most);
+        let made = self.controller.stretch(most, &mut self.begins);
+        let from = self.stamp();
+        log_begins(log, from, &self.begins);
         self.steps += made.steps;
         let at = self.stamp();
         log_begin(log, at, made.last.what);

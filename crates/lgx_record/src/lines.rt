@@ -7,8 +7,11 @@ ghost use Rattle.spec_machine.specs.Report.{begin_lines};
 ghost use Rattle.spec_machine.specs.Releases.{task_fault};
 ghost use Rattle.spec_machine.specs.TickLaws.{watchdog_fault, report_faults};
 ghost use Rattle.lgx_record.specs.Faults.{faults_in};
-ghost use Rattle.lgx_record.specs.EventLines.{with_event_lines, overlap_lines};
+ghost use Rattle.std.specs.List.{AllByRecursion as Each};
+ghost use Rattle.lgx_watch.specs.Kept.{with_lines};
+ghost use Rattle.lgx_record.specs.EventLines.{begins_lines, with_event_lines, overlap_lines};
 
+use lgx_core::Begins;
 use lgx_watch::{Line, Log, MAX_WATCHES};
 use spec_base::limits::MAX_TASKS;
 use spec_machine::{TickReport, What};
@@ -55,6 +58,25 @@ pub(crate) fn log_begin(log: &mut Log, at: Stamp, what: What)
                 version,
             },
         );
+    }
+}
+
+/// Puts the lines of the begins that a stretch noted into the log. The stamp is that before the stretch, and all of them have
+/// its tick.
+#[inline(always)]
+pub(crate) fn log_begins(log: &mut Log, from: Stamp, begins: &Begins)
+    requires room { log.old.lost + length begins.now.steps.items < 2 ^ 63 }
+    requires small { Each (λ k. from.step + k + 1 < 2 ^ 32) begins.now.steps.items }
+    ensures log { log.new ≡ with_lines log.old (begins_lines from.tick from.step begins.now.began begins.now.steps.items) }
+    ensures lost { log.new.lost ≤ log.old.lost + length begins.now.steps.items }
+{
+    let steps = begins.steps.as_slice();
+    for i in 0..steps.len() {
+        let at = Stamp {
+            tick: from.tick,
+            step: from.step + steps[i] + 1,
+        };
+        log_begin(log, at, begins.began);
     }
 }
 

@@ -168,7 +168,10 @@ followed_send = struct_send (shape Followed.the_type) (
         search (sendable, crosses) depth 200 fits 100000,
         (
           search (sendable, crosses) depth 200 fits 100000,
-          tt,
+          (
+            search (sendable, crosses) depth 200 fits 100000,
+            tt,
+          ),
         ),
       ),
     ),

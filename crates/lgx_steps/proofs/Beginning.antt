@@ -28,7 +28,7 @@ use Rattle.lgx_steps.specs.Gives.{ViewGives}
 use Rattle.lgx_steps.proofs.Elements.{each-at}
 use Rattle.lgx_steps.proofs.Tasks.{HoldsElsewhere, set_elsewhere, without-scan, tasks-set}
 use Rattle.lgx_steps.proofs.Reading.{many-books, many-firsts, in-plan, task-read, next-known}
-use Rattle.lgx_steps.proofs.States.{with-progress, with-firsts, later}
+use Rattle.lgx_steps.proofs.States.{with-progress, with-firsts}
 
 -- ---- the selected rungs can be executed
 
@@ -75,7 +75,7 @@ module _ (n : ℕ) (v : PartsView) (s : State) (h : RepresentsState n v s) (t i 
   pub begun : (book : List EditsView) (number : ℕ) (first df : Bool) (place : PositionView) (moment : Moment) (now : HoldsNow i number v.book book) → books book ≡ books v.book → number ≡ selected_number (book_at (books v.book) i) → first ≡ get_or v.firsts i df
       → ((version : Version) (rungs : ProgramRungs) → held_at book i ≡ Some version → IsFlatProgram version.program rungs → RepresentsPosition version.program place (first_position rungs))
       → moment ≡ record { what = what.Began t i number; mark = mark.Plain; fault = None }
-      → ViewGives (n + 1) (record v { progress = set v.progress t (record x { scan = Some (record { program = i; first = first }); position = place }); firsts = set v.firsts i false; book = book }) moment (begin_program s t (progress_of s t) (next_program s t (progress_of s t)))
+      → ViewGives n (record v { progress = set v.progress t (record x { scan = Some (record { program = i; first = first }); position = place }); firsts = set v.firsts i false; book = book }) moment (begin_program s t (progress_of s t) (next_program s t (progress_of s t)))
   begun book number first df place moment now same is_number is_first restarts is_moment =
       let starts : RepresentsPosition now.version.program place (first_position (selected (book_at s.books i))) = restarts now.version (selected (book_at s.books i)) (held-now book now.version now.holds) (subst (λ (bs : List Book). IsFlatProgram now.version.program (selected (book_at bs i))) h.books now.runs) in
       let len = bytes s.plan.tags in
@@ -112,5 +112,5 @@ module _ (n : ℕ) (v : PartsView) (s : State) (h : RepresentsState n v s) (t i 
       let z : PartsView = record v { progress = set v.progress t y; firsts = set v.firsts i false; book = book } in
       let told : moment ≡ record { what = what.Began t i (selected_number b); mark = mark.Plain; fault = None } =
       is_moment ∙ ap (λ j. record { what = what.Began t i j; mark = mark.Plain; fault = None }) (is_number ∙ ap (λ (bs : List Book). selected_number (book_at bs i)) h.books) in
-      let g : ViewGives (n + 1) z moment (begin_program s t (progress_of s t) i) = record { answers = told; represents = later n z (record s { progress = set s.progress t p; firsts = set s.firsts i false }) b' } in
-      subst (λ j. ViewGives (n + 1) z moment (begin_program s t (progress_of s t) j)) next g
+      let g : ViewGives n z moment (begin_program s t (progress_of s t) i) = record { answers = told; represents = b' } in
+      subst (λ j. ViewGives n z moment (begin_program s t (progress_of s t) j)) next g

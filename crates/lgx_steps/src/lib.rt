@@ -7,6 +7,7 @@
 #![tactic(auto)]
 
 mod act;
+mod begins;
 mod edits;
 mod effects;
 mod executing;
@@ -21,6 +22,7 @@ mod stretch;
 mod tick;
 mod words;
 
+pub use begins::{Begins, MAX_BEGINS};
 pub use executing::Executed;
 pub use parts::{Parts, Progress, Released, Scan};
 pub use stretch::Stretch;

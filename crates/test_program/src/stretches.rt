@@ -1,5 +1,5 @@
 // Processor steps of a project, by stretches.
-use lgx_core::Controller;
+use lgx_core::{Begins, Controller};
 use lgx_project::read_project;
 use spec_base::limits::MAX_EVENTS;
 use std::alloc::Global;
@@ -25,13 +25,14 @@ fn stretches_of(alloc: Global, project: &[u8], steps: u32) -> Option<u32> {
 /// Makes so many processor steps, as long as the controller can count them; hits are taken before each stretch.
 fn count_stretches(controller: &mut Controller, steps: u32) -> u32 {
     let mut left = steps;
+    let mut begins = Begins::new();
     for stretches in 0..steps {
         controller.clear_hits();
         let most = left.min(MAX_EVENTS.saturating_sub(controller.spent()));
         if most == 0 {
             return stretches;
         }
-        left = left.saturating_sub(controller.stretch(most).steps);
+        left = left.saturating_sub(controller.stretch(most, &mut begins).steps);
     }
     steps
 }
