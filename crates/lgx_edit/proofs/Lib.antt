@@ -2,6 +2,7 @@ pub mod Merges
 pub mod Tied
 pub mod Commanded
 pub mod OfAll
+pub mod HeldAlready
 pub mod NewPrograms
 pub mod Again
 pub mod Accepted

@@ -1,5 +1,6 @@
 pub mod Texts
 pub mod EditsView
+pub mod HeldAgain
 pub mod Codes
 pub mod Seen
 pub mod ProjectCode

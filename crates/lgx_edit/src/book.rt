@@ -42,10 +42,12 @@ impl Model for EditBook {
 }
 
 impl EditBook {
-    ghost use Rattle.std.specs.Prelude.{◌^◌, ◌≡◌, ◌<◌, true, All, map, length, IfOk, IsTrue, IsNone, None, option_map, slice_set, slice_index_or};
+    ghost use Rattle.std.specs.Prelude.{◌^◌, ◌≡◌, ◌≢◌, ◌<◌, true, All, map, length, IfOk, IfSome, IfNone, IsTrue, IsNone, Some, None, option_map, slice_set, slice_index_or};
     ghost use Rattle.spec_machine.specs.Edits.{book_of, book_at, selected_number, program_named, routine_at, merged, changes_in, accept, on_accepted, test, untest, assemble, cancel};
     ghost use Rattle.lgx_edit.specs.Texts.{program_of};
+    ghost use Rattle.lgx_versions.specs.View.{number_of};
     ghost use Rattle.lgx_edit.specs.EditsView.{EditsView, books, holds, held_at, slots_at, AreSlotsAt, RunsSelected, HoldsNow, Leaves};
+    ghost use Rattle.lgx_edit.specs.HeldAgain.{HoldsAgain};
     ghost use Rattle.lgx_edit.specs.Accepting.{LeavesAccepted, has_numbers_left};
 
     /// The book of these programs in project order, without edits. The main routine of each must be one of its routines.
@@ -149,6 +151,17 @@ impl EditBook {
         ensures held { HoldsNow program result self.old self.new }
     {
         self.programs[program as usize].hold()
+    }
+
+    /// The number of the selected version of a program, if it is the one that is held already: then to hold nothing and to hold
+    /// what is selected would change nothing. None if another version is held, or none.
+    #[inline]
+    pub fn held_again(&self, program: u32) -> Option<u32>
+        requires { program < length self.now }
+        ensures held { IfSome result (λ n. HoldsAgain program n self.now) }
+        ensures other { IfNone result (number_of (held_at self.now program) ≢ Some (selected_number (book_at (books self.now) program))) }
+    {
+        self.programs[program as usize].held_again()
     }
 
     /// The held program of a program; None if none is held.

@@ -40,13 +40,14 @@ impl Model for ProgramEdits {
 }
 
 impl ProgramEdits {
-    ghost use Rattle.std.specs.Prelude.{◌-◌, ◌^◌, ◌≡◌, ◌<◌, true, length, nat_lt, IsTrue, IsNone, IfOk, option_map, slice_index_or, None};
+    ghost use Rattle.std.specs.Prelude.{◌-◌, ◌^◌, ◌≡◌, ◌≢◌, ◌<◌, true, length, nat_lt, IsTrue, IsNone, IfOk, IfSome, IfNone, option_map, slice_index_or, Some, None};
     ghost use Rattle.lgx_num.specs.Name.{same};
     ghost use Rattle.spec_machine.specs.Edits.{book_of, selected_number, scope_of, routine_at, merged, changes_in, test, untest, assemble, cancel};
     ghost use Rattle.lgx_versions.specs.Roles.{selected};
     ghost use Rattle.lgx_edit.specs.Texts.{program_of};
-    ghost use Rattle.lgx_versions.specs.View.{AreSlotsOf};
+    ghost use Rattle.lgx_versions.specs.View.{AreSlotsOf, number_of};
     ghost use Rattle.lgx_edit.specs.EditsView.{Answers, on_book, may_edit, RunsSelected, IsHeldNow};
+    ghost use Rattle.lgx_edit.specs.HeldAgain.{IsHeldAgain};
     ghost use Rattle.lgx_edit.specs.Accepting.{accept_at, Accepts};
 
     /// A program without edits: the base alone, with the number 0. Its main routine must be one of its routines.
@@ -201,6 +202,15 @@ impl ProgramEdits {
         ensures held { IsHeldNow self.old self.new }
     {
         self.versions.hold()
+    }
+
+    /// The number of the selected program, if it is the one that is held already. None if another one is held, or none.
+    #[inline]
+    pub fn held_again(&self) -> Option<u32>
+        ensures held { IfSome result (λ n. IsHeldAgain n self.now) }
+        ensures other { IfNone result (number_of self.now.versions.roles.held ≢ Some (selected_number self.now.book)) }
+    {
+        self.versions.held_again()
     }
 
     /// The held program. None if none is held.

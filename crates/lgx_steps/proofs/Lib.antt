@@ -14,6 +14,8 @@ pub mod Beginning
 pub mod Releasing
 pub mod AfterEffects
 pub mod Ticking
+pub mod BeginningAgain
+pub mod GoingAgain
 pub mod Running
 pub mod IoWords
 pub mod Editing

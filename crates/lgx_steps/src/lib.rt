@@ -7,6 +7,7 @@
 #![tactic(auto)]
 
 mod act;
+mod again;
 mod begins;
 mod edits;
 mod effects;

@@ -49,7 +49,7 @@ at_that : (o : Option ℕ) (i : ℕ) → is_at o i ≡ true → o ≡ Some i
 at_that None i h = absurd (false≢true h)
 at_that (Some k) i h = ap Some (eqb-true k i h)
 
-that_at : (o : Option ℕ) (i : ℕ) → o ≡ Some i → is_at o i ≡ true
+pub that_at : (o : Option ℕ) (i : ℕ) → o ≡ Some i → is_at o i ≡ true
 that_at o i e = ap (λ (x : Option ℕ). is_at x i) e ∙ eq-eqb i i refl
 
 pub uses_cases : (p : Places) (i : ℕ) → uses p i ≡ true → IsUsed p i
@@ -70,7 +70,7 @@ cases_uses p i (inr (inr held)) = or_right (eqb i p.base) _ (or_right (is_at p.m
 -- ---- the slots tell the roles
 
 -- the place that an option tells, if the version there has a number
-told_place : (f : ℕ → Version) (o : Option ℕ) (n : ℕ)
+pub told_place : (f : ℕ → Version) (o : Option ℕ) (n : ℕ)
     → number_of (option_map f o) ≡ Some n → (k : ℕ) × (o ≡ Some k) × ((f k).number ≡ n)
 told_place f None n h = absurd (none-some n h)
 told_place f (Some k) n h = (k, refl, same_Some _ _ h)

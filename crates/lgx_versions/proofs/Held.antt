@@ -1,13 +1,16 @@
 -- The held program and the selected one.
-use Rattle.std.proofs.Common.{◌≡◌, ◌≢◌, ℕ, ◌<◌, true, length, Option, Some, None, IfSome, is_some, inl, inr, refl, sym, ap, ◌∙◌}
+use Rattle.std.proofs.Common.{◌≡◌, ◌≢◌, ℕ, ◌<◌, Bool, true, false, if◌then◌else◌, length, Option, Some, None, option_map, IfSome, is_some, inl, inr, refl, sym, ap, ◌∙◌}
+use Rattle.std.specs.Prelude.{unwrap_or}
 use Rattle.std.proofs.lemmas.Bool.{cases_lt, false≢true}
 use Rattle.std.proofs.lemmas.List.{get_or_past}
 use Rattle.lgx_versions.specs.declared.slots.Version.{Version}
 use Rattle.lgx_versions.specs.declared.slots.Places.{Places}
 use Rattle.lgx_versions.specs.declared.versions.Versions.TheInside.{Inside}
-use Rattle.lgx_versions.specs.Slots.{in_slot, uses}
-use Rattle.lgx_versions.specs.Seen.{AreSlots}
-use Rattle.lgx_versions.proofs.Filled.{IsUsed, cases_uses, uses_cases}
+use Rattle.lgx_versions.specs.Roles.{selected}
+use Rattle.lgx_versions.specs.View.{number_of}
+use Rattle.lgx_versions.specs.Slots.{in_slot, version_at, selected_place, is_at, uses}
+use Rattle.lgx_versions.specs.Seen.{roles_of, AreSlots}
+use Rattle.lgx_versions.proofs.Filled.{IsUsed, cases_uses, uses_cases, that_at, told_place, filled_number}
 
 -- ---- one slot is freed
 
@@ -34,3 +37,35 @@ others-used v q a base merged i apart filled = by_use (uses_cases v.places i (sy
     by_use (inl e) = cases_uses q i (inl (e ∙ sym base))
     by_use (inr (inl e)) = cases_uses q i (inr (inl (merged ∙ e)))
     by_use (inr (inr e)) = absurd (apart e)
+
+-- ---- the selected program
+
+selected-used : (p : Places) → IsUsed p (selected_place p)
+selected-used p = by_testing p.testing p.merged refl
+  where
+    by_testing : (b : Bool) (m : Option ℕ) → p.merged ≡ m → IsUsed p (if b then unwrap_or m p.base else p.base)
+    by_testing true None e = inl refl
+    by_testing true (Some k) e = inr (inl e)
+    by_testing false m e = inl refl
+
+selected-filled : (v : Inside) → AreSlots v → is_some (in_slot v.slots (selected_place v.places)) ≡ true
+selected-filled v a = a.filled (selected_place v.places) ∙ cases_uses v.places (selected_place v.places) (selected-used v.places)
+
+selected-there : (v : Inside) → version_at v.slots (selected_place v.places) ≡ selected (roles_of v)
+selected-there v = by_testing v.places.testing v.places.merged
+  where
+    by_testing : (b : Bool) (m : Option ℕ)
+        → version_at v.slots (if b then unwrap_or m v.places.base else v.places.base) ≡ (if b then unwrap_or (option_map (version_at v.slots) m) (version_at v.slots v.places.base) else version_at v.slots v.places.base)
+    by_testing true None = refl
+    by_testing true (Some k) = refl
+    by_testing false m = refl
+
+-- if it isn't held, what is held has another number, if anything is
+pub held-other : (v : Inside) → AreSlots v → is_at v.places.held (selected_place v.places) ≡ false → number_of (roles_of v).held ≢ Some (selected (roles_of v)).number
+held-other v a apart same =
+    let at = selected_place v.places in
+    let n : ℕ = (version_at v.slots at).number in
+    let told : (k : ℕ) × (v.places.held ≡ Some k) × ((version_at v.slots k).number ≡ n) = told_place (version_at v.slots) v.places.held n (same ∙ ap (λ (x : Version). Some x.number) (sym (selected-there v))) in
+    let one = filled_number v.slots told.0 (a.filled told.0 ∙ cases_uses v.places told.0 (inr (inr told.1))) ∙ ap Some told.2 in
+    let two = filled_number v.slots at (selected-filled v a) in
+    false≢true (sym apart ∙ that_at v.places.held at (told.1 ∙ ap Some (a.once told.0 at n one two)))

@@ -25,6 +25,7 @@ pub struct Places {
 
 impl Places {
     /// The slot of the selected program.
+    #[inline]
     pub fn selected(&self) -> usize
         ensures { result ≡ selected_place self.now }
     {
@@ -59,13 +60,15 @@ impl Places {
 }
 
 /// Whether this is that slot.
-fn is_at(place: Option<usize>, slot: usize) -> bool
+#[inline(always)]
+pub fn is_at(place: Option<usize>, slot: usize) -> bool
     ensures { result ≡ is_at place slot }
 {
     place == Some(slot)
 }
 
 /// The version in a slot that isn't free.
+#[inline]
 pub fn version_at(slots: &[Option<Version>; SLOTS], slot: usize) -> &Version
     requires { IsSome (slice_index_or slots.now slot None) }
     ensures { result.now ≡ version_at slots.now slot }

@@ -1,5 +1,5 @@
 // The versions of a program.
-use crate::slots::{Places, SLOTS, Version, free_if_unused, free_unused, version_at};
+use crate::slots::{Places, SLOTS, Version, free_if_unused, free_unused, is_at, version_at};
 use lgx_num::Memory;
 use lgx_prog::FlatProgram;
 use std::marker::Model;
@@ -34,9 +34,9 @@ impl Model for Versions {
 }
 
 impl Versions {
-    ghost use Rattle.std.specs.Prelude.{◌^◌, ◌≡◌, ◌+◌, ◌<◌, ℕ, Some, None, Ok, IfSome, IsSome, IsNone, IsTrue, IsOkAnd, is_some, option_map, slice_index_or};
+    ghost use Rattle.std.specs.Prelude.{◌^◌, ◌≡◌, ◌≢◌, ◌+◌, ◌<◌, ℕ, Some, None, Ok, IfSome, IfNone, IsSome, IsNone, IsTrue, IsOkAnd, is_some, option_map, slice_index_or};
     ghost use Rattle.lgx_versions.specs.Roles.{only_base, selected, add, select, assemble, cancel, hold, drop_hold};
-    ghost use Rattle.lgx_versions.specs.View.{AreSlotsOf, NoneMoves};
+    ghost use Rattle.lgx_versions.specs.View.{AreSlotsOf, NoneMoves, number_of};
 
     /// The base alone, with the number 0.
     pub fn new(base: FlatProgram) -> Result<Versions, Memory>
@@ -156,6 +156,22 @@ impl Versions {
         let slot = self.places.selected();
         self.places.held = Some(slot);
         version_at(&self.slots, slot).number
+    }
+
+    /// The number of the selected program, if it is the one that is held already. None if another one is held, or none.
+    #[inline]
+    pub fn held_again(&self) -> Option<u32>
+        ensures held { IfSome result (λ n. self.now.roles.held ≡ Some (selected self.now.roles)) }
+        ensures number { IfSome result (λ n. n ≡ (selected self.now.roles).number) }
+        ensures other { IfNone result (number_of self.now.roles.held ≢ Some (selected self.now.roles).number) }
+    {
+        let slot = self.places.selected();
+        let again = is_at(self.places.held, slot);
+        if again {
+            Some(version_at(&self.slots, slot).number)
+        } else {
+            None
+        }
     }
 
     /// The held program. None if none is held.
