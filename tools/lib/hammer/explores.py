@@ -19,7 +19,7 @@ from .sound import shown
 HEAD = re.compile(rb"# line ([0-9]+) after step ([0-9]+), tick ([0-9]+)\n")
 UNKNOWN = re.compile(rb"unknown (0|[1-9][0-9]*)\n")
 NAME, REFUSED = "logix_explore", (2, 3, 7)
-MOST_STEPS = 100  # in a script that is explored here
+MOST_STEPS, MOST_JOURNALS = 100, 500  # in a script that is explored here; that are tried one after another too
 
 
 @law
@@ -29,12 +29,13 @@ def of_exploration(program, contents):
         return None
     ran = program.run([program.put(f"file{at}", one) for at, one in enumerate(contents)], path=program.beside(NAME))
     status, text = answer(["explore"], contents)
-    if status in REFUSED or (status == ran.status == 0):
-        return told(ran, status, text.encode("latin-1"))
-    if ran.err or ran.status not in (8, 9):
+    if status in REFUSED:
         return told(ran, status, text.encode("latin-1"))
     search, _ = searched(Project(contents[0]), *contents[1:])
     found = search.found()
+    judge_layers(search, found)
+    if ran.err or ran.status not in (8, 9) or (status == ran.status == 0):
+        return told(ran, status, text.encode("latin-1"))
     if ran.status == 9:
         judge_unknown(search, found, ran.out)
     else:
@@ -47,6 +48,16 @@ def is_long(script):
         return Script(script).steps > MOST_STEPS
     except Bad:
         return False
+
+
+def judge_layers(search, found):
+    """What the layers say, journals one after another say too, where these are few."""
+    try:
+        least = search.least(MOST_JOURNALS)
+    except TooMany:
+        return
+    if found.what == "unknown" or least != (found.steps if found.what == "shown" else None):
+        raise Broken(f"plain explorers: {found.what} {found.steps}, and one after another {least}")
 
 
 def judge_unknown(search, found, out):

@@ -40,7 +40,7 @@ class Shown(Exception):
 
 
 class TooMany(Exception):
-    """A layer has more states than it may have."""
+    """A layer has more states than it may have, or there are more journals than are tried."""
 
 
 class Node:
@@ -147,6 +147,16 @@ class Search:
     def complete(self):
         """How many complete journals within the window there are."""
         return sum(node.ways for layer in self.layers() for node in layer.values() if node.is_complete())
+
+    def least(self, most):
+        """The least number of steps after which a line holds, by journals one after another; None for none. TooMany: over so many journals."""
+        steps = []
+        for at, one in enumerate(self.journals()):
+            if at == most:
+                raise TooMany
+            if isinstance(one, Shown):
+                steps.append(steps_of(one.events))
+        return min(steps, default=None)
 
     def journals(self):
         """One after another, each partial journal within the window that shows nothing; and, of those that show a line, the line and the events."""

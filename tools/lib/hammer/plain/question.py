@@ -1,4 +1,4 @@
-"""Questions: what is never to hold of the watched places, and how late actions may come (FORMATS.md, section 11)."""
+"""Questions: what is never to hold of the watched places, and how late actions may come (FORMATS.md, section 8.7)."""
 
 import operator
 from typing import NamedTuple
