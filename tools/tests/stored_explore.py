@@ -1,5 +1,5 @@
-"""Explorations by the built program: the machines of examples/never, answers worked out by hand, and questions that are refused. The gate runs
-this after `rt ci`. Words, files that don't come, and other statuses are in stored_explore_program.py.
+"""Explorations by the built program: the machines of examples/never, and questions that are refused. The gate runs this after `rt ci`. Words and
+files that don't come are in stored_explore_program.py, answers worked out by hand in the hammer's explore_rules.py.
 """
 
 from __future__ import annotations
@@ -11,7 +11,6 @@ import unittest
 import stored_runs
 from common import built, read_bytes
 from explore_files import MACHINES, NEVER, REFUSED, TAKEN, TRANSIENT, TRANSIENT_SHOWN, head, machine
-from lib.hammer import explore_rules
 from lib.hammer.cases import journal_text
 
 NAME = "logix_explore"
@@ -55,11 +54,6 @@ class Explored(stored_runs.StoredRun):
         project, script, question = machine("interlock")
         self.assertEqual(self.asked(project, script, b"within 1\n" + question), (0, b"never 1\n"))
         self.shows(self.asked(project, script, b"within 2\n" + question), (1, 95, 4))
-
-    def test_rules(self) -> None:
-        for rule in explore_rules.RULES:
-            status, text = self.asked(*rule.files())
-            self.assertEqual((status, text.decode().split("\n")[0]), ({"n": 0, "u": 9, "#": 8}[rule.answer_text()[0]], rule.answer_text()), rule.name)
 
     def test_questions_that_are_refused(self) -> None:
         project, script = machine("edit")[:2]

@@ -250,7 +250,7 @@ class Kind(unittest.TestCase):
         for one, other in (
             ("step 46", "step 45"), ("line 1", "line 2"), ("tick 2", "tick 3"), ("# line 1 after step 46, tick 2\n", ""), ("mode run\n", ""), ("cpu 6", "cpu 7"), ("cpu 6", "cpu 5"),
             ("tick 1\ncpu 18\n", "cpu 18\ntick 1\n"), ("@0 in Hmi 0 7\ncpu 2\n", "cpu 2\n@0 in Hmi 0 7\n"), ("Hmi 0 7", "Hmi 0 9"), ("@1 in", "@0 in"), ("cpu 6", "cpu 3\ncpu 3"),
-            ("cpu 6\n", "cpu 6\n@0 in Hmi 0 9\n"), ("@0 in Hmi 0 7\n", "@0 in Hmi 0 7\n@0 in Hmi 0 7\n"), ("tick 1\n@1", "@1"), ("mode run\n", "mode run\n@0 in Hmi 0 7\n"), ("end\n", "end\nx\n"),
+            ("cpu 6\n", "cpu 6\n@0 in Hmi 0 9\n"), ("@0 in Hmi 0 7\n", "@0 in Hmi 0 7\n@0 in Hmi 0 7\n"), ("tick 1\n@1", "@1"), ("mode run\n", "mode run\n@0 in Hmi 0 7\n"), ("end\n", "end\nx\n"), ("end\n", ""),
         ):  # fmt: skip
             self.bends(lambda status, out, one=one, other=other: (status, out.replace(one, other, 1)), True)
         self.bends(lambda *_: (0, "never 1\n"), True)

@@ -90,7 +90,10 @@ def judge_journal(program, contents, search, found, out):
     line, steps, ticks = map(int, head.groups())
     if steps != found.steps:
         raise Broken(f"after step {steps}, wanted {found.steps}")
-    events = read_journal(out)
+    try:
+        events = read_journal(out)
+    except Bad as bad:
+        raise Broken(f"no journal: {bad.code} line {bad.line}") from None
     if out != head[0] + journal_text(canonical(single(events))):
         raise Broken("the journal isn't canonical")
     moment = Moment(search)

@@ -8,13 +8,13 @@ KINDS = {
     "scenarios": (scenarios.scenarios, 2, None), "online": (pages.online, 1, None),
     "bad controllers": (controllers.bad_controllers, 0.1, None),
     "tools at fault": (tool_faults.tool_faults, 0.05, None), "mixes": (mixes.mixes, 1, "run"), "add-ons": (add_ons.add_ons, 2, "replay"),
-    "cover": (covers.covers, 5, "logix_cover"), "explorations": (explores.explorations, 5, "logix_explore"),
+    "cover": (covers.covers, 5, "logix_cover"), "explore": (explores.explorations, 5, "logix_explore"),
     "explored rules": (explore_rules.rules, 0.5, "logix_explore"), "pictures": (pictures.pictures, 5, "logix_wave"), "wrong words": (wrong_words.wrong_words, 1, "replay"),
     "instructions": (wrong_words.instructions, 0.1, "replay"),
 }
 GATE = {
     "marks": 600, "begins": 500, "splits": 25, "books": 40, "sessions": 80, "kept": 1_000, "scenarios": 60, "online": 15, "bad controllers": 26,
-    "tools at fault": 30, "mixes": 6, "add-ons": 20, "cover": 300, "explorations": 300, "explored rules": len(explore_rules.RULES), "pictures": 60, "wrong words": 60, "instructions": 2,
+    "tools at fault": 30, "mixes": 6, "add-ons": 20, "cover": 300, "explore": 300, "explored rules": len(explore_rules.RULES), "pictures": 60, "wrong words": 60, "instructions": 2,
 }
 # Those whose cases are counted, as in IN_TURN of main.py.
 IN_TURN = {
