@@ -10,13 +10,14 @@ from .made import Maker
 from .plain.journal import Script
 from .sound import shown
 
-FIRST, CONVEYOR, AUDIT, SHIFT = (f"{EXAMPLES}/{name}" for name in ("first", "conveyor", "audit", "two_engineers"))
+FIRST, CONVEYOR, AUDIT, SHIFT, NEVER = (f"{EXAMPLES}/{name}" for name in ("first", "conveyor", "audit", "two_engineers", "never"))
 STATIONS = f"{EXAMPLES}/two_stations"
 WATCHED, STEPS_OF_LONG = 200, 130
 MIDDLE_SCRIPT = journal_text([
     "run 120 10 4", "@0 0 in In1 0 0", "@0 0 in In1 1 3", "@1 1 accept Conveyor Main r 3 XIC(HornT.DN)XIO(Local:1:I.Fault.0)OTE(Motor);",
     "@1 2 test Conveyor", "@1 6 assemble Conveyor", "@2 3 force Out1 0 1 1", "@2 4 force enable", "@3 5 out Out1 0", "@3 7 in In1 1 6", "end",
 ])
+EXPLORED = journal_text(["run 24 8 2", "@0 1 in Panel 0 1", "@1 2 in Starter 0 1", "end"])
 TAKER = b"""{"schema": 2, "controller": "Taker", "tags": [{"name": "w", "type": "DINT"}, {"name": "seen", "type": "DINT", "dim": 4}],
  "programs": [{"name": "P", "main": "M", "routines": [{"name": "M", "rungs": ["MOV(w,seen[1]);", "[XIC(w.0),XIC(w.1)]OTL(seen[0].3);"]}]}],
  "tasks": [{"name": "T", "kind": "continuous", "programs": ["P"]}],
@@ -86,6 +87,11 @@ def calls_of(program):
             made.append(Call(f"live {example}", [project], contents_of(journal), program.beside("logix_live")))
         if program.beside("logix_cover"):
             made.append(Call(f"cover {example}", [project, journal], path=program.beside("logix_cover")))
+    if program.beside("logix_explore"):
+        script = program.put("turn-explored", EXPLORED)
+        for name in ("never Fwd = 1 and Rev = 1", "never Fwd = 1"):
+            files = [f"{NEVER}/interlock.json", script, program.put(f"turn-{name.replace(' ', '')}", journal_text([name, "end"]))]
+            made.append(Call(f"explore, {name}", files, path=program.beside("logix_explore")))
     files = [program.put(f"turn-long{at}", text) for at, text in enumerate(long_report(STEPS_OF_LONG))]
     made.append(Call("replay long", ["replay", *files]))
     trace = program.put("turn-trace", program.run(["trace", f"{FIRST}/project.json", f"{FIRST}/journal.txt"]).out)

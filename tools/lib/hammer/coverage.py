@@ -27,14 +27,15 @@ EFFECTS = (
 CODES = {
     "M": range(1, 4), "N": range(1, 4), "F": range(1, 4), "E": (1, 2, 3, 5, 6, 7, 8, 9, 10, 11, 12), "T": range(1, 6), "C": range(1, 18),
     "P": range(1, 12), "Y": range(1, 7), "G": (1, 2, 3, 4, 5, 6, 7, 8, 10), "J": range(1, 6), "K": (1, 2), "L": (1, 2, 3), "U": (1,), "V": range(1, 6),
+    "Q": range(1, 5),
 }
 FAULTS = ("minor 4/4", "major 4/20", "major 4/31", "major 4/34", "major 4/84", "major 6/1", "minor 6/2", "minor 6/3")
 SHORT = 500  # bytes
-CODE = re.compile(r"\b([MNFETCPYGJKLUV])([0-9]{1,2})\b")
+CODE = re.compile(r"\b([MNFETCPYGJKLQUV])([0-9]{1,2})\b")
 WORDS_WITH_STATUSES = {
     "check": (0, 2, 4, 5, 6, 7), "text": (0, 2, 4, 5, 6), "migrate": (0, 2, 4, 5, 6), "xref": (0, 2, 4, 5, 6), "replay": (0, 2, 3, 4, 5, 6), "gen": (0,),
     "trace": (0, 2, 3, 4, 5, 6), "audit": (0, 2, 3, 4, 5, 6, 8), "run": (0, 2, 3, 4, 5, 6), "stations": (0, 2, 3, 4, 5, 6), "link": (0, 2, 3, 4, 5, 6),
-    "logix": (1,), "live": (0, 1, 2, 4, 5, 6), "cover": (0, 1, 2, 3, 4, 5, 6), "timeline": (0, 1, 2, 4, 5, 6), "wave": (0, 1, 2, 4, 5, 6),
+    "logix": (1,), "live": (0, 1, 2, 4, 5, 6), "cover": (0, 1, 2, 3, 4, 5, 6), "explore": (0, 1, 2, 3, 4, 5, 6, 8, 9), "timeline": (0, 1, 2, 4, 5, 6), "wave": (0, 1, 2, 4, 5, 6),
 }
 
 
@@ -72,7 +73,7 @@ class Coverage:
         name = os.path.basename(path) if path else "logix"
         verb = words[0] if name == "logix" and words and ran.status != 1 else name.removeprefix("logix_")
         self.meet(f"status {verb} {ran.status}")
-        if ran.status in (2, 3, 8) and len(ran.out) < SHORT:
+        if (ran.status in (2, 3) or (ran.status, verb) == (8, "audit")) and len(ran.out) < SHORT:
             self.causes(ran.out.decode("latin-1"))
         elif verb == "replay" and len(ran.out) < SHORT:
             for line in ran.out.decode("latin-1").splitlines():

@@ -1,6 +1,6 @@
 """The kinds of cases beside those of main.py, as KINDS there; and how many of each the gate tries."""
 
-from . import add_ons, begins, books, controllers, corpus, covers, marks, mixes, pages, pictures, scenarios, sessions, splits, tool_faults, wrong_words
+from . import add_ons, begins, books, controllers, corpus, covers, explore_rules, explores, marks, mixes, pages, pictures, scenarios, sessions, splits, tool_faults, wrong_words
 
 KINDS = {
     "marks": (marks.marks, 20, "replay"), "begins": (begins.begins, 15, "replay"), "splits": (splits.splits, 1, "replay"),
@@ -8,12 +8,16 @@ KINDS = {
     "scenarios": (scenarios.scenarios, 2, None), "online": (pages.online, 1, None),
     "bad controllers": (controllers.bad_controllers, 0.1, None),
     "tools at fault": (tool_faults.tool_faults, 0.05, None), "mixes": (mixes.mixes, 1, "run"), "add-ons": (add_ons.add_ons, 2, "replay"),
-    "cover": (covers.covers, 5, "logix_cover"), "pictures": (pictures.pictures, 5, "logix_wave"), "wrong words": (wrong_words.wrong_words, 1, "replay"),
+    "cover": (covers.covers, 5, "logix_cover"), "explore": (explores.explorations, 5, "logix_explore"),
+    "explored rules": (explore_rules.rules, 0.5, "logix_explore"), "pictures": (pictures.pictures, 5, "logix_wave"), "wrong words": (wrong_words.wrong_words, 1, "replay"),
     "instructions": (wrong_words.instructions, 0.1, "replay"),
 }
 GATE = {
     "marks": 600, "begins": 500, "splits": 25, "books": 40, "sessions": 80, "kept": 1_000, "scenarios": 60, "online": 15, "bad controllers": 26,
-    "tools at fault": 30, "mixes": 6, "add-ons": 20, "cover": 300, "pictures": 60, "wrong words": 60, "instructions": 2,
+    "tools at fault": 30, "mixes": 6, "add-ons": 20, "cover": 300, "explore": 300, "explored rules": len(explore_rules.RULES), "pictures": 60, "wrong words": 60, "instructions": 2,
 }
 # Those whose cases are counted, as in IN_TURN of main.py.
-IN_TURN = {"bad controllers": lambda _: len(controllers.TURNS), "tools at fault": lambda _: len(tool_faults.faults())}
+IN_TURN = {
+    "bad controllers": lambda _: len(controllers.TURNS), "tools at fault": lambda _: len(tool_faults.faults()),
+    "explored rules": lambda _: len(explore_rules.RULES),
+}

@@ -5,8 +5,9 @@ import re
 LINES = {
     1: re.compile(rb"usage: logix .*\n"),
     2: re.compile(rb"(?:[ab] )?project P[0-9]+( [A-Za-z0-9_.]+)?( (?:[YG][0-9]+|T[0-9] [0-9]+|C[0-9]+ [0-9]+ [0-9]+))?\n"),
-    3: re.compile(rb"(?:journal|script) J[1-5] line [0-9]+\n|trace K[12] line [0-9]+\n|link (?:J[124]|U1) line [0-9]+\n"),
-    4: re.compile(rb""), 7: re.compile(rb""), 8: re.compile(rb"no L[1-3] [0-9]+\n"),
+    3: re.compile(rb"(?:journal|script) J[1-5] line [0-9]+\n|trace K[12] line [0-9]+\n|link (?:J[124]|U1) line [0-9]+\n|question Q[1-4] line [0-9]+\n"),
+    4: re.compile(rb""), 7: re.compile(rb""), 8: re.compile(rb"no L[1-3] [0-9]+\n|# line [0-9]+ after step [0-9]+, tick [0-9]+\nmode run\n(?:.+\n)*end\n"),
+    9: re.compile(rb"unknown [0-9]+\n"),
 }
 
 

@@ -2,11 +2,13 @@
 
 from .audit import Table, read_trace, verdict
 from .cover import cover
+from .explore import Search, canonical
 from .gen import journal_of, project_of
-from .journal import LONGEST, Bad, Reader, lines_of, read_journal
+from .journal import LONGEST, Bad, Reader, Script, lines_of, read_journal
 from .link import Link, LinkScript
 from .machine import Machine
 from .project import Project, read
+from .question import Question
 from .reader import Fault
 from .rungs import spelled
 from .xref import xref
@@ -42,6 +44,8 @@ def answer_of(verb, contents):
         return 2, ("a " if verb == "link" else "") + fault.line() + "\n"
     if verb in OF_PROJECT:
         return 0, OF_PROJECT[verb](projects[0])
+    if verb == "explore":
+        return explored(projects[0], *contents[1:])
     try:
         if verb == "link":
             projects.append(Project(whole(contents[1])))
@@ -69,6 +73,31 @@ def traced(project, contents):
 def covered(project, contents):
     events = read_journal(contents)
     return None if is_long(events) else (0, cover(project, events))
+
+
+def searched(project, script, question):
+    """The search, or a refusal: its status and text."""
+    try:
+        script = Script(whole(script))
+    except Bad as bad:
+        return None, (3, f"script {bad.code} line {bad.line}\n")
+    try:
+        return Search(project, script, Question(project, whole(question))), None
+    except Bad as bad:
+        return None, (3, f"question {bad.code} line {bad.line}\n")
+
+
+def explored(project, script, question):
+    """Of several shortest journals that show a line, one."""
+    search, refused = searched(project, script, question)
+    if refused:
+        return refused
+    found = search.found()
+    if found.what == "never":
+        return 0, f"never {len(search.question.lines)}\n"
+    if found.what == "unknown":
+        return 9, f"unknown {found.steps}\n"
+    return 8, "".join(f"{line}\n" for line in [found.head(), *canonical(found.events)])
 
 
 def audited(project, contents):
