@@ -1,8 +1,8 @@
 -- What was made of nodes is among the nodes.
-use Rattle.std.proofs.Common.{◌≡◌, ℕ, zero, suc, ◌+◌, ◌<◌, ◌≤◌, inl, inr, List, [], ◌∷◌, ◌++◌, length, get_or, Option, Some, None, sym, ◌∙◌, ap, subst, arith, length-append}
-use Rattle.std.specs.Prelude.{Result, Ok, Err, IfErr, IsErrAnd, IfSome, IsTrue, nat_eq, true, slice_get}
+use Rattle.std.proofs.Common.{◌≡◌, ℕ, zero, suc, ◌+◌, ◌<◌, ◌≤◌, ◌⊎◌, inl, inr, List, [], ◌∷◌, ◌++◌, length, get_or, Option, Some, None, refl, sym, ◌∙◌, ap, subst, arith, length-append}
+use Rattle.std.specs.Prelude.{Result, Ok, Err, IfErr, IsErrAnd, IfSome, IsTrue, slice_get}
 use Rattle.std.specs.List.{Contains}
-use Rattle.std.proofs.lemmas.Bool.{cases_lt, eqb-true}
+use Rattle.std.proofs.lemmas.Bool.{cases_lt}
 use Rattle.std.proofs.lemmas.List.{append-nil, append_assoc, get_or_append_left, get_or_past}
 use Rattle.std.proofs.lemmas.List.Elements.{Contains-append_left, Contains-push}
 use Rattle.spec_machine.specs.declared.event.Action.{Action}
@@ -18,9 +18,12 @@ use Rattle.spec_explore.specs.declared.question.Question.{Question}
 use Rattle.spec_explore.specs.Questions.{IsNeverBefore}
 use Rattle.spec_explore.specs.Layers.{Goes, Steps, Acts, IsDone}
 use Rattle.spec_explore.proofs.Layers.{layers_begin, layers_go_on, layers_end, layers_are_few}
+use Rattle.lgx_explore.specs.declared.halt.Full.{Full}
+use Rattle.lgx_explore.specs.declared.halt.Full.TheVariants as full
+use Rattle.lgx_explore.specs.declared.node.Next.{Next}
 use Rattle.lgx_explore.specs.declared.node.Stop.{Stop}
 use Rattle.lgx_explore.specs.declared.node.Stop.TheVariants as stops
-use Rattle.lgx_explore.specs.Shown.{IfShown, IsAction}
+use Rattle.lgx_explore.specs.Shown.{IfShown, IsAction, stop_of}
 use Rattle.lgx_explore.specs.Nodes.{Stands, Keeps, NodeShows, ShowsAt, HasSame, AddsTo, IsActed, NoneIsDue, LaneActed, NodeActed, IsStepped, NoneIsStepped, NodeStepped, IsOpened}
 
 -- the i-th node is one
@@ -28,6 +31,11 @@ pub same_place : {Node : Type 0} (xs : List Node) (i : ℕ) (x y : Node) → i <
 same_place [] i x y lt a b = absurd (omega arith)
 same_place (z ∷ zs) zero x y lt a b = sym a ∙ b
 same_place (z ∷ zs) (suc i) x y lt a b = same_place zs i x y (omega arith) a b
+
+-- one of a list is its first or one of the others
+in_first : {Node : Type 0} (x : Node) (xs : List Node) (y : Node) → Contains (x ∷ xs) y → (x ≡ y) ⊎ Contains xs y
+in_first x xs y (zero, lt, at) = inl at
+in_first x xs y (suc i, lt, at) = inr (i, (omega arith), at)
 
 module _ {Node : Type 0} (stands : Stands Node) (keeps : Keeps Node) (script : Script) (q : Question) where
   pub lane_acted : (nodes : List Node) (before node : Node) (lane : ℕ) → IsActed stands keeps script q node before lane → HasSame stands nodes node → LaneActed stands script q nodes before lane
@@ -124,10 +132,9 @@ module _ {Node : Type 0} (stands : Stands Node) (keeps : Keeps Node) (script : S
   pub node_idle : (nodes : List Node) (before : Node) → NoneIsStepped stands script q before → NodeStepped stands script q nodes before
   node_idle nodes before none p k counts journal layer s unspent window = absurd (none p k counts journal layer s unspent window)
 
-  pub node_stepped : (nodes : List Node) (before made : Node) (o : Option Node) → IfSome o (λ n. IsStepped stands keeps script q n before) → o ≡ Some made → HasSame stands nodes made → NodeStepped stands script q nodes before
-  node_stepped nodes before made o stepped is same p k counts journal layer s unspent window =
-      let one : IsStepped stands keeps script q made before = subst (λ (x : Option Node). IfSome x (λ n. IsStepped stands keeps script q n before)) is stepped in
-      let m = (one p k counts journal layer s).made in
+  pub node_stepped : (nodes : List Node) (before made : Node) → IsStepped stands keeps script q made before → HasSame stands nodes made → NodeStepped stands script q nodes before
+  node_stepped nodes before made stepped same p k counts journal layer s unspent window =
+      let m = (stepped p k counts journal layer s).made in
       record {
         clear = m.clear;
         has = record { node = same.node; among = same.among; is = same.also p counts (journal ++ paced_step script.pace (steps_of journal + 1)) m.stands_for };
@@ -141,24 +148,40 @@ module _ {Node : Type 0} (stands : Stands Node) (keeps : Keeps Node) (script : S
         has = record { node = g.has.node; among = subst (λ (ns : List Node). Contains ns g.has.node) (sym adds.is) (Contains-append_left old adds.more g.has.node g.has.among); is = g.has.is };
       }
 
-  -- the nodes below this number
-  abbrev pub NodesStepped : List Node → List Node → ℕ → Type 0
-  NodesStepped nodes next k = (node : Node) (i : ℕ) → i < k → get_or nodes i node ≡ node → NodeStepped stands script q next node
+  -- the last of the nodes were stepped, and these are left
+  pub record AreStepped (nodes left next : List Node) : Type 0 where
+    pub done : List Node
+    pub is : nodes ≡ left ++ done
+    pub stepped : (node : Node) → Contains done node → NodeStepped stands script q next node
 
-  pub no_steps : (nodes next : List Node) → NodesStepped nodes next 0
-  no_steps nodes next node i lt at = absurd (omega arith)
+  pub none_stepped : (nodes next : List Node) → AreStepped nodes nodes next
+  none_stepped nodes next = record { done = []; is = sym (append-nil nodes); stepped = λ node among. none_in node among }
+    where
+      none_in : (node : Node) → Contains [] node → NodeStepped stands script q next node
+      none_in node among = let within = among.1 in absurd (omega arith)
 
-  pub one_step_more : (nodes old new : List Node) (k : ℕ) (here : Node) → k < length nodes → get_or nodes k here ≡ here → AddsTo stands old new → NodesStepped nodes old k → NodeStepped stands script q new here → NodesStepped nodes new (k + 1)
-  one_step_more nodes old new k here within is adds h now node i lt at =
-      elim (cases_lt i k) [
-        | inl before ↦ step_stays old new node adds (h node i before at)
-        | inr last ↦
-            (let same : i ≡ k = omega arith in
-            subst (λ (n : Node). NodeStepped stands script q new n) (same_place nodes k here node within is (subst (λ j. get_or nodes j node ≡ node) same at)) now)
-      ]
+  -- the last that is left
+  last_left : (nodes left rest done : List Node) (here : Node) → nodes ≡ left ++ done → left ≡ rest ++ here ∷ [] → nodes ≡ rest ++ here ∷ done
+  last_left nodes left rest done here is last = is ∙ (ap (λ (ns : List Node). ns ++ done) last ∙ append_assoc rest (here ∷ []) done)
 
-  pub all_steps : (nodes next : List Node) (k : ℕ) → length nodes ≤ k → NodesStepped nodes next k → (node : Node) → Contains nodes node → NodeStepped stands script q next node
-  all_steps nodes next k le h node among = let within = among.1 in h node among.0 (omega arith) among.2
+  pub last_among : (nodes left rest next : List Node) (here : Node) → AreStepped nodes left next → left ≡ rest ++ here ∷ [] → Contains nodes here
+  last_among nodes left rest next here h last =
+      subst (λ (ns : List Node). Contains ns here) (sym h.is)
+      (Contains-append_left left h.done here (subst (λ (ns : List Node). Contains ns here) (sym last) (Contains-push rest here)))
+
+  pub one_step_more : (nodes left rest old new : List Node) (here : Node) → AreStepped nodes left old → left ≡ rest ++ here ∷ [] → AddsTo stands old new → NodeStepped stands script q new here → AreStepped nodes rest new
+  one_step_more nodes left rest old new here h last adds now = record {
+    done = here ∷ h.done;
+    is = last_left nodes left rest h.done here h.is last;
+    stepped = λ node among. elim (in_first here h.done node among) [
+      | inl same ↦ subst (λ (n : Node). NodeStepped stands script q new n) same now
+      | inr before ↦ step_stays old new node adds (h.stepped node before)
+    ];
+  }
+
+  pub all_steps : (nodes left next : List Node) → left ≡ [] → AreStepped nodes left next → (node : Node) → Contains nodes node → NodeStepped stands script q next node
+  all_steps nodes left next none h node among =
+      h.stepped node (subst (λ (ns : List Node). Contains ns node) (h.is ∙ ap (λ (ns : List Node). ns ++ h.done) none) among)
 
   -- ---- layers
 
@@ -206,6 +229,11 @@ pub err_on : {A B : Type 0} (r : Result A B) (e : B) (P : B → Type 0) → IsEr
 err_on (Ok x) e P h k = absurd h
 err_on (Err x) e P h k = subst P (sym h) k
 
-pub no_items : {A : Type 0} (seen xs : List A) → seen ≡ xs → nat_eq (length seen) 0 ≡ true → xs ≡ []
-no_items [] xs h e = sym h
-no_items (x ∷ seen) xs h e = absurd (let n = eqb-true (length (x ∷ seen)) 0 e in omega arith)
+pub empty : {A : Type 0} (xs : List A) → length xs ≡ 0 → xs ≡ []
+empty [] e = refl
+empty (x ∷ xs) e = absurd (omega arith)
+
+-- a node that isn't added shows nothing
+pub full_shows : (f : Full) (P : Next → ℕ → Type 0) → IfShown (stop_of f) P
+full_shows full.Limit P = tt
+full_shows full.Memory P = tt

@@ -1,6 +1,7 @@
 -- What nodes keep, and that what one shows is a witness.
 use Rattle.std.proofs.Common.{◌≡◌, ℕ, ◌+◌, ◌<◌, inl, inr, List, [], ◌∷◌, ◌++◌, length, replicate, get_or, Option, Some, refl, sym, ◌∙◌, ap, subst, arith}
 use Rattle.std.specs.Prelude.{IfSome, IsTrue}
+use Rattle.std.specs.List.{Contains}
 use Rattle.spec_machine.specs.declared.event.Event.{Event}
 use Rattle.spec_machine.specs.declared.event.Event.TheVariants.{Act, Cpu}
 use Rattle.spec_machine.specs.Events.{steps_of}
@@ -84,9 +85,8 @@ module _ {Node : Type 0} (stands : Stands Node) (keeps : Keeps Node) (script : S
         only_keeps k old new made only all (acted_keeps k before made lane (subst (λ (x : Option Node). IfSome x (λ n. IsActed stands keeps script q n before lane)) is acted) (keeps_at k old i before lt at all))
 
     -- the step of a node was added
-    pub add_stepped : (k : ℕ) (old new : List Node) (before made : Node) (o : Option Node) → IfSome o (λ n. IsStepped stands keeps script q n before) → o ≡ Some made → AddsOnly old made new → KeepsOne stands keeps p script q k before → AllKeep stands keeps script q p (k + 1) old → AllKeep stands keeps script q p (k + 1) new
-    add_stepped k old new before made o stepped is only one all =
-        only_keeps (k + 1) old new made only all (stepped_keeps k before made (subst (λ (x : Option Node). IfSome x (λ n. IsStepped stands keeps script q n before)) is stepped) one)
+    pub add_stepped : (k : ℕ) (old new : List Node) (before made : Node) → IsStepped stands keeps script q made before → AddsOnly old made new → KeepsOne stands keeps p script q k before → AllKeep stands keeps script q p (k + 1) old → AllKeep stands keeps script q p (k + 1) new
+    add_stepped k old new before made stepped only one all = only_keeps (k + 1) old new made only all (stepped_keeps k before made stepped one)
 
     pub none_keeps : (k : ℕ) → AllKeep stands keeps script q p k []
     none_keeps k node among = let within = among.1 in absurd (omega arith)
@@ -148,12 +148,14 @@ module _ {Node : Type 0} (stands : Stands Node) (keeps : Keeps Node) (script : S
   pub act_added : (old new : List Node) (i lane : ℕ) (before made : Node) (o : Option Node) → i < length old → get_or old i before ≡ before → IfSome o (λ n. IsActed stands keeps script q n before lane) → o ≡ Some made → AddsOnly old made new → StillKeep stands keeps script q old new
   act_added old new i lane before made o lt at acted is only p k valid proper all = add_acted p valid proper k old new i lane before made o lt at acted is only all
 
-  pub step_added : (old new : List Node) (before made : Node) (o : Option Node) → IfSome o (λ n. IsStepped stands keeps script q n before) → o ≡ Some made → AddsOnly old made new → StepKeeps stands keeps script q before old new
-  step_added old new before made o stepped is only p k valid proper one all = add_stepped p valid proper k old new before made o stepped is only one all
+  pub step_added : (old new : List Node) (before made : Node) → IsStepped stands keeps script q made before → AddsOnly old made new → StepKeeps stands keeps script q before old new
+  step_added old new before made stepped only p k valid proper one all = add_stepped p valid proper k old new before made stepped only one all
+
+  pub step_idle : (nodes : List Node) (before : Node) → StepKeeps stands keeps script q before nodes nodes
+  step_idle nodes before p k valid proper one all = all
 
   pub none_so_far : (nodes next : List Node) → next ≡ [] → NextKeep stands keeps script q nodes next
   none_so_far nodes next none p k valid proper all = subst (λ (ns : List Node). AllKeep stands keeps script q p (k + 1) ns) (sym none) (none_keeps p valid proper (k + 1))
 
-  pub one_more : (nodes old new : List Node) (i : ℕ) (before : Node) → i < length nodes → get_or nodes i before ≡ before → StepKeeps stands keeps script q before old new → NextKeep stands keeps script q nodes old → NextKeep stands keeps script q nodes new
-  one_more nodes old new i before lt at added next p k valid proper all =
-      added p k valid proper (keeps_at p valid proper k nodes i before lt at all) (next p k valid proper all)
+  pub one_more : (nodes old new : List Node) (before : Node) → Contains nodes before → StepKeeps stands keeps script q before old new → NextKeep stands keeps script q nodes old → NextKeep stands keeps script q nodes new
+  one_more nodes old new before among added next p k valid proper all = added p k valid proper (all before among) (next p k valid proper all)

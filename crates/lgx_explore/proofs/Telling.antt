@@ -3,6 +3,7 @@ use Rattle.std.proofs.Common.{◌≡◌, ℕ, ◌+◌, inl, inr, List, [], ◌�
 use Rattle.std.specs.Prelude.{Result, Ok, Err, IfOk, IsTrue}
 use Rattle.std.specs.List.{Contains}
 use Rattle.std.proofs.lemmas.List.Elements.{Contains-append_left, Contains-push, Contains-push_cases}
+use Rattle.spec_machine.specs.declared.event.Event.{Event}
 use Rattle.spec_machine.specs.Project.{Project}
 use Rattle.spec_machine.specs.ValidProject.{IsValidProject}
 use Rattle.spec_text.specs.Scripts.{Script, is_script}
@@ -12,30 +13,33 @@ use Rattle.lgx_explore.specs.declared.node.Stop.{Stop}
 use Rattle.lgx_explore.specs.declared.node.Stop.TheVariants as stops
 use Rattle.lgx_explore.specs.declared.found.Found.{Found}
 use Rattle.lgx_explore.specs.Shown.{IfShown, IsAction}
-use Rattle.lgx_explore.specs.Nodes.{Stands, Keeps, AddsTo, ShowsAt, IsOpened, KeepsOne, AllKeep}
-use Rattle.lgx_explore.specs.Found.{Tells, IsToldBy}
+use Rattle.lgx_explore.specs.declared.halt.Over.{Over}
+use Rattle.lgx_explore.specs.declared.halt.Over.TheVariants as over
+use Rattle.lgx_explore.specs.Nodes.{Stands, Keeps, AddsTo, ShownAmong, ShowsAt, IsOpened, KeepsOne, AllKeep}
+use Rattle.lgx_explore.specs.Found.{GoesOnTo, Tells, IfOver, IsToldBy, IsToldOf}
 use Rattle.lgx_explore.proofs.Keeping.{keeps_at, opened_keeps, action_shown, step_shown}
 
 module _ {Node : Type 0} (stands : Stands Node) (keeps : Keeps Node) (script : Script) (q : Question) (p : Project) (valid : IsValidProject p) (proper : IsTrue (is_script script)) where
   -- an action of the layer was to be made
   pub told_action : (k : ℕ) (nodes : List Node) (at steps : ℕ) (stop : Stop) (f : Found Node) → steps ≡ k → IsNeverBefore p script q k → AllKeep stands keeps script q p k nodes → IfShown stop (λ made line. IsAction made × ShowsAt stands script q nodes at made line) → IsToldBy nodes at steps stop f → Tells keeps p script q f
   told_action k nodes at steps (stops.Shown made line) f same never all shown told =
+      let one = keeps_at stands keeps script q p valid proper k nodes at told.node shown.1.within told.here all in
       subst (Tells keeps p script q) (sym told.is)
-      (action_shown stands keeps script q p valid proper k told.node made line never
-      (keeps_at stands keeps script q p valid proper k nodes at told.node shown.1.within told.here all) shown.0 (shown.1.shows told.node told.here))
+      (record { partial = one.layer.partial; shown = action_shown stands keeps script q p valid proper k told.node made line never one shown.0 (shown.1.shows told.node told.here) })
   told_action k nodes at steps stops.Limit f same never all shown told =
       subst (Tells keeps p script q) (sym told) (subst (λ n. IsNeverBefore p script q n) (sym same) never)
   told_action k nodes at steps stops.Memory f same never all shown told = absurd told
 
   -- a step of the layer was to be made
-  pub told_step : (k : ℕ) (nodes : List Node) (at steps : ℕ) (stop : Stop) (f : Found Node) → steps ≡ k + 1 → IsNeverBefore p script q (k + 1) → AllKeep stands keeps script q p k nodes → IfShown stop (λ made line. ShowsAt stands script q nodes at made line) → IsToldBy nodes at steps stop f → Tells keeps p script q f
-  told_step k nodes at steps (stops.Shown made line) f same never all shown told =
-      subst (Tells keeps p script q) (sym told.is)
-      (step_shown stands keeps script q p valid proper k told.node made line never
-      (keeps_at stands keeps script q p valid proper k nodes at told.node shown.within told.here all) (shown.shows told.node told.here))
-  told_step k nodes at steps stops.Limit f same never all shown told =
+  pub told_step : (k : ℕ) (nodes : List Node) (steps : ℕ) (o : Over Node) (f : Found Node) → steps ≡ k + 1 → IsNeverBefore p script q (k + 1) → AllKeep stands keeps script q p k nodes → IfOver o (ShownAmong stands keeps script q nodes) → IsToldOf steps o f → Tells keeps p script q f
+  told_step k nodes steps (over.Shown node made line) f same never all shown told =
+      let one = all shown.before shown.among in
+      subst (Tells keeps p script q) (sym told)
+      (subst (λ (kept : Script → List ℕ × List Event). GoesOnTo p script q (kept script).0 (kept script).1 made line) (sym shown.shown.kept)
+      (record { partial = one.layer.partial; shown = step_shown stands keeps script q p valid proper k shown.before made line never one shown.shown.shows }))
+  told_step k nodes steps over.Limit f same never all shown told =
       subst (Tells keeps p script q) (sym told) (subst (λ n. IsNeverBefore p script q n) (sym same) never)
-  told_step k nodes at steps stops.Memory f same never all shown told = absurd told
+  told_step k nodes steps over.Memory f same never all shown told = absurd told
 
   -- the opening's node is the first
   pub first_keeps : (nodes : List Node) (first : Node) → nodes ≡ first ∷ [] → IsOpened stands keeps script q p first → AllKeep stands keeps script q p 0 nodes

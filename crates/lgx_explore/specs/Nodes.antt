@@ -123,6 +123,17 @@ module _ {Node : Type 0} (stands : Stands Node) where
       pub stands_for : stands node p (replicate (length script.lanes) 0) opening
       pub kept : keeps node script ≡ (replicate (length script.lanes) 0, opening)
 
+    -- the node keeps what one before kept, which shows a line after the event
+    pub record ShownOf (script : Script) (q : Question) (before node : Node) (made : Next) (line : ℕ) : Type 0 where
+      pub shows : NodeShows script q before made line
+      pub kept : keeps node ≡ keeps before
+
+    -- that of one of these
+    pub record ShownAmong (script : Script) (q : Question) (nodes : List Node) (node : Node) (made : Next) (line : ℕ) : Type 0 where
+      pub before : Node
+      pub among : Contains nodes before
+      pub shown : ShownOf script q before node made line
+
     -- what it keeps is a journal of the layer that it stands for
     pub record KeepsOne (p : Project) (script : Script) (q : Question) (k : ℕ) (node : Node) : Type 0 where
       pub layer : IsOfLayer p script q k (keeps node script).0 (keeps node script).1

@@ -14,6 +14,8 @@ use Rattle.lgx_explore.specs.declared.node.Next.{Next}
 use Rattle.lgx_explore.specs.declared.node.Next.TheVariants as next
 use Rattle.lgx_explore.specs.declared.node.Stop.{Stop}
 use Rattle.lgx_explore.specs.declared.node.Stop.TheVariants as stops
+use Rattle.lgx_explore.specs.declared.halt.Full.{Full}
+use Rattle.lgx_explore.specs.declared.halt.Full.TheVariants as full
 
 -- The event may be made next of a partial journal within the window: a due action, a processor step, or the tick that a
 -- step is to have. The events before it are the journal's, and the step's at a tick.
@@ -45,3 +47,8 @@ IfShown _ P = ⊤
 abbrev pub IsAction : Next → Type 0
 IsAction (next.Action lane) = ⊤
 IsAction _ = ⊥
+
+-- a node that isn't added stops as this
+abbrev pub stop_of : Full → Stop
+stop_of full.Limit = stops.Limit
+stop_of full.Memory = stops.Memory

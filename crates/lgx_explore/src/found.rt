@@ -1,9 +1,9 @@
 // What is told of all journals of a script.
 ghost use Rattle.std.specs.Prelude.{◌<◌, length, ℕ, IfOk};
 ghost use Rattle.lgx_explore.specs.Shown.{IfShown};
-ghost use Rattle.lgx_explore.specs.Found.{IsToldBy};
+ghost use Rattle.lgx_explore.specs.Found.{IsToldBy, IsToldOf};
 
-use crate::halt::Halt;
+use crate::halt::{Halt, Over};
 use crate::node::{Next, Stop};
 use lgx_num::Memory;
 
@@ -29,5 +29,16 @@ pub(crate) fn told<N: Drop>(nodes: Vec<N>, halt: Halt, steps: u32) -> Result<Fou
         Stop::Shown(made, line) => Ok(Found::Shown(nodes.swap_remove(halt.at), made, line)),
         Stop::Limit => Ok(Found::Unknown(steps)),
         Stop::Memory => Err(Memory),
+    }
+}
+
+/// What is told where the layer of so many processor steps isn't made.
+pub(crate) fn told_over<N: Drop>(over: Over<N>, steps: u32) -> Result<Found<N>, Memory>
+    ensures { IfOk result (IsToldOf steps over) }
+{
+    match over {
+        Over::Shown(node, made, line) => Ok(Found::Shown(node, made, line)),
+        Over::Limit => Ok(Found::Unknown(steps)),
+        Over::Memory => Err(Memory),
     }
 }

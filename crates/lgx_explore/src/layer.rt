@@ -2,9 +2,10 @@
 ghost use Rattle.std.specs.Prelude.{◌≡◌, ◌<◌, ◌≤◌, true, length, slice_index_or, IfOk, IfErr};
 ghost use Rattle.std.specs.List.{Contains};
 ghost use Rattle.lgx_explore.specs.Shown.{IfShown, IsAction};
-ghost use Rattle.lgx_explore.specs.Nodes.{AddsTo, AddsOnly, HasSame, LaneActed, NodeActed, NodeStepped, NodeShows, ShowsAt, StillKeep, StepKeeps, NextKeep};
+ghost use Rattle.lgx_explore.specs.Found.{IfOver};
+ghost use Rattle.lgx_explore.specs.Nodes.{AddsTo, AddsOnly, HasSame, LaneActed, NodeActed, NodeStepped, ShownOf, ShownAmong, ShowsAt, StillKeep, StepKeeps, NextKeep};
 
-use crate::halt::Halt;
+use crate::halt::{Full, Halt, Over};
 use crate::node::{Node, Stop};
 use spec_explore::Question;
 use spec_text::Script;
@@ -23,25 +24,25 @@ fn has_same<N: Node>(nodes: &[N], node: &N) -> bool
 }
 
 /// Adds the node, unless one is there that is the same. `Limit` says that there are as many as there may be.
-fn add<N: Node>(nodes: &mut Vec<N>, node: N, most: usize) -> Result<(), Stop>
+fn add<N: Node>(nodes: &mut Vec<N>, node: N, most: usize) -> Result<(), Full>
     requires { length nodes.old.items ≤ most }
     ensures within { length nodes.new.items ≤ most }
     ensures adds { AddsTo N.stands nodes.old.items nodes.new.items }
     ensures only { AddsOnly nodes.old.items node nodes.new.items }
     ensures has { IfOk result (λ _. HasSame N.stands nodes.new.items node) }
-    ensures shown { IfErr result (λ stop. IfShown stop (λ _ _. ⊥)) }
 {
     if has_same(nodes.as_slice(), &node) {
         return Ok(());
     }
     if nodes.len() >= most {
-        return Err(Stop::Limit);
+        return Err(Full::Limit);
     }
     nodes.push(node)?;
     Ok(())
 }
 
 /// Makes the due action of the lane of the i-th node, if there is one.
+#[tactic(auto, using(crate::proofs::Closing::full_shows))]
 fn act_lane<N: Node>(
     alloc: Global,
     script: &Script,
@@ -118,28 +119,31 @@ pub(crate) fn close<N: Node>(
     Ok(())
 }
 
-/// Makes the step of a node, if it has one.
+/// Makes the step of a node, if it has one, and adds the node to the next layer.
 fn step_node<N: Node>(
-    alloc: Global,
     script: &Script,
     question: &Question,
-    node: &N,
+    mut node: N,
     next: &mut Vec<N>,
     most: usize,
-) -> Result<(), Stop>
+) -> Result<(), Over<N>>
     requires { length next.old.items ≤ most }
     ensures within { length next.new.items ≤ most }
     ensures adds { AddsTo N.stands next.old.items next.new.items }
-    ensures keep { StepKeeps N.stands N.keeps script.now question.now node.now next.old.items next.new.items }
-    ensures stepped { IfOk result (λ _. NodeStepped N.stands script.now question.now next.new.items node.now) }
-    ensures shown { IfErr result (λ stop. IfShown stop (λ made line. NodeShows N.stands script.now question.now node.now made line)) }
+    ensures keep { StepKeeps N.stands N.keeps script.now question.now node next.old.items next.new.items }
+    ensures stepped { IfOk result (λ _. NodeStepped N.stands script.now question.now next.new.items node) }
+    ensures shown { IfErr result (λ over. IfOver over (ShownOf N.stands N.keeps script.now question.now node)) }
 {
-    match node.stepped(alloc, script, question)? {
-        Some(node) => {
-            add(next, node, most)?;
-            Ok(())
-        }
-        None => Ok(()),
+    match node.step(script, question) {
+        Ok(true) => match add(next, node, most) {
+            Ok(()) => Ok(()),
+            Err(Full::Limit) => Err(Over::Limit),
+            Err(Full::Memory) => Err(Over::Memory),
+        },
+        Ok(false) => Ok(()),
+        Err(Stop::Shown(made, line)) => Err(Over::Shown(node, made, line)),
+        Err(Stop::Limit) => Err(Over::Limit),
+        Err(Stop::Memory) => Err(Over::Memory),
     }
 }
 
@@ -148,19 +152,20 @@ pub(crate) fn next_nodes<N: Node>(
     alloc: Global,
     script: &Script,
     question: &Question,
-    nodes: &[N],
+    nodes: Vec<N>,
     most: usize,
-) -> Result<Vec<N>, Halt>
+) -> Result<Vec<N>, Over<N>>
     ensures within { IfOk result (λ next. length next.items ≤ most) }
-    ensures keep { IfOk result (λ next. NextKeep N.stands N.keeps script.now question.now nodes.now next.items) }
-    ensures stepped { IfOk result (λ next. (node : N) → Contains nodes.now node → NodeStepped N.stands script.now question.now next.items node) }
-    ensures shown { IfErr result (λ halt. IfShown halt.stop (λ made line. ShowsAt N.stands script.now question.now nodes.now halt.at made line)) }
+    ensures keep { IfOk result (λ next. NextKeep N.stands N.keeps script.now question.now nodes.items next.items) }
+    ensures stepped { IfOk result (λ next. (node : N) → Contains nodes.items node → NodeStepped N.stands script.now question.now next.items node) }
+    ensures shown { IfErr result (λ over. IfOver over (ShownAmong N.stands N.keeps script.now question.now nodes.items)) }
 {
+    let mut nodes = nodes;
     let mut next = Vec::new(alloc);
-    for i in 0..nodes.len() {
-        match step_node(alloc, script, question, &nodes[i], &mut next, most) {
+    while let Some(node) = nodes.pop() {
+        match step_node(script, question, node, &mut next, most) {
             Ok(()) => {}
-            Err(stop) => return Err(Halt { at: i, stop }),
+            Err(over) => return Err(over),
         }
     }
     Ok(next)

@@ -5,7 +5,7 @@ ghost use Rattle.spec_machine.specs.ValidProject.{IsValidProject};
 ghost use Rattle.lgx_explore.specs.Nodes.{IsOpened};
 ghost use Rattle.lgx_explore.specs.Found.{Tells};
 
-use crate::found::{Found, told};
+use crate::found::{Found, told, told_over};
 use crate::layer::{close, next_nodes};
 use crate::node::Node;
 use lgx_num::Memory;
@@ -36,13 +36,12 @@ pub fn explore<N: Node>(
         Err(halt) => return told(nodes, halt, 0),
     }
     for steps in 0..layers {
-        let layer = nodes.as_slice();
-        if layer.is_empty() {
+        if nodes.is_empty() {
             return Ok(Found::Never);
         }
-        match next_nodes(alloc, script, question, layer, most) {
+        match next_nodes(alloc, script, question, nodes, most) {
             Ok(next) => nodes = next,
-            Err(halt) => return told(nodes, halt, steps + 1),
+            Err(over) => return told_over(over, steps + 1),
         }
         match close(alloc, script, question, &mut nodes, most) {
             Ok(()) => {}

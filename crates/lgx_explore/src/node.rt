@@ -1,5 +1,5 @@
 // Nodes.
-ghost use Rattle.std.specs.Prelude.{◌≡◌, true, ℕ, List, IfOk, IfErr, IfSome, IfNone};
+ghost use Rattle.std.specs.Prelude.{◌≡◌, true, false, ℕ, List, Ok, IfOk, IfErr, IfSome, IfNone};
 ghost use Rattle.spec_machine.specs.declared.event.Event.{Event as Events};
 ghost use Rattle.spec_machine.specs.Project.{Project};
 ghost use Rattle.spec_text.specs.Scripts.{Script as Scripts};
@@ -87,15 +87,12 @@ pub trait Node: Drop + Sized {
         ensures none { IfOk result (λ o. IfNone o (NoneIsDue stands script.now question.now self.now lane)) }
         ensures shown { IfErr result (λ stop. IfShown stop (λ made line. IsAction made × NodeShows stands script.now question.now self.now made line)) };
 
-    /// The node after a processor step with its tick; None if its steps are spent, or if the tick would leave the window. An
-    /// error if a line holds after the step or after its tick, or if memory runs out.
-    fn stepped(
-        &self,
-        alloc: Global,
-        script: &Script,
-        question: &Question,
-    ) -> Result<Option<Self>, Stop>
-        ensures stepped { IfOk result (λ o. IfSome o (λ node. IsStepped stands keeps script.now question.now node self.now)) }
-        ensures none { IfOk result (λ o. IfNone o (NoneIsStepped stands script.now question.now self.now)) }
-        ensures shown { IfErr result (λ stop. IfShown stop (λ made line. NodeShows stands script.now question.now self.now made line)) };
+    /// Makes a processor step with its tick: true if it is the node after them now. False if its steps are spent, or if the
+    /// tick would leave the window. An error if a line holds after the step or after its tick, or if a limit is met or memory runs
+    /// out; it then stands for nothing, but keeps what it kept.
+    fn step(&mut self, script: &Script, question: &Question) -> Result<bool, Stop>
+        ensures stepped { result ≡ Ok true → IsStepped stands keeps script.now question.now self.new self.old }
+        ensures none { result ≡ Ok false → NoneIsStepped stands script.now question.now self.old }
+        ensures shown { IfErr result (λ stop. IfShown stop (λ made line. NodeShows stands script.now question.now self.old made line)) }
+        ensures kept { IfErr result (λ _. keeps self.new ≡ keeps self.old) };
 }

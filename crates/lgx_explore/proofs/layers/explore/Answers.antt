@@ -1,11 +1,12 @@
 -- Layer by layer, till none is left or one shows a line.
 use Rattle.std.proofs.Common.{◌+◌, List, refl, sym, ◌∙◌, ap, subst, arith}
-use Rattle.std.specs.Prelude.{IsTrue}
+use Rattle.std.specs.Prelude.{IsTrue, vec_len}
 use Rattle.std.specs.List.{Contains}
+use Rattle.std.proofs.lemmas.Bool.{eqb-true}
 use Rattle.spec_text.specs.Scripts.{Script, is_script}
 use Rattle.lgx_explore.specs.Nodes.{ShowsAt, AllKeep}
 use Rattle.lgx_explore.specs.Shown.{IfShown}
-use Rattle.lgx_explore.proofs.Closing.{first_done, next_done, all_done, empty_done, step_stays, no_items}
+use Rattle.lgx_explore.proofs.Closing.{first_done, next_done, all_done, empty_done, step_stays, empty}
 use Rattle.lgx_explore.proofs.Telling.{told_action, told_step, first_keeps, none_before, stays_among, pushed_first, ok_more}
 use Rattle.lgx_explore.proofs.layers.explore.Goals as goal
 
@@ -42,11 +43,11 @@ loop-steps-init g c = (
 pub returns-then-is_empty : goal.returns-then-is_empty
 returns-then-is_empty g c = λ p valid opened.
     let proper : IsTrue (is_script c.args.script.now) = subst (λ (x : Script). IsTrue (is_script x)) c.script.view_is c.script.invariant in
-    empty_done g.N.Node.stands g.N.Node.keeps c.args.script.now c.args.question.now p valid proper c.loop-steps.steps c.loop-steps.nodes.items (no_items c.as_slice-layer.result.now c.loop-steps.nodes.items c.as_slice-layer.ensures.value (sym c.is_empty.ensures ∙ c.if-is_empty.true))
+    empty_done g.N.Node.stands g.N.Node.keeps c.args.script.now c.args.question.now p valid proper c.loop-steps.steps c.loop-steps.nodes.items (empty c.loop-steps.nodes.items (let n = eqb-true (vec_len c.loop-steps.nodes) 0 (sym c.is_empty.ensures ∙ c.if-is_empty.true) in omega arith))
     (c.loop-steps.invariant.1 p valid opened).0
 
 pub returns-in-Err-next_nodes : goal.returns-in-Err-next_nodes
-returns-in-Err-next_nodes g c = ok_more c.told-in-Err-next_nodes.result _ _
+returns-in-Err-next_nodes g c = ok_more c.told_over.result _ _
     (λ f told p valid opened.
     let stands = g.N.Node.stands in
     let keeps = g.N.Node.keeps in
@@ -54,10 +55,9 @@ returns-in-Err-next_nodes g c = ok_more c.told-in-Err-next_nodes.result _ _
     let q = c.args.question.now in
     let proper : IsTrue (is_script s) = subst (λ (x : Script). IsTrue (is_script x)) c.script.view_is c.script.invariant in
     let inv = c.loop-steps.invariant.1 p valid opened in
-    let stop = c.in-Err-next_nodes.halt.stop in
-    told_step stands keeps s q p valid proper c.loop-steps.steps c.loop-steps.nodes.items c.in-Err-next_nodes.halt.at (c.loop-steps.steps + 1) stop f refl inv.0.clear inv.1
-    (subst (λ (ns : List _). IfShown stop (λ made line. ShowsAt stands s q ns c.in-Err-next_nodes.halt.at made line)) c.as_slice-layer.ensures.value c.in-Err-next_nodes.ensures.shown) told)
-    c.told-in-Err-next_nodes.ensures
+    told_step stands keeps s q p valid proper c.loop-steps.steps c.loop-steps.nodes.items (c.loop-steps.steps + 1) c.in-Err-next_nodes.over f refl inv.0.clear inv.1
+    c.in-Err-next_nodes.ensures.shown told)
+    c.told_over.ensures
 
 pub returns-in-Err-close : goal.returns-in-Err-close
 returns-in-Err-close g c = ok_more c.told-in-Err-close.result _ _
@@ -70,7 +70,7 @@ returns-in-Err-close g c = ok_more c.told-in-Err-close.result _ _
     let inv = c.loop-steps.invariant.1 p valid opened in
     let k = c.loop-steps.steps in
     told_action stands keeps s q p valid proper (k + 1) c.close-in-loop-steps.new.nodes.items c.in-Err-close.halt.at (k + 1) c.in-Err-close.halt.stop f refl inv.0.clear
-    (c.in-Err-close.ensures.keep p (k + 1) valid proper (c.in-Ok-next_nodes.ensures.keep p k valid proper (subst (λ (ns : List _). AllKeep stands keeps s q p k ns) (sym c.as_slice-layer.ensures.value) inv.1)))
+    (c.in-Err-close.ensures.keep p (k + 1) valid proper (c.in-Ok-next_nodes.ensures.keep p k valid proper inv.1))
     c.in-Err-close.ensures.shown told)
     c.told-in-Err-close.ensures
 
@@ -89,9 +89,9 @@ loop-steps-preserved g c = (
       let next = c.close-in-loop-steps.new.nodes.items in (
         next_done stands keeps s q p valid proper k c.loop-steps.nodes.items next inv.0
             (λ node among. step_stays stands keeps s q made next node c.in-Ok-close.ensures.adds
-            (c.in-Ok-next_nodes.ensures.stepped node (subst (λ (ns : List _). Contains ns node) (sym c.as_slice-layer.ensures.value) among)))
+            (c.in-Ok-next_nodes.ensures.stepped node among))
             c.in-Ok-close.ensures.acted,
-        c.in-Ok-close.ensures.keep p (k + 1) valid proper (c.in-Ok-next_nodes.ensures.keep p k valid proper (subst (λ (ns : List _). AllKeep stands keeps s q p k ns) (sym c.as_slice-layer.ensures.value) inv.1)),
+        c.in-Ok-close.ensures.keep p (k + 1) valid proper (c.in-Ok-next_nodes.ensures.keep p k valid proper inv.1),
       ),
 )
 
