@@ -12,7 +12,7 @@ use Rattle.lgx_answer.specs.declared.status.Verdict.{Verdict}
 use Rattle.lgx_answer.specs.Endings.{Ending}
 use Rattle.lgx_answer.specs.Endings as ending
 use Rattle.lgx_answer.specs.Endings.{after_puts, after_read}
-use Rattle.lgx_answer.specs.Plan.{Texts, Plan, Say, Read, Says, only}
+use Rattle.lgx_answer.specs.Plan.{Texts, Plan, Say, Read, OneOf, Says, only}
 use Rattle.lgx_answer.specs.Puts.{Puts}
 use Rattle.lgx_answer.specs.Answered.{Change, Told, Failures, Call, Came, AddsPartOf, Writes, Misses, Answered, LeadsTo}
 
@@ -55,6 +55,8 @@ says_answered (Say verdict texts) told failures held faults done said text says 
     let P : Verdict → Type 0 = λ v. Writes v texts (call_of told failures held faults (after_puts done said)) in
     (subst P says.0 (written told failures held faults done said texts text says.1 puts), same)
 says_answered (Read name next) told failures held faults done said text says same puts = absurd says
+says_answered (OneOf A plans) told failures held faults done said text (x, says) same puts =
+    inr (x, says_answered (plans x) told failures held faults done said text says same puts)
 
 -- what a verdict's text is, is put, and the call ends so
 pub says_put : (told : Told) (failures : Change Failures) (held : Change (Option (List ℕ))) (faults : Change ℕ) (done : Result (Unit {0}) SinkFault) (verdict : Verdict) (text : List ℕ) (answer : Ending)
@@ -71,6 +73,7 @@ says_leads (Say wanted texts) verdict text call says a =
     let P : Verdict → Type 0 = λ v. Writes v texts call in
     (subst P says.0 (widened verdict texts text call.told call.failures call.held call.faults call.answer says.1 a.0), a.1)
 says_leads (Read name next) verdict text call says a = absurd says
+says_leads (OneOf A plans) verdict text call (x, says) a = inr (x, says_leads (plans x) verdict text call says a)
 
 -- memory ran out before anything was read or written
 pub stopped : (plan : Plan) (told : Told) (failures : Change Failures) (held : Change (Option (List ℕ))) (faults : Change ℕ)
@@ -78,6 +81,8 @@ pub stopped : (plan : Plan) (told : Told) (failures : Change Failures) (held : C
     → Answered plan (call_of told failures held faults ending.Memory)
 stopped (Say verdict texts) told failures held faults f h w = ((inr h, w), f)
 stopped (Read name next) told failures held faults f h w = inl (f, record { held = h; faults = w })
+stopped (OneOf A plans) told failures held faults f h w =
+    inl (record { answer = refl; failures = f; silent = record { held = h; faults = w } })
 
 too_long : (t : Option (List ℕ)) (taken : ℕ) → IsCause t (file.TooLong taken) → IfSome t (λ contents. MAX_FILE_BYTES < length contents)
 too_long None taken w = tt
@@ -111,6 +116,10 @@ answered_told (Read name next) told now failures held faults answer same (inl (m
 answered_told (Read name next) told now failures held faults answer same (inr (bytes, came, more)) =
     let P : Option (List ℕ) → Type 0 = λ t. IfSome t (λ contents. bytes ≡ contents) in
     inr (bytes, record { short = came.short; whole = subst P (same name) came.whole }, answered_told (next bytes) told now failures held faults answer same more)
+answered_told (OneOf A plans) told now failures held faults answer same (inl out) =
+    inl (record { answer = out.answer; failures = out.failures; silent = record { held = out.silent.held; faults = out.silent.faults } })
+answered_told (OneOf A plans) told now failures held faults answer same (inr (x, more)) =
+    inr (x, answered_told (plans x) told now failures held faults answer same more)
 
 came : (told : Told) (asked name bytes : List ℕ) → asked ≡ name → length bytes ≤ MAX_FILE_BYTES → IfSome (told asked) (λ contents. bytes ≡ contents) → Came told name bytes
 came told asked name bytes named short whole =

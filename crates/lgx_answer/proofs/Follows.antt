@@ -7,8 +7,8 @@ use Rattle.lgx_io.specs.Sink.{FaultsRose}
 use Rattle.lgx_answer.specs.declared.status.Verdict.{Verdict}
 use Rattle.lgx_answer.specs.Endings.{Ending}
 use Rattle.lgx_answer.specs.Endings as ending
-use Rattle.lgx_answer.specs.Plan.{Texts, Plan, Say, Read}
-use Rattle.lgx_answer.specs.Answered.{Change, Told, Failures, Call, Came, Gains, AddsOf, Writes, Misses, Answered}
+use Rattle.lgx_answer.specs.Plan.{Texts, Plan, Say, Read, OneOf}
+use Rattle.lgx_answer.specs.Answered.{Change, Told, Failures, Call, Came, Gains, AddsOf, Writes, Misses, RunsOut, Answered}
 use Rattle.lgx_answer.specs.Laws.{Reaches, Comes, IsSure, FollowsPlan}
 
 -- a call as its parts, so that its answer can be matched
@@ -87,6 +87,17 @@ came_told told name bytes given came is =
     let P : Option (List ℕ) → Type 0 = λ o. IfSome o (λ contents. bytes ≡ contents) in
     subst P is came.whole
 
+-- ---- memory that ran out before one of some plans was known
+
+out_only : (call : Call) (other : Ending) → RunsOut call → call.answer ≡ other → other ≡ ending.Memory
+out_only call other out is = sym is ∙ out.answer
+
+out_said : (call : Call) (said : Verdict) → RunsOut call → call.answer ≡ ending.Said said → ⊥
+out_said call said out is = cc (out_only call (ending.Said said) out is)
+
+out_written : (call : Call) → RunsOut call → call.answer ≡ ending.WriteFault → ⊥
+out_written call out is = cc (out_only call ending.WriteFault out is)
+
 -- ---- the laws
 
 pub only_if : (plan : Plan) (call : Call) (said : Verdict) → Answered plan call → call.answer ≡ ending.Said said → Reaches call.told plan said (AddsOf call.held)
@@ -94,29 +105,39 @@ only_if (Say v texts) call said a is = says_only v texts call.told call.failures
 only_if (Read name next) call said (inl (m, silent)) is =
     absurd (misses_said name call.told call.failures call.held call.faults call.answer said is m)
 only_if (Read name next) call said (inr (bytes, came, more)) is = (bytes, came, only_if (next bytes) call said more is)
+only_if (OneOf A plans) call said (inl out) is = absurd (out_said call said out is)
+only_if (OneOf A plans) call said (inr (x, more)) is = (x, only_if (plans x) call said more is)
 
 pub only_write_fault : (plan : Plan) (call : Call) → Answered plan call → call.answer ≡ ending.WriteFault → FaultsRose call.faults.old call.faults.new
 only_write_fault (Say v texts) call a is = leaf_rose v texts call.told call.failures call.held call.faults call.answer is a.0
 only_write_fault (Read name next) call (inl (m, silent)) is =
     absurd (misses_rose name call.told call.failures call.held call.faults call.answer is m)
 only_write_fault (Read name next) call (inr (bytes, came, more)) is = only_write_fault (next bytes) call more is
+only_write_fault (OneOf A plans) call (inl out) is = absurd (out_written call out is)
+only_write_fault (OneOf A plans) call (inr (x, more)) is = only_write_fault (plans x) call more is
 
 pub is_write_fault : (plan : Plan) (call : Call) → Answered plan call → call.answer ≢ ending.WriteFault → call.faults.new ≡ call.faults.old
 is_write_fault (Say v texts) call a other = leaf_same v texts call.told call.failures call.held call.faults call.answer other a.0
 is_write_fault (Read name next) call (inl (m, silent)) other = silent.faults
 is_write_fault (Read name next) call (inr (bytes, came, more)) other = is_write_fault (next bytes) call more other
+is_write_fault (OneOf A plans) call (inl out) other = out.silent.faults
+is_write_fault (OneOf A plans) call (inr (x, more)) other = is_write_fault (plans x) call more other
 
 pub silent_at_read_fault : (plan : Plan) (call : Call) → Answered plan call → call.answer ≡ ending.ReadFault → call.held.new ≡ call.held.old
 silent_at_read_fault (Say v texts) call a is =
     absurd (leaf_read v texts call.told call.failures call.held call.faults call.answer (inl is) a.0)
 silent_at_read_fault (Read name next) call (inl (m, silent)) is = silent.held
 silent_at_read_fault (Read name next) call (inr (bytes, came, more)) is = silent_at_read_fault (next bytes) call more is
+silent_at_read_fault (OneOf A plans) call (inl out) is = out.silent.held
+silent_at_read_fault (OneOf A plans) call (inr (x, more)) is = silent_at_read_fault (plans x) call more is
 
 pub silent_at_too_long : (plan : Plan) (call : Call) → Answered plan call → call.answer ≡ ending.TooLong → call.held.new ≡ call.held.old
 silent_at_too_long (Say v texts) call a is =
     absurd (leaf_read v texts call.told call.failures call.held call.faults call.answer (inr is) a.0)
 silent_at_too_long (Read name next) call (inl (m, silent)) is = silent.held
 silent_at_too_long (Read name next) call (inr (bytes, came, more)) is = silent_at_too_long (next bytes) call more is
+silent_at_too_long (OneOf A plans) call (inl out) is = out.silent.held
+silent_at_too_long (OneOf A plans) call (inr (x, more)) is = silent_at_too_long (plans x) call more is
 
 pub if_comes : (plan : Plan) (call : Call) (wanted : Ending) → Answered plan call → Comes call plan wanted → (call.answer ≡ wanted) ⊎ (call.answer ≡ ending.Memory)
 if_comes (Say v texts) call wanted a c =
@@ -131,6 +152,8 @@ if_comes (Read name next) call wanted (inr (b, came, more)) (bytes, is, unfailed
 if_comes (Read name next) call wanted (inr (b, came, more)) (bytes, is, unfailed, inr (short, comes)) =
     let P : List ℕ → Type 0 = λ l. Comes call (next l) wanted in
     if_comes (next b) call wanted more (subst P (sym (came_told call.told name b bytes came is)) comes)
+if_comes (OneOf A plans) call wanted (inl out) comes = inr out.answer
+if_comes (OneOf A plans) call wanted (inr (x, more)) comes = if_comes (plans x) call wanted more (comes x)
 
 pub is_exact : (plan : Plan) (call : Call) (said wanted : Verdict) (text : List ℕ) → Answered plan call → IsSure call.told plan wanted text → call.answer ≡ ending.Said said → (said ≡ wanted) × Appends call.held.old call.held.new text
 is_exact (Say v texts) call said wanted text a sure is =
@@ -142,6 +165,8 @@ is_exact (Read name next) call said wanted text (inl (m, silent)) sure is =
 is_exact (Read name next) call said wanted text (inr (b, came, more)) (bytes, told, sure) is =
     let P : List ℕ → Type 0 = λ l. IsSure call.told (next l) wanted text in
     is_exact (next b) call said wanted text more (subst P (sym (came_told call.told name b bytes came told)) sure) is
+is_exact (OneOf A plans) call said wanted text (inl out) sure is = absurd (out_said call said out is)
+is_exact (OneOf A plans) call said wanted text (inr (x, more)) sure is = is_exact (plans x) call said wanted text more (sure x) is
 
 pub follows_plan : (plan : Plan) (call : Call) → Answered plan call → FollowsPlan plan call
 follows_plan plan call a = record {

@@ -8,7 +8,7 @@ use Rattle.lgx_io.specs.Sink.{FaultsRose, AppendsPart}
 use Rattle.lgx_answer.specs.declared.status.Verdict.{Verdict}
 use Rattle.lgx_answer.specs.Endings.{Ending}
 use Rattle.lgx_answer.specs.Endings as ending
-use Rattle.lgx_answer.specs.Plan.{Texts, Plan, Say, Read}
+use Rattle.lgx_answer.specs.Plan.{Texts, Plan, Say, Read, OneOf}
 
 -- a value before the call and after it
 pub record Change (A : Type 0) : Type 0 where
@@ -75,12 +75,20 @@ pub record IsSilent (call : Call) : Type 0 where
   pub held : call.held.new ≡ call.held.old
   pub faults : call.faults.new ≡ call.faults.old
 
+-- Memory ran out, no read failed, and nothing was written.
+pub record RunsOut (call : Call) : Type 0 where
+  pub answer : call.answer ≡ ending.Memory
+  pub failures : call.failures.new ≡ call.failures.old
+  pub silent : IsSilent call
+
 -- All that is said of a call. Its files come one after another, each whole, up to a verdict whose text is written, and no read
--- failed; or up to one that doesn't come, and nothing is written.
+-- failed; or up to one that doesn't come, and nothing is written. Of several plans the call follows one, unless memory runs out
+-- before that one is known.
 abbrev pub Answered : Plan → Call → Type 0
 Answered (Say verdict texts) call = Writes verdict texts call × (call.failures.new ≡ call.failures.old)
 Answered (Read name next) call =
     (Misses name call × IsSilent call) ⊎ ((bytes : List ℕ) × Came call.told name bytes × Answered (next bytes) call)
+Answered (OneOf A plans) call = RunsOut call ⊎ ((x : A) × Answered (plans x) call)
 
 -- Whatever is answered to the second plan is an answer to the first: what they say of a call is the same, or the second says more.
 -- (Plans hold sets of texts, so they are too large for a clause to say that two of them are equal.)

@@ -28,6 +28,7 @@ ending_of status.WriteFault = WriteFault
 ending_of status.Memory = Memory
 ending_of status.TooLong = TooLong
 ending_of status.Breach = Said verdict.Breach
+ending_of status.Unknown = Said verdict.Unknown
 
 -- the number that the process ends with
 abbrev pub number : Status → ℕ
@@ -40,6 +41,7 @@ number status.WriteFault = 5
 number status.Memory = 6
 number status.TooLong = 7
 number status.Breach = 8
+number status.Unknown = 9
 
 -- how a call ends whose whole text is put, or cut off by a fault
 abbrev pub after_puts : Result (Unit {0}) SinkFault → Verdict → Ending

@@ -7,13 +7,14 @@ use Rattle.lgx_io.specs.Sink.{FaultsRose}
 use Rattle.lgx_answer.specs.declared.status.Verdict.{Verdict}
 use Rattle.lgx_answer.specs.Endings.{Ending}
 use Rattle.lgx_answer.specs.Endings as ending
-use Rattle.lgx_answer.specs.Plan.{Texts, Plan, Say, Read}
+use Rattle.lgx_answer.specs.Plan.{Texts, Plan, Say, Read, OneOf}
 use Rattle.lgx_answer.specs.Answered.{Told, Call, Came, Gains, AddsOf, Answered}
 
 -- files that came whole lead the plan to this verdict, whose texts are of this kind
 abbrev pub Reaches : Told → Plan → Verdict → (Texts → Type 0) → Type 0
 Reaches told (Say verdict texts) wanted P = (wanted ≡ verdict) × P texts
 Reaches told (Read name next) wanted P = (bytes : List ℕ) × Came told name bytes × Reaches told (next bytes) wanted P
+Reaches told (OneOf A plans) wanted P = (x : A) × Reaches told (plans x) wanted P
 
 -- What is told all along, of files that didn't fail, comes to this status: to a verdict, and no put failed; or to a file that is
 -- too long.
@@ -22,11 +23,13 @@ Comes call (Say verdict texts) wanted =
     (wanted ≡ ending.Said verdict) × (FaultsRose call.faults.old call.faults.new → ⊥)
 Comes call (Read name next) wanted =
     (bytes : List ℕ) × (call.told name ≡ Some bytes) × (Gains call.failures name cause.Failed → ⊥) × (((MAX_FILE_BYTES < length bytes) × (wanted ≡ ending.TooLong)) ⊎ ((length bytes ≤ MAX_FILE_BYTES) × Comes call (next bytes) wanted))
+Comes call (OneOf A plans) wanted = (x : A) → Comes call (plans x) wanted
 
 -- what is told leads the plan to this text alone
 abbrev pub IsSure : Told → Plan → Verdict → List ℕ → Type 0
 IsSure told (Say verdict texts) wanted text = (wanted ≡ verdict) × ((t : List ℕ) → texts t → t ≡ text)
 IsSure told (Read name next) wanted text = (bytes : List ℕ) × (told name ≡ Some bytes) × IsSure told (next bytes) wanted text
+IsSure told (OneOf A plans) wanted text = (x : A) → IsSure told (plans x) wanted text
 
 -- All that is said of a call of a plan. Everything follows from `ends`; the others say it by the status.
 pub record FollowsPlan (plan : Plan) (call : Call) : Type 0 where

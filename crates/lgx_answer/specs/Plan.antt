@@ -10,15 +10,18 @@ Texts = List ℕ → Type 0
 abbrev pub only : List ℕ → Texts
 only text = λ t. t ≡ text
 
--- a verdict with any one of these texts, all of it; or one more file, by its name, whose bytes decide what comes next
+-- a verdict with any one of these texts, all of it; or one more file, by its name, whose bytes decide what comes next; or any
+-- one of these plans
 pub data Plan : Type 1 where
   Say : Verdict → Texts → Plan
   Read : List ℕ → (List ℕ → Plan) → Plan
+  OneOf : (A : Type 0) → (A → Plan) → Plan
 
--- the plan says this verdict, and this is a text of it
+-- the plan, or one that it may be, says this verdict, and this is a text of it
 abbrev pub Says : Plan → Verdict → List ℕ → Type 0
 Says (Say verdict texts) said text = (said ≡ verdict) × texts text
 Says (Read name next) said text = ⊥
+Says (OneOf A plans) said text = (x : A) × Says (plans x) said text
 
 -- one plan or the other (the `if` of the library chooses among smaller things)
 abbrev pub choose : Bool → Plan → Plan → Plan

@@ -19,7 +19,7 @@ pub fn exit_number<W: Write + Drop>(status: Status, sink: &mut Gathered<W>) -> u
     }
 }
 
-/// The words of the command line, without the program's own name. Arguments that aren't text are wrong arguments: three empty
+/// The words of the command line, without the program's own name. Arguments that aren't text are wrong arguments: four empty
 /// words stand for them, which no program takes.
 pub fn words_of<R: Env + AllocGlobal>(rt: &R) -> Result<Vec<String>, Memory> {
     let alloc = rt.alloc();
@@ -32,6 +32,7 @@ pub fn words_of<R: Env + AllocGlobal>(rt: &R) -> Result<Vec<String>, Memory> {
         }
         Err(fault) if fault.kind() == ErrorKind::OutOfMemory => return Err(Memory),
         Err(_) => {
+            words.push(String::new(alloc))?;
             words.push(String::new(alloc))?;
             words.push(String::new(alloc))?;
             words.push(String::new(alloc))?;

@@ -13,8 +13,10 @@ pub enum Verdict {
     Project,
     /// The file that goes with the project is refused: it is no journal, or no script.
     Script,
-    /// A file that is accepted breaks a law.
+    /// A file that is accepted breaks a law, or a line of a question holds.
     Breach,
+    /// A question isn't answered: its answer is beyond a limit.
+    Unknown,
 }
 
 /// How the program ends. Its number is the exit status.
@@ -36,8 +38,10 @@ pub enum Status {
     Memory,
     /// A file that the words name has more than 16,777,216 bytes.
     TooLong,
-    /// A file that is accepted breaks a law.
+    /// A file that is accepted breaks a law, or a line of a question holds.
     Breach,
+    /// A question isn't answered: its answer is beyond a limit.
+    Unknown,
 }
 
 impl Verdict {
@@ -51,12 +55,13 @@ impl Verdict {
             Verdict::Project => Status::Project,
             Verdict::Script => Status::Script,
             Verdict::Breach => Status::Breach,
+            Verdict::Unknown => Status::Unknown,
         }
     }
 }
 
 impl Status {
-    /// The exit status, from 0 to 8.
+    /// The exit status, from 0 to 9.
     pub fn number(self) -> u8
         ensures { result ≡ number self }
     {
@@ -70,6 +75,7 @@ impl Status {
             Status::Memory => 6,
             Status::TooLong => 7,
             Status::Breach => 8,
+            Status::Unknown => 9,
         }
     }
 }

@@ -24,6 +24,14 @@ impl Controller {
         self.parts.image.get(place)
     }
 
+    /// The number of the image's bytes.
+    #[inline(always)]
+    pub fn image_len(&self) -> u32
+        ensures { result ≡ length self.now.parts.image.bytes }
+    {
+        self.parts.image.len()
+    }
+
     /// The present tick.
     #[inline(always)]
     pub fn now(&self) -> u32

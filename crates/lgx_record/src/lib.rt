@@ -18,4 +18,5 @@ mod recording;
 pub use follower::Follower;
 pub use laws::{law_of_events, law_of_faults, law_of_lines};
 pub use lines::MAX_EVENT_LINES;
+pub use names::names_of;
 pub use recording::Recording;

@@ -9,8 +9,9 @@ use lgx_watch::{Names, WatchIndex};
 use spec_language::TaskName;
 use std::alloc::Global;
 
-/// The names of a project's tasks and programs and the texts of its watched places.
-fn names_of(alloc: Global, project: &PlantParts) -> Result<Names, Memory>
+/// The names of a project's tasks and programs and the texts of its watched places. Out of memory comes if there is no room for
+/// them.
+pub fn names_of(alloc: Global, project: &PlantParts) -> Result<Names, Memory>
     ensures { IfOk result (λ names. names ≡ names_of project.now) }
 {
     Ok(Names {

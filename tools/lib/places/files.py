@@ -13,9 +13,9 @@ from lib.texts import counted, meant, near, quoted
 
 MOST_BYTES = 16_777_216
 USAGE = re.compile(r"`usage: logix (.*?)`")
-FILES = {"P": "project", "J": "journal", "S": "script", "T": "trace", "A": "project", "B": "project", "L": "link script"}
+FILES = {"P": "project", "J": "journal", "S": "script", "T": "trace", "A": "project", "B": "project", "L": "link script", "Q": "question"}
 # The programs beside `logix` that read files, and which.
-OTHERS = {"logix_live": ("P",), "logix_cover": ("P", "J")}
+OTHERS = {"logix_live": ("P",), "logix_cover": ("P", "J"), "logix_explore": ("P", "S", "Q")}
 
 
 @cache

@@ -1,0 +1,9 @@
+//! `logix_explore`: tells whether any journal of a script shows what a question says is never to be.
+#![tactic(auto)]
+
+use std::process::ExitCode;
+use word_explore::process;
+
+fn main(rt: HostRuntime) -> ExitCode {
+    ExitCode::from(process(&rt))
+}

@@ -1,0 +1,24 @@
+-- The program on its way.
+use Rattle.std.specs.Prelude.{ℕ, List}
+use Rattle.lgx_answer.specs.Plan.{Plan}
+use Rattle.word_explore.specs.declared.word.Explore.{Explore}
+use Rattle.word_explore.specs.declared.word.Explore.TheVariants.{All, OnProject, OnScript}
+use Rattle.word_explore.specs.ExplorePlan.{project_read, script_read, question_read}
+
+-- the file that is read next
+abbrev pub explore_file : Explore → List ℕ
+explore_file (All project script question) = project.now
+explore_file (OnProject project script question) = script.now
+explore_file (OnScript project script question) = question.now
+
+-- what its bytes lead to
+abbrev pub explore_next : Explore → List ℕ → Plan
+explore_next (All project script question) bytes = project_read script.now question.now bytes
+explore_next (OnProject project script question) bytes = script_read question.now project bytes
+explore_next (OnScript project script question) bytes = question_read project script bytes
+
+-- how many files are read after it
+abbrev pub explore_left : Explore → ℕ
+explore_left (All project script question) = 2
+explore_left (OnProject project script question) = 1
+explore_left (OnScript project script question) = 0
