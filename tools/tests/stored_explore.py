@@ -7,11 +7,16 @@ from __future__ import annotations
 import os
 import subprocess
 import unittest
+from types import SimpleNamespace
 
 import stored_runs
 from common import built, read_bytes
 from explore_files import MACHINES, NEVER, REFUSED, TAKEN, TRANSIENT, TRANSIENT_SHOWN, head, machine
 from lib.hammer.cases import journal_text
+from lib.hammer.explores import Moment, single
+from lib.hammer.plain.journal import Script, read_journal
+from lib.hammer.plain.project import Project
+from lib.hammer.plain.question import Question
 
 NAME = "logix_explore"
 is_built = unittest.skipUnless(os.access(built(NAME), os.X_OK), f"{NAME} isn't built")
@@ -33,16 +38,34 @@ class Explored(stored_runs.StoredRun):
     def shows(self, answer: tuple[int, bytes], shown: tuple[int, int, int]) -> None:
         self.assertEqual((answer[0], answer[1].decode().split("\n")[0]), (8, head(shown)))
 
+    def witnesses(self, contents: list[bytes], journal: bytes, shown: tuple[int, int, int]) -> None:
+        """The journal is one of the script's, and the line holds after its last event, none before; by the plain interpreter, and its report ends there."""
+        project = Project(contents[0])
+        moment = Moment(SimpleNamespace(project=project, script=Script(contents[1]), question=Question(project, contents[2])))
+        for at, event in enumerate(single(read_journal(journal))):
+            moment.make(at, event)
+        line, step, tick = shown
+        self.assertEqual((moment.shown, moment.steps, moment.ticks), (line - 1, step, tick))
+        self.assertEqual(self.report(contents[0], journal).splitlines()[-1], f"end {tick} {step} run lost 0".encode())
+
     def test_machines(self) -> None:
-        for name, (files, shown) in MACHINES.items():
+        for name, (_, shown) in MACHINES.items():
             answer = self.asked(*machine(name))
             if shown is None:
                 self.assertEqual(answer, (0, b"never 1\n"), name)
-                continue
-            self.shows(answer, shown)
-            stored = f"{NEVER}/{files[0].removesuffix('.json')}"
-            self.assertEqual(answer[1], read_bytes(f"{stored}.witness.txt"))
-            self.assertEqual(self.report(machine(name)[0], answer[1]), read_bytes(f"{stored}.report.txt"))
+            else:
+                self.shows(answer, shown)
+                self.witnesses(machine(name), answer[1], shown)
+
+    def test_the_stored_witnesses(self) -> None:
+        """There may be several of as few steps: these are witnesses too, with their reports."""
+        for name, (files, shown) in MACHINES.items():
+            if shown:
+                stored = f"{NEVER}/{files[0].removesuffix('.json')}"
+                journal = read_bytes(f"{stored}.witness.txt")
+                self.assertEqual(journal.split(b"\n")[0].decode(), head(shown), name)
+                self.witnesses(machine(name), journal, shown)
+                self.assertEqual(self.report(machine(name)[0], journal), read_bytes(f"{stored}.report.txt"), name)
 
     def test_a_transient_is_left_out_at_the_end_of_scans(self) -> None:
         project, script, question = machine("edit, mended")

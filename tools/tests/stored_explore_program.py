@@ -40,10 +40,19 @@ class Program(stored_runs.StoredRun):
         for lines in range(1, 4):
             self.asks("never Lamp > Button\n" * lines + "end\n", f"never {lines}\n", 0)
 
+    def test_as_many_states_as_a_layer_may_have(self) -> None:
+        """Before the first step each of the 12 lanes has made its action or not: 4,096 states."""
+        actions = "".join(f"@{lane} 0 in Panel 0 1\n" for lane in range(12))
+        self.asks("never Lamp > Button\nend\n", "never 1\n", 0, f"run 1 1 12\n{actions}end\n")
+
     def test_more_states_than_a_layer_may_have(self) -> None:
-        """Before the first step each of the 13 lanes has made its action or not: 8,192 states."""
+        """One more lane: 8,192 states."""
         actions = "".join(f"@{lane} 0 in Panel 0 1\n" for lane in range(13))
         self.asks("never Lamp > Button\nend\n", "unknown 0\n", 9, f"run 1 1 13\n{actions}end\n")
+
+    def test_a_script_without_lanes(self) -> None:
+        self.asks("never Lamp = 1\nend\n", "never 1\n", 0, "run 30 7 0\nend\n")
+        self.asks("never Lamp = 0\nend\n", "# line 1 after step 0, tick 0\nmode run\nend\n", 8, "run 30 7 0\nend\n")
 
     def test_a_line_that_holds_comes_before_want_of_room(self) -> None:
         """It holds at the opening."""
