@@ -4,7 +4,7 @@ from __future__ import annotations
 
 from dataclasses import dataclass
 
-IS_REFUSED = "logix: status 3: the journal, script, trace or link script is refused\n"
+IS_REFUSED = "logix: status 3: the journal, script, trace, link script or question is refused\n"
 
 
 @dataclass

@@ -13,7 +13,7 @@ from refused_projects import LINE
 from terminal import on_terminal
 
 # How many codes there are of each letter, from 1 on; there is no E4.
-CODES = {"T": 5, "C": 17, "G": 10, "Y": 6, "P": 11, "J": 5, "K": 2, "V": 5, "U": 1, "L": 3, "E": 12, "N": 3, "F": 3, "M": 3}
+CODES = {"T": 5, "C": 17, "G": 10, "Y": 6, "P": 11, "J": 5, "K": 2, "V": 5, "U": 1, "L": 3, "Q": 4, "E": 12, "N": 3, "F": 3, "M": 3}
 FAULTS = ("4/4", "4/20", "4/31", "4/34", "4/84", "6/1", "6/2", "6/3")
 
 # A program that is given the status to end with, and the text to write.

@@ -16,6 +16,7 @@ if TYPE_CHECKING:
 CHUNK = 65_536
 MOST_OF_A_LINE = 4_096
 REPORTS = ("replay", "run", "stations")
+ANSWERING = ("logix_explore",)  # whose status 0 is told too
 CANT_BE_WRITTEN = 5
 
 
@@ -99,7 +100,7 @@ def run(file: str, words: list[str]) -> int:
         return 128 - status
     if passing.fails and status == 0:
         status = CANT_BE_WRITTEN
-    if status or passing.report:
+    if status or passing.report or program in ANSWERING:
         first = (passing.first or b"").decode("utf-8", "replace")
         tell_of(program, status, first, None if passing.fails else passing.report, words)
     return status
@@ -113,7 +114,7 @@ def unexplained(fault: Exception) -> str:
 
 
 def tell_of(program: str, status: int, first: str, report: Report | None, words: list[str]) -> None:
-    if not (status or report and (report.refused or report.lost)):
+    if not (status or program in ANSWERING or report and (report.refused or report.lost)):
         return
     from .ended import ended
 

@@ -6,13 +6,13 @@ import re
 
 from lib.texts import Said, counted, marked, meant, quoted
 
-from . import lines, project, traces
+from . import lines, project, questions, traces
 from .codes import sentences
 from .files import File
 from .json_text import NoJson
 from .refused import Refused, refused_of
 
-KINDS = ("journal", "script", "link", "trace", "line")
+KINDS = ("journal", "script", "question", "link", "trace", "line")
 
 
 def project_names(contents: bytes | None, key: str) -> list[str]:
@@ -36,6 +36,8 @@ def of_line(kind: str, code: str, number: int, file: File, projects: list[bytes 
     every = lines.lines_of(contents)
     if kind == "trace":
         said = traces.told(code, number, contents, project_names(projects[0], "tasks"), project_names(projects[0], "programs"))
+    elif kind == "question":
+        said = questions.told(code, number, every, readable(projects[0]))
     elif code == "U1" and number <= len(every):
         said = of_link_head(every[number - 1], *(readable(one) for one in (*projects, None, None)[:2]))
     else:
@@ -88,7 +90,7 @@ def place(kind: str, rest: list[str], first: str, files: list[File]) -> list[str
         file = projects[-1 if first.startswith("b ") else 0] if projects else None
         contents = file.contents() if file else None
         return project.told(file.name, contents, rest) if contents is not None else []
-    file = files[-1] if files else None
+    file = next((one for one in files if one.kind.startswith(kind)), files[-1] if files else None)
     contents = file.contents() if file else None
     about = [one.contents() for one in projects]
     if contents is None or file.kind == "project":
