@@ -10,7 +10,7 @@ import unittest
 from types import SimpleNamespace
 
 import stored_runs
-from common import built, read_bytes
+from common import TOOLS, TOP, built, read_bytes
 from explore_files import MACHINES, NEVER, REFUSED, TAKEN, TRANSIENT, TRANSIENT_SHOWN, head, machine
 from lib.hammer.cases import journal_text
 from lib.hammer.explores import Moment, single
@@ -95,6 +95,14 @@ class Explored(stored_runs.StoredRun):
         self.assertEqual(self.asked(b"x", b"x", b"x"), (2, b"project P1\n"))
         self.assertEqual(self.asked(project, b"x", b"x"), (3, b"script J1 line 1\n"))
         self.assertEqual(self.asked(project, script, b"x"), (3, b"question Q1 line 1\n"))
+
+
+@unittest.skipUnless(os.access(built("logix_timeline"), os.X_OK), "logix_timeline isn't built")
+class Picture(unittest.TestCase):
+    def test_the_first_page_has_the_stored_witness(self) -> None:
+        words = [f"{TOOLS}/with_project", built("logix_timeline"), "--project", f"{NEVER}/interlock.json", "--width", "1000"]
+        drawn = subprocess.run(words, input=read_bytes(f"{NEVER}/interlock.report.txt"), stdout=subprocess.PIPE, timeout=60, check=True).stdout
+        self.assertEqual(drawn, read_bytes(f"{TOP}/docs/never.svg"))
 
 
 if __name__ == "__main__":
