@@ -31,7 +31,7 @@ sum_of() {
             /^[[:space:]]*(#|$)/ { next }
             { split($1, head, " "); if (head[1] in wanted) print }' "$top/crates.txt" | LC_ALL=C sort
         cat "$top/HANDLES"
-        (cd "$top/crates" && find $names -name out -prune -o -name must-fail -prune -o -type f -print0 | LC_ALL=C sort -z | xargs -0 sha256sum)
+        (cd "$top/crates" && find $names -name out -prune -o -name must-fail -prune -o -name more-edits -prune -o -type f -print0 | LC_ALL=C sort -z | xargs -0 sha256sum)
     } | sha256sum | cut -d' ' -f1
 }
 

@@ -13,7 +13,8 @@ from common import TOP
 
 PROGRAMS = ("logix", "logix_live", "logix_timeline", "logix_wave")
 
-# The first crate is kept, the second is proved, the third is begun, and of three planted bugs one is tried and one is being tried.
+# The first crate is kept, the second is proved, the third is begun, and of three planted bugs one is tried, twice, and one is being
+# tried; before them the crate is checked as it stands.
 RT = """#!/usr/bin/env bash
 [ "$*" = ci ] || exit 9
 echo 'rt: low is kept: an earlier run on this machine proved the same files over the same libraries'
@@ -21,7 +22,15 @@ printf '== mid\\nfn mid::f: proved\\nrt: mid proved\\n'
 mkdir -p crates/high/out/rlib
 echo 'rt: mid: trying its must-fail edits (3)'
 room=${TMPDIR:-/tmp}
-for bug in a b; do mkdir "$room/rt-edit-$$-$bug" && sleep "${RT_SECONDS:-2.5}" && rmdir "$room/rt-edit-$$-$bug"; done
+try() {
+    mkdir "$room/rt-edit-$$-$1" && cp -R crates/mid/src "$room/rt-edit-$$-$1/" && printf '%s' "$2" >>"$room/rt-edit-$$-$1/src/main.rt" || exit 9
+    sleep "${RT_SECONDS:-$3}"
+    rm -r "$room/rt-edit-$$-$1"
+}
+try seed '' 2
+try first a 2
+try again a 2
+try second b 4
 for name in logix logix_live logix_timeline logix_wave; do
     mkdir -p "crates/$name/out" && printf '#!/bin/sh\\n' >"crates/$name/out/$name"
 done
@@ -69,7 +78,7 @@ class Progress(unittest.TestCase):
 
     def call(self, *words: str, **more: str) -> subprocess.CompletedProcess:
         path = f"{self.room}/bin:{os.environ['PATH']}"
-        env = {**os.environ, "PATH": path, "TMPDIR": f"{self.room}/tmp", "PROGRESS_SECONDS": "3", **more}
+        env = {**os.environ, "PATH": path, "TMPDIR": f"{self.room}/tmp", "PROGRESS_SECONDS": "8", **more}
         return subprocess.run(words, env=env, cwd=self.room, capture_output=True, text=True, timeout=60, check=False)
 
     def told(self, name: str, text: str) -> list[str]:
