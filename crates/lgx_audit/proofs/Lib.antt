@@ -16,3 +16,7 @@ pub mod MorePasses
 pub mod Judged
 pub mod LegalParts
 pub mod Breaching
+pub mod NextTriggers
+pub mod BaseNumbers
+pub mod OwnEvents
+pub mod OwnTraces

@@ -7,3 +7,4 @@ pub mod Along
 pub mod OnePass
 pub mod Breaches
 pub mod Answers
+pub mod OwnTraces

@@ -13,7 +13,7 @@ mod words;
 mod write;
 
 pub use error::{AuditError, TraceCode, TraceError, TraceFault};
-pub use laws::{breaches_are_told, one_pass_decides, words_are_read_back};
+pub use laws::{breaches_are_told, one_pass_decides, runs_pass_audit, words_are_read_back};
 use lgx_num::Items;
 pub use one_pass::audit;
 pub use read::read_trace;

@@ -86,7 +86,7 @@ module _ (d : Declarations) where
       let c = bind_ok (unless (nat_lt (length g.steps) MAX_SUBSCRIPTS) G9) _ f b.2 in
       subst (IsInTag d) (ok_inj _ f c.2) (grown g _ (omega arith) refl h)
 
-  resolved_in : (s : Subscripts) (types : List TypeDecl) (names : List ℕ → Result Found TagCode) → ((name : List ℕ) (f : Found) → names name ≡ Ok f → IsInTag d f) → (form : Form) (f : Found) → resolved s types names form ≡ Ok f → IsInTag d f
+  pub resolved_in : (s : Subscripts) (types : List TypeDecl) (names : List ℕ → Result Found TagCode) → ((name : List ℕ) (f : Found) → names name ≡ Ok f → IsInTag d f) → (form : Form) (f : Found) → resolved s types names form ≡ Ok f → IsInTag d f
   resolved_in s types names known (tag name) f p = known name f p
   resolved_in s types names known (member form name) f p =
       let a = bind_ok (resolved s types names form) _ f p in
@@ -114,7 +114,7 @@ module _ (d : Declarations) where
       (record { tag = k.0; within = k.1; from = (let e = ap (λ (s : TagSpan). s.start) k.2 in omega arith); stop = sym (ap (λ (s : TagSpan). s.end) k.2) })
   meant_in target_found known at scope name (is_alias target) f w p = known scope target f p
 
-  named_in : (chain : ℕ) (scope : Scope) (name : List ℕ) (f : Found) → named_within chain d scope name ≡ Ok f → IsInTag d f
+  pub named_in : (chain : ℕ) (scope : Scope) (name : List ℕ) (f : Found) → named_within chain d scope name ≡ Ok f → IsInTag d f
   named_in zero scope name f p =
       let a = bind_ok (some_or (seen_from d scope name) G3) _ f p in
       let x : ℕ × Entry = a.0 in

@@ -7,8 +7,10 @@ pub mod Steps
 pub mod Prescanned
 pub mod Frames
 pub mod InTags
+pub mod SubscriptTags
 pub mod OperandTags
 pub mod TagsApart
+pub mod Found
 pub mod TextLists
 pub mod SiteTags
 pub mod Routines

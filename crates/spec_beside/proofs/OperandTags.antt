@@ -7,12 +7,9 @@ use Rattle.std.proofs.lemmas.Bool.{not-true}
 use Rattle.spec_base.specs.declared.limits.TheConstants.{COUNTER_BYTES, TIMER_BYTES}
 use Rattle.spec_base.specs.FirstCause.{some_or}
 use Rattle.spec_base.proofs.Binds.{err_not_ok, ok_inj}
-use Rattle.lgx_num.specs.declared.number.Kind.{Kind}
-use Rattle.lgx_num.specs.declared.number.Kind.TheVariants.{Bool as KBool, Sint, Int, Dint}
 use Rattle.lgx_num.specs.declared.place.Flag.{Flag}
 use Rattle.lgx_num.specs.declared.place.Operand.{Operand}
 use Rattle.lgx_num.specs.declared.place.Operand.TheVariants as operand
-use Rattle.lgx_num.specs.Image.{bits_of}
 use Rattle.lgx_num.specs.Name.{is_name, same}
 use Rattle.lgx_num.specs.Number.{bytes_in}
 use Rattle.lgx_num.specs.Paths.{CanReach}
@@ -38,56 +35,55 @@ use Rattle.spec_language.proofs.FoundBounds.{found_lies}
 use Rattle.spec_language.proofs.OperandBounds.{block_room, cell_room, counter_room, integer_kind, no_bool, one_place_ok, timer_room}
 use Rattle.spec_language.proofs.Outlines.{answered_outline}
 use Rattle.spec_machine.proofs.CheckedWalk.{rungs_have}
-use Rattle.spec_beside.specs.InTags.{CheckedInTags, InsInTags, IsInTag, OperandInTag, PathInTag}
+use Rattle.spec_beside.specs.InTags.{CheckedInTags, InsInTags, IsInTag, OperandInTag, PathInTag, StepsInTags}
 use Rattle.spec_beside.proofs.InTags.{found_in_tag}
+use Rattle.spec_beside.proofs.SubscriptTags.{cell_ends, subscripts_in_tags}
 
 -- ---- the bytes of a place
-
-cell_ends : (k : Kind) (stop to : ℕ) → to + bits_of k ≤ 8 * stop → (to < 8 * stop) × (to / 8 + bytes_in k ≤ stop)
-cell_ends KBool stop to h = (omega arith, omega arith)
-cell_ends Sint stop to h = (omega arith, omega arith)
-cell_ends Int stop to h = (omega arith, omega arith)
-cell_ends Dint stop to h = (omega arith, omega arith)
 
 whole_ends : (size stop to : ℕ) → 0 < size → to + 8 * size ≤ 8 * stop → (to < 8 * stop) × (to / 8 + size ≤ stop)
 whole_ends size stop to some h = (omega arith, omega arith)
 
 module _ (d : Declarations) (sound : Sound d) where
-  path_in : (f : Found) (stop : ℕ → ℕ) → IsInTag d f → ((to : ℕ) → CanReach f.steps f.at to → (to < 8 * f.stop) × (stop (to / 8) ≤ f.stop)) → PathInTag d (path_of f) stop
-  path_in f stop h ends = record { tag = h.tag; within = h.within; from = h.from; begins = λ to r. omega (arith, h.stop, (ends to r).0); ends = λ to r. omega (arith, h.stop, (ends to r).1) }
+  -- what is found lies in one tag, and so does each of its subscripts
+  abbrev AllInTags : Found → Type 0
+  AllInTags f = IsInTag d f × StepsInTags d f.steps
+
+  path_in : (f : Found) (stop : ℕ → ℕ) → AllInTags f → ((to : ℕ) → CanReach f.steps f.at to → (to < 8 * f.stop) × (stop (to / 8) ≤ f.stop)) → PathInTag d (path_of f) stop
+  path_in f stop (h, steps) ends = record { tag = h.tag; within = h.within; from = h.from; begins = λ to r. omega (arith, h.stop, (ends to r).0); ends = λ to r. omega (arith, h.stop, (ends to r).1); subscripts = steps }
 
   -- where a single place can lead, it ends by its tag's end
   leads : (f : Found) → LiesIn d.types (bytes d) f → (of : DataType) → f.of ≡ of → (to : ℕ) → CanReach f.steps f.at to → EndsBy d.types of f.stop to
   leads f l of is to r = subst (λ (t : DataType). EndsBy d.types t f.stop to) is (l.inside to r)
 
-  cell_in : (test : Bool) (f : Found) (o : Operand) → (test ≡ true → (is_bool f.of.base ≡ true) ⊎ (0 < integer_bits f.of.base)) → LiesIn d.types (bytes d) f → IsInTag d f → one_place test operand.Cell f ≡ Ok o → OperandInTag d o
+  cell_in : (test : Bool) (f : Found) (o : Operand) → (test ≡ true → (is_bool f.of.base ≡ true) ⊎ (0 < integer_bits f.of.base)) → LiesIn d.types (bytes d) f → AllInTags f → one_place test operand.Cell f ≡ Ok o → OperandInTag d o
   cell_in test f o kinds l h p =
       let a = one_place_ok test operand.Cell f o p in
       subst (OperandInTag d) a.2 (path_in f (λ at. at + bytes_in (kind_of f.of.base)) h (λ to r. cell_ends (kind_of f.of.base) f.stop to (cell_room d.types f.of.base f.stop f.stop to (kinds a.0) (omega arith) (leads f l _ a.1 to r)).1))
 
-  timer_in : (test : Bool) (f : Found) (o : Operand) → (test ≡ true → is_timer f.of.base ≡ true) → LiesIn d.types (bytes d) f → IsInTag d f → one_place test operand.Timer f ≡ Ok o → OperandInTag d o
+  timer_in : (test : Bool) (f : Found) (o : Operand) → (test ≡ true → is_timer f.of.base ≡ true) → LiesIn d.types (bytes d) f → AllInTags f → one_place test operand.Timer f ≡ Ok o → OperandInTag d o
   timer_in test f o kinds l h p =
       let a = one_place_ok test operand.Timer f o p in
       subst (OperandInTag d) a.2 (path_in f (λ at. at + TIMER_BYTES) h (λ to r. whole_ends TIMER_BYTES f.stop to (omega arith) (timer_room d.types f.of.base f.stop f.stop to (kinds a.0) (omega arith) (leads f l _ a.1 to r)).1))
 
-  counter_in : (test : Bool) (f : Found) (o : Operand) → (test ≡ true → is_counter f.of.base ≡ true) → LiesIn d.types (bytes d) f → IsInTag d f → one_place test operand.Counter f ≡ Ok o → OperandInTag d o
+  counter_in : (test : Bool) (f : Found) (o : Operand) → (test ≡ true → is_counter f.of.base ≡ true) → LiesIn d.types (bytes d) f → AllInTags f → one_place test operand.Counter f ≡ Ok o → OperandInTag d o
   counter_in test f o kinds l h p =
       let a = one_place_ok test operand.Counter f o p in
       subst (OperandInTag d) a.2 (path_in f (λ at. at + COUNTER_BYTES) h (λ to r. whole_ends COUNTER_BYTES f.stop to (omega arith) (counter_room d.types f.of.base f.stop f.stop to (kinds a.0) (omega arith) (leads f l _ a.1 to r)).1))
 
-  block_in : (test : Bool) (f : Found) (o : Operand) → (test ≡ true → is_bool f.of.base ≡ false) → LiesIn d.types (bytes d) f → IsInTag d f → block_where test d.types f ≡ Ok o → OperandInTag d o
+  block_in : (test : Bool) (f : Found) (o : Operand) → (test ≡ true → is_bool f.of.base ≡ false) → LiesIn d.types (bytes d) f → AllInTags f → block_where test d.types f ≡ Ok o → OperandInTag d o
   block_in true f o kinds l h p =
       subst (OperandInTag d) (ok_inj _ _ p) (path_in f (λ at. f.stop) h (λ to r. ((whole_ends _ f.stop to l.filled (block_room d.types f.of.base f.of.dim f.stop to (kinds refl) (l.inside to r)).1).0, omega arith)))
   block_in false f o kinds l h p = err_not_ok _ _ p
 
-  either_in : (f : Found) (o : Operand) → LiesIn d.types (bytes d) f → IsInTag d f → place_as d.types TimerOrCounter f ≡ Ok o → OperandInTag d o
+  either_in : (f : Found) (o : Operand) → LiesIn d.types (bytes d) f → AllInTags f → place_as d.types TimerOrCounter f ≡ Ok o → OperandInTag d o
   either_in f o l h p = go (is_timer f.of.base) refl p
     where
       go : (b : Bool) → is_timer f.of.base ≡ b → (if b then one_place true operand.Timer f else one_place (is_counter f.of.base) operand.Counter f) ≡ Ok o → OperandInTag d o
       go true q r = timer_in true f o (λ _. q) l h r
       go false q r = counter_in (is_counter f.of.base) f o (λ c. c) l h r
 
-  place_in : (w : OperandKind) (f : Found) (o : Operand) → LiesIn d.types (bytes d) f → IsInTag d f → place_as d.types w f ≡ Ok o → OperandInTag d o
+  place_in : (w : OperandKind) (f : Found) (o : Operand) → LiesIn d.types (bytes d) f → AllInTags f → place_as d.types w f ≡ Ok o → OperandInTag d o
   place_in BoolPlace f o l h p = cell_in (is_bool f.of.base) f o (λ c. inl c) l h p
   place_in BoolOrFlag f o l h p = cell_in (is_bool f.of.base) f o (λ c. inl c) l h p
   place_in IntegerPlace f o l h p = cell_in (is_integer f.of) f o (integer_kind f) l h p
@@ -115,7 +111,7 @@ module _ (d : Declarations) (sound : Sound d) where
   data_in scope w text o p = go (flag text) (number text) p
     where
       place : (r : Result Found TagCode) → found d scope text ≡ r → found_as d.types w r ≡ Ok o → OperandInTag d o
-      place (Ok f) q r = place_in w f o (found_lies d scope text f sound q) (found_in_tag d scope text f q) r
+      place (Ok f) q r = place_in w f o (found_lies d scope text f sound q) (found_in_tag d scope text f q, subscripts_in_tags d scope text f sound q) r
       place (Err code) q r = err_not_ok _ _ r
 
       go : (a : Option Flag) (b : Option Number) → read_as d.types w a b (found d scope text) ≡ Ok o → OperandInTag d o

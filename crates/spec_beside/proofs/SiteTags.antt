@@ -37,7 +37,7 @@ text_is_executable p g program valid is = each_get (IsExecutableOver (length p.i
 
 -- ---- what is written
 
-each_those : (P : Operand → Type 0) (test : OperandKind → Bool) (kinds : List OperandKind) (os : List Operand) → Each P os → Each P (those_of test kinds os)
+pub each_those : (P : Operand → Type 0) (test : OperandKind → Bool) (kinds : List OperandKind) (os : List Operand) → Each P os → Each P (those_of test kinds os)
 each_those P test [] os h = tt
 each_those P test (kind ∷ kinds) [] h = tt
 each_those P test (kind ∷ kinds) (o ∷ os) h = go (test kind) (each_those P test kinds os h.1)

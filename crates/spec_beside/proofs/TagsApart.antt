@@ -1,12 +1,14 @@
 -- Tags lie apart, in the order of their numbers; so an operand of one tag misses each byte of another.
 use Rattle.std.specs.Prelude.{filter, slice_index_or}
 use Rattle.std.specs.List.{AllByRecursion as Each, list_any}
-use Rattle.std.proofs.Common.{◌≡◌, ℕ, zero, suc, ◌+◌, ◌*◌, ◌/◌, ◌<◌, ◌≤◌, ◌⊎◌, inl, inr, Bool, true, false, ◌||◌, cond, List, [], ◌∷◌, length, map, refl, subst, arith}
+use Rattle.std.proofs.Common.{◌≡◌, ℕ, zero, suc, ◌+◌, ◌*◌, ◌/◌, ◌<◌, ◌≤◌, ◌⊎◌, inl, inr, Bool, true, false, ◌||◌, cond, List, [], ◌∷◌, length, map, refl, sym, subst, arith}
 use Rattle.std.proofs.lemmas.Bool.{and_from, cases_lt, le-leb, lt-ltb}
 use Rattle.lgx_num.specs.declared.place.Index.{Index}
 use Rattle.lgx_num.specs.declared.place.Operand.{Operand}
 use Rattle.lgx_num.specs.declared.place.Operand.TheVariants as operand
 use Rattle.lgx_num.specs.declared.place.Path.{Path}
+use Rattle.lgx_num.specs.declared.place.Place.{Place}
+use Rattle.lgx_num.specs.Number.{bytes_in}
 use Rattle.lgx_num.specs.Paths.{CanReach}
 use Rattle.spec_language.specs.declared.types.TypeDecl.{TypeDecl}
 use Rattle.spec_language.specs.Declarations.{Declarations, Entry, entry_size, in_order, laid_from}
@@ -17,8 +19,8 @@ use Rattle.spec_language.specs.TagSpans.{is_laid_tag, span_of, spans_of}
 use Rattle.spec_uses.specs.Changes.{IsByteOf}
 use Rattle.spec_uses.specs.Uses.{holds_bit, no_span, span_at}
 use Rattle.spec_uses.specs.Written.{first_bits}
-use Rattle.spec_beside.specs.InTags.{OperandInTag, PathInTag}
-use Rattle.spec_beside.specs.Misses.{IsBeside, Misses, PathMisses}
+use Rattle.spec_beside.specs.InTags.{OperandInTag, PathInTag, PlaceInTag, StepsInTags}
+use Rattle.spec_beside.specs.Misses.{IsBeside, Misses, PathMisses, PlaceMisses}
 use Rattle.spec_beside.specs.Sites.{BytesAreOfOneTag}
 
 -- ---- one tag after another
@@ -100,6 +102,19 @@ module _ (p : Project) (k b : ℕ) (byte : IsByteOf p k b) where
       go : (h.tag < k) ⊎ (k ≤ h.tag) → IsBeside (to / 8) (stop (to / 8)) b
       go (inl before) = inr (let a = tags_apart p.tags h.tag k before byte.tag in omega (arith, h.ends to r, byte.from))
       go (inr past) = other (cases_lt k h.tag) past
+
+  -- the same of the place of a subscript, and of each subscript of an operand
+  place_misses : (at : Place) → PlaceInTag p.tags at → holds_bit (span_at p.tags k) at.at ≡ false → PlaceMisses b at
+  place_misses at h none =
+      path_misses (record { kind = at.kind; at = at.at; steps = [] }) (λ to. to + bytes_in at.kind)
+      (record { tag = h.tag; within = h.within; from = h.from; begins = λ to r. omega (arith, r, h.upto); ends = λ to r. subst (λ (n : ℕ). n / 8 + bytes_in at.kind ≤ (span_at p.tags h.tag).end) (sym r) h.ends; subscripts = tt })
+      none at.at refl
+
+  pub steps_miss : (steps : List Index) → StepsInTags p.tags steps → list_any (holds_bit (span_at p.tags k)) (map (λ (i : Index). i.of.at) steps) ≡ false → Each (λ (i : Index). PlaceMisses b i.of) steps
+  steps_miss [] h none = tt
+  steps_miss (i ∷ steps) h none =
+      let n = or_false (holds_bit (span_at p.tags k) i.of.at) (list_any (holds_bit (span_at p.tags k)) (map (λ (i : Index). i.of.at) steps)) none in
+      (place_misses i.of h.0 n.0, steps_miss steps h.1 n.1)
 
   pub operands_miss : (os : List Operand) → Each (OperandInTag p.tags) os → list_any (holds_bit (span_at p.tags k)) (first_bits os) ≡ false → Each (Misses b) os
   operands_miss [] h none = tt

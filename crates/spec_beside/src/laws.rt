@@ -1,16 +1,17 @@
 // Laws of what instructions write beside. Each function is a law: it does nothing, and its contract is what is shown.
 ghost use Rattle.spec_beside.specs.Copies.{CopiesGoOnBeside, CopiesStartBeside, ElementsWriteBeside};
-ghost use Rattle.spec_beside.specs.InTags.{CheckedInTags, FoundInTag};
+ghost use Rattle.spec_beside.specs.InTags.{CheckedInTags, FoundInTag, SubscriptsInTags};
 ghost use Rattle.spec_beside.specs.Prescans.{PrescanWritesBeside};
 ghost use Rattle.spec_beside.specs.Routines.{CallsStand, FramesBegin, FramesStay, RoutinesStand};
 ghost use Rattle.spec_beside.specs.Rows.{RowsWriteBeside};
 ghost use Rattle.spec_beside.specs.Sites.{BytesAreOfOneTag, SitesWriteBeside};
 ghost use Rattle.spec_beside.specs.Steps.{StepsCopyBeside, StepsWriteBeside};
 
-/// What a text and an operand name lies in one tag, no two tags have a byte in common, and an instruction that isn't among a tag's
-/// writers writes beside its bytes.
+/// What a text and an operand name lies in one tag, and so does each subscript; no two tags have a byte in common, and an
+/// instruction that isn't among a tag's writers writes beside its bytes.
 pub fn operands_lie_in_tags()
     ensures found { FoundInTag }
+    ensures subscripts { SubscriptsInTags }
     ensures checked { CheckedInTags }
     ensures apart { BytesAreOfOneTag }
     ensures sites { SitesWriteBeside }

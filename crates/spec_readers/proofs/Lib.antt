@@ -3,3 +3,4 @@ mod Words
 mod Rows
 mod Bound
 pub mod ReadRows
+pub mod SiteReads

@@ -5,6 +5,7 @@ use Rattle.std.proofs.Common.{◌≡◌, ℕ, Bool, true, false, if◌then◌els
 use Rattle.spec_tables.specs.declared.fault.TheConstants.{BAD_SUBSCRIPT}
 use Rattle.lgx_num.specs.declared.place.Flags.{Flags}
 use Rattle.lgx_num.specs.declared.place.Operand.{Operand}
+use Rattle.lgx_rung.specs.declared.ins.Ins.{Ins}
 use Rattle.lgx_rung.specs.declared.op.Op.{Op}
 use Rattle.lgx_rung.specs.declared.op.Op.TheVariants.{Jsr, Sbr, Ret}
 use Rattle.lgx_rung.specs.declared.operands.Family.{Family}
@@ -12,7 +13,7 @@ use Rattle.lgx_rung.specs.OperandTable.{NoMore, further, family_of}
 use Rattle.spec_scan.specs.declared.bound.Arg.{Arg}
 use Rattle.spec_scan.specs.Arguments.{bind, value_of}
 use Rattle.spec_scan.specs.Fits.{OperandsFit}
-use Rattle.spec_scan.specs.Instructions.{Nothing, MajorFault, acts_when_false, pass_on, with_bound}
+use Rattle.spec_scan.specs.Instructions.{Nothing, MajorFault, acts_when_false, pass_on, row, with_bound}
 use Rattle.spec_scan.specs.Parameters.{inputs_of, input_count}
 use Rattle.spec_scan.specs.Position.{Frame}
 use Rattle.spec_scan.proofs.KeptKinds.{args_fit}
@@ -49,6 +50,10 @@ module _ (T : ℕ → Type 0) (args : List Operand) (on : Bool) (now : ℕ) (fir
         subst (λ (o : Option (List Arg)). MakeSameBut T (with_bound args on now first frames flags x op (bind x args)) (with_bound args on now first frames flags y op o)) (bind_same T x y h args subscripts) (by_bound op (bind x args) fit s refl)
     by_condition op false fit s = passes T args on now first frames flags x y h Nothing
 
+-- whatever the bytes are that don't count
+pub row_reads_readers : (T : ℕ → Type 0) (i : Ins) (on : Bool) (now : ℕ) (first : Bool) (frames : List Frame) (flags : Flags) (x y : List ℕ) → OperandsFit i.op i.args → Each (OperandSpares T) (read i) → Each (SubscriptsSpare T) i.args → AreSameBut T x y → MakeSameBut T (row i.op i.args on now first frames flags x) (row i.op i.args on now first frames flags y)
+row_reads_readers T i on now first frames flags x y fit s subscripts h =
+    by_condition T i.args on now first frames flags x y h subscripts i.op (on || acts_when_false i.op) fit s
+
 pub rows_read_readers : RowsReadReaders
-rows_read_readers start end i on now first frames flags x y fit s subscripts h =
-    by_condition (IsFrom start end) i.args on now first frames flags x y h subscripts i.op (on || acts_when_false i.op) fit s
+rows_read_readers start end i on now first frames flags x y fit s subscripts h = row_reads_readers (IsFrom start end) i on now first frames flags x y fit s subscripts h

@@ -3,4 +3,4 @@
 
 mod laws;
 
-pub use laws::rows_read_readers;
+pub use laws::{others_read_nothing, rows_read_readers};

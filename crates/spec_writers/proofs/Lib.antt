@@ -1,4 +1,3 @@
-pub mod Found
 pub mod Unedited
 pub mod Stands
 pub mod Steps

@@ -66,7 +66,7 @@ trace_on : (s : State) (xs ys : List Event) → trace_from s (xs ++ ys) ≡ trac
 trace_on s [] ys = refl
 trace_on s (x ∷ xs) ys = ap (λ es. (step s x).answer ∷ es) (trace_on (step s x).state xs ys)
 
-trace_length : (s : State) (es : List Event) → length (trace_from s es) ≡ length es
+pub trace_length : (s : State) (es : List Event) → length (trace_from s es) ≡ length es
 trace_length s [] = refl
 trace_length s (e ∷ es) = ap suc (trace_length (step s e).state es)
 

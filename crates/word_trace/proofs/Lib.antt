@@ -5,4 +5,5 @@ pub mod Judging
 pub mod Places
 pub mod Going
 pub mod ProgramNames
+pub mod JournalLanes
 pub mod Traced

@@ -1,5 +1,5 @@
 -- Elements of a list that are told by their places.
-use Rattle.std.proofs.Common.{◌≡◌, ℕ, zero, suc, ◌+◌, ◌<◌, Bool, true, false, cond, List, [], ◌∷◌, ◌++◌, length, map, Some, refl, subst, arith}
+use Rattle.std.proofs.Common.{◌≡◌, ℕ, zero, suc, ◌+◌, ◌<◌, Bool, true, false, cond, List, [], ◌∷◌, ◌++◌, length, map, Some, refl, ap, subst, arith}
 use Rattle.std.specs.Prelude.{slice_get, filter, flat_map}
 use Rattle.std.specs.List.{AllByRecursion as Each, enumerate_from}
 
@@ -55,3 +55,11 @@ found_below (x ∷ xs) (suc i) l = found_below xs i (omega arith)
 pub each_mapped : {A B : Type 0} (P : B → Type 0) (f : A → B) (xs : List A) → ((x : A) → P (f x)) → Each P (map f xs)
 each_mapped P f [] h = tt
 each_mapped P f (x ∷ xs) h = (h x, each_mapped P f xs h)
+
+pub found_mapped : {A B : Type 0} (f : A → B) (x : A) (xs : List A) → Found x xs → Found (f x) (map f xs)
+found_mapped {A} {B} f x xs h = (h.0, at xs h.0 h.1)
+  where
+    at : (ys : List A) (i : ℕ) → slice_get ys i ≡ Some x → slice_get (map f ys) i ≡ Some (f x)
+    at [] i e = absurd (cc e)
+    at (y ∷ ys) zero e = let same : y ≡ x = cc e in ap (λ z. Some (f z)) same
+    at (y ∷ ys) (suc i) e = at ys i e
