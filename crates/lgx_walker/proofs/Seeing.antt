@@ -4,6 +4,7 @@ use Rattle.std.specs.Prelude.{position}
 use Rattle.std.specs.List.{AllByRecursion as Each}
 use Rattle.spec_base.proofs.Lists.{each_get}
 use Rattle.lgx_num.specs.declared.place.Place.{Place}
+use Rattle.std.proofs.lemmas.Simd.{map-map}
 use Rattle.lgx_num.specs.Image.{number, InBounds}
 use Rattle.spec_machine.specs.declared.answer.Moment.{Moment}
 use Rattle.spec_machine.specs.declared.event.Event.{Event}
@@ -16,6 +17,8 @@ use Rattle.spec_reach.proofs.Images.{images_keep_length}
 use Rattle.spec_reach.proofs.Reached.{run_more}
 use Rattle.spec_explore.specs.declared.question.Question.{Question}
 use Rattle.spec_explore.specs.Questions.{ends_scan}
+use Rattle.lgx_edit.specs.declared.plant.PlantParts.TheInside.{Inside}
+use Rattle.lgx_edit.specs.Plants.{watch_of, project_of}
 use Rattle.lgx_question.specs.Seen.{is_program, holds_in, IsSeen}
 use Rattle.lgx_question.proofs.SeenLines.{first_lines_are_seen, no_line_is_seen}
 use Rattle.lgx_core.specs.ControllerView.{ControllerView}
@@ -24,6 +27,11 @@ use Rattle.lgx_walker.specs.declared.watcher.Watcher.{Watcher}
 use Rattle.lgx_walker.specs.Lines.{IsLineOf}
 use Rattle.lgx_walker.specs.Places.{AreInside}
 use Rattle.lgx_walker.specs.Walks.{places_of, Watches}
+
+-- ---- the watched places of the parts are those of the project
+
+pub same_places : (p : Inside) → map (λ w. w.place) p.watches ≡ map (λ w. w.place) (project_of p).watches
+same_places p = sym (map-map (λ (w : Watch). w.place) watch_of p.watches)
 
 -- ---- the watched places lie in the image
 

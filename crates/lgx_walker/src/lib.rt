@@ -7,6 +7,7 @@
 mod answer;
 mod due;
 mod late;
+mod mark;
 mod places;
 mod told;
 mod trail;

@@ -6,6 +6,7 @@ ghost use Rattle.word_explore.specs.ExplorePlan.{answered, verdict_of};
 
 use crate::text_out::told_text;
 use lgx_answer::Verdict;
+use lgx_explore::Progress;
 use lgx_journal::Script;
 use lgx_num::{Items, Memory};
 use lgx_project::Project;
@@ -43,16 +44,17 @@ fn law_of_scripts(script: &Script)
 /// question ever holds; or a journal with the least number of processor steps after which one does; or that no line holds in fewer
 /// steps than a number, with which there are more states than a layer may have.
 #[tactic(auto, using(crate::proofs::Texts::answer_says))]
-pub(crate) fn explored(
+pub(crate) fn explored<P: Progress>(
     alloc: Global,
     project: Project,
     script: &Script,
     question: &Question,
+    progress: &mut P,
 ) -> Result<Said, Memory>
     ensures { IfOk result (λ said. Says (answered project script.now question.now) said.verdict said.text) }
 {
     law_of_scripts(script);
-    let told = tell(alloc, project, script, question, MAX_LAYER_STATES)?;
+    let told = tell(alloc, project, script, question, MAX_LAYER_STATES, progress)?;
     let text = told_text(alloc, question, &told)?;
     Ok(Said {
         verdict: verdict_of(&told),
