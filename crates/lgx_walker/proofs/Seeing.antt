@@ -78,3 +78,16 @@ line_after p journal e w values ended q o h read ends at =
 -- the program whose scan a step ended, by the step's answer
 pub ended_after : (p : Project) (journal : List Event) (m : Moment) (ended : Option ℕ) → OfStep m ≡ (step (run p journal) Cpu).answer → ((n : ℕ) → ends_scan n (OfStep m) ≡ is_program n ended) → (n : ℕ) → ends_scan n (step (run p journal) Cpu).answer ≡ is_program n ended
 ended_after p journal m ended same ends n = sym (ap (ends_scan n) same) ∙ ends n
+
+-- ---- without an event
+
+-- a watcher whose controller represents what it did
+pub still_watches : (p : Project) (journal : List Event) (old new : Watcher) → new.places ≡ old.places → ((s : State) → Represents old.controller s → Represents new.controller s) → new.controller.spent ≡ old.controller.spent → Watches old p journal → Watches new p journal
+still_watches p journal old new places represents spent h = record {
+  places_are = places ∙ h.places_are;
+  stands_for = record {
+    valid = h.stands_for.valid;
+    counted = spent ∙ h.stands_for.counted;
+    represents = represents (run p journal) h.stands_for.represents;
+  };
+}

@@ -1,10 +1,12 @@
 -- The journal of a trail, with one more action or step.
-use Rattle.std.proofs.Common.{◌≡◌, ℕ, zero, suc, ◌+◌, ◌<◌, ◌≤◌, inl, inr, List, [], ◌∷◌, ◌++◌, length, take, drop, get_or, Some, refl, sym, ◌∙◌, ap, subst, arith, length-append}
+use Rattle.std.proofs.Common.{◌≡◌, ℕ, zero, suc, ◌+◌, ◌^◌, ◌<◌, ◌≤◌, inl, inr, List, [], ◌∷◌, ◌++◌, length, take, drop, get_or, Some, refl, sym, ◌∙◌, ap, subst, arith, length-append}
 use Rattle.std.specs.Prelude.{slice_get}
 use Rattle.std.proofs.lemmas.Bool.{cases_lt}
 use Rattle.std.proofs.lemmas.List.{append-nil, append_assoc, take_more, take-append-drop}
+use Rattle.std.proofs.lemmas.List.Sums.{count_by-le-length}
+use Rattle.spec_base.specs.declared.limits.TheConstants.{MAX_EVENTS}
 use Rattle.spec_machine.specs.declared.event.Event.{Event}
-use Rattle.spec_machine.specs.Events.{steps_of}
+use Rattle.spec_machine.specs.Events.{is_step, steps_of}
 use Rattle.spec_text.specs.Scripts.{Script}
 use Rattle.spec_lanes.specs.Turns.{lane_of, paced_step}
 use Rattle.spec_lanes.specs.Laws.{opening}
@@ -83,6 +85,19 @@ shorter_steps script journal k n le =
     let a = length-append journal (steps_from script.pace (steps_of journal) k) in
     let b = length-append journal (steps_from script.pace (steps_of journal) n) in
     let c = len_from script.pace (steps_of journal) k n le in
+    omega arith
+
+-- there is room for one more of the steps
+pub room_for_step : (script : Script) (journal : List Event) (k n : ℕ) → k < n → length (with_steps script journal n) + 2 ≤ MAX_EVENTS → length (with_steps script journal k) + 1 < MAX_EVENTS
+room_for_step script journal k n lt few =
+    let a = shorter_steps script journal k n (omega arith) in
+    omega arith
+
+-- and its number is one of 32 bits
+pub number_of_step : (script : Script) (journal : List Event) (k n : ℕ) → k < n → length (with_steps script journal n) + 2 ≤ MAX_EVENTS → steps_of journal + k + 1 < 2 ^ 32
+number_of_step script journal k n lt few =
+    let a = steps_with script journal n in
+    let b = count_by-le-length is_step (with_steps script journal n) in
     omega arith
 
 pub shorter_before : (script : Script) (journal : List Event) (m : Placed) → length (with_steps script journal m.since) ≤ length (with_placed script journal m)

@@ -78,7 +78,10 @@ fn acted_on(
     let mut after = watcher.copied(alloc)?;
     match after.act(question, lane, action)? {
         Some(line) => Err(Stop::Shown(Next::Action(lane), line)),
-        None => Ok(after),
+        None => {
+            after.forget_marks();
+            Ok(after)
+        }
     }
 }
 
@@ -92,13 +95,13 @@ fn step_on(watcher: &mut Watcher, question: &Question, has_tick: bool) -> Result
     if let Some(line) = watcher.cpu(question)? {
         return Err(Stop::Shown(Next::Step, line));
     }
-    if !has_tick {
-        return Ok(());
+    if has_tick {
+        if let Some(line) = watcher.tick(question)? {
+            return Err(Stop::Shown(Next::Tick, line));
+        }
     }
-    match watcher.tick(question)? {
-        Some(line) => Err(Stop::Shown(Next::Tick, line)),
-        None => Ok(()),
-    }
+    watcher.forget_marks();
+    Ok(())
 }
 
 /// Whether the script's steps were made and no CPS is open.
