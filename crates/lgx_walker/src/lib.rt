@@ -16,6 +16,7 @@ mod watcher;
 mod witness;
 
 pub use answer::tell;
+pub use due::law_of_scripts;
 pub use told::Told;
 pub use trail::{Placed, Trail};
 pub use walker::Walker;

@@ -15,7 +15,7 @@ ghost use Rattle.lgx_walker.specs.Lines.{step_events, StepShows};
 ghost use Rattle.lgx_walker.specs.Late.{SomeIsLate, NoneIsLate};
 ghost use Rattle.lgx_walker.specs.Walks.{Watches, Walks};
 
-use crate::due::{count_of, due_action};
+use crate::due::{count_of, due_action, law_of_scripts};
 use crate::late::is_some_late;
 use crate::mark::mark_of;
 use crate::places::same_places;
@@ -78,10 +78,7 @@ fn acted_on(
     let mut after = watcher.copied(alloc)?;
     match after.act(question, lane, action)? {
         Some(line) => Err(Stop::Shown(Next::Action(lane), line)),
-        None => {
-            after.forget_marks();
-            Ok(after)
-        }
+        None => Ok(after),
     }
 }
 
@@ -95,13 +92,13 @@ fn step_on(watcher: &mut Watcher, question: &Question, has_tick: bool) -> Result
     if let Some(line) = watcher.cpu(question)? {
         return Err(Stop::Shown(Next::Step, line));
     }
-    if has_tick {
-        if let Some(line) = watcher.tick(question)? {
-            return Err(Stop::Shown(Next::Tick, line));
-        }
+    if !has_tick {
+        return Ok(());
     }
-    watcher.forget_marks();
-    Ok(())
+    match watcher.tick(question)? {
+        Some(line) => Err(Stop::Shown(Next::Tick, line)),
+        None => Ok(()),
+    }
 }
 
 /// Whether the script's steps were made and no CPS is open.
@@ -157,6 +154,7 @@ impl Node for Walker {
         question: &Question,
         lane: u32,
     ) -> Result<Option<Self>, Stop> {
+        law_of_scripts(script);
         let done = count_of(self.trail.counts.as_slice(), lane);
         let Some(action) = due_action(script, lane, done, &self.watcher.controller) else {
             return Ok(None);
@@ -172,7 +170,8 @@ impl Node for Walker {
         ) {
             return Ok(None);
         }
-        let watcher = acted_on(alloc, &self.watcher, question, lane, action)?;
+        let mut watcher = acted_on(alloc, &self.watcher, question, lane, action)?;
+        watcher.forget_marks();
         let mark = mark_of(&watcher.controller);
         Ok(Some(Walker {
             trail,
@@ -182,6 +181,7 @@ impl Node for Walker {
     }
 
     fn step(&mut self, script: &Script, question: &Question) -> Result<bool, Stop> {
+        law_of_scripts(script);
         if is_spent(self, script) {
             return Ok(false);
         }
@@ -196,6 +196,7 @@ impl Node for Walker {
             return Ok(false);
         }
         step_on(&mut self.watcher, question, has_tick)?;
+        self.watcher.forget_marks();
         self.trail.add_step();
         self.mark = mark_of(&self.watcher.controller);
         Ok(true)

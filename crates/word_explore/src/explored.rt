@@ -1,6 +1,5 @@
 // What is said of all journals of a script.
-ghost use Rattle.std.specs.Prelude.{◌≡◌, IfOk, IsTrue};
-ghost use Rattle.spec_text.specs.Scripts.{is_script};
+ghost use Rattle.std.specs.Prelude.{◌≡◌, IfOk};
 ghost use Rattle.lgx_answer.specs.Plan.{Says};
 ghost use Rattle.word_explore.specs.ExplorePlan.{answered, verdict_of};
 
@@ -11,7 +10,7 @@ use lgx_journal::Script;
 use lgx_num::{Items, Memory};
 use lgx_project::Project;
 use lgx_question::Question;
-use lgx_walker::{Told, tell};
+use lgx_walker::{Told, law_of_scripts, tell};
 use spec_base::limits::MAX_LAYER_STATES;
 use std::alloc::Global;
 
@@ -31,13 +30,6 @@ fn verdict_of(told: &Told) -> Verdict
         Told::Witness(_, _) => Verdict::Breach,
         Told::Unknown(_) => Verdict::Unknown,
     }
-}
-
-/// Every script that is read is one that can be run.
-fn law_of_scripts(script: &Script)
-    ensures { IsTrue (is_script script.now) }
-{
-    let _lanes = &script.lanes;
 }
 
 /// What is said of all journals of a script on a project, whose actions come within the question's window: that no line of the
