@@ -1,6 +1,7 @@
 -- What nodes keep, and that what one shows is a witness.
-use Rattle.std.proofs.Common.{◌≡◌, ℕ, ◌+◌, ◌<◌, inl, inr, List, [], ◌∷◌, ◌++◌, length, replicate, get_or, Option, Some, refl, sym, ◌∙◌, ap, subst, arith}
-use Rattle.std.specs.Prelude.{IfSome, IsTrue}
+use Rattle.std.proofs.Common.{◌≡◌, ℕ, ◌+◌, ◌<◌, inl, inr, List, [], ◌∷◌, ◌++◌, length, replicate, get_or, Option, Some, Result, Ok, Err, Vec, IsPermutation, refl, sym, ◌∙◌, ap, subst, arith}
+use Rattle.std.specs.Prelude.{IfSome, IfOk, IfErr, IsTrue}
+use Rattle.std.proofs.lemmas.List.Sorted.{Contains-permutation, IsPermutation-sym}
 use Rattle.std.specs.List.{Contains}
 use Rattle.spec_machine.specs.declared.event.Event.{Event}
 use Rattle.spec_machine.specs.declared.event.Event.TheVariants.{Act, Cpu}
@@ -24,8 +25,11 @@ use Rattle.spec_explore.proofs.Partials.{partial_journals_are_served}
 use Rattle.spec_explore.proofs.Witnesses.{openings_are_in_time, actions_witness, steps_witness, ticks_witness}
 use Rattle.lgx_explore.specs.declared.node.Next.{Next}
 use Rattle.lgx_explore.specs.declared.node.Next.TheVariants as next
+use Rattle.lgx_explore.specs.declared.halt.Over.{Over}
+use Rattle.lgx_explore.specs.declared.halt.Over.TheVariants as over
+use Rattle.lgx_explore.specs.Found.{IfOver}
 use Rattle.lgx_explore.specs.Shown.{MayBeMade, AnAction, AStep, ATick, IsShown, IsAction}
-use Rattle.lgx_explore.specs.Nodes.{Stands, Keeps, AddsOnly, NodeShows, IsActed, IsStepped, IsOpened, KeepsOne, AllKeep, StillKeep, StepKeeps, NextKeep}
+use Rattle.lgx_explore.specs.Nodes.{Stands, Keeps, AddsOnly, NodeShows, IsActed, IsStepped, IsOpened, KeepsOne, AllKeep, StillKeep, StepKeeps, NextKeep, NodeStepped, ShownAmong}
 
 module _ {Node : Type 0} (stands : Stands Node) (keeps : Keeps Node) (script : Script) (q : Question) where
   -- the pair is a journal of the layer that the node stands for
@@ -159,3 +163,26 @@ module _ {Node : Type 0} (stands : Stands Node) (keeps : Keeps Node) (script : S
 
   pub one_more : (nodes old new : List Node) (before : Node) → Contains nodes before → StepKeeps stands keeps script q before old new → NextKeep stands keeps script q nodes old → NextKeep stands keeps script q nodes new
   one_more nodes old new before among added next p k valid proper all = added p k valid proper (all before among) (next p k valid proper all)
+
+  -- ---- the same nodes in another order
+
+  module _ (nodes others : List Node) (same : IsPermutation nodes others) where
+    among_others : (node : Node) → Contains nodes node → Contains others node
+    among_others node among = Contains-permutation nodes others node same among
+
+    among_these : (node : Node) → Contains others node → Contains nodes node
+    among_these node among = Contains-permutation others nodes node (IsPermutation-sym nodes others same) among
+
+    pub others_keep : {A : Type 0} (o : Result (Vec Node A) (Over Node)) → IfOk o (λ next. NextKeep stands keeps script q others next.items) → IfOk o (λ next. NextKeep stands keeps script q nodes next.items)
+    others_keep (Err stop) h = tt
+    others_keep (Ok next) h = λ p k valid proper all. h p k valid proper (λ node among. all node (among_these node among))
+
+    pub others_stepped : {A : Type 0} (o : Result (Vec Node A) (Over Node)) → IfOk o (λ next. (node : Node) → Contains others node → NodeStepped stands script q next.items node) → IfOk o (λ next. (node : Node) → Contains nodes node → NodeStepped stands script q next.items node)
+    others_stepped (Err stop) h = tt
+    others_stepped (Ok next) h = λ node among. h node (among_others node among)
+
+    pub others_shown : {A : Type 0} (o : Result (Vec Node A) (Over Node)) → IfErr o (λ stop. IfOver stop (ShownAmong stands keeps script q others)) → IfErr o (λ stop. IfOver stop (ShownAmong stands keeps script q nodes))
+    others_shown (Ok next) h = tt
+    others_shown (Err over.Limit) h = tt
+    others_shown (Err over.Memory) h = tt
+    others_shown (Err (over.Shown node made line)) h = record { before = h.before; among = among_these h.before h.among; shown = h.shown }

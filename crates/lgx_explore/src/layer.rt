@@ -1,5 +1,5 @@
 // A layer of nodes, closed under due actions.
-ghost use Rattle.std.specs.Prelude.{◌≡◌, ◌<◌, ◌≤◌, true, length, slice_index_or, IfOk, IfErr};
+ghost use Rattle.std.specs.Prelude.{◌≡◌, ◌<◌, ◌≤◌, true, length, slice_index_or, IsPermutation, IfOk, IfErr};
 ghost use Rattle.std.specs.List.{Contains};
 ghost use Rattle.lgx_explore.specs.Shown.{IfShown, IsAction};
 ghost use Rattle.lgx_explore.specs.Found.{IfOver};
@@ -147,8 +147,8 @@ fn step_node<N: Node>(
     }
 }
 
-/// The nodes that the steps of these lead to.
-pub(crate) fn next_nodes<N: Node>(
+/// The nodes that the steps of these lead to, the last first.
+fn step_nodes<N: Node>(
     alloc: Global,
     script: &Script,
     question: &Question,
@@ -169,4 +169,29 @@ pub(crate) fn next_nodes<N: Node>(
         }
     }
     Ok(next)
+}
+
+/// The same nodes, the last first.
+fn last_first<N: Drop>(nodes: Vec<N>) -> Vec<N>
+    ensures { IsPermutation nodes.items result.items }
+{
+    let mut nodes = nodes;
+    nodes.as_mut_slice().reverse();
+    nodes
+}
+
+/// The nodes that the steps of these lead to, in their order.
+pub(crate) fn next_nodes<N: Node>(
+    alloc: Global,
+    script: &Script,
+    question: &Question,
+    nodes: Vec<N>,
+    most: usize,
+) -> Result<Vec<N>, Over<N>>
+    ensures within { IfOk result (λ next. length next.items ≤ most) }
+    ensures keep { IfOk result (λ next. NextKeep N.stands N.keeps script.now question.now nodes.items next.items) }
+    ensures stepped { IfOk result (λ next. (node : N) → Contains nodes.items node → NodeStepped N.stands script.now question.now next.items node) }
+    ensures shown { IfErr result (λ over. IfOver over (ShownAmong N.stands N.keeps script.now question.now nodes.items)) }
+{
+    step_nodes(alloc, script, question, last_first(nodes), most)
 }

@@ -8,6 +8,7 @@ ghost use Rattle.lgx_explore.specs.Found.{Tells};
 use crate::found::{Found, told, told_over};
 use crate::layer::{close, next_nodes};
 use crate::node::Node;
+use crate::progress::Progress;
 use lgx_num::Memory;
 use spec_base::limits::MAX_IMAGE_BYTES;
 use spec_explore::Question;
@@ -15,13 +16,14 @@ use spec_text::Script;
 use std::alloc::Global;
 
 /// Explores all journals of a script within the question's window, with at most `most` nodes in a layer. The error is that
-/// memory ran out.
-pub fn explore<N: Node>(
+/// memory ran out. Each layer after the first is told to `progress` when it is made.
+pub fn explore<N: Node, P: Progress>(
     alloc: Global,
     script: &Script,
     question: &Question,
     opening: N,
     most: usize,
+    progress: &mut P,
 ) -> Result<Found<N>, Memory>
     ensures { IfOk result (λ found. (p : Project) → IsValidProject p → IsOpened N.stands N.keeps script.now question.now p opening → Tells N.keeps p script.now question.now found) }
 {
@@ -47,6 +49,7 @@ pub fn explore<N: Node>(
             Ok(()) => {}
             Err(halt) => return told(nodes, halt, steps + 1),
         }
+        progress.layer(steps + 1, (steps + 1) / script.pace, nodes.len());
     }
     Ok(Found::Never)
 }

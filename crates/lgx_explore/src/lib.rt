@@ -9,7 +9,9 @@ mod halt;
 mod layer;
 mod layers;
 mod node;
+mod progress;
 
 pub use found::Found;
 pub use layers::explore;
 pub use node::{Next, Node, Stop};
+pub use progress::Progress;

@@ -44,6 +44,10 @@ module _ (p : Project) (script : Script) (es : List Event) (lane done : ℕ) (to
   pub due_later : (t : Timed) → slice_get (lane_of script lane) done ≡ Some t → is_due p es lane t ≡ false → due_action p script es lane ≡ None
   due_later t here due = by_test t false here due
 
+-- the controller's tick is the number of ticks
+pub now_is : (p : Project) (es : List Event) (now : ℕ) → now ≡ (run p es).tick → now ≡ ticks_of es
+now_is p es now tick = tick ∙ run_ticks p es
+
 -- its tick hasn't come
 pub not_yet : (p : Project) (es : List Event) (lane : ℕ) (t : Timed) (now : ℕ) → now ≡ (run p es).tick → now < t.at → nat_le t.at now ≡ is_due p es lane t
 not_yet p es lane t now tick later =

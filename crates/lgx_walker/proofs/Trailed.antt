@@ -1,10 +1,13 @@
 -- The journal of a trail, with one more action or step.
-use Rattle.std.proofs.Common.{◌≡◌, ℕ, zero, suc, ◌+◌, ◌<◌, ◌≤◌, inl, inr, List, [], ◌∷◌, ◌++◌, length, take, drop, get_or, Some, refl, sym, ◌∙◌, ap, subst, arith, length-append}
+use Rattle.std.proofs.Common.{◌≡◌, ℕ, zero, suc, ◌+◌, ◌^◌, ◌<◌, ◌≤◌, inl, inr, List, [], ◌∷◌, ◌++◌, length, take, drop, get_or, Option, None, Some, refl, sym, ◌∙◌, ap, subst, arith, length-append}
 use Rattle.std.specs.Prelude.{slice_get}
 use Rattle.std.proofs.lemmas.Bool.{cases_lt}
 use Rattle.std.proofs.lemmas.List.{append-nil, append_assoc, take_more, take-append-drop}
+use Rattle.std.proofs.lemmas.List.Sums.{count_by-le-length}
+use Rattle.spec_base.specs.declared.limits.TheConstants.{MAX_EVENTS}
 use Rattle.spec_machine.specs.declared.event.Event.{Event}
-use Rattle.spec_machine.specs.Events.{steps_of}
+use Rattle.spec_machine.specs.Events.{is_step, steps_of}
+use Rattle.spec_text.specs.declared.script.Timed.{Timed}
 use Rattle.spec_text.specs.Scripts.{Script}
 use Rattle.spec_lanes.specs.Turns.{lane_of, paced_step}
 use Rattle.spec_lanes.specs.Laws.{opening}
@@ -85,6 +88,19 @@ shorter_steps script journal k n le =
     let c = len_from script.pace (steps_of journal) k n le in
     omega arith
 
+-- there is room for one more of the steps
+pub room_for_step : (script : Script) (journal : List Event) (k n : ℕ) → k < n → length (with_steps script journal n) + 2 ≤ MAX_EVENTS → length (with_steps script journal k) + 1 < MAX_EVENTS
+room_for_step script journal k n lt few =
+    let a = shorter_steps script journal k n (omega arith) in
+    omega arith
+
+-- and its number is one of 32 bits
+pub number_of_step : (script : Script) (journal : List Event) (k n : ℕ) → k < n → length (with_steps script journal n) + 2 ≤ MAX_EVENTS → steps_of journal + k + 1 < 2 ^ 32
+number_of_step script journal k n lt few =
+    let a = steps_with script journal n in
+    let b = count_by-le-length is_step (with_steps script journal n) in
+    omega arith
+
 pub shorter_before : (script : Script) (journal : List Event) (m : Placed) → length (with_steps script journal m.since) ≤ length (with_placed script journal m)
 shorter_before script journal m =
     let a = length-append (with_steps script journal m.since) (act_of m.lane (slice_get (lane_of script m.lane) m.index)) in omega arith
@@ -107,4 +123,37 @@ shorter_take script ms k since =
     let parts = ap (λ (xs : List Event). length xs) (placed_on script opening (take k ms) (drop k ms)) in
     let a = shorter_placed script (placed_from script opening (take k ms)) (drop k ms) in
     let b = shorter_at_first script (placed_from script opening ms) since in
+    omega arith
+
+-- ---- the next of the actions
+
+module _ (script : Script) (ms : List Placed) (i : ℕ) (m : Placed) (events : List Event) (lt : i < length ms) (here : get_or ms i m ≡ m) (so_far : events ≡ placed_from script opening (take i ms)) where
+  pub next_placed : with_placed script events m ≡ placed_from script opening (take (i + 1) ms)
+  next_placed = ap (λ (es : List Event). with_placed script es m) so_far ∙ sym (next_placed_on script opening ms i m lt here)
+
+  module _ (since : ℕ) (few : length (journal_of script ms since) + 2 ≤ MAX_EVENTS) where
+    pub few_placed : length (with_placed script events m) + 2 ≤ MAX_EVENTS
+    few_placed =
+        let a = shorter_take script ms (i + 1) since in
+        let b = ap (λ (es : List Event). length es) next_placed in
+        omega arith
+
+    pub number_placed : steps_of events + m.since < 2 ^ 32
+    number_placed =
+        let a = steps_with script events m.since in
+        let b = count_by-le-length is_step (with_steps script events m.since) in
+        let c = shorter_before script events m in
+        let d = few_placed in
+        omega arith
+
+-- an action is no step
+act_steps : (lane : ℕ) (o : Option Timed) → steps_of (act_of lane o) ≡ 0
+act_steps lane None = refl
+act_steps lane (Some t) = refl
+
+pub steps_placed : (script : Script) (events : List Event) (m : Placed) → steps_of (with_placed script events m) ≡ steps_of events + m.since
+steps_placed script events m =
+    let a = steps_on (with_steps script events m.since) (act_of m.lane (slice_get (lane_of script m.lane) m.index)) in
+    let b = act_steps m.lane (slice_get (lane_of script m.lane) m.index) in
+    let c = steps_with script events m.since in
     omega arith

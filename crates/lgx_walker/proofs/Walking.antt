@@ -23,9 +23,12 @@ use Rattle.spec_explore.proofs.Partials.{partial_journals_are_served}
 use Rattle.lgx_core.specs.Represents.{StandsFor}
 use Rattle.lgx_explore.specs.declared.node.Next.{Next}
 use Rattle.lgx_explore.specs.declared.node.Next.TheVariants as next
-use Rattle.lgx_explore.specs.Shown.{Shows, AnAction, AStep, ATick, IsAction}
+use Rattle.lgx_explore.specs.declared.node.Stop.{Stop}
+use Rattle.lgx_explore.specs.declared.node.Stop.TheVariants as stops
+use Rattle.lgx_explore.specs.Shown.{IfShown, Shows, AnAction, AStep, ATick, IsAction}
 use Rattle.lgx_explore.specs.Nodes.{StandsAlso, NodeShows, NoneIsDue, NoneIsStepped, HasMade, IsActed, IsStepped}
 use Rattle.lgx_walker.specs.declared.trail.Placed.{Placed}
+use Rattle.lgx_walker.specs.declared.trail.Trail.{Trail}
 use Rattle.lgx_walker.specs.declared.walker.Walker.{Walker}
 use Rattle.lgx_walker.specs.declared.watcher.Watcher.{Watcher}
 use Rattle.lgx_walker.specs.Late.{SomeIsLate, NoneIsLate}
@@ -36,7 +39,7 @@ use Rattle.lgx_walker.proofs.Trailed.{one_action_more, one_step_more}
 use Rattle.lgx_walker.proofs.Windows.{CountsAre, counts_are, action_leaves, action_stays, tick_leaves, step_stays}
 
 -- a pair of what is the same
-pairs : {A B : Type 0} {a c : A} {b d : B} → a ≡ c → b ≡ d → (a, b) ≡ (c, d)
+pairs : {A B : Type 0} {a c : A} {b d : B} → a ≡ c → b ≡ d → ◌≡◌ {A = A × B} (a, b) (c, d)
 pairs e f k = (e k, f k)
 
 -- the lane's due action as an event, by the counts
@@ -46,6 +49,12 @@ placed_act p script lane counts journal action are due =
     let within = lane_within script lane (done_by lane journal) n.timed n.next in
     ap (λ i. act_of lane (slice_get (lane_of script lane) i)) (are lane within)
     ∙ (ap (act_of lane) n.next ∙ ap (λ (a : Action). Act lane a ∷ []) n.is)
+
+-- of what a stop shows, each time what follows
+pub shown_by : (stop : Stop) {P Q : Next → ℕ → Type 0} → ((made : Next) (line : ℕ) → P made line → Q made line) → IfShown stop P → IfShown stop Q
+shown_by (stops.Shown made line) f h = f made line h
+shown_by stops.Limit f h = tt
+shown_by stops.Memory f h = tt
 
 -- ---- the same walker
 
@@ -73,6 +82,19 @@ module _ (script : Script) (q : Question) (proper : IsTrue (is_script script)) (
     -- what the code's due action tells
     abbrev pub ToldDue : Option Action → Type 0
     ToldDue o = (p : Project) (journal : List Event) → Watches before.watcher p journal → (lane < length script.lanes → get_or before.trail.counts lane 0 ≡ done_by lane journal) → o ≡ due_action p script journal lane
+
+    pub told_due : (o : Option Action) (done : ℕ) (counts : List ℕ) → counts ≡ before.trail.counts → done ≡ get_or counts lane 0 → ((p : Project) (journal : List Event) → StandsFor p journal before.watcher.controller → (lane < length script.lanes → done ≡ done_by lane journal) → o ≡ due_action p script journal lane) → ToldDue o
+    told_due o done counts same is due p journal w told = due p journal w.stands_for (λ lt. is ∙ (ap (λ (cs : List ℕ). get_or cs lane 0) same ∙ told lt))
+
+    -- of the counts of the trail with the action
+    counts_on : (trail : Trail) (counts : List ℕ) → trail ≡ with_action before.trail lane → counts ≡ trail.counts → counts ≡ with_one_more before.trail.counts lane
+    counts_on trail counts more same = same ∙ ap (λ (t : Trail). t.counts) more
+
+    pub counted_late : (trail : Trail) (counts : List ℕ) → trail ≡ with_action before.trail lane → counts ≡ trail.counts → ((p : Project) (journal : List Event) → Watches before.watcher p journal → SomeIsLate q.within script counts (ticks_of journal)) → (p : Project) (journal : List Event) → Watches before.watcher p journal → SomeIsLate q.within script (with_one_more before.trail.counts lane) (ticks_of journal)
+    counted_late trail counts more same late p journal w = subst (λ (cs : List ℕ). SomeIsLate q.within script cs (ticks_of journal)) (counts_on trail counts more same) (late p journal w)
+
+    pub counted_in_time : (trail : Trail) (counts : List ℕ) → trail ≡ with_action before.trail lane → counts ≡ trail.counts → ((p : Project) (journal : List Event) → Watches before.watcher p journal → NoneIsLate q.within script counts (ticks_of journal)) → (p : Project) (journal : List Event) → Watches before.watcher p journal → NoneIsLate q.within script (with_one_more before.trail.counts lane) (ticks_of journal)
+    counted_in_time trail counts more same none p journal w = subst (λ (cs : List ℕ). NoneIsLate q.within script cs (ticks_of journal)) (counts_on trail counts more same) (none p journal w)
 
     pub none_due : (o : Option Action) → o ≡ None → ToldDue o → NoneIsDue Walks script q before lane
     none_due o none told p k counts journal layer w action due window =
@@ -143,12 +165,12 @@ module _ (script : Script) (q : Question) (proper : IsTrue (is_script script)) (
   ToldSpent b = (p : Project) (counts : List ℕ) (journal : List Event) → Walks before p counts journal → b ≡ is_spent p script journal
 
   pub spent_steps : (b : Bool) → b ≡ true → ToldSpent b → NoneIsStepped Walks script q before
-  spent_steps b yes told p k counts journal layer w unspent window =
-      absurd (let e : true ≡ false = sym yes ∙ (told p counts journal w ∙ unspent) in cc e)
+  spent_steps b spent told p k counts journal layer w unspent window =
+      absurd (let e : true ≡ false = sym spent ∙ (told p counts journal w ∙ unspent) in cc e)
 
-  module _ (b : Bool) (no : b ≡ false) (told : ToldSpent b) (has_tick : Bool) (paced : nat_eq ((before.trail.steps + 1) % script.pace) 0 ≡ has_tick) where
+  module _ (b : Bool) (unspent : b ≡ false) (told : ToldSpent b) (has_tick : Bool) (paced : nat_eq ((before.trail.steps + 1) % script.pace) 0 ≡ has_tick) where
     unspent_now : (p : Project) (counts : List ℕ) (journal : List Event) → Walks before p counts journal → is_spent p script journal ≡ false
-    unspent_now p counts journal w = sym (told p counts journal w) ∙ no
+    unspent_now p counts journal w = sym (told p counts journal w) ∙ unspent
 
     step_is : (p : Project) (counts : List ℕ) (journal : List Event) → Walks before p counts journal → paced_step script.pace (steps_of journal + 1) ≡ step_events has_tick
     step_is p counts journal w = ap (λ n. paced_step script.pace (n + 1)) (sym w.steps_are) ∙ ap step_events paced

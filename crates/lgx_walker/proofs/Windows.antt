@@ -37,6 +37,13 @@ late_is (Some most) script counts journal tick lane are now =
     ap (λ n. is_late_at most n (slice_get (lane_of script lane) (get_or counts lane 0))) now
     ∙ ap (is_late_at most (ticks_of journal)) (next_told script journal lane (get_or counts lane 0) (are lane))
 
+-- the same counts and tick
+pub late_then : (within : Option ℕ) (script : Script) (xs counts : List ℕ) (tick now : ℕ) → xs ≡ counts → tick ≡ now → SomeIsLate within script xs tick → SomeIsLate within script counts now
+late_then within script xs counts tick now same at h = subst (λ (cs : List ℕ). SomeIsLate within script cs now) same (subst (SomeIsLate within script xs) at h)
+
+pub none_late_then : (within : Option ℕ) (script : Script) (xs counts : List ℕ) (tick now : ℕ) → xs ≡ counts → tick ≡ now → NoneIsLate within script xs tick → NoneIsLate within script counts now
+none_late_then within script xs counts tick now same at h = subst (λ (cs : List ℕ). NoneIsLate within script cs now) same (subst (NoneIsLate within script xs) at h)
+
 -- a late action leaves the window
 pub leaves_window : (within : Option ℕ) (script : Script) (counts : List ℕ) (journal : List Event) (tick : ℕ) → CountsAre script counts journal → tick ≡ ticks_of journal → SomeIsLate within script counts tick → InWindow within script journal → ⊥
 leaves_window within script counts journal tick are now late window =

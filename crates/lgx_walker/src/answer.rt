@@ -17,7 +17,7 @@ use crate::watcher::Watcher;
 use crate::witness::{journal_of, journal_with};
 use lgx_core::Controller;
 use lgx_edit::Plant;
-use lgx_explore::{Found, Stop, explore};
+use lgx_explore::{Found, Progress, Stop, explore};
 use lgx_journal::{Action, Script};
 use lgx_num::Memory;
 use lgx_question::Question;
@@ -40,12 +40,13 @@ fn told(alloc: Global, script: &Script, found: Found<Walker>) -> Result<Told, Me
 }
 
 /// What is told from a walker on that stands before the opening.
-fn tell_from(
+fn tell_from<P: Progress>(
     alloc: Global,
     mut walker: Walker,
     script: &Script,
     question: &Question,
     most: usize,
+    progress: &mut P,
 ) -> Result<Told, Memory>
     requires proper { IsTrue (is_script script.now) }
     requires trail { walker.trail ≡ trail_of (replicate (length script.now.lanes) 0) [] 0 0 }
@@ -54,7 +55,7 @@ fn tell_from(
 {
     match walker.watcher.act(question, OWN_LANE, &Action::ModeRun) {
         Ok(None) => {
-            let found = explore(alloc, script, question, walker, most)?;
+            let found = explore(alloc, script, question, walker, most, progress)?;
             told(alloc, script, found)
         }
         Ok(Some(line)) => {
@@ -68,13 +69,14 @@ fn tell_from(
 
 /// What is told of all journals of a script within the question's window: whether a line of the question ever holds, and after
 /// which journal of the least processor steps. A layer, which has the states after so many steps, may have at most `most`.
-/// Out of memory is the one fault.
-pub fn tell(
+/// Out of memory is the one fault. `progress` is told how far it is.
+pub fn tell<P: Progress>(
     alloc: Global,
     project: Plant,
     script: &Script,
     question: &Question,
     most: usize,
+    progress: &mut P,
 ) -> Result<Told, Memory>
     requires { IsTrue (is_script script.now) }
     ensures { IfOk result (λ told. IsTold project script.now question.now told) }
@@ -87,5 +89,10 @@ pub fn tell(
         places,
         values: Vec::new(alloc),
     };
-    tell_from(alloc, Walker { trail, watcher }, script, question, most)
+    let walker = Walker {
+        trail,
+        watcher,
+        mark: 0,
+    };
+    tell_from(alloc, walker, script, question, most, progress)
 }

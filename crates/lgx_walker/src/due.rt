@@ -1,13 +1,21 @@
 // The due action of a lane.
-ghost use Rattle.std.specs.Prelude.{◌≡◌, ℕ, ◌<◌, length, slice_get, slice_index_or, List, option_copied};
+ghost use Rattle.std.specs.Prelude.{◌≡◌, ℕ, ◌<◌, length, slice_get, slice_index_or, List, option_copied, IsTrue};
 ghost use Rattle.spec_machine.specs.declared.event.Event.{Event as Events};
 ghost use Rattle.spec_machine.specs.Project.{Project};
+ghost use Rattle.spec_text.specs.Scripts.{is_script};
 ghost use Rattle.spec_lanes.specs.Turns.{lane_of, done_by, is_due, due_action};
 ghost use Rattle.spec_lanes.specs.Held.{is_holdable};
 ghost use Rattle.lgx_core.specs.Represents.{StandsFor};
 
 use lgx_core::Controller;
 use lgx_journal::{Action, Script, Timed};
+
+/// Every script that is read is one that can be run.
+pub fn law_of_scripts(script: &Script)
+    ensures { IsTrue (is_script script.now) }
+{
+    let _lanes = &script.lanes;
+}
 
 /// The action of a lane at a place of its list.
 pub(crate) fn action_at(script: &Script, lane: u32, index: u32) -> Option<&Timed>

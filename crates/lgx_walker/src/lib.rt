@@ -7,6 +7,7 @@
 mod answer;
 mod due;
 mod late;
+mod mark;
 mod places;
 mod told;
 mod trail;
@@ -15,6 +16,7 @@ mod watcher;
 mod witness;
 
 pub use answer::tell;
+pub use due::law_of_scripts;
 pub use told::Told;
 pub use trail::{Placed, Trail};
 pub use walker::Walker;

@@ -74,7 +74,7 @@ fn lies_in(place: Place, len: u32) -> bool
 }
 
 /// The number at a place of the controller's image, or 0 if it doesn't lie there.
-fn number_at(controller: &Controller, place: Place) -> i32
+pub(crate) fn number_at(controller: &Controller, place: Place) -> i32
     ensures { (s : State) → Represents controller.now s → InBounds place (length controller.now.parts.image.bytes) → result ≡ number s.image place }
 {
     if lies_in(place, controller.image_len()) {

@@ -15,8 +15,9 @@ ghost use Rattle.lgx_walker.specs.Lines.{step_events, StepShows};
 ghost use Rattle.lgx_walker.specs.Late.{SomeIsLate, NoneIsLate};
 ghost use Rattle.lgx_walker.specs.Walks.{Watches, Walks};
 
-use crate::due::{count_of, due_action};
+use crate::due::{count_of, due_action, law_of_scripts};
 use crate::late::is_some_late;
+use crate::mark::mark_of;
 use crate::places::same_places;
 use crate::trail::Trail;
 use crate::watcher::Watcher;
@@ -27,10 +28,11 @@ use spec_base::limits::MAX_EVENTS;
 use std::alloc::Global;
 
 /// A controller with the way that led to it. It stands for every journal that leads to the same state with as many actions of
-/// each lane, and keeps one of them.
+/// each lane, and keeps one of them. `mark` is a number of its controller's image, which tells most states apart at once.
 pub struct Walker {
     pub(crate) trail: Trail,
     pub(crate) watcher: Watcher,
+    pub(crate) mark: u64,
 }
 
 impl Drop for Walker {
@@ -38,6 +40,7 @@ impl Drop for Walker {
         let Walker {
             trail: _,
             watcher: _,
+            mark: _,
         } = self;
     }
 }
@@ -134,7 +137,8 @@ impl Node for Walker {
     ghost keeps = { walked };
 
     fn is_same(&self, other: &Self) -> bool {
-        self.trail.steps == other.trail.steps
+        self.mark == other.mark
+            && self.trail.steps == other.trail.steps
             && same_numbers(self.trail.counts.as_slice(), other.trail.counts.as_slice())
             && self.watcher.controller.is_same(&other.watcher.controller)
             && same_places(
@@ -150,6 +154,7 @@ impl Node for Walker {
         question: &Question,
         lane: u32,
     ) -> Result<Option<Self>, Stop> {
+        law_of_scripts(script);
         let done = count_of(self.trail.counts.as_slice(), lane);
         let Some(action) = due_action(script, lane, done, &self.watcher.controller) else {
             return Ok(None);
@@ -165,11 +170,18 @@ impl Node for Walker {
         ) {
             return Ok(None);
         }
-        let watcher = acted_on(alloc, &self.watcher, question, lane, action)?;
-        Ok(Some(Walker { trail, watcher }))
+        let mut watcher = acted_on(alloc, &self.watcher, question, lane, action)?;
+        watcher.forget_marks();
+        let mark = mark_of(&watcher.controller);
+        Ok(Some(Walker {
+            trail,
+            watcher,
+            mark,
+        }))
     }
 
     fn step(&mut self, script: &Script, question: &Question) -> Result<bool, Stop> {
+        law_of_scripts(script);
         if is_spent(self, script) {
             return Ok(false);
         }
@@ -184,7 +196,9 @@ impl Node for Walker {
             return Ok(false);
         }
         step_on(&mut self.watcher, question, has_tick)?;
+        self.watcher.forget_marks();
         self.trail.add_step();
+        self.mark = mark_of(&self.watcher.controller);
         Ok(true)
     }
 }

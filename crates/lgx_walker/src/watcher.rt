@@ -126,4 +126,11 @@ impl Watcher {
             Err(_) => Err(Stop::Memory),
         }
     }
+
+    /// Takes the marks of what was written, which no event reads: controllers that differ in them alone are then the same.
+    pub(crate) fn forget_marks(&mut self)
+        ensures { (p : Project) (journal : List Events) → Watches self.old p journal → Watches self.new p journal }
+    {
+        self.controller.clear_marks();
+    }
 }

@@ -1,9 +1,10 @@
 //! `logix_explore`: tells whether any journal of a script shows what a question says is never to be.
 #![tactic(auto)]
 
+use std::io::IsTerminal;
 use std::process::ExitCode;
 use word_explore::process;
 
 fn main(rt: HostRuntime) -> ExitCode {
-    ExitCode::from(process(&rt))
+    ExitCode::from(process(&rt, rt.stderr().is_terminal()))
 }

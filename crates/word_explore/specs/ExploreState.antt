@@ -6,19 +6,19 @@ use Rattle.word_explore.specs.declared.word.Explore.TheVariants.{All, OnProject,
 use Rattle.word_explore.specs.ExplorePlan.{project_read, script_read, question_read}
 
 -- the file that is read next
-abbrev pub explore_file : Explore → List ℕ
-explore_file (All project script question) = project.now
-explore_file (OnProject project script question) = script.now
-explore_file (OnScript project script question) = question.now
+abbrev pub explore_file : {Progress : Type 0} → Explore Progress → List ℕ
+explore_file (All project script question progress) = project.now
+explore_file (OnProject project script question progress) = script.now
+explore_file (OnScript project script question progress) = question.now
 
 -- what its bytes lead to
-abbrev pub explore_next : Explore → List ℕ → Plan
-explore_next (All project script question) bytes = project_read script.now question.now bytes
-explore_next (OnProject project script question) bytes = script_read question.now project bytes
-explore_next (OnScript project script question) bytes = question_read project script bytes
+abbrev pub explore_next : {Progress : Type 0} → Explore Progress → List ℕ → Plan
+explore_next (All project script question progress) bytes = project_read script.now question.now bytes
+explore_next (OnProject project script question progress) bytes = script_read question.now project bytes
+explore_next (OnScript project script question progress) bytes = question_read project script bytes
 
 -- how many files are read after it
-abbrev pub explore_left : Explore → ℕ
-explore_left (All project script question) = 2
-explore_left (OnProject project script question) = 1
-explore_left (OnScript project script question) = 0
+abbrev pub explore_left : {Progress : Type 0} → Explore Progress → ℕ
+explore_left (All project script question progress) = 2
+explore_left (OnProject project script question progress) = 1
+explore_left (OnScript project script question progress) = 0

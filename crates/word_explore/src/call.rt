@@ -10,6 +10,7 @@ ghost use Rattle.word_explore.specs.Explored.{said_by, Explored, EndsExplored};
 
 use crate::word::explore_script;
 use lgx_answer::{Status, Verdict, exit_number, say};
+use lgx_explore::Progress;
 use lgx_io::{Files, Gathered, Sink};
 use std::alloc::Global;
 use std::io::Write;
@@ -18,7 +19,13 @@ use std::io::Write;
 pub const USAGE: &[u8] = b"usage: logix_explore P S Q\n";
 
 /// Follows the plan of the words.
-fn follow<F: Files, K: Sink>(alloc: Global, words: &[String], files: &mut F, sink: &mut K) -> Status
+fn follow<P: Progress + Drop, F: Files, K: Sink>(
+    alloc: Global,
+    words: &[String],
+    progress: P,
+    files: &mut F,
+    sink: &mut K,
+) -> Status
     ensures { Answered (plan_of (map string_bytes words.now)) (record {
       told = F.told files.old;
       failures = record { old = F.failures files.old; new = F.failures files.new };
@@ -33,6 +40,7 @@ fn follow<F: Files, K: Sink>(alloc: Global, words: &[String], files: &mut F, sin
             project.as_str(),
             script.as_str(),
             question.as_str(),
+            progress,
             files,
             sink,
         ),
@@ -51,11 +59,13 @@ fn follow<F: Files, K: Sink>(alloc: Global, words: &[String], files: &mut F, sin
 /// the states of a layer, and not with the number of journals.
 ///
 /// The files are read in this order, each only if none before it is refused. A project and a script are refused as `logix`
-/// refuses them, a question with the line `question CODE line N`; any other words are answered with the usage line.
+/// refuses them, a question with the line `question CODE line N`; any other words are answered with the usage line. `progress` is
+/// told how far the exploration is.
 #[tactic(auto, using(lgx_answer::proofs::Follows::follows_plan, crate::proofs::Telling::words_explored))]
-pub fn explore<F: Files, K: Sink>(
+pub fn explore<P: Progress + Drop, F: Files, K: Sink>(
     alloc: Global,
     words: &[String],
+    progress: P,
     files: &mut F,
     sink: &mut K,
 ) -> Status
@@ -69,14 +79,15 @@ pub fn explore<F: Files, K: Sink>(
     ensures explored { (p s q : List ℕ) (said : Verdicts) → map string_bytes words.now ≡ p ∷ s ∷ q ∷ [] → said_by (number result) ≡ Some said
         → Explored (F.told files.old) (record { old = K.held sink.old; new = K.held sink.new }) p s q said }
 {
-    follow(alloc, words, files, sink)
+    follow(alloc, words, progress, files, sink)
 }
 
 /// All that the process does with its words: what [`explore`] does, and then what still waits to be written is written. Answers
 /// the number that the process ends with.
-pub fn program<F: Files, W: Write + Drop>(
+pub fn program<P: Progress + Drop, F: Files, W: Write + Drop>(
     alloc: Global,
     words: &[String],
+    progress: P,
     files: &mut F,
     output: &mut Gathered<W>,
 ) -> u8
@@ -86,6 +97,6 @@ pub fn program<F: Files, W: Write + Drop>(
     ensures explored { (p s q : List ℕ) (said : Verdicts) → map string_bytes words.now ≡ p ∷ s ∷ q ∷ [] → said_by result ≡ Some said
         → EndsExplored (F.told files.old) output.old output.new p s q said }
 {
-    let status = explore(alloc, words, files, output);
+    let status = explore(alloc, words, progress, files, output);
     exit_number(status, output)
 }

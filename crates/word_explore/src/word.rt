@@ -7,6 +7,7 @@ ghost use Rattle.word_explore.specs.ExploreState.{explore_file, explore_next, ex
 use crate::explored::explored;
 use crate::judged::judge_question;
 use lgx_answer::{NoLines, Status, Step, Verdict, Word, answer};
+use lgx_explore::Progress;
 use lgx_io::{Files, Sink};
 use lgx_journal::Script;
 use lgx_judge::{Judged, judge_project, judge_script};
@@ -16,28 +17,31 @@ use std::alloc::Global;
 
 /// The file that is read next is the project's, the script's, or the question's.
 #[derive(Drop)]
-pub(crate) enum Explore<'a> {
+pub(crate) enum Explore<'a, P: Drop> {
     /// Nothing was read yet. These are the names of the files.
     All {
         project: &'a str,
         script: &'a str,
         question: &'a str,
+        progress: P,
     },
     /// The project is accepted.
     OnProject {
         project: Project,
         script: &'a str,
         question: &'a str,
+        progress: P,
     },
     /// The project and the script are accepted.
     OnScript {
         project: Project,
         script: Script,
         question: &'a str,
+        progress: P,
     },
 }
 
-impl<'a> Word for Explore<'a> {
+impl<'a, P: Progress + Drop> Word for Explore<'a, P> {
     type Text = NoLines;
 
     ghost file = { explore_file };
@@ -59,34 +63,39 @@ impl<'a> Word for Explore<'a> {
             Explore::All {
                 script,
                 question,
+                progress,
                 ..
             } => match judge_project(alloc, &bytes)? {
                 Judged::Accepted(project) => Ok(Step::Read(Explore::OnProject {
                     project,
                     script,
                     question,
+                    progress,
                 })),
                 Judged::Refused(line) => Ok(Step::Say(Verdict::Project, line)),
             },
             Explore::OnProject {
                 project,
                 question,
+                progress,
                 ..
             } => match judge_script(alloc, &bytes)? {
                 Judged::Accepted(script) => Ok(Step::Read(Explore::OnScript {
                     project,
                     script,
                     question,
+                    progress,
                 })),
                 Judged::Refused(line) => Ok(Step::Say(Verdict::Script, line)),
             },
             Explore::OnScript {
                 project,
                 script,
+                mut progress,
                 ..
             } => match judge_question(alloc, &project, &bytes)? {
                 Judged::Accepted(question) => {
-                    let said = explored(alloc, project, &script, &question)?;
+                    let said = explored(alloc, project, &script, &question, &mut progress)?;
                     Ok(Step::Say(said.verdict, said.text))
                 }
                 Judged::Refused(line) => Ok(Step::Say(Verdict::Script, line)),
@@ -97,11 +106,12 @@ impl<'a> Word for Explore<'a> {
 
 /// Writes what is told of all journals of one file's script on another one's project, as a third file's question asks, by one put.
 /// A file is read only if none before it is refused.
-pub fn explore_script<F: Files, K: Sink>(
+pub fn explore_script<P: Progress + Drop, F: Files, K: Sink>(
     alloc: Global,
     project: &str,
     script: &str,
     question: &str,
+    progress: P,
     files: &mut F,
     sink: &mut K,
 ) -> Status
@@ -119,6 +129,7 @@ pub fn explore_script<F: Files, K: Sink>(
             project,
             script,
             question,
+            progress,
         },
         files,
         sink,

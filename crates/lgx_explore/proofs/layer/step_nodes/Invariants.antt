@@ -3,7 +3,7 @@ use Rattle.std.proofs.Common.{◌≤◌, length}
 use Rattle.std.specs.Prelude.{vec_len}
 use Rattle.lgx_explore.specs.Nodes.{NextKeep}
 use Rattle.lgx_explore.proofs.Closing.{AreStepped}
-use Rattle.lgx_explore.proofs.layer.next_nodes.Given as goal
+use Rattle.lgx_explore.proofs.layer.step_nodes.Given as goal
 
 abbrev pub invariant-loop-node : goal.invariant-loop-node
 invariant-loop-node g l =
