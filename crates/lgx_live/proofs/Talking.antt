@@ -15,7 +15,7 @@ use Rattle.spec_machine.specs.Project.{Project}
 use Rattle.lgx_live.specs.declared.console.AskFault.{AskFault}
 use Rattle.lgx_live.specs.declared.console.AskFault.TheVariants as ask
 use Rattle.lgx_live.specs.Session.{Point, no_line_yet, after, after_all, is_last}
-use Rattle.lgx_live.specs.Output.{answer_text, answers_text, last_line, whole_output}
+use Rattle.lgx_live.specs.Output.{answer_text, answers_text, last_line}
 use Rattle.lgx_live.specs.Console.{ConsoleSeen, Gives, AddsAsks, Asks, Says}
 use Rattle.lgx_live.specs.Talks.{asks_before, asks_through, IsOver, IsCutOff, Talks, IsUnderWay}
 use Rattle.lgx_live.proofs.Saying.{done}
@@ -88,15 +88,15 @@ through project a b c lines line r u k = asked_once a.asked b.asked c.asked a.he
 
 -- ---- an output that was cut off
 
-part_of : (a b : Option (List ℕ)) (xs ys : List ℕ) → Appends a b xs → AppendsPart a b (xs ++ ys)
-part_of a b xs ys h = written_so_far a b (xs ++ ys) ys (xs, refl, h)
+part_of : (a b : Option (List ℕ)) (xs : List ℕ) → Appends a b xs → AppendsPart a b xs
+part_of a b xs h = written_so_far a b xs [] (xs, sym (append-nil xs), h)
 
-part_then : (a b c : Option (List ℕ)) (xs ys zs : List ℕ) → Appends a b xs → AppendsPart b c ys → AppendsPart a c (xs ++ (ys ++ zs))
-part_then a b c xs ys zs h k = written_part a b c (xs ++ (ys ++ zs)) (ys ++ zs) ys zs (xs, refl, h) refl k
+part_then : (a b c : Option (List ℕ)) (xs ys : List ℕ) → Appends a b xs → AppendsPart b c ys → AppendsPart a c (xs ++ ys)
+part_then a b c xs ys h k = written_part a b c (xs ++ ys) ys ys [] (xs, refl, h) (sym (append-nil ys)) k
 
 -- ---- a session that was cut off by a put
 
-pub cut_talk : (fault : SinkFault) (project : Project) (a c d : ConsoleSeen) (lines : List (List ℕ)) (rest : Option (List (List ℕ))) (text : List ℕ) → Gives a.lines rest lines → list_any is_last lines ≡ false → IsCutOff project a d lines
+pub cut_talk : (fault : SinkFault) (project : Project) (a c d : ConsoleSeen) (lines : List (List ℕ)) (rest : Option (List (List ℕ))) (text : List ℕ) → Gives a.lines rest lines → list_any is_last lines ≡ false → IsCutOff project a d lines rest
     → c.faults ≡ a.faults → Says c d text (Err fault) → Talks project a d (after_puts (Err fault) verdict.Ok)
 cut_talk sink.Failed project a c d lines rest text came none cut same says = record {
   lines = lines;
@@ -146,8 +146,7 @@ talk_ends (Err fault) project a b c d lines line more u k over says written =
           inr (subst P (sym says.input.asked) (through project a b c lines line (Ok more) u k));
       held =
           let P : Option (List ℕ) → Type 0 = λ o. AppendsPart o d.held last in
-          let Q : List ℕ → Type 0 = λ t. AppendsPart a.held d.held (answers_text project no_line_yet lines ++ t) in
-          subst Q (append-nil last) (part_then a.held b.held d.held (answers_text project no_line_yet lines) last [] u.held (subst P k.output.held says.puts.part));
+          inr (over, part_then a.held b.held d.held (answers_text project no_line_yet lines) last u.held (subst P k.output.held says.puts.part));
       misses = says.input.misses ∙ k.unfailed (λ e. absurd (cc e)) ∙ u.misses;
     }) (k.output.faults ∙ u.faults) says
 
@@ -182,8 +181,8 @@ talk_lacks project a b c lines line u k = record {
     record {
       asked = inr (through project a b c lines line (Err ask.Memory) u k);
       held =
-          let P : Option (List ℕ) → Type 0 = λ o. AppendsPart a.held o (whole_output project lines) in
-          subst P (sym k.output.held) (part_of a.held b.held (answers_text project no_line_yet lines) (last_line project (after_all no_line_yet lines).events) u.held);
+          let P : Option (List ℕ) → Type 0 = λ o. AppendsPart a.held o (answers_text project no_line_yet lines) in
+          inl (subst P (sym k.output.held) (part_of a.held b.held (answers_text project no_line_yet lines) u.held));
       misses = k.unfailed (λ e. absurd (cc e)) ∙ u.misses;
     },
     k.output.faults ∙ u.faults,
@@ -200,7 +199,7 @@ talk_stops project a b lines u = record {
   ends = (
     record {
       asked = inl u.asked;
-      held = part_of a.held b.held (answers_text project no_line_yet lines) (last_line project (after_all no_line_yet lines).events) u.held;
+      held = inl (part_of a.held b.held (answers_text project no_line_yet lines) u.held);
       misses = u.misses;
     },
     u.faults,
@@ -219,7 +218,6 @@ talk_cut fault project a b c d lines line u k last says =
     let all = lines ++ line ∷ [] in
     let before = answers_text project no_line_yet lines in
     let here = answer_text project (after_all no_line_yet lines) line in
-    let end = last_line project (after_all no_line_yet all).events in
     cut_talk fault project a c d all c.lines here (gives_more a.lines b.lines c.lines lines line u.came (k.came refl)) (none_more lines line u.no_end last) (record {
       asked =
           let P : Option (List (List ℕ)) → Type 0 = λ o. AddsAsks a.asked o a.held (asks_before project no_line_yet all) in
@@ -227,8 +225,7 @@ talk_cut fault project a b c d lines line u k last says =
       held =
           let P : Option (List ℕ) → Type 0 = λ o. AppendsPart o d.held here in
           let Q : List ℕ → Type 0 = λ t. AppendsPart a.held d.held t in
-          let split : before ++ (here ++ end) ≡ whole_output project all = sym (append_assoc before here end) ∙ ap (λ t. t ++ end) (sym (answers_more project no_line_yet lines line)) in
-          subst Q split (part_then a.held b.held d.held before here end u.held (subst P k.output.held says.puts.part));
+          inl (subst Q (sym (answers_more project no_line_yet lines line)) (part_then a.held b.held d.held before here u.held (subst P k.output.held says.puts.part)));
       misses = says.input.misses ∙ k.unfailed (λ e. absurd (cc e)) ∙ u.misses;
     }) (k.output.faults ∙ u.faults) says
 

@@ -1,7 +1,8 @@
 -- A console, and what each of its methods does.
-use Rattle.std.specs.Prelude.{◌≡◌, ℕ, List, [], ◌∷◌, ◌++◌, Option, Some, None, IfSome, Bool, true, false, Result, Ok, Err, OnOk}
+use Rattle.std.specs.Prelude.{◌≡◌, ℕ, List, [], ◌∷◌, ◌++◌, Option, Some, None, IfSome, Bool, true, false, Result, Ok, Err, OnOk, IsErrOf}
 use Rattle.spec_base.specs.Pieces.{has_byte}
 use Rattle.lgx_io.specs.declared.sink.SinkFault.{SinkFault}
+use Rattle.lgx_io.specs.declared.sink.SinkFault.TheVariants.{Memory}
 use Rattle.lgx_io.specs.Sink.{FaultsRose}
 use Rattle.lgx_answer.specs.Puts.{Puts}
 use Rattle.lgx_live.specs.declared.console.AskFault.{AskFault}
@@ -57,7 +58,8 @@ pub record Says (old new : ConsoleSeen) (text : List ℕ) (result : Result (Unit
   pub puts : Puts (record { old = old.held; new = new.held }) (record { old = old.faults; new = new.faults }) text result
   pub input : IsSameInput old new
 
--- All that was put is written, or that failed.
+-- All that was put is written, or that failed. It takes no memory.
 pub record Flushes (old new : ConsoleSeen) (result : Result (Unit {0}) SinkFault) : Type 0 where
   pub says : Says old new [] result
   pub written : OnOk result (new.waiting ≡ [])
+  pub no_memory : IsErrOf result Memory → ⊥

@@ -45,10 +45,11 @@ pub record MissesLine (project : Project) (old new : ConsoleSeen) (lines : List 
   pub faults : new.faults ≡ old.faults
   pub misses : FaultsRose old.misses new.misses
 
--- It was cut off: a first part of what these lines give was put. The last of them may not be answered whole.
-pub record IsCutOff (project : Project) (old new : ConsoleSeen) (lines : List (List ℕ)) : Type 0 where
+-- It was cut off: a first part of the answers to these lines was put, and the last of them may not be answered whole; or the
+-- session was over, and its end line was cut off.
+pub record IsCutOff (project : Project) (old new : ConsoleSeen) (lines : List (List ℕ)) (rest : Option (List (List ℕ))) : Type 0 where
   pub asked : AddsAsks old.asked new.asked old.held (asks_before project no_line_yet lines) ⊎ AddsAsks old.asked new.asked old.held (asks_through project lines)
-  pub held : AppendsPart old.held new.held (whole_output project lines)
+  pub held : AppendsPart old.held new.held (answers_text project no_line_yet lines) ⊎ (IsOver rest × AppendsPart old.held new.held (whole_output project lines))
   pub misses : new.misses ≡ old.misses
 
 -- by how it ends: there is no more line, or `end` came; or a read failed; or a put failed; or memory ran out
@@ -56,8 +57,8 @@ abbrev pub Ends : Project → ConsoleSeen → ConsoleSeen → List (List ℕ) �
 Ends project old new lines rest (ending.Said verdict.Ok) = EndsWell project old new lines rest
 Ends project old new lines rest (ending.Said other) = ⊥
 Ends project old new lines rest ending.ReadFault = MissesLine project old new lines
-Ends project old new lines rest ending.WriteFault = IsCutOff project old new lines × FaultsRose old.faults new.faults
-Ends project old new lines rest ending.Memory = IsCutOff project old new lines × (new.faults ≡ old.faults)
+Ends project old new lines rest ending.WriteFault = IsCutOff project old new lines rest × FaultsRose old.faults new.faults
+Ends project old new lines rest ending.Memory = IsCutOff project old new lines rest × (new.faults ≡ old.faults)
 Ends project old new lines rest ending.TooLong = ⊥
 
 -- All of a session.

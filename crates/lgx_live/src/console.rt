@@ -28,7 +28,7 @@ pub trait Console {
     fn put(&mut self, text: &[u8]) -> Result<(), SinkFault>
         ensures { Says (seen self.old) (seen self.new) text.now result };
 
-    /// Writes all that waits.
+    /// Writes all that waits, for which it needs no memory.
     fn flush(&mut self) -> Result<(), SinkFault>
         ensures { Flushes (seen self.old) (seen self.new) result };
 }

@@ -1,11 +1,12 @@
 -- What a call comes to.
-use Rattle.std.proofs.Common.{◌≡◌, ◌≤◌, ℕ, List, [], ◌++◌, length, IfSome, Result, Ok, Err, inl, inr, refl, sym, ◌∙◌, subst, append-nil}
+use Rattle.std.proofs.Common.{◌≡◌, ◌≤◌, ℕ, List, [], ◌++◌, length, IfSome, Result, Ok, Err, OnOk, inl, inr, refl, sym, ◌∙◌, subst, append-nil}
 use Rattle.spec_base.specs.declared.limits.TheConstants.{MAX_FILE_BYTES}
 use Rattle.spec_machine.specs.Project.{Project}
 use Rattle.spec_project.specs.declared.fault.ProjectFault.{ProjectFault}
 use Rattle.spec_project.specs.Projects.{project_of}
 use Rattle.lgx_io.specs.declared.files.FileFault.{FileFault}
 use Rattle.lgx_io.specs.declared.sink.SinkFault.{SinkFault}
+use Rattle.lgx_io.specs.declared.sink.SinkFault.TheVariants as sink
 use Rattle.lgx_io.specs.Files.{added, IsCause}
 use Rattle.lgx_answer.specs.declared.status.Verdict.{Verdict}
 use Rattle.lgx_answer.specs.declared.status.Verdict.TheVariants as verdict
@@ -23,9 +24,17 @@ use Rattle.word_live.specs.LiveCall.{LiveCall, IsSaid, IsTalked, OnProject, OnFi
 abbrev pub call : Told → Failures → Failures → ConsoleSeen → ConsoleSeen → Ending → LiveCall
 call told f g a b answer = record { told = told; failures = record { old = f; new = g }; old = a; new = b; answer = answer }
 
-pub said : (told : Told) (f : Failures) (a b : ConsoleSeen) (done : Result (Unit {0}) SinkFault) (v : Verdict) (text : List ℕ) (answer : Ending) → Says a b text done → answer ≡ after_puts done v → IsSaid v text (call told f f a b answer)
-said told f a b done v text answer says is = record {
+-- what holds after puts that were done holds if the call said so
+if_said : (done : Result (Unit {0}) SinkFault) (v : Verdict) (A : Type 0) → OnOk done A → after_puts done v ≡ ending.Said v → A
+if_said (Ok x) v A a e = a
+if_said (Err sink.Failed) v A a e = absurd (cc e)
+if_said (Err sink.Memory) v A a e = absurd (cc e)
+
+pub said : (told : Told) (f : Failures) (a b : ConsoleSeen) (done : Result (Unit {0}) SinkFault) (v : Verdict) (text : List ℕ) (answer : Ending) → Says a b text done → OnOk done (b.waiting ≡ []) → answer ≡ after_puts done v
+    → IsSaid v text (call told f f a b answer)
+said told f a b done v text answer says written is = record {
   answered = says_put told (record { old = f; new = f }) (record { old = a.held; new = b.held }) (record { old = a.faults; new = b.faults }) done v text answer refl says.puts is;
+  written = λ e. if_said done v (b.waiting ≡ []) written (sym is ∙ e);
   input = says.input;
 }
 
@@ -34,7 +43,7 @@ same_input a = record { lines = refl; asked = refl; misses = refl }
 
 -- memory runs out before anything is said
 unsaid : (told : Told) (f : Failures) (a : ConsoleSeen) (v : Verdict) (text : List ℕ) → IsSaid v text (call told f f a a ending.Memory)
-unsaid told f a v text = record { answered = ((inr refl, refl), refl); input = same_input a }
+unsaid told f a v text = record { answered = ((inr refl, refl), refl); written = λ e. absurd (cc e); input = same_input a }
 
 untalked : (told : Told) (f : Failures) (a : ConsoleSeen) (project : Project) → a.waiting ≡ [] → IsTalked project (call told f f a a ending.Memory)
 untalked told f a project h = record { talks = talk_stops project a a [] (talk_begins project a h); failures = refl }

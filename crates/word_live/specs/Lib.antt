@@ -1,1 +1,2 @@
 pub mod LiveCall
+pub mod LiveProcess

@@ -6,6 +6,7 @@ use Rattle.spec_project.specs.Projects.{project_of}
 use Rattle.lgx_answer.specs.declared.status.Verdict.{Verdict}
 use Rattle.lgx_answer.specs.declared.status.Verdict.TheVariants as verdict
 use Rattle.lgx_answer.specs.Endings.{Ending}
+use Rattle.lgx_answer.specs.Endings as ending
 use Rattle.lgx_answer.specs.Plan.{Say, only}
 use Rattle.lgx_answer.specs.Answered.{Told, Failures, Change, Call, Came, Misses, IsSilent, Answered}
 use Rattle.lgx_judge.specs.CauseLines.{project_cause_line}
@@ -33,9 +34,10 @@ as_call c = record {
   answer = c.answer;
 }
 
--- A text is said, and no line is asked for.
+-- A text is said, and no line is asked for. If that was said to be done, nothing waits any more to be written.
 pub record IsSaid (said : Verdict) (text : List ℕ) (c : LiveCall) : Type 0 where
   pub answered : Answered (Say said (only text)) (as_call c)
+  pub written : c.answer ≡ ending.Said said → c.new.waiting ≡ []
   pub input : IsSameInput c.old c.new
 
 -- The file doesn't come. Nothing is said, and no line is asked for.

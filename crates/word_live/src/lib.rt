@@ -4,5 +4,7 @@
 
 mod followed;
 mod open;
+mod process;
 
 pub use open::{USAGE, live};
+pub use process::program;

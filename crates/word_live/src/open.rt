@@ -1,5 +1,5 @@
 // The call: which file is read, and what its bytes come to.
-ghost use Rattle.std.specs.Prelude.{◌≡◌, [], List, ℕ, map, string_bytes, option_map};
+ghost use Rattle.std.specs.Prelude.{◌≡◌, [], List, ℕ, map, string_bytes, option_map, OnOk};
 ghost use Rattle.spec_project.specs.Projects.{project_of};
 ghost use Rattle.lgx_answer.specs.Endings.{ending_of, after_puts};
 ghost use Rattle.lgx_answer.specs.Answered.{Told, Failures};
@@ -32,7 +32,8 @@ fn status_after(done: Result<(), SinkFault>, whole: Verdict) -> Status
 
 /// Puts a text, and writes it.
 fn put_whole<C: Console>(text: &[u8], console: &mut C) -> Result<(), SinkFault>
-    ensures { Says (C.seen console.old) (C.seen console.new) text.now result }
+    ensures says { Says (C.seen console.old) (C.seen console.new) text.now result }
+    ensures written { OnOk result ((C.seen console.new).waiting ≡ []) }
 {
     match console.put(text) {
         Ok(()) => console.flush(),
