@@ -11,7 +11,7 @@ use Rattle.word_explore.proofs.Judging.{says_as, question_refused, question_says
 use Rattle.word_explore.proofs.word.ExploreWord.judge.Goals as goal
 
 pub returns-in-All-clause-say : goal.returns-in-All-clause-say
-returns-in-All-clause-say c = λ said line is.
+returns-in-All-clause-say g c = λ said line is.
     let shown = c.deref.result.now in
     let refusal = c.in-Refused.line in
     let s = c.in-All.script.now in
@@ -22,7 +22,7 @@ returns-in-All-clause-say c = λ said line is.
     subst P (sym c.in-All.is) (says_as (project_read s q) shown c.args.bytes.items refusal line verdict.Project said c.deref.ensures.value (cc is) (cc is) base)
 
 pub returns-in-OnProject-clause-say : goal.returns-in-OnProject-clause-say
-returns-in-OnProject-clause-say c = λ said line is.
+returns-in-OnProject-clause-say g c = λ said line is.
     let shown = c.deref-in-OnProject.result.now in
     let refusal = c.in-Refused-2.line in
     let p = c.in-OnProject.project in
@@ -33,7 +33,7 @@ returns-in-OnProject-clause-say c = λ said line is.
     subst P (sym c.in-OnProject.is) (says_as (script_read q p) shown c.args.bytes.items refusal line verdict.Script said c.deref-in-OnProject.ensures.value (cc is) (cc is) base)
 
 pub returns-clause-say : goal.returns-clause-say
-returns-clause-say c = λ said line is.
+returns-clause-say g c = λ said line is.
     let shown = c.deref-in-OnScript.result.now in
     let refusal = c.in-Refused-3.line in
     let p = c.in-OnScript.project in
@@ -44,7 +44,7 @@ returns-clause-say c = λ said line is.
     subst P (sym c.in-OnScript.is) (says_as (question_read p script) shown c.args.bytes.items refusal line verdict.Script said c.deref-in-OnScript.ensures.value (cc is) (cc is) base)
 
 pub returns-in-Accepted-3-clause-say : goal.returns-in-Accepted-3-clause-say
-returns-in-Accepted-3-clause-say c = λ said line is.
+returns-in-Accepted-3-clause-say g c = λ said line is.
     let shown = c.deref-in-OnScript.result.now in
     let p = c.in-OnScript.project in
     let script = c.in-OnScript.script in
