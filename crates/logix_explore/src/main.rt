@@ -3,7 +3,7 @@
 
 use std::io::IsTerminal;
 use std::process::ExitCode;
-use word_explore::process;
+use cmd_explore::process;
 
 fn main(rt: HostRuntime) -> ExitCode {
     ExitCode::from(process(&rt, rt.stderr().is_terminal()))

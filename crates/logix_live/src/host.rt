@@ -6,7 +6,7 @@ use std::alloc::AllocGlobal;
 use std::env::Env;
 use std::io::{BufReader, Input, Print};
 use std::rt::Files as FileAccess;
-use word_live::program;
+use cmd_live::program;
 
 /// How many bytes are read ahead.
 const READ_AHEAD_BYTES: usize = 65_536;

@@ -2,17 +2,17 @@
 use Rattle.std.proofs.Common.{◌≡◌, ℕ, List, codes, Option, Some, None, subst}
 use Rattle.lgx_answer.specs.Plan.{Plan}
 use Rattle.lgx_answer.specs.Answered.{Call, Answered}
-use Rattle.word_project.specs.CheckPlan.{check_plan}
-use Rattle.word_project.specs.TextPlan.{text_plan}
-use Rattle.word_project.specs.MigratePlan.{migrate_plan}
-use Rattle.word_replay.specs.ReplayPlan.{replay_plan}
-use Rattle.word_replay.specs.GenPlan.{gen_plan}
-use Rattle.word_run.specs.RunPlan.{run_plan}
-use Rattle.word_stations.specs.StationsPlan.{stations_plan}
-use Rattle.word_trace.specs.TracePlan.{trace_plan}
-use Rattle.word_trace.specs.AuditPlan.{audit_plan}
-use Rattle.word_xref.specs.XrefPlan.{xref_plan}
-use Rattle.word_link.specs.LinkPlan.{link_plan}
+use Rattle.cmd_project.specs.CheckPlan.{check_plan}
+use Rattle.cmd_project.specs.TextPlan.{text_plan}
+use Rattle.cmd_project.specs.MigratePlan.{migrate_plan}
+use Rattle.cmd_replay.specs.ReplayPlan.{replay_plan}
+use Rattle.cmd_replay.specs.GenPlan.{gen_plan}
+use Rattle.cmd_run.specs.RunPlan.{run_plan}
+use Rattle.cmd_stations.specs.StationsPlan.{stations_plan}
+use Rattle.cmd_trace.specs.TracePlan.{trace_plan}
+use Rattle.cmd_trace.specs.AuditPlan.{audit_plan}
+use Rattle.cmd_xref.specs.XrefPlan.{xref_plan}
+use Rattle.cmd_link.specs.LinkPlan.{link_plan}
 use Rattle.logix_run.specs.Words.{one_after, two_after, three_after, number_after, watched_after, or_one, or_two, or_three, or_number, or_watched, usage_plan, plain_plan_of, plan_of}
 
 -- ---- the words are these

@@ -4,17 +4,17 @@ use Rattle.std.specs.Str.{bytes_eq}
 use Rattle.spec_text.specs.TextLines.{unsigned_of}
 use Rattle.lgx_answer.specs.declared.status.Verdict.TheVariants as verdict
 use Rattle.lgx_answer.specs.Plan.{Plan, Say, only}
-use Rattle.word_project.specs.CheckPlan.{check_plan}
-use Rattle.word_project.specs.TextPlan.{text_plan}
-use Rattle.word_project.specs.MigratePlan.{migrate_plan}
-use Rattle.word_replay.specs.ReplayPlan.{replay_plan}
-use Rattle.word_replay.specs.GenPlan.{gen_plan}
-use Rattle.word_run.specs.RunPlan.{run_plan}
-use Rattle.word_stations.specs.StationsPlan.{stations_plan}
-use Rattle.word_trace.specs.TracePlan.{trace_plan}
-use Rattle.word_trace.specs.AuditPlan.{audit_plan}
-use Rattle.word_xref.specs.XrefPlan.{xref_plan}
-use Rattle.word_link.specs.LinkPlan.{link_plan}
+use Rattle.cmd_project.specs.CheckPlan.{check_plan}
+use Rattle.cmd_project.specs.TextPlan.{text_plan}
+use Rattle.cmd_project.specs.MigratePlan.{migrate_plan}
+use Rattle.cmd_replay.specs.ReplayPlan.{replay_plan}
+use Rattle.cmd_replay.specs.GenPlan.{gen_plan}
+use Rattle.cmd_run.specs.RunPlan.{run_plan}
+use Rattle.cmd_stations.specs.StationsPlan.{stations_plan}
+use Rattle.cmd_trace.specs.TracePlan.{trace_plan}
+use Rattle.cmd_trace.specs.AuditPlan.{audit_plan}
+use Rattle.cmd_xref.specs.XrefPlan.{xref_plan}
+use Rattle.cmd_link.specs.LinkPlan.{link_plan}
 
 -- ---- a word and what stands behind it
 

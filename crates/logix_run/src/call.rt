@@ -15,8 +15,8 @@ use std::alloc::Global;
 use std::io::Write;
 use std::sync::Wait;
 use std::thread::Threads;
-use word_run::run;
-use word_stations::stations;
+use cmd_run::run;
+use cmd_stations::stations;
 
 /// Follows the plan of the words.
 #[tactic(auto, using(crate::proofs::Ways::run_answered, crate::proofs::Ways::stations_answered, crate::proofs::Ways::plain_answered))]

@@ -9,11 +9,11 @@ use crate::words::{Joined, number_after, one_after, three_after, two_after};
 use lgx_answer::{Status, Verdict, say};
 use lgx_io::{Files, Sink};
 use std::alloc::Global;
-use word_link::link_projects;
-use word_project::{check_project, migrate_project, spell_project};
-use word_replay::{generate, replay_journal};
-use word_trace::{audit_trace, trace_journal};
-use word_xref::xref_project;
+use cmd_link::link_projects;
+use cmd_project::{check_project, migrate_project, spell_project};
+use cmd_replay::{generate, replay_journal};
+use cmd_trace::{audit_trace, trace_journal};
+use cmd_xref::xref_project;
 
 /// The line that says how to use the program.
 pub const USAGE: &[u8] =

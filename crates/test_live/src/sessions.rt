@@ -7,7 +7,7 @@ use lgx_io::{Gathered, MemFiles};
 use std::alloc::Global;
 use std::io::BufWriter;
 use test_rows::{Texts, Told};
-use word_live::live;
+use cmd_live::live;
 
 /// How many bytes of an answer are gathered.
 const GATHERED_BYTES: usize = 8;

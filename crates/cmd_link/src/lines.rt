@@ -1,0 +1,65 @@
+// The output, line by line.
+ghost use Rattle.std.specs.Prelude.{◌<◌, ◌≤◌, length, IfOk};
+ghost use Rattle.cmd_link.specs.LinkTexts.{IsLinkText, WasRead, link_rest};
+
+use lgx_answer::Lines;
+use lgx_num::Memory;
+use lgx_pair::link_text;
+use lgx_project::Project;
+use spec_link::LinkScript;
+use std::alloc::Global;
+
+/// How many bytes the first line has, with its LF; all of them if there is no LF.
+fn line_length(lines: &[u8]) -> usize
+    requires { 0 < length lines.now }
+    ensures { (0 < result) × (result ≤ length lines.now) }
+{
+    match lines.iter().position(|byte| *byte == b'\n') {
+        Some(last) => last + 1,
+        None => lines.len(),
+    }
+}
+
+/// The lines of a text, from a byte on.
+#[derive(Drop)]
+pub struct LinkLines {
+    text: Vec<u8>,
+    at: usize,
+}
+
+impl Lines for LinkLines {
+    ghost use Rattle.std.specs.Prelude.{◌-◌};
+    ghost use Rattle.cmd_link.specs.LinkTexts.{link_rest};
+
+    ghost rest = { link_rest };
+
+    ghost left = { λ l. length l.text.items - l.at };
+
+    fn line(&mut self, line: &mut Vec<u8>) -> Result<bool, Memory> {
+        if self.at >= self.text.len() {
+            return Ok(false);
+        }
+        let lines = &self.text[self.at..];
+        let count = line_length(lines);
+        line.clear();
+        line.extend_from_slice(&lines[..count])?;
+        self.at += count;
+        Ok(true)
+    }
+}
+
+/// What the controllers of two projects do as a link script says.
+pub(crate) fn linked(
+    alloc: Global,
+    a: Project,
+    b: Project,
+    script: &LinkScript,
+) -> Result<LinkLines, Memory>
+    requires { WasRead a b script.now }
+    ensures { IfOk result (λ lines. IsLinkText a b script.now (link_rest lines)) }
+{
+    a.parts().law_of_validity();
+    b.parts().law_of_validity();
+    let text = link_text(alloc, a, b, script)?;
+    Ok(LinkLines { text, at: 0 })
+}

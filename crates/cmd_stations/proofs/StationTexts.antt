@@ -1,0 +1,49 @@
+-- The lines of stations, one station more; and the whole text.
+use Rattle.std.proofs.Common.{◌≡◌, ℕ, suc, ◌+◌, ◌-◌, ◌<◌, List, [], ◌++◌, length, drop, take, take_all, length-drop, sym, ap, ◌∙◌, arith}
+use Rattle.std.proofs.lemmas.List.{take-append-drop, drop-drop}
+use Rattle.std.specs.Prelude.{slice_index_or}
+use Rattle.std.specs.List.{All}
+use Rattle.std.proofs.Math.Seq.{drop-cons}
+use Rattle.spec_machine.specs.declared.event.Event.{Event}
+use Rattle.spec_machine.specs.Project.{Project}
+use Rattle.spec_story.specs.Snapshots.{snapshots}
+use Rattle.spec_text.specs.ReportText.{report}
+use Rattle.lgx_record.specs.RecordingView.{RecordingView}
+use Rattle.lgx_record.specs.Records.{Records}
+use Rattle.lgx_judge.specs.declared.ends.End.{End}
+use Rattle.lgx_judge.specs.ReportLines.{end_of}
+use Rattle.lgx_judge.proofs.Reports.{report_from_start}
+use Rattle.lgx_stations.specs.declared.watcher.Readings.{Readings}
+use Rattle.lgx_stations.specs.Telling.{AreReadingsOf}
+use Rattle.cmd_stations.specs.declared.lines.Place.TheVariants.{Report}
+use Rattle.cmd_stations.specs.StationsText.{station_lines, lines_from, IsStationsText}
+use Rattle.cmd_stations.specs.Rest.{rest_of}
+
+-- the lines of a station, and those of the stations after it
+pub next_station : (rs : List Readings) (i : ℕ) (r : Readings) → i < length rs → r ≡ slice_index_or rs i r
+    → lines_from i (drop i rs) ≡ station_lines i r ++ lines_from (i + 1) (drop (i + 1) rs)
+next_station rs i r below is =
+    let n : suc i ≡ i + 1 = omega arith in
+    ap (lines_from i) (drop-cons rs i r below)
+    ∙ (ap (λ x. station_lines i x ++ lines_from (i + 1) (drop (suc i) rs)) (sym is)
+    ∙ ap (λ k. station_lines i r ++ lines_from (i + 1) (drop k rs)) n)
+
+-- a first line, cut off what stands from a byte on, and what stands behind it
+pub next_line : (xs shown front line : List ℕ) (at n : ℕ) → shown ≡ xs → front ≡ [] → line ≡ front ++ take n (take (length shown - at) (drop at shown))
+    → drop at xs ≡ line ++ drop (at + n) xs
+next_line xs shown front line at n same empty is =
+    let whole : take (length shown - at) (drop at shown) ≡ drop at shown = take_all (length shown - at) (drop at shown) (omega (arith, length-drop at shown)) in
+    let is_front : line ≡ take n (drop at xs) = is ∙ (ap (λ f. f ++ take n (take (length shown - at) (drop at shown))) empty ∙ (ap (λ l. take n l) whole ∙ ap (λ l. take n (drop at l)) same)) in
+    sym (take-append-drop n (drop at xs)) ∙ (ap (λ t. t ++ drop n (drop at xs)) (sym is_front) ∙ ap (λ t. line ++ t) (drop-drop n at xs))
+
+-- the report of what was recorded, and the lines of the stations
+pub is_stations_text : (project : Project) (journal : List Event) (count : ℕ) (v : RecordingView) (end : End) (rs : List Readings) (text : List ℕ)
+    → Records v project journal → end ≡ end_of project journal → length rs ≡ count → All (λ r. AreReadingsOf (snapshots project journal) r) rs → text ≡ lines_from 0 rs
+    → IsStationsText project journal count (rest_of v end text (Report 0))
+is_stations_text project journal count v end rs text h is_end many each is =
+    record {
+      readings = rs;
+      count = many;
+      each = each;
+      is = ap (λ t. t ++ text) (report_from_start v.names v.log end project journal h.names h.log is_end) ∙ ap (λ t. report project journal ++ t) is;
+    }

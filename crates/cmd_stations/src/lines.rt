@@ -1,0 +1,84 @@
+// The text, line by line.
+ghost use Rattle.std.specs.Prelude.{◌<◌, ◌≤◌, length};
+ghost use Rattle.cmd_stations.specs.Rest.{rest_of, left_of};
+
+use lgx_answer::Lines;
+use lgx_judge::{End, report_line};
+use lgx_num::Memory;
+use lgx_record::Recording;
+
+/// Which line comes next.
+#[derive(Clone, Copy)]
+pub(crate) enum Place {
+    /// The report's line with this number; after the last come those of the stations.
+    Report(u32),
+    /// The line of a station that begins at this byte of theirs.
+    Stations(usize),
+}
+
+/// How many bytes the first line has, with its LF; all of them if there is no LF.
+fn line_length(lines: &[u8]) -> usize
+    requires { 0 < length lines.now }
+    ensures { (0 < result) × (result ≤ length lines.now) }
+{
+    match lines.iter().position(|byte| *byte == b'\n') {
+        Some(last) => last + 1,
+        None => lines.len(),
+    }
+}
+
+/// The lines of the report of what was recorded, and then those of the stations.
+#[derive(Drop)]
+pub(crate) struct StationsLines {
+    pub(crate) recording: Recording,
+    pub(crate) end: End,
+    /// The lines of the stations.
+    pub(crate) stations: Vec<u8>,
+    pub(crate) place: Place,
+}
+
+impl Lines for StationsLines {
+    ghost use Rattle.cmd_stations.specs.Rest.{rest_of, left_of};
+
+    ghost rest = { λ l. rest_of l.recording l.end l.stations.items l.place };
+
+    ghost left = { λ l. left_of l.recording l.stations.items l.place };
+
+    fn line(&mut self, line: &mut Vec<u8>) -> Result<bool, Memory> {
+        match self.place {
+            Place::Report(next) => {
+                let (log, names) = (self.recording.log(), self.recording.names());
+                if report_line(line, log, names, self.end, next)? {
+                    self.place = Place::Report(next + 1);
+                    return Ok(true);
+                }
+                self.place = Place::Stations(0);
+                self.station_line(line, 0)
+            }
+            Place::Stations(at) => self.station_line(line, at),
+        }
+    }
+}
+
+impl StationsLines {
+    ghost use Rattle.std.specs.Prelude.{◌≡◌, ◌<◌, ◌++◌, ◌-◌, [], Ok, true, false, drop, length};
+    ghost use Rattle.cmd_stations.specs.declared.lines.Place.TheVariants.{Stations};
+
+    /// Makes the line of a station that begins at a byte of theirs, in place of what stands in `line`; `false` if none does.
+    fn station_line(&mut self, line: &mut Vec<u8>, at: usize) -> Result<bool, Memory>
+        requires { self.old.place ≡ Stations at }
+        ensures more { result ≡ Ok true → drop at self.old.stations.items ≡ line.new.items ++ rest_of self.new.recording self.new.end self.new.stations.items self.new.place }
+        ensures fewer { result ≡ Ok true → left_of self.new.recording self.new.stations.items self.new.place < length self.old.stations.items - at }
+        ensures none { result ≡ Ok false → drop at self.old.stations.items ≡ [] }
+    {
+        if at >= self.stations.len() {
+            return Ok(false);
+        }
+        let lines = &self.stations[at..];
+        let count = line_length(lines);
+        line.clear();
+        line.extend_from_slice(&lines[..count])?;
+        self.place = Place::Stations(at + count);
+        Ok(true)
+    }
+}

@@ -1,0 +1,70 @@
+// A journal, replayed while stations watch.
+ghost use Rattle.std.specs.Prelude.{◌≡◌, ◌<◌, ◌≤◌, length, IfOk};
+ghost use Rattle.spec_base.specs.declared.limits.TheConstants.{MAX_EVENTS};
+ghost use Rattle.lgx_stations.specs.declared.stations.TheConstants.{MAX_STATIONS};
+ghost use Rattle.cmd_stations.specs.Rest.{rest_of};
+ghost use Rattle.cmd_stations.specs.StationsText.{IsStationsText};
+
+use crate::lines::{Place, StationsLines};
+use crate::texts::stations_text;
+use lgx_journal::Journal;
+use lgx_judge::end_of;
+use lgx_num::Memory;
+use lgx_project::Project;
+use lgx_record::Recording;
+use lgx_stations::{Gate, Input, watch_journal};
+use std::alloc::Global;
+use std::marker::Brand;
+use std::sync::Wait;
+use std::thread::Threads;
+
+/// The lines of a journal that was replayed on a project, while so many stations watched.
+///
+/// No type of a station stands in its signature: so its caller may say what the input names.
+fn watched_as<I: Input + Send, G: Gate + Sync, R: Threads + Wait + Sync>(
+    rt: &R,
+    alloc: Global,
+    project: Project,
+    journal: &Journal,
+    stations: u32,
+    gate: &G,
+) -> Result<StationsLines, Memory>
+    requires input { (project ≡ I.project) × (journal.now.events ≡ I.journal) }
+    requires stations { (0 < stations) × (stations ≤ MAX_STATIONS) }
+    requires few { length journal.now.events ≤ MAX_EVENTS }
+    ensures { IfOk result (λ lines. IsStationsText project journal.now.events stations (rest_of lines.recording lines.end lines.stations.items lines.place)) }
+{
+    let mut recording = Recording::of_journal(alloc, project)?;
+    let readings = watch_journal::<I, Recording, G, R>(
+        rt,
+        alloc,
+        gate,
+        &mut recording,
+        journal,
+        stations,
+    )?;
+    let text = stations_text(alloc, &readings)?;
+    let end = end_of(recording.controller(), recording.steps());
+    Ok(StationsLines {
+        recording,
+        end,
+        stations: text,
+        place: Place::Report(0),
+    })
+}
+
+/// The lines of a journal that was replayed on a project, while so many stations watched.
+pub(crate) fn watched<G: Gate + Sync, R: Threads + Wait + Sync>(
+    rt: &R,
+    alloc: Global,
+    project: Project,
+    journal: &Journal,
+    stations: u32,
+    gate: &G,
+) -> Result<StationsLines, Memory>
+    requires stations { (0 < stations) × (stations ≤ MAX_STATIONS) }
+    requires few { length journal.now.events ≤ MAX_EVENTS }
+    ensures { IfOk result (λ lines. IsStationsText project journal.now.events stations (rest_of lines.recording lines.end lines.stations.items lines.place)) }
+{
+    watched_as::<Brand, G, R>(rt, alloc, project, journal, stations, gate)
+}

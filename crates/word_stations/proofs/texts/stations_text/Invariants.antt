@@ -1,7 +1,0 @@
-use Rattle.std.proofs.Common.{◌≡◌, ◌++◌, drop}
-use Rattle.word_stations.specs.StationsText.{lines_from}
-use Rattle.word_stations.proofs.texts.stations_text.Given as goal
-
--- the lines so far, and those that are left
-abbrev pub invariant-loop-station : goal.invariant-loop-station
-invariant-loop-station l = l.text.items ++ lines_from l.station (drop l.station l.readings) ≡ lines_from 0 l.readings
