@@ -3,8 +3,8 @@ ghost use Rattle.std.specs.Prelude.{◌<◌, ◌≤◌, length, IfOk};
 ghost use Rattle.cmd_link.specs.LinkTexts.{IsLinkText, WasRead, link_rest};
 
 use lgx_answer::Lines;
+use lgx_link::link_text;
 use lgx_num::Memory;
-use lgx_pair::link_text;
 use lgx_project::Project;
 use spec_link::LinkScript;
 use std::alloc::Global;

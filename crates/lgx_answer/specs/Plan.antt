@@ -1,5 +1,5 @@
 -- What a command does: it reads files one after another, each by what was read before, and then it says a verdict with a text.
-use Rattle.std.specs.Prelude.{◌≡◌, ℕ, List, Bool, true, false}
+use Rattle.std.specs.Prelude.{◌≡◌, ℕ, List}
 use Rattle.lgx_answer.specs.declared.status.Verdict.{Verdict}
 
 -- the texts that may be written; mostly there is one
@@ -22,8 +22,3 @@ abbrev pub Says : Plan → Verdict → List ℕ → Type 0
 Says (Say verdict texts) said text = (said ≡ verdict) × texts text
 Says (Read name next) said text = ⊥
 Says (OneOf A plans) said text = (x : A) × Says (plans x) said text
-
--- one plan or the other (the `if` of the library chooses among smaller things)
-abbrev pub choose : Bool → Plan → Plan → Plan
-choose true one other = one
-choose false one other = other

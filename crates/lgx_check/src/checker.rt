@@ -22,9 +22,9 @@ use crate::number::second_number;
 use crate::operand::{count_operand, data_operand, event_task, name_operand};
 use crate::scope::CheckScope;
 use crate::spot::Spot;
-use lgx_names::NameIndex;
 use lgx_num::{Items, Memory, Name, Operand};
 use lgx_rung::{CheckCode, CheckFault, Ins, Op, OperandKind, SourceRung, Texts};
+use lgx_types::NameIndex;
 use spec_base::limits::MAX_ROUTINE_INSTRUCTIONS;
 use std::alloc::Global;
 

@@ -6,9 +6,9 @@ ghost use Rattle.spec_language.specs.Checked.{label_of, labels};
 ghost use Rattle.lgx_check.specs.Labels.{label_at, label_place, labels_from, place_after};
 
 use crate::name::label_name;
-use lgx_names::NameIndex;
 use lgx_num::{Memory, Name};
 use lgx_rung::{Element, Legs, Op, SourceRung, Texts};
+use lgx_types::NameIndex;
 use std::alloc::Global;
 use std::marker::Model;
 

@@ -8,7 +8,7 @@ use Rattle.spec_legal.proofs.Ways.{runs_give_way}
 use Rattle.spec_legal.proofs.Rungs.{scans_keep_rungs}
 use Rattle.spec_legal.proofs.Refused.{refusals_change_nothing}
 use Rattle.spec_copies.proofs.WholeCopies.{runs_copy_whole}
-use Rattle.spec_books.proofs.MergedBooks.{books-are-merged}
+use Rattle.spec_legal.proofs.MergedBooks.{books-are-merged}
 use Rattle.lgx_core.specs.Lawful.{IsLawful}
 
 pub valid-is-lawful : (p : Project) → IsValidProject p → IsLawful p

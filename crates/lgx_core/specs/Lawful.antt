@@ -4,7 +4,7 @@ use Rattle.spec_machine.specs.declared.event.Event.{Event}
 use Rattle.spec_machine.specs.Project.{Project}
 use Rattle.spec_schedule.specs.Legal.{Legal, KeepsRegions}
 use Rattle.spec_schedule.specs.Stages.{ScansKeepRungs, CopiesAreWhole, RefusalsChangeNothing}
-use Rattle.spec_books.specs.Merged.{BooksAreMerged}
+use Rattle.spec_legal.specs.Merged.{BooksAreMerged}
 use Rattle.spec_schedule.specs.TraceView.{table_of, view}
 
 -- whatever the events are

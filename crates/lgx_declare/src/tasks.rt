@@ -10,8 +10,8 @@ ghost use Rattle.lgx_json.specs.Answers.{Passes};
 
 use crate::each::{Judge, judge_in};
 use lgx_json::ProjectError;
-use lgx_names::NameIndex;
 use lgx_num::{Memory, Name};
+use lgx_types::NameIndex;
 use spec_project::{Described, DescribedProgram, DescribedTask, ProjectCode};
 use spec_tables::TaskKind;
 use std::alloc::Global;

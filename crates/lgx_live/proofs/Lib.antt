@@ -4,3 +4,4 @@ pub mod Points
 pub mod Runs
 pub mod Talking
 pub mod Sessions
+pub mod Lines

@@ -3,3 +3,4 @@ pub mod Output
 pub mod Laws
 pub mod Console
 pub mod Talks
+pub mod Piped

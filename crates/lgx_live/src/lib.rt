@@ -1,5 +1,5 @@
 //! A controller that is talked to: lines of a journal come one by one from a console, and each is answered before the next is asked
-//! for, by the report's lines of its events, or by why it wasn't done.
+//! for, by the report's lines of its events, or by why it wasn't done. A console over a reader and a writer takes lines however long.
 //!
 //! There is no journal and no log of the whole: however long a session is, it takes no more memory.
 #![tactic(auto)]
@@ -7,6 +7,8 @@
 mod console;
 mod follow;
 mod laws;
+mod piped;
+mod reading;
 mod refusal;
 mod session;
 mod turns;
@@ -14,4 +16,5 @@ mod turns;
 pub use console::{AskFault, Console};
 pub use follow::Follow;
 pub use laws::law_of_sessions;
+pub use piped::Piped;
 pub use session::talk;

@@ -8,8 +8,8 @@ ghost use Rattle.lgx_project.specs.TaskParts.{AreTasksOf};
 
 use lgx_declare::{all_names, list_programs};
 use lgx_edit::{Schedule, TaskDefs, TaskNames};
-use lgx_names::NameIndex;
 use lgx_num::{Items, Memory, Name};
+use lgx_types::NameIndex;
 use spec_language::TaskName;
 use spec_project::{Described, DescribedTask};
 use spec_tables::TaskKind;

@@ -5,3 +5,4 @@ pub mod SizingStack
 pub mod Placed
 pub mod Verdicts
 pub mod Seen
+mod Spellings

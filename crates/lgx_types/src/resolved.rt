@@ -14,8 +14,8 @@ ghost use Rattle.lgx_types.specs.Outlines.{first_wrong, faults_by, faults_in, na
 
 use crate::error::TypeError;
 use crate::structures::Structures;
-use lgx_names::NameIndex;
 use lgx_num::{Items, Name};
+use lgx_types::NameIndex;
 use spec_language::{Base, DataType, MemberDecl, TypeCode, TypeDecl, TypeFault};
 use std::alloc::Global;
 use std::marker::Model;

@@ -1,12 +1,12 @@
 // The process.
+use cmd_live::program;
 use lgx_answer::{Status, words_of};
-use lgx_console::Piped;
 use lgx_io::{HostFiles, HostSink};
+use lgx_live::Piped;
 use std::alloc::AllocGlobal;
 use std::env::Env;
 use std::io::{BufReader, Input, Print};
 use std::rt::Files as FileAccess;
-use cmd_live::program;
 
 /// How many bytes are read ahead.
 const READ_AHEAD_BYTES: usize = 65_536;

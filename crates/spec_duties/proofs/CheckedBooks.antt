@@ -25,8 +25,8 @@ use Rattle.spec_reach.proofs.BookActions.{ActsOnBooks, Edits, Keeps, acts_on_boo
 use Rattle.spec_reach.proofs.Books.{step_books, tick_books}
 use Rattle.spec_reach.proofs.EditNames.{accepted_parts, is_accepted, IsChanged, is_changed}
 use Rattle.spec_reach.proofs.Reached.{IsReached, reached_start, reached_next, known_at}
-use Rattle.spec_books.specs.EditByEdit.{with_edits}
-use Rattle.spec_books.proofs.MergedBooks.{books-are-merged}
+use Rattle.spec_legal.specs.EditByEdit.{with_edits}
+use Rattle.spec_legal.proofs.MergedBooks.{books-are-merged}
 use Rattle.spec_duties.specs.CheckedBooks.{BooksAreChecked}
 use Rattle.spec_duties.proofs.TakenOnce.{TakesOnce, accepted_once}
 

@@ -1,5 +1,5 @@
 -- The laws along a run.
-use Rattle.spec_books.proofs.EditByEdit.{merges-edits}
+use Rattle.spec_legal.proofs.EditByEdit.{merges-edits}
 use Rattle.spec_duties.specs.Duties.{RunsKeepDuties}
 use Rattle.spec_duties.specs.TickReleases.{keeps_releases}
 use Rattle.spec_duties.specs.Watchdogs.{keeps_watchdogs}

@@ -6,7 +6,7 @@ use Rattle.spec_machine.specs.declared.event.Event.{Event}
 use Rattle.spec_machine.specs.Edits.{Book, book_at, routine_at, changes_in, scope_of}
 use Rattle.spec_machine.specs.Machine.{run}
 use Rattle.spec_machine.specs.Project.{Project}
-use Rattle.spec_books.specs.EditByEdit.{with_edits}
+use Rattle.spec_legal.specs.EditByEdit.{with_edits}
 use Rattle.spec_duties.specs.TakenRungs.{took_rung}
 
 -- of the base rungs, and of the merged ones, whose source is the base's with the accepted edits

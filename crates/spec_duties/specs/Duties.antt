@@ -5,7 +5,7 @@ use Rattle.spec_machine.specs.declared.event.Event.{Event}
 use Rattle.spec_machine.specs.Project.{Project}
 use Rattle.spec_machine.specs.ValidProject.{IsValidProject}
 use Rattle.spec_legal.specs.LegalRuns.{counted_run}
-use Rattle.spec_books.specs.EditByEdit.{MergesEdits}
+use Rattle.spec_legal.specs.EditByEdit.{MergesEdits}
 use Rattle.spec_duties.specs.ActionReleases.{ActionsRelease}
 use Rattle.spec_duties.specs.Answers.{AnswersAreRight}
 use Rattle.spec_duties.specs.CheckedBooks.{BooksAreChecked}

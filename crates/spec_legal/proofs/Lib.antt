@@ -9,3 +9,6 @@ pub mod Turns
 pub mod Ways
 pub mod Refused
 pub mod CountedRuns
+mod Unchanged
+pub mod EditByEdit
+pub mod MergedBooks

@@ -1,2 +1,4 @@
 pub mod LegalRuns
 pub mod CountedRuns
+pub mod EditByEdit
+pub mod Merged

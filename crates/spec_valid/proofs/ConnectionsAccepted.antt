@@ -6,7 +6,7 @@ use Rattle.std.proofs.lemmas.Bool.{and_from, and_parts, le-leb, lt-ltb, not_from
 use Rattle.std.proofs.lemmas.List.{get_or-map, length-map}
 use Rattle.std.proofs.lemmas.List.Quantifiers.{position-Some}
 use Rattle.lgx_num.specs.Name.{same}
-use Rattle.spec_aligned.proofs.Parts.{structure_words}
+use Rattle.spec_valid.proofs.Parts.{structure_words}
 use Rattle.spec_base.specs.declared.limits.TheConstants.{MAX_CONNECTION_WORDS, MAX_IMAGE_BYTES}
 use Rattle.spec_language.specs.Declarations.{Entry, Meaning, alias, bytes, entry_size, laid, same_scope}
 use Rattle.spec_language.specs.Declarations.{tag as is_tag}

@@ -8,7 +8,7 @@ use Rattle.lgx_num.specs.Image.{bits_of}
 use Rattle.lgx_num.specs.Paths.{CanReach}
 use Rattle.lgx_num.specs.declared.place.Place.{Place}
 use Rattle.lgx_num.proofs.Images.{write_keeps_length}
-use Rattle.spec_aligned.proofs.FoundAligned.{aligned_fixed}
+use Rattle.spec_valid.proofs.FoundAligned.{aligned_fixed}
 use Rattle.spec_base.proofs.Binds.{err_not_ok}
 use Rattle.spec_language.specs.Declarations.{Declarations, bytes}
 use Rattle.spec_language.specs.Resolution.{found_fixed, is_array, kind_of}

@@ -13,3 +13,5 @@ pub mod RoutinesAccepted
 pub mod Accepted
 pub mod ShapesWithin
 pub mod Given
+pub mod Parts
+pub mod FoundAligned

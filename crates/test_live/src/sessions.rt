@@ -1,13 +1,13 @@
 // A call, and what is said of it.
 use crate::ends::{Heard, Sent, Talk};
 use crate::given::{push_words, sent_of, set};
+use cmd_live::live;
 use lgx_answer::Status;
-use lgx_console::Piped;
 use lgx_io::{Gathered, MemFiles};
+use lgx_live::Piped;
 use std::alloc::Global;
 use std::io::BufWriter;
 use test_rows::{Texts, Told};
-use cmd_live::live;
 
 /// How many bytes of an answer are gathered.
 const GATHERED_BYTES: usize = 8;

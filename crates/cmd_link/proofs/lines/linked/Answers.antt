@@ -1,6 +1,6 @@
 use Rattle.std.proofs.Common.{subst}
 use Rattle.spec_machine.specs.ValidProject.{IsValidProject}
-use Rattle.lgx_pair.proofs.Room.{read_has_room}
+use Rattle.lgx_link.proofs.Room.{read_has_room}
 use Rattle.cmd_link.proofs.Texts.{is_link_text}
 use Rattle.cmd_link.proofs.lines.linked.Goals as goal
 

@@ -1,5 +1,0 @@
-use Rattle.lgx_console.specs.Piped.{CameSoFar}
-use Rattle.lgx_console.proofs.reading.read_line.Given as goal
-
-abbrev pub invariant-loop : goal.invariant-loop
-invariant-loop g l = CameSoFar (g.R.Read.remaining l.fn.reader) (g.R.Read.remaining l.reader) l.line.items

@@ -1,5 +1,0 @@
-pub mod Words
-pub mod Links
-pub mod Added
-pub mod UnderWay
-pub mod Room

@@ -1,7 +1,0 @@
-// The law, over the definitions alone.
-ghost use Rattle.spec_aligned.specs.Aligned.{FixedIsAligned};
-
-/// What a text names begins at a multiple of its size, if numbers alone are its subscripts.
-pub fn fixed_is_aligned()
-    ensures { FixedIsAligned }
-{}

@@ -1,3 +1,0 @@
-mod Unchanged
-pub mod EditByEdit
-pub mod MergedBooks

@@ -1,2 +1,0 @@
-pub mod EditByEdit
-pub mod Merged
