@@ -36,7 +36,7 @@ def crates() -> set[str]:
 
 class Documents(unittest.TestCase):
     def test_the_map_has_each_crate(self) -> None:
-        named = set(re.findall(r"\b(?:spec|lgx|word|test|logix)(?:_\w+)?\b", text("docs/MAP.md")))
+        named = set(re.findall(r"\b(?:spec|lgx|cmd|test|logix)(?:_\w+)?\b", text("docs/MAP.md")))
         self.assertEqual(crates() - named, set())
 
     def test_rules_stand_where_the_documents_say(self) -> None:
