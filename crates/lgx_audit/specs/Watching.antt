@@ -6,7 +6,7 @@ use Rattle.lgx_audit.specs.declared.watch.Watch.{Watch}
 use Rattle.spec_schedule.specs.declared.trace.TraceEvent.{TraceEvent}
 use Rattle.spec_schedule.specs.declared.trace.Table.{Table}
 use Rattle.spec_schedule.specs.Counting.{Counted, uncounted, counted_all, Numbers, unedited, edited_all, is_open, is_task, stepping, CountedEvent}
-use Rattle.spec_schedule.specs.Legal.{priority_of, at, higher_up, is_tick, is_action, keeps_priority, keeps_version}
+use Rattle.spec_schedule.specs.Legal.{priority_of, at, higher_up, is_tick, is_action}
 
 -- a task of which nothing is watched
 abbrev pub unwatched : Watch
@@ -106,13 +106,6 @@ passes_from test table w cs ns (e ∷ es) =
 
 abbrev pub passes : (Watching → CountedEvent → Bool) → Table → List TraceEvent → Bool
 passes test table trace = passes_from test table (first_watching table) (map (λ d. uncounted) table.tasks) (replicate table.programs unedited) trace
-
--- the least law that an event breaks, by what is counted and watched just before it
-abbrev pub broken_law : Table → Watching → CountedEvent → Option ℕ
-broken_law table w x =
-    if not (keeps_priority table x) then Some 1 else
-    (if not (keeps_turn_now w.watches x && gives_way_now w x) then Some 2 else
-    (if not (keeps_version x) then Some 3 else None))
 
 -- what is watched after a trace
 abbrev pub watching_from : Table → Watching → List Counted → List Numbers → List TraceEvent → Watching

@@ -8,7 +8,7 @@ use Rattle.spec_text.specs.declared.script.JournalFault.{JournalFault}
 use Rattle.spec_text.specs.TextLines.{line_of}
 use Rattle.spec_text.specs.ReportText.{Names, names_of, line_text, end_text}
 use Rattle.lgx_judge.specs.CauseLines.{journal_code}
-use Rattle.lgx_live.specs.Session.{Point, no_line_yet, LiveLine, Reported, NotDone, answer, answers, after_all, before_end, lines_with}
+use Rattle.lgx_live.specs.Session.{Point, no_line_yet, LiveLine, Reported, NotDone, answer, answers, after_all, lines_with}
 
 -- a line that wasn't done: `line`, its code and its number
 unfoldable pub refusal_line : JournalFault → List ℕ
@@ -31,10 +31,6 @@ last_line project events = end_text (run project events).tick (steps_of events) 
 -- the answers to lines, none of which is `end`, and the end line
 abbrev pub whole_output : Project → List (List ℕ) → List ℕ
 whole_output project lines = answers_text project no_line_yet lines ++ last_line project (after_all no_line_yet lines).events
-
--- what is written for these lines
-abbrev pub live_output : Project → List (List ℕ) → List ℕ
-live_output project lines = whole_output project (before_end lines)
 
 -- the text of the report's lines that come with more events
 abbrev pub text_with : Project → List Event → List Event → List ℕ

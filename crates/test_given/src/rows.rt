@@ -82,7 +82,7 @@ fn say_crossed<P: Program, R: Threads + Wait + Sync>(
     let hold = Hold::crossed();
     say_call(rt, program, texts, row, &hold, told);
     if !hold.met() {
-        told.word("one waited in vain");
+        told.word("one waited in vain, or the reads weren't 1,000");
     }
 }
 
