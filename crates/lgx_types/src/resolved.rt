@@ -13,9 +13,9 @@ ghost use Rattle.lgx_types.specs.Sizing.{types_at};
 ghost use Rattle.lgx_types.specs.Outlines.{first_wrong, faults_by, faults_in, name_faults, member_names, outline};
 
 use crate::error::TypeError;
+use crate::name_index::NameIndex;
 use crate::structures::Structures;
 use lgx_num::{Items, Name};
-use lgx_types::NameIndex;
 use spec_language::{Base, DataType, MemberDecl, TypeCode, TypeDecl, TypeFault};
 use std::alloc::Global;
 use std::marker::Model;

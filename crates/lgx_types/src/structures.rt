@@ -8,8 +8,8 @@ ghost use Rattle.spec_language.specs.TypeFaults.{name_taken};
 ghost use Rattle.lgx_types.specs.Outlines.{names_of};
 
 use crate::built_in::built_in;
+use crate::name_index::NameIndex;
 use lgx_num::{Items, Memory, Name};
-use lgx_types::NameIndex;
 use spec_language::{Base, MemberDecl, TypeDecl};
 use std::alloc::Global;
 use std::marker::Model;
