@@ -1,3 +1,3 @@
 mod Numbers
+mod Rows
 pub mod Laws
-pub mod Ways

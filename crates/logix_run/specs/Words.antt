@@ -1,5 +1,5 @@
--- Which words of the command line are which plan.
-use Rattle.std.specs.Prelude.{ℕ, List, [], ◌∷◌, ◌++◌, codes, ◌-◌, nat_lt, ◌&&◌, if◌then◌else◌, Option, Some, None, option_map}
+-- What the words of the command line ask for, and the plan of that.
+use Rattle.std.specs.Prelude.{ℕ, List, [], ◌∷◌, ◌++◌, codes, ◌-◌, nat_lt, ◌&&◌, if◌then◌else◌, Option, Some, None}
 use Rattle.std.specs.Str.{bytes_eq}
 use Rattle.spec_text.specs.TextLines.{unsigned_of}
 use Rattle.lgx_answer.specs.declared.status.Verdict.TheVariants as verdict
@@ -16,38 +16,22 @@ use Rattle.cmd_trace.specs.AuditPlan.{audit_plan}
 use Rattle.cmd_xref.specs.XrefPlan.{xref_plan}
 use Rattle.cmd_link.specs.LinkPlan.{link_plan}
 
--- ---- a word and what stands behind it
+-- a command with the names of its files, its number, or its count of stations
+pub data Command : Type 0 where
+  Check : List ℕ → Command
+  Text : List ℕ → Command
+  Migrate : List ℕ → Command
+  Xref : List ℕ → Command
+  Gen : ℕ → Command
+  Replay : List ℕ → List ℕ → Command
+  Trace : List ℕ → List ℕ → Command
+  Audit : List ℕ → List ℕ → Command
+  Run : List ℕ → List ℕ → Command
+  Link : List ℕ → List ℕ → List ℕ → Command
+  Stations : List ℕ → List ℕ → ℕ → Command
+  Usage : Command
 
--- one name
-abbrev pub one_after : List ℕ → List (List ℕ) → Option (List ℕ)
-one_after verb [] = None
-one_after verb (word ∷ []) = None
-one_after verb (word ∷ p ∷ []) = if bytes_eq word verb then Some p else None
-one_after verb (word ∷ p ∷ next ∷ more) = None
-
--- two names
-abbrev pub two_after : List ℕ → List (List ℕ) → Option (List ℕ × List ℕ)
-two_after verb [] = None
-two_after verb (word ∷ []) = None
-two_after verb (word ∷ p ∷ []) = None
-two_after verb (word ∷ p ∷ q ∷ []) = if bytes_eq word verb then Some (p, q) else None
-two_after verb (word ∷ p ∷ q ∷ next ∷ more) = None
-
--- three names
-abbrev pub three_after : List ℕ → List (List ℕ) → Option (List ℕ × List ℕ × List ℕ)
-three_after verb [] = None
-three_after verb (word ∷ []) = None
-three_after verb (word ∷ a ∷ []) = None
-three_after verb (word ∷ a ∷ b ∷ []) = None
-three_after verb (word ∷ a ∷ b ∷ l ∷ []) = if bytes_eq word verb then Some (a, b, l) else None
-three_after verb (word ∷ a ∷ b ∷ l ∷ next ∷ more) = None
-
--- 1 to 10 decimal digits up to 4294967295, needless zeros among them or not
-abbrev pub number_after : List ℕ → List (List ℕ) → Option ℕ
-number_after verb [] = None
-number_after verb (word ∷ []) = None
-number_after verb (word ∷ n ∷ []) = if bytes_eq word verb then unsigned_of n else None
-number_after verb (word ∷ n ∷ next ∷ more) = None
+-- ---- words
 
 -- one digit from 1 to 8
 abbrev pub station_count : List ℕ → Option ℕ
@@ -55,38 +39,56 @@ station_count [] = None
 station_count (digit ∷ []) = if nat_lt 48 digit && nat_lt digit 57 then Some (digit - 48) else None
 station_count (digit ∷ next ∷ more) = None
 
--- two names and a count of stations
-abbrev pub watched_after : List ℕ → List (List ℕ) → Option (List ℕ × List ℕ × ℕ)
-watched_after verb [] = None
-watched_after verb (word ∷ []) = None
-watched_after verb (word ∷ p ∷ []) = None
-watched_after verb (word ∷ p ∷ j ∷ []) = None
-watched_after verb (word ∷ p ∷ j ∷ c ∷ []) = if bytes_eq word verb then option_map (λ n. (p, j, n)) (station_count c) else None
-watched_after verb (word ∷ p ∷ j ∷ c ∷ next ∷ more) = None
+-- the command of a number, where it is one
+abbrev pub counted : (ℕ → Command) → Option ℕ → Command
+counted command None = Usage
+counted command (Some n) = command n
 
--- ---- the plan of what was found, and else another plan
+-- The commands by their words, with one, two and three words behind them. The number of `gen` is 1 to 10 decimal digits up to
+-- 4294967295, needless zeros among them or not.
+abbrev pub with_one : List (List ℕ × (List ℕ → Command))
+with_one =
+    (codes "check", Check) ∷
+    (codes "text", Text) ∷
+    (codes "migrate", Migrate) ∷
+    (codes "xref", Xref) ∷
+    (codes "gen", λ n. counted Gen (unsigned_of n)) ∷ []
 
-abbrev pub or_one : (List ℕ → Plan) → Option (List ℕ) → Plan → Plan
-or_one plan None other = other
-or_one plan (Some p) other = plan p
+abbrev pub with_two : List (List ℕ × (List ℕ → List ℕ → Command))
+with_two =
+    (codes "replay", Replay) ∷
+    (codes "trace", Trace) ∷
+    (codes "audit", Audit) ∷
+    (codes "run", Run) ∷ []
 
-abbrev pub or_two : (List ℕ → List ℕ → Plan) → Option (List ℕ × List ℕ) → Plan → Plan
-or_two plan None other = other
-or_two plan (Some names) other = plan names.0 names.1
+abbrev pub with_three : List (List ℕ × (List ℕ → List ℕ → List ℕ → Command))
+with_three =
+    (codes "link", Link) ∷
+    (codes "stations", λ p j c. counted (Stations p j) (station_count c)) ∷ []
 
-abbrev pub or_three : (List ℕ → List ℕ → List ℕ → Plan) → Option (List ℕ × List ℕ × List ℕ) → Plan → Plan
-or_three plan None other = other
-or_three plan (Some names) other = plan names.0 names.1 names.2
+-- what the row of this word says; where it has none, the usage
+abbrev pub row_of : (A : Type 0) → List (List ℕ × A) → List ℕ → (A → Command) → Command
+row_of A [] word say = Usage
+row_of A (row ∷ rows) word say = if bytes_eq word row.0 then say row.1 else row_of A rows word say
 
-abbrev pub or_number : (ℕ → Plan) → Option ℕ → Plan → Plan
-or_number plan None other = other
-or_number plan (Some n) other = plan n
+abbrev pub of_one : List ℕ → List ℕ → Command
+of_one word a = row_of _ with_one word (λ c. c a)
 
-abbrev pub or_watched : (List ℕ → List ℕ → ℕ → Plan) → Option (List ℕ × List ℕ × ℕ) → Plan → Plan
-or_watched plan None other = other
-or_watched plan (Some found) other = plan found.0 found.1 found.2
+abbrev pub of_two : List ℕ → List ℕ → List ℕ → Command
+of_two word a b = row_of _ with_two word (λ c. c a b)
 
--- ---- the words
+abbrev pub of_three : List ℕ → List ℕ → List ℕ → List ℕ → Command
+of_three word a b d = row_of _ with_three word (λ c. c a b d)
+
+unfoldable pub command_of : List (List ℕ) → Command
+command_of [] = Usage
+command_of (word ∷ []) = Usage
+command_of (word ∷ a ∷ []) = of_one word a
+command_of (word ∷ a ∷ b ∷ []) = of_two word a b
+command_of (word ∷ a ∷ b ∷ c ∷ []) = of_three word a b c
+command_of (word ∷ a ∷ b ∷ c ∷ next ∷ more) = Usage
+
+-- ---- plans
 
 abbrev pub usage_text : List ℕ
 usage_text = codes "usage: logix check P, text P, replay P J, run P S, gen N, migrate P, trace P J, audit P T, xref P, stations P J C, link A B L" ++ 10 ∷ []
@@ -94,13 +96,40 @@ usage_text = codes "usage: logix check P, text P, replay P J, run P S, gen N, mi
 abbrev pub usage_plan : Plan
 usage_plan = Say verdict.Usage (only usage_text)
 
--- the words that need no thread of their own: `check P`, `text P`, `migrate P`, `replay P J`, `gen N`, `trace P J`, `audit P T`,
--- `xref P`, `link A B L`; and else the usage
-unfoldable pub plain_plan_of : List (List ℕ) → Plan
-plain_plan_of words =
-    or_one check_plan (one_after (codes "check") words) (or_one text_plan (one_after (codes "text") words) (or_one migrate_plan (one_after (codes "migrate") words) (or_two replay_plan (two_after (codes "replay") words) (or_number gen_plan (number_after (codes "gen") words) (or_two trace_plan (two_after (codes "trace") words) (or_two audit_plan (two_after (codes "audit") words) (or_one xref_plan (one_after (codes "xref") words) (or_three link_plan (three_after (codes "link") words) usage_plan))))))))
+abbrev pub command_plan : Command → Plan
+command_plan (Check p) = check_plan p
+command_plan (Text p) = text_plan p
+command_plan (Migrate p) = migrate_plan p
+command_plan (Xref p) = xref_plan p
+command_plan (Gen n) = gen_plan n
+command_plan (Replay p j) = replay_plan p j
+command_plan (Trace p j) = trace_plan p j
+command_plan (Audit p t) = audit_plan p t
+command_plan (Run p s) = run_plan p s
+command_plan (Link a b l) = link_plan a b l
+command_plan (Stations p j c) = stations_plan p j c
+command_plan Usage = usage_plan
 
--- all words: `run P S`, `stations P J C`, and those above
-unfoldable pub plan_of : List (List ℕ) → Plan
-plan_of words =
-    or_two run_plan (two_after (codes "run") words) (or_watched stations_plan (watched_after (codes "stations") words) (plain_plan_of words))
+-- a command that needs no thread of its own; the others are unknown
+abbrev pub plain : Command → Command
+plain (Check p) = Check p
+plain (Text p) = Text p
+plain (Migrate p) = Migrate p
+plain (Xref p) = Xref p
+plain (Gen n) = Gen n
+plain (Replay p j) = Replay p j
+plain (Trace p j) = Trace p j
+plain (Audit p t) = Audit p t
+plain (Run p s) = Usage
+plain (Link a b l) = Link a b l
+plain (Stations p j c) = Usage
+plain Usage = Usage
+
+-- ---- the plan of the words
+
+abbrev pub plan_of : List (List ℕ) → Plan
+plan_of words = command_plan (command_of words)
+
+-- of those that need no thread of their own: all but `run P S` and `stations P J C`
+abbrev pub plain_plan_of : List (List ℕ) → Plan
+plain_plan_of words = command_plan (plain (command_of words))

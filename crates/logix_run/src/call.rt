@@ -2,12 +2,15 @@
 ghost use Rattle.std.specs.Prelude.{◌≡◌, map, string_bytes};
 ghost use Rattle.lgx_answer.specs.Endings.{ending_of};
 ghost use Rattle.lgx_answer.specs.Answered.{Answered};
-ghost use Rattle.logix_run.specs.Words.{plan_of};
+ghost use Rattle.logix_run.specs.Words.{command_plan, plan_of};
+ghost use Rattle.logix_run.specs.Commands.{said, HasStations};
 ghost use Rattle.lgx_answer.specs.Process.{IsProcess};
 ghost use Rattle.logix_run.specs.Answers.{IsAnswered};
 
+use crate::command::{Command, command_of};
 use crate::plain::follow_plain;
-use crate::words::{Watched, two_after, watched_after};
+use cmd_run::run;
+use cmd_stations::stations;
 use lgx_answer::{Status, exit_number};
 use lgx_io::{Files, Gathered, Sink};
 use lgx_shared::Gate;
@@ -15,20 +18,18 @@ use std::alloc::Global;
 use std::io::Write;
 use std::sync::Wait;
 use std::thread::Threads;
-use cmd_run::run;
-use cmd_stations::stations;
 
-/// Follows the plan of the words.
-#[tactic(auto, using(crate::proofs::Ways::run_answered, crate::proofs::Ways::stations_answered, crate::proofs::Ways::plain_answered))]
+/// Follows the plan of a command.
 fn follow<F: Files, K: Sink, G: Gate + Sync, R: Threads + Wait + Sync>(
     rt: &R,
     alloc: Global,
-    words: &[String],
+    command: Command<'_>,
     files: &mut F,
     sink: &mut K,
     gate: &G,
 ) -> Status
-    ensures { Answered (plan_of (map string_bytes words.now)) (record {
+    requires { HasStations command }
+    ensures { Answered (command_plan (said command)) (record {
       told = F.told files.old;
       failures = record { old = F.failures files.old; new = F.failures files.new };
       held = record { old = K.held sink.old; new = K.held sink.new };
@@ -36,20 +37,13 @@ fn follow<F: Files, K: Sink, G: Gate + Sync, R: Threads + Wait + Sync>(
       answer = ending_of result;
     }) }
 {
-    if let Some((project, script)) = two_after("run", words) {
-        return run(rt, alloc, project, script, files, sink, gate);
+    match command {
+        Command::Run(project, script) => run(rt, alloc, project, script, files, sink, gate),
+        Command::Stations(project, journal, count) => {
+            stations(rt, alloc, project, journal, count, files, sink, gate)
+        }
+        other => follow_plain(alloc, other, files, sink),
     }
-    if let Some(
-        Watched {
-            project,
-            journal,
-            stations: count,
-        },
-    ) = watched_after("stations", words)
-    {
-        return stations(rt, alloc, project, journal, count, files, sink, gate);
-    }
-    follow_plain(alloc, words, files, sink)
 }
 
 /// Does what the words of the command line say, and answers how the program ends: all that [`crate::logix_plain`] does,
@@ -85,7 +79,7 @@ pub fn logix<F: Files, K: Sink, G: Gate + Sync, R: Threads + Wait + Sync>(
       answer = ending_of result;
     }) }
 {
-    follow(rt, alloc, words, files, sink, gate)
+    follow(rt, alloc, command_of(words), files, sink, gate)
 }
 
 /// All that the process does with its words: what [`logix`] does, and then what still waits to be written is written. Answers

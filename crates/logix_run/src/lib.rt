@@ -3,10 +3,10 @@
 #![tactic(auto)]
 
 mod call;
+mod command;
 mod gate;
 mod host;
 mod plain;
-mod words;
 
 pub use call::{logix, program};
 pub use gate::Open;

@@ -2,32 +2,32 @@
 ghost use Rattle.std.specs.Prelude.{◌≡◌, map, string_bytes};
 ghost use Rattle.lgx_answer.specs.Endings.{ending_of};
 ghost use Rattle.lgx_answer.specs.Answered.{Answered};
-ghost use Rattle.logix_run.specs.Words.{plain_plan_of};
+ghost use Rattle.logix_run.specs.Words.{command_plan, plain, plain_plan_of};
+ghost use Rattle.logix_run.specs.Commands.{said};
 ghost use Rattle.logix_run.specs.Answers.{IsAnswered};
 
-use crate::words::{Joined, number_after, one_after, three_after, two_after};
-use lgx_answer::{Status, Verdict, say};
-use lgx_io::{Files, Sink};
-use std::alloc::Global;
+use crate::command::{Command, command_of};
 use cmd_link::link_projects;
 use cmd_project::{check_project, migrate_project, spell_project};
 use cmd_replay::{generate, replay_journal};
 use cmd_trace::{audit_trace, trace_journal};
 use cmd_xref::xref_project;
+use lgx_answer::{Status, Verdict, say};
+use lgx_io::{Files, Sink};
+use std::alloc::Global;
 
 /// The line that says how to use the program.
 pub const USAGE: &[u8] =
     b"usage: logix check P, text P, replay P J, run P S, gen N, migrate P, trace P J, audit P T, xref P, stations P J C, link A B L\n";
 
-/// Follows the plan of the words.
-#[tactic(auto, using(crate::proofs::Ways::check_answered, crate::proofs::Ways::text_answered, crate::proofs::Ways::migrate_answered, crate::proofs::Ways::replay_answered, crate::proofs::Ways::gen_answered, crate::proofs::Ways::trace_answered, crate::proofs::Ways::audit_answered, crate::proofs::Ways::xref_answered, crate::proofs::Ways::link_answered, crate::proofs::Ways::usage_answered))]
+/// Follows the plan of a command that needs no thread of its own, and for another one that of the usage.
 pub(crate) fn follow_plain<F: Files, K: Sink>(
     alloc: Global,
-    words: &[String],
+    command: Command<'_>,
     files: &mut F,
     sink: &mut K,
 ) -> Status
-    ensures { Answered (plain_plan_of (map string_bytes words.now)) (record {
+    ensures { Answered (command_plan (plain (said command))) (record {
       told = F.told files.old;
       failures = record { old = F.failures files.old; new = F.failures files.new };
       held = record { old = K.held sink.old; new = K.held sink.new };
@@ -35,34 +35,20 @@ pub(crate) fn follow_plain<F: Files, K: Sink>(
       answer = ending_of result;
     }) }
 {
-    if let Some(project) = one_after("check", words) {
-        return check_project(alloc, project, files, sink);
+    match command {
+        Command::Check(project) => check_project(alloc, project, files, sink),
+        Command::Text(project) => spell_project(alloc, project, files, sink),
+        Command::Migrate(project) => migrate_project(alloc, project, files, sink),
+        Command::Xref(project) => xref_project(alloc, project, files, sink),
+        Command::Gen(number) => generate(alloc, number, files, sink),
+        Command::Replay(project, journal) => replay_journal(alloc, project, journal, files, sink),
+        Command::Trace(project, journal) => trace_journal(alloc, project, journal, files, sink),
+        Command::Audit(project, trace) => audit_trace(alloc, project, trace, files, sink),
+        Command::Link(a, b, script) => link_projects(alloc, a, b, script, files, sink),
+        Command::Run(..) | Command::Stations(..) | Command::Usage => {
+            say(Verdict::Usage, USAGE, files, sink)
+        }
     }
-    if let Some(project) = one_after("text", words) {
-        return spell_project(alloc, project, files, sink);
-    }
-    if let Some(project) = one_after("migrate", words) {
-        return migrate_project(alloc, project, files, sink);
-    }
-    if let Some((project, journal)) = two_after("replay", words) {
-        return replay_journal(alloc, project, journal, files, sink);
-    }
-    if let Some(number) = number_after("gen", words) {
-        return generate(alloc, number, files, sink);
-    }
-    if let Some((project, journal)) = two_after("trace", words) {
-        return trace_journal(alloc, project, journal, files, sink);
-    }
-    if let Some((project, trace)) = two_after("audit", words) {
-        return audit_trace(alloc, project, trace, files, sink);
-    }
-    if let Some(project) = one_after("xref", words) {
-        return xref_project(alloc, project, files, sink);
-    }
-    if let Some(Joined { a, b, link }) = three_after("link", words) {
-        return link_projects(alloc, a, b, link, files, sink);
-    }
-    say(Verdict::Usage, USAGE, files, sink)
 }
 
 /// Does what the words of the command line say, and answers how the program ends: [`crate::logix`] without the words
@@ -92,5 +78,5 @@ pub fn logix_plain<F: Files, K: Sink>(
       answer = ending_of result;
     }) }
 {
-    follow_plain(alloc, words, files, sink)
+    follow_plain(alloc, command_of(words), files, sink)
 }
