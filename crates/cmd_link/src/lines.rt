@@ -1,5 +1,6 @@
 // The output, line by line.
-ghost use Rattle.std.specs.Prelude.{◌<◌, ◌≤◌, length, IfOk};
+ghost use Rattle.std.specs.Prelude.{◌≡◌, ◌<◌, ◌≤◌, length, take, IfOk};
+ghost use Rattle.std.specs.Io.BufRead.{take_through};
 ghost use Rattle.cmd_link.specs.LinkTexts.{IsLinkText, WasRead, link_rest};
 
 use lgx_answer::Lines;
@@ -12,12 +13,17 @@ use std::alloc::Global;
 /// How many bytes the first line has, with its LF; all of them if there is no LF.
 fn line_length(lines: &[u8]) -> usize
     requires { 0 < length lines.now }
-    ensures { (0 < result) × (result ≤ length lines.now) }
+    ensures within { (0 < result) × (result ≤ length lines.now) }
+    ensures line { take result lines.now ≡ take_through 10 lines.now }
 {
-    match lines.iter().position(|byte| *byte == b'\n') {
-        Some(last) => last + 1,
-        None => lines.len(),
+    let mut count = 0;
+    for byte in lines {
+        count += 1;
+        if *byte == b'\n' {
+            break;
+        }
     }
+    count
 }
 
 /// The lines of a text, from a byte on.

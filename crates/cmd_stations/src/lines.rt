@@ -1,5 +1,6 @@
 // The text, line by line.
-ghost use Rattle.std.specs.Prelude.{◌<◌, ◌≤◌, length};
+ghost use Rattle.std.specs.Prelude.{◌≡◌, ◌<◌, ◌≤◌, length, take};
+ghost use Rattle.std.specs.Io.BufRead.{take_through};
 ghost use Rattle.cmd_stations.specs.Rest.{rest_of, left_of};
 
 use lgx_answer::Lines;
@@ -19,12 +20,17 @@ pub(crate) enum Place {
 /// How many bytes the first line has, with its LF; all of them if there is no LF.
 fn line_length(lines: &[u8]) -> usize
     requires { 0 < length lines.now }
-    ensures { (0 < result) × (result ≤ length lines.now) }
+    ensures within { (0 < result) × (result ≤ length lines.now) }
+    ensures line { take result lines.now ≡ take_through 10 lines.now }
 {
-    match lines.iter().position(|byte| *byte == b'\n') {
-        Some(last) => last + 1,
-        None => lines.len(),
+    let mut count = 0;
+    for byte in lines {
+        count += 1;
+        if *byte == b'\n' {
+            break;
+        }
     }
+    count
 }
 
 /// The lines of the report of what was recorded, and then those of the stations.
