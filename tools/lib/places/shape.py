@@ -5,15 +5,14 @@ from __future__ import annotations
 import json
 from functools import cache
 
+from lib.hammer.plain.project import MOST_ALL
+from lib.hammer.plain.reader import MOST_RUNG
 from lib.hammer.plain.words import is_name
-
 from lib.paths import TOP, read_text
 from lib.texts import Said, counted, listed, meant, near, quoted
 
 from .refused import KINDS, Refused
 
-MOST_INSTRUCTIONS = 131_072
-MOST_RUNG = 4_096
 NUMBERS = ("one", "two", "three")
 # What to do about keys that editors and people like to add.
 NOT_TAKEN = {
@@ -122,7 +121,7 @@ def long_list(refused: Refused) -> Said:
     if isinstance(value, list) and len(value) > wanted.get("maxItems", len(value)):
         what = KINDS.get(refused.keys[-1], "element")
         return refused.say(f"{counted(len(value), what)}; at most {wanted['maxItems']:,}")
-    return Said(f"the project has more than {MOST_INSTRUCTIONS:,} instructions")
+    return Said(f"the project has more than {MOST_ALL:,} instructions")
 
 
 def out_of_form(refused: Refused) -> Said | None:

@@ -4,7 +4,7 @@ from __future__ import annotations
 
 from collections.abc import Iterator
 
-from lib.hammer.plain.tags import BITS, INTEGERS, SIZES, Found, up_to
+from lib.hammer.plain.tags import BITS, INTEGERS, MOST_IMAGE, MOST_STRUCTURE, SIZES, Found, up_to
 from lib.hammer.plain.tags import Refused as NoTag
 from lib.hammer.plain.words import FLAGS, is_name, is_tag_name, operand_form
 from lib.tags import members_of, spelled
@@ -13,7 +13,6 @@ from lib.texts import Said, counted, meant, quoted
 from .refused import Refused
 from .shape import name_fault
 
-MOST_IMAGE, MOST_STRUCTURE = 262_144, 4_096
 # Why something names nothing, and words of the sentence that applies.
 Why = tuple[str, str]
 

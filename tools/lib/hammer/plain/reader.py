@@ -6,7 +6,7 @@ from typing import NamedTuple
 
 from .words import is_name
 
-DEEPEST = 127
+DEEPEST, MOST_RUNG = 127, 4_096
 STRUCTURE = re.compile(r'"(?:[^"\\]|\\.)*"|[\[\]{}]', re.DOTALL)
 
 
@@ -96,7 +96,7 @@ def name(value, path):
 
 def rung(value, path):
     text(value, path)
-    if len(value.encode("utf-8")) > 4_096:
+    if len(value.encode("utf-8")) > MOST_RUNG:
         raise Fault("P5", path)
 
 
