@@ -2,7 +2,7 @@
 ghost use Rattle.std.specs.Prelude.{◌≡◌, ◌∷◌, [], List, ℕ, map, string_bytes, Some};
 ghost use Rattle.lgx_answer.specs.declared.status.Verdict.{Verdict as Verdicts};
 ghost use Rattle.lgx_answer.specs.Endings.{ending_of, number};
-ghost use Rattle.lgx_answer.specs.Answered.{Answered};
+ghost use Rattle.lgx_answer.specs.Answered.{Answered, call_of};
 ghost use Rattle.lgx_answer.specs.Laws.{FollowsPlan};
 ghost use Rattle.lgx_answer.specs.Process.{IsProcess};
 ghost use Rattle.cmd_explore.specs.ExplorePlan.{plan_of};
@@ -26,13 +26,8 @@ fn follow<P: Progress + Drop, F: Files, K: Sink>(
     files: &mut F,
     sink: &mut K,
 ) -> Status
-    ensures { Answered (plan_of (map string_bytes words.now)) (record {
-      told = F.told files.old;
-      failures = record { old = F.failures files.old; new = F.failures files.new };
-      held = record { old = K.held sink.old; new = K.held sink.new };
-      faults = record { old = K.faults sink.old; new = K.faults sink.new };
-      answer = ending_of result;
-    }) }
+    ensures { Answered (plan_of (map string_bytes words.now))
+        (call_of F.told F.failures files.old files.new K.held K.faults sink.old sink.new (ending_of result)) }
 {
     match words {
         [project, script, question] => explore_script(
@@ -69,13 +64,8 @@ pub fn explore<P: Progress + Drop, F: Files, K: Sink>(
     files: &mut F,
     sink: &mut K,
 ) -> Status
-    ensures follows { FollowsPlan (plan_of (map string_bytes words.now)) (record {
-      told = F.told files.old;
-      failures = record { old = F.failures files.old; new = F.failures files.new };
-      held = record { old = K.held sink.old; new = K.held sink.new };
-      faults = record { old = K.faults sink.old; new = K.faults sink.new };
-      answer = ending_of result;
-    }) }
+    ensures follows { FollowsPlan (plan_of (map string_bytes words.now))
+        (call_of F.told F.failures files.old files.new K.held K.faults sink.old sink.new (ending_of result)) }
     ensures explored { (p s q : List ℕ) (said : Verdicts) → map string_bytes words.now ≡ p ∷ s ∷ q ∷ [] → said_by (number result) ≡ Some said
         → Explored (F.told files.old) (record { old = K.held sink.old; new = K.held sink.new }) p s q said }
 {

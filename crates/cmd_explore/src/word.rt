@@ -1,6 +1,6 @@
 // The files of `logix_explore P S Q`: a project, a script and a question.
 ghost use Rattle.lgx_answer.specs.Endings.{ending_of};
-ghost use Rattle.lgx_answer.specs.Answered.{Answered};
+ghost use Rattle.lgx_answer.specs.Answered.{Answered, call_of};
 ghost use Rattle.cmd_explore.specs.ExplorePlan.{explore_plan};
 ghost use Rattle.cmd_explore.specs.ExploreState.{explore_file, explore_next, explore_left};
 
@@ -115,13 +115,8 @@ pub fn explore_script<P: Progress + Drop, F: Files, K: Sink>(
     files: &mut F,
     sink: &mut K,
 ) -> Status
-    ensures { Answered (explore_plan project.now script.now question.now) (record {
-      told = F.told files.old;
-      failures = record { old = F.failures files.old; new = F.failures files.new };
-      held = record { old = K.held sink.old; new = K.held sink.new };
-      faults = record { old = K.faults sink.old; new = K.faults sink.new };
-      answer = ending_of result;
-    }) }
+    ensures { Answered (explore_plan project.now script.now question.now)
+        (call_of F.told F.failures files.old files.new K.held K.faults sink.old sink.new (ending_of result)) }
 {
     answer(
         alloc,

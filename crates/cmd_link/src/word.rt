@@ -1,6 +1,6 @@
 // The word.
 ghost use Rattle.lgx_answer.specs.Endings.{ending_of};
-ghost use Rattle.lgx_answer.specs.Answered.{Answered};
+ghost use Rattle.lgx_answer.specs.Answered.{Answered, call_of};
 ghost use Rattle.cmd_link.specs.LinkPlan.{link_plan};
 ghost use Rattle.cmd_link.specs.LinkState.{link_file, link_next, link_left};
 
@@ -84,13 +84,8 @@ pub fn link_projects<F: Files, K: Sink>(
     files: &mut F,
     sink: &mut K,
 ) -> Status
-    ensures { Answered (link_plan a.now b.now script.now) (record {
-      told = F.told files.old;
-      failures = record { old = F.failures files.old; new = F.failures files.new };
-      held = record { old = K.held sink.old; new = K.held sink.new };
-      faults = record { old = K.faults sink.old; new = K.faults sink.new };
-      answer = ending_of result;
-    }) }
+    ensures { Answered (link_plan a.now b.now script.now)
+        (call_of F.told F.failures files.old files.new K.held K.faults sink.old sink.new (ending_of result)) }
 {
     answer(alloc, LinkWord::All { a, b, script }, files, sink)
 }

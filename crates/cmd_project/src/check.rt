@@ -5,7 +5,7 @@ ghost use Rattle.lgx_answer.specs.declared.status.Verdict.TheVariants as verdict
 ghost use Rattle.lgx_watch.specs.Spaces.{after_spaces};
 ghost use Rattle.cmd_project.specs.CheckPlan.{routine_count, rung_count, check_line, check_judged, check_plan};
 ghost use Rattle.lgx_answer.specs.Endings.{ending_of};
-ghost use Rattle.lgx_answer.specs.Answered.{Answered};
+ghost use Rattle.lgx_answer.specs.Answered.{Answered, call_of};
 
 use lgx_answer::{NoLines, Status, Step, Verdict, Word, answer};
 use lgx_edit::{PlantParts, ProgramText, RoutineText};
@@ -156,13 +156,8 @@ pub fn check_project<F: Files, K: Sink>(
     files: &mut F,
     sink: &mut K,
 ) -> Status
-    ensures { Answered (check_plan project.now) (record {
-      told = F.told files.old;
-      failures = record { old = F.failures files.old; new = F.failures files.new };
-      held = record { old = K.held sink.old; new = K.held sink.new };
-      faults = record { old = K.faults sink.old; new = K.faults sink.new };
-      answer = ending_of result;
-    }) }
+    ensures { Answered (check_plan project.now)
+        (call_of F.told F.failures files.old files.new K.held K.faults sink.old sink.new (ending_of result)) }
 {
     answer(alloc, Check { project }, files, sink)
 }

@@ -2,7 +2,7 @@
 ghost use Rattle.std.specs.Prelude.{◌≡◌, List, ℕ, Ok};
 ghost use Rattle.lgx_answer.specs.Plan.{Says};
 ghost use Rattle.lgx_answer.specs.Endings.{ending_of};
-ghost use Rattle.lgx_answer.specs.Answered.{Answered};
+ghost use Rattle.lgx_answer.specs.Answered.{Answered, call_of};
 ghost use Rattle.cmd_replay.specs.GenPlan.{journal_made, gen_plan};
 ghost use Rattle.cmd_replay.specs.Rest.{counts_rest};
 
@@ -53,13 +53,8 @@ fn made_by(alloc: Global, number: u32) -> Result<Made, Memory>
 /// `gen N`: runs the journal that a number makes on the project that it makes, and writes how many lines the report has, and its
 /// end line, or why one of the two is refused. No file is read.
 pub fn generate<F: Files, K: Sink>(alloc: Global, number: u32, files: &F, sink: &mut K) -> Status
-    ensures { Answered (gen_plan number) (record {
-      told = F.told files.now;
-      failures = record { old = F.failures files.now; new = F.failures files.now };
-      held = record { old = K.held sink.old; new = K.held sink.new };
-      faults = record { old = K.faults sink.old; new = K.faults sink.new };
-      answer = ending_of result;
-    }) }
+    ensures { Answered (gen_plan number)
+        (call_of F.told F.failures files.now files.now K.held K.faults sink.old sink.new (ending_of result)) }
 {
     match made_by(alloc, number) {
         Ok(Made::Refused(verdict, line)) => say(verdict, line.as_slice(), files, sink),

@@ -1,7 +1,7 @@
 // The word `replay P J`.
 ghost use Rattle.cmd_replay.specs.ReplayState.{replay_file, replay_next, replay_left};
 ghost use Rattle.lgx_answer.specs.Endings.{ending_of};
-ghost use Rattle.lgx_answer.specs.Answered.{Answered};
+ghost use Rattle.lgx_answer.specs.Answered.{Answered, call_of};
 ghost use Rattle.cmd_replay.specs.ReplayPlan.{replay_plan};
 
 use crate::report_lines::{ReportLines, report_of};
@@ -62,13 +62,8 @@ pub fn replay_journal<F: Files, K: Sink>(
     files: &mut F,
     sink: &mut K,
 ) -> Status
-    ensures { Answered (replay_plan project.now journal.now) (record {
-      told = F.told files.old;
-      failures = record { old = F.failures files.old; new = F.failures files.new };
-      held = record { old = K.held sink.old; new = K.held sink.new };
-      faults = record { old = K.faults sink.old; new = K.faults sink.new };
-      answer = ending_of result;
-    }) }
+    ensures { Answered (replay_plan project.now journal.now)
+        (call_of F.told F.failures files.old files.new K.held K.faults sink.old sink.new (ending_of result)) }
 {
     answer(alloc, Replay::Both { project, journal }, files, sink)
 }

@@ -1,6 +1,6 @@
 // The word.
 ghost use Rattle.lgx_answer.specs.Endings.{ending_of};
-ghost use Rattle.lgx_answer.specs.Answered.{Answered};
+ghost use Rattle.lgx_answer.specs.Answered.{Answered, call_of};
 ghost use Rattle.cmd_run.specs.RunPlan.{script_ran, script_read, run_plan};
 
 use crate::lanes::run_script;
@@ -26,13 +26,8 @@ fn run_and_write<F: Files, K: Sink, G: Gate + Sync, R: Threads + Wait + Sync>(
     sink: &mut K,
     gate: &G,
 ) -> Status
-    ensures { Answered (script_ran project script) (record {
-      told = F.told files.now;
-      failures = record { old = F.failures files.now; new = F.failures files.now };
-      held = record { old = K.held sink.old; new = K.held sink.new };
-      faults = record { old = K.faults sink.old; new = K.faults sink.new };
-      answer = ending_of result;
-    }) }
+    ensures { Answered (script_ran project script)
+        (call_of F.told F.failures files.now files.now K.held K.faults sink.old sink.new (ending_of result)) }
 {
     match run_script(rt, alloc, project, script, gate) {
         Ok(recorder) => write(alloc, Verdict::Ok, RunLines::of(recorder), files, sink),
@@ -50,13 +45,8 @@ fn run_on<F: Files, K: Sink, G: Gate + Sync, R: Threads + Wait + Sync>(
     sink: &mut K,
     gate: &G,
 ) -> Status
-    ensures { Answered (script_read script.now project) (record {
-      told = F.told files.old;
-      failures = record { old = F.failures files.old; new = F.failures files.new };
-      held = record { old = K.held sink.old; new = K.held sink.new };
-      faults = record { old = K.faults sink.old; new = K.faults sink.new };
-      answer = ending_of result;
-    }) }
+    ensures { Answered (script_read script.now project)
+        (call_of F.told F.failures files.old files.new K.held K.faults sink.old sink.new (ending_of result)) }
 {
     let bytes = match files.read(script) {
         Ok(bytes) => bytes,
@@ -90,13 +80,8 @@ pub fn run<F: Files, K: Sink, G: Gate + Sync, R: Threads + Wait + Sync>(
     sink: &mut K,
     gate: &G,
 ) -> Status
-    ensures { Answered (run_plan project.now script.now) (record {
-      told = F.told files.old;
-      failures = record { old = F.failures files.old; new = F.failures files.new };
-      held = record { old = K.held sink.old; new = K.held sink.new };
-      faults = record { old = K.faults sink.old; new = K.faults sink.new };
-      answer = ending_of result;
-    }) }
+    ensures { Answered (run_plan project.now script.now)
+        (call_of F.told F.failures files.old files.new K.held K.faults sink.old sink.new (ending_of result)) }
 {
     let bytes = match files.read(project) {
         Ok(bytes) => bytes,

@@ -1,7 +1,7 @@
 // The word.
 ghost use Rattle.std.specs.Prelude.{◌<◌, ◌≤◌};
 ghost use Rattle.lgx_answer.specs.Endings.{ending_of};
-ghost use Rattle.lgx_answer.specs.Answered.{Answered};
+ghost use Rattle.lgx_answer.specs.Answered.{Answered, call_of};
 ghost use Rattle.lgx_stations.specs.declared.stations.TheConstants.{MAX_STATIONS};
 ghost use Rattle.cmd_stations.specs.StationsPlan.{journal_watched, journal_read, stations_plan};
 
@@ -29,13 +29,8 @@ fn watch_and_write<F: Files, K: Sink, G: Gate + Sync, R: Threads + Wait + Sync>(
     gate: &G,
 ) -> Status
     requires { (0 < stations) × (stations ≤ MAX_STATIONS) }
-    ensures { Answered (journal_watched stations project journal.events) (record {
-      told = F.told files.now;
-      failures = record { old = F.failures files.now; new = F.failures files.now };
-      held = record { old = K.held sink.old; new = K.held sink.new };
-      faults = record { old = K.faults sink.old; new = K.faults sink.new };
-      answer = ending_of result;
-    }) }
+    ensures { Answered (journal_watched stations project journal.events)
+        (call_of F.told F.failures files.now files.now K.held K.faults sink.old sink.new (ending_of result)) }
 {
     match watched(rt, alloc, project, &journal, stations, gate) {
         Ok(lines) => write(alloc, Verdict::Ok, lines, files, sink),
@@ -55,13 +50,8 @@ fn watch_on<F: Files, K: Sink, G: Gate + Sync, R: Threads + Wait + Sync>(
     gate: &G,
 ) -> Status
     requires { (0 < stations) × (stations ≤ MAX_STATIONS) }
-    ensures { Answered (journal_read journal.now stations project) (record {
-      told = F.told files.old;
-      failures = record { old = F.failures files.old; new = F.failures files.new };
-      held = record { old = K.held sink.old; new = K.held sink.new };
-      faults = record { old = K.faults sink.old; new = K.faults sink.new };
-      answer = ending_of result;
-    }) }
+    ensures { Answered (journal_read journal.now stations project)
+        (call_of F.told F.failures files.old files.new K.held K.faults sink.old sink.new (ending_of result)) }
 {
     let bytes = match files.read(journal) {
         Ok(bytes) => bytes,
@@ -95,13 +85,8 @@ pub fn stations<F: Files, K: Sink, G: Gate + Sync, R: Threads + Wait + Sync>(
     gate: &G,
 ) -> Status
     requires { (0 < stations) × (stations ≤ MAX_STATIONS) }
-    ensures { Answered (stations_plan project.now journal.now stations) (record {
-      told = F.told files.old;
-      failures = record { old = F.failures files.old; new = F.failures files.new };
-      held = record { old = K.held sink.old; new = K.held sink.new };
-      faults = record { old = K.faults sink.old; new = K.faults sink.new };
-      answer = ending_of result;
-    }) }
+    ensures { Answered (stations_plan project.now journal.now stations)
+        (call_of F.told F.failures files.old files.new K.held K.faults sink.old sink.new (ending_of result)) }
 {
     let bytes = match files.read(project) {
         Ok(bytes) => bytes,

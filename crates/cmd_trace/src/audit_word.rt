@@ -3,7 +3,7 @@ ghost use Rattle.std.specs.Prelude.{◌≡◌, ℕ, List, Ok, IfOk};
 ghost use Rattle.lgx_answer.specs.declared.status.Verdict.{Verdict as Said};
 ghost use Rattle.lgx_answer.specs.Plan.{Says};
 ghost use Rattle.lgx_answer.specs.Endings.{ending_of};
-ghost use Rattle.lgx_answer.specs.Answered.{Answered};
+ghost use Rattle.lgx_answer.specs.Answered.{Answered, call_of};
 ghost use Rattle.lgx_audit.specs.TraceTable.{AreInTable};
 ghost use Rattle.cmd_trace.specs.AuditPlan.{judged, on_trace, audit_plan};
 ghost use Rattle.cmd_trace.specs.AuditState.{audit_file, audit_next, audit_left};
@@ -117,13 +117,8 @@ pub fn audit_trace<F: Files, K: Sink>(
     files: &mut F,
     sink: &mut K,
 ) -> Status
-    ensures { Answered (audit_plan project.now trace.now) (record {
-      told = F.told files.old;
-      failures = record { old = F.failures files.old; new = F.failures files.new };
-      held = record { old = K.held sink.old; new = K.held sink.new };
-      faults = record { old = K.faults sink.old; new = K.faults sink.new };
-      answer = ending_of result;
-    }) }
+    ensures { Answered (audit_plan project.now trace.now)
+        (call_of F.told F.failures files.old files.new K.held K.faults sink.old sink.new (ending_of result)) }
 {
     answer(alloc, Audit::Both { project, trace }, files, sink)
 }

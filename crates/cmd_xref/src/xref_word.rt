@@ -1,7 +1,7 @@
 // The word `xref`.
 ghost use Rattle.std.specs.Prelude.{◌≡◌};
 ghost use Rattle.lgx_answer.specs.Endings.{ending_of};
-ghost use Rattle.lgx_answer.specs.Answered.{Answered};
+ghost use Rattle.lgx_answer.specs.Answered.{Answered, call_of};
 ghost use Rattle.cmd_xref.specs.XrefPlan.{xref_judged, xref_plan};
 
 use crate::xref_lines::XrefLines;
@@ -51,13 +51,8 @@ pub fn xref_project<F: Files, K: Sink>(
     files: &mut F,
     sink: &mut K,
 ) -> Status
-    ensures { Answered (xref_plan project.now) (record {
-      told = F.told files.old;
-      failures = record { old = F.failures files.old; new = F.failures files.new };
-      held = record { old = K.held sink.old; new = K.held sink.new };
-      faults = record { old = K.faults sink.old; new = K.faults sink.new };
-      answer = ending_of result;
-    }) }
+    ensures { Answered (xref_plan project.now)
+        (call_of F.told F.failures files.old files.new K.held K.faults sink.old sink.new (ending_of result)) }
 {
     answer(alloc, CrossReference { project }, files, sink)
 }

@@ -31,6 +31,16 @@ pub record Call : Type 0 where
   pub faults : Change ℕ
   pub answer : Ending
 
+-- the call of these files, before it and after it, of this sink, and of this answer, where these functions tell of files and sinks
+abbrev pub call_of : {F K : Type 0} → (F → Told) → (F → Failures) → F → F → (K → Option (List ℕ)) → (K → ℕ) → K → K → Ending → Call
+call_of told failures files now held faults sink then answer = record {
+  told = told files;
+  failures = record { old = failures files; new = failures now };
+  held = record { old = held sink; new = held then };
+  faults = record { old = faults sink; new = faults then };
+  answer = answer;
+}
+
 -- the list of failures gained this pair and no other
 abbrev pub Gains : Change Failures → List ℕ → ReadCause → Type 0
 Gains failures name why = failures.new ≡ failures.old ++ (name, why) ∷ []

@@ -2,7 +2,7 @@
 ghost use Rattle.std.specs.Prelude.{◌≡◌};
 ghost use Rattle.lgx_answer.specs.Plan.{Say, Read, only};
 ghost use Rattle.lgx_answer.specs.Endings.{ending_of, after_puts, after_read};
-ghost use Rattle.lgx_answer.specs.Answered.{Answered};
+ghost use Rattle.lgx_answer.specs.Answered.{Answered, call_of};
 
 use crate::lines::Lines;
 use crate::puts::{put_text, write_lines};
@@ -37,13 +37,8 @@ pub fn after_read(fault: FileFault) -> Status
 /// Says a verdict with a text that is put in one piece. No file is read.
 #[tactic(auto, using(crate::proofs::Follow::says_put))]
 pub fn say<F: Files, K: Sink>(verdict: Verdict, text: &[u8], files: &F, sink: &mut K) -> Status
-    ensures { Answered (Say verdict (only text.now)) (record {
-      told = F.told files.now;
-      failures = record { old = F.failures files.now; new = F.failures files.now };
-      held = record { old = K.held sink.old; new = K.held sink.new };
-      faults = record { old = K.faults sink.old; new = K.faults sink.new };
-      answer = ending_of result;
-    }) }
+    ensures { Answered (Say verdict (only text.now))
+        (call_of F.told F.failures files.now files.now K.held K.faults sink.old sink.new (ending_of result)) }
 {
     after_puts(put_text(text, sink), verdict)
 }
@@ -57,13 +52,8 @@ pub fn write<L: Lines, F: Files, K: Sink>(
     files: &F,
     sink: &mut K,
 ) -> Status
-    ensures { Answered (Say verdict (only (L.rest lines))) (record {
-      told = F.told files.now;
-      failures = record { old = F.failures files.now; new = F.failures files.now };
-      held = record { old = K.held sink.old; new = K.held sink.new };
-      faults = record { old = K.faults sink.old; new = K.faults sink.new };
-      answer = ending_of result;
-    }) }
+    ensures { Answered (Say verdict (only (L.rest lines)))
+        (call_of F.told F.failures files.now files.now K.held K.faults sink.old sink.new (ending_of result)) }
 {
     after_puts(write_lines(alloc, lines, sink), verdict)
 }
@@ -75,13 +65,8 @@ pub fn answer<W: Word, F: Files, K: Sink>(
     files: &mut F,
     sink: &mut K,
 ) -> Status
-    ensures { Answered (Read (W.file word) (W.next word)) (record {
-      told = F.told files.old;
-      failures = record { old = F.failures files.old; new = F.failures files.new };
-      held = record { old = K.held sink.old; new = K.held sink.new };
-      faults = record { old = K.faults sink.old; new = K.faults sink.new };
-      answer = ending_of result;
-    }) }
+    ensures { Answered (Read (W.file word) (W.next word))
+        (call_of F.told F.failures files.old files.new K.held K.faults sink.old sink.new (ending_of result)) }
 {
     let bytes = match files.read(word.name()) {
         Ok(bytes) => bytes,

@@ -2,7 +2,7 @@
 ghost use Rattle.std.specs.Prelude.{◌≡◌, ◌++◌, ℕ, List, Option, option_map, IfOk, OnOk};
 ghost use Rattle.lgx_answer.specs.Plan.{Says};
 ghost use Rattle.lgx_answer.specs.Endings.{ending_of};
-ghost use Rattle.lgx_answer.specs.Answered.{Answered};
+ghost use Rattle.lgx_answer.specs.Answered.{Answered, call_of};
 ghost use Rattle.lgx_chart.specs.declared.entry.Chart.{Chart};
 ghost use Rattle.lgx_chart.specs.ChartPlan.{code_text, fault_text, refused, on_report, drawn, input_name, chart_plan};
 
@@ -124,13 +124,8 @@ pub fn draw<P: Picture, F: Files, K: Sink>(
     files: &mut F,
     sink: &mut K,
 ) -> Status
-    ensures { (wanted : Option (Chart → List ℕ)) → IfOk asked (λ picture. wanted ≡ option_map P.text picture) → Answered (chart_plan usage.now wanted) (record {
-      told = F.told files.old;
-      failures = record { old = F.failures files.old; new = F.failures files.new };
-      held = record { old = K.held sink.old; new = K.held sink.new };
-      faults = record { old = K.faults sink.old; new = K.faults sink.new };
-      answer = ending_of result;
-    }) }
+    ensures { (wanted : Option (Chart → List ℕ)) → IfOk asked (λ picture. wanted ≡ option_map P.text picture) → Answered (chart_plan usage.now wanted)
+        (call_of F.told F.failures files.old files.new K.held K.faults sink.old sink.new (ending_of result)) }
 {
     match asked {
         Ok(Some(picture)) => answer(alloc, Drawn { picture }, files, sink),

@@ -1,7 +1,7 @@
 // The program `logix_cover`, over any files and any sink.
 ghost use Rattle.std.specs.Prelude.{◌≡◌, map, string_bytes};
 ghost use Rattle.lgx_answer.specs.Endings.{ending_of};
-ghost use Rattle.lgx_answer.specs.Answered.{Answered};
+ghost use Rattle.lgx_answer.specs.Answered.{Answered, call_of};
 ghost use Rattle.lgx_answer.specs.Laws.{FollowsPlan};
 ghost use Rattle.lgx_answer.specs.Process.{IsProcess};
 ghost use Rattle.lgx_cover.specs.CoverPlan.{plan_of};
@@ -17,13 +17,8 @@ pub const USAGE: &[u8] = b"usage: logix_cover P J\n";
 
 /// Follows the plan of the words.
 fn follow<F: Files, K: Sink>(alloc: Global, words: &[String], files: &mut F, sink: &mut K) -> Status
-    ensures { Answered (plan_of (map string_bytes words.now)) (record {
-      told = F.told files.old;
-      failures = record { old = F.failures files.old; new = F.failures files.new };
-      held = record { old = K.held sink.old; new = K.held sink.new };
-      faults = record { old = K.faults sink.old; new = K.faults sink.new };
-      answer = ending_of result;
-    }) }
+    ensures { Answered (plan_of (map string_bytes words.now))
+        (call_of F.told F.failures files.old files.new K.held K.faults sink.old sink.new (ending_of result)) }
 {
     match words {
         [project, journal] => {
@@ -47,13 +42,8 @@ pub fn cover<F: Files, K: Sink>(
     files: &mut F,
     sink: &mut K,
 ) -> Status
-    ensures { FollowsPlan (plan_of (map string_bytes words.now)) (record {
-      told = F.told files.old;
-      failures = record { old = F.failures files.old; new = F.failures files.new };
-      held = record { old = K.held sink.old; new = K.held sink.new };
-      faults = record { old = K.faults sink.old; new = K.faults sink.new };
-      answer = ending_of result;
-    }) }
+    ensures { FollowsPlan (plan_of (map string_bytes words.now))
+        (call_of F.told F.failures files.old files.new K.held K.faults sink.old sink.new (ending_of result)) }
 {
     follow(alloc, words, files, sink)
 }

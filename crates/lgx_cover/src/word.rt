@@ -2,7 +2,7 @@
 ghost use Rattle.std.specs.Prelude.{◌≡◌, ◌≤◌, length, IfOk};
 ghost use Rattle.spec_base.specs.declared.limits.TheConstants.{MAX_EVENTS};
 ghost use Rattle.lgx_answer.specs.Endings.{ending_of};
-ghost use Rattle.lgx_answer.specs.Answered.{Answered};
+ghost use Rattle.lgx_answer.specs.Answered.{Answered, call_of};
 ghost use Rattle.lgx_cover.specs.CoverPlan.{cover_plan};
 ghost use Rattle.lgx_cover.specs.CoverState.{cover_file, cover_next, cover_left};
 ghost use Rattle.lgx_cover.specs.Texts.{cover_text};
@@ -77,13 +77,8 @@ pub fn cover_journal<F: Files, K: Sink>(
     files: &mut F,
     sink: &mut K,
 ) -> Status
-    ensures { Answered (cover_plan project.now journal.now) (record {
-      told = F.told files.old;
-      failures = record { old = F.failures files.old; new = F.failures files.new };
-      held = record { old = K.held sink.old; new = K.held sink.new };
-      faults = record { old = K.faults sink.old; new = K.faults sink.new };
-      answer = ending_of result;
-    }) }
+    ensures { Answered (cover_plan project.now journal.now)
+        (call_of F.told F.failures files.old files.new K.held K.faults sink.old sink.new (ending_of result)) }
 {
     answer(alloc, Cover::Both { project, journal }, files, sink)
 }

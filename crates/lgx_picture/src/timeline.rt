@@ -1,6 +1,6 @@
 // The program `logix_timeline`.
 ghost use Rattle.std.specs.Prelude.{◌≡◌, [], map, string_bytes, option_map, IfOk};
-ghost use Rattle.lgx_answer.specs.Answered.{Failures};
+ghost use Rattle.lgx_answer.specs.Answered.{Failures, call_of};
 ghost use Rattle.lgx_answer.specs.Endings.{ending_of};
 ghost use Rattle.lgx_answer.specs.Laws.{FollowsPlan};
 ghost use Rattle.lgx_answer.specs.Process.{IsProcess};
@@ -57,13 +57,8 @@ pub fn draw_timeline<F: Files, K: Sink>(
     files: &mut F,
     sink: &mut K,
 ) -> Status
-    ensures { FollowsPlan (timeline_plan (map string_bytes words.now)) (record {
-      told = F.told files.old;
-      failures = record { old = F.failures files.old; new = F.failures files.new };
-      held = record { old = K.held sink.old; new = K.held sink.new };
-      faults = record { old = K.faults sink.old; new = K.faults sink.new };
-      answer = ending_of result;
-    }) }
+    ensures { FollowsPlan (timeline_plan (map string_bytes words.now))
+        (call_of F.told F.failures files.old files.new K.held K.faults sink.old sink.new (ending_of result)) }
 {
     draw(alloc, USAGE, drawing_asked(alloc, words), files, sink)
 }

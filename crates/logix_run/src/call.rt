@@ -1,7 +1,7 @@
 // The program, over any files, any sink and any gate.
 ghost use Rattle.std.specs.Prelude.{◌≡◌, map, string_bytes};
 ghost use Rattle.lgx_answer.specs.Endings.{ending_of};
-ghost use Rattle.lgx_answer.specs.Answered.{Answered};
+ghost use Rattle.lgx_answer.specs.Answered.{Answered, call_of};
 ghost use Rattle.logix_run.specs.Words.{command_plan, plan_of};
 ghost use Rattle.logix_run.specs.Commands.{said, HasStations};
 ghost use Rattle.lgx_answer.specs.Process.{IsProcess};
@@ -29,13 +29,8 @@ fn follow<F: Files, K: Sink, G: Gate + Sync, R: Threads + Wait + Sync>(
     gate: &G,
 ) -> Status
     requires { HasStations command }
-    ensures { Answered (command_plan (said command)) (record {
-      told = F.told files.old;
-      failures = record { old = F.failures files.old; new = F.failures files.new };
-      held = record { old = K.held sink.old; new = K.held sink.new };
-      faults = record { old = K.faults sink.old; new = K.faults sink.new };
-      answer = ending_of result;
-    }) }
+    ensures { Answered (command_plan (said command))
+        (call_of F.told F.failures files.old files.new K.held K.faults sink.old sink.new (ending_of result)) }
 {
     match command {
         Command::Run(project, script) => run(rt, alloc, project, script, files, sink, gate),
@@ -71,13 +66,8 @@ pub fn logix<F: Files, K: Sink, G: Gate + Sync, R: Threads + Wait + Sync>(
     sink: &mut K,
     gate: &G,
 ) -> Status
-    ensures { IsAnswered (plan_of (map string_bytes words.now)) (record {
-      told = F.told files.old;
-      failures = record { old = F.failures files.old; new = F.failures files.new };
-      held = record { old = K.held sink.old; new = K.held sink.new };
-      faults = record { old = K.faults sink.old; new = K.faults sink.new };
-      answer = ending_of result;
-    }) }
+    ensures { IsAnswered (plan_of (map string_bytes words.now))
+        (call_of F.told F.failures files.old files.new K.held K.faults sink.old sink.new (ending_of result)) }
 {
     follow(rt, alloc, command_of(words), files, sink, gate)
 }

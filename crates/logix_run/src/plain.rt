@@ -1,7 +1,7 @@
 // The words that need no thread of their own, over any files and any sink.
 ghost use Rattle.std.specs.Prelude.{◌≡◌, map, string_bytes};
 ghost use Rattle.lgx_answer.specs.Endings.{ending_of};
-ghost use Rattle.lgx_answer.specs.Answered.{Answered};
+ghost use Rattle.lgx_answer.specs.Answered.{Answered, call_of};
 ghost use Rattle.logix_run.specs.Words.{command_plan, plain, plain_plan_of};
 ghost use Rattle.logix_run.specs.Commands.{said};
 ghost use Rattle.logix_run.specs.Answers.{IsAnswered};
@@ -27,13 +27,8 @@ pub(crate) fn follow_plain<F: Files, K: Sink>(
     files: &mut F,
     sink: &mut K,
 ) -> Status
-    ensures { Answered (command_plan (plain (said command))) (record {
-      told = F.told files.old;
-      failures = record { old = F.failures files.old; new = F.failures files.new };
-      held = record { old = K.held sink.old; new = K.held sink.new };
-      faults = record { old = K.faults sink.old; new = K.faults sink.new };
-      answer = ending_of result;
-    }) }
+    ensures { Answered (command_plan (plain (said command)))
+        (call_of F.told F.failures files.old files.new K.held K.faults sink.old sink.new (ending_of result)) }
 {
     match command {
         Command::Check(project) => check_project(alloc, project, files, sink),
@@ -70,13 +65,8 @@ pub fn logix_plain<F: Files, K: Sink>(
     files: &mut F,
     sink: &mut K,
 ) -> Status
-    ensures { IsAnswered (plain_plan_of (map string_bytes words.now)) (record {
-      told = F.told files.old;
-      failures = record { old = F.failures files.old; new = F.failures files.new };
-      held = record { old = K.held sink.old; new = K.held sink.new };
-      faults = record { old = K.faults sink.old; new = K.faults sink.new };
-      answer = ending_of result;
-    }) }
+    ensures { IsAnswered (plain_plan_of (map string_bytes words.now))
+        (call_of F.told F.failures files.old files.new K.held K.faults sink.old sink.new (ending_of result)) }
 {
     follow_plain(alloc, command_of(words), files, sink)
 }
