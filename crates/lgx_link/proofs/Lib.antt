@@ -1,6 +1,6 @@
 pub mod Headers
 pub mod ReadSteps
-pub mod Words
+pub mod WordsCounted
 pub mod Links
 pub mod Added
 pub mod UnderWay

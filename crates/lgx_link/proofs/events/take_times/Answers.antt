@@ -2,7 +2,7 @@ use Rattle.std.proofs.Common.{ℕ, ◌≡◌, ◌++◌, List, replicate, subst, 
 use Rattle.std.proofs.lemmas.List.{length-replicate}
 use Rattle.spec_machine.specs.declared.event.Event.{Event}
 use Rattle.lgx_record.specs.Records.{Records}
-use Rattle.lgx_link.proofs.Words.{times_more, spent_after}
+use Rattle.lgx_link.proofs.WordsCounted.{times_more, spent_after}
 use Rattle.lgx_link.proofs.events.take_times.Goals as goal
 
 pub apply-requires : goal.apply-requires

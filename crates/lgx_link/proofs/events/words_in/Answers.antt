@@ -10,7 +10,7 @@ use Rattle.spec_machine.specs.declared.event.Event.TheVariants.{Act}
 use Rattle.spec_machine.specs.declared.event.Action.TheVariants.{WordIn}
 use Rattle.spec_link.specs.Links.{words_from}
 use Rattle.lgx_record.specs.Records.{Records}
-use Rattle.lgx_link.proofs.Words.{in_more, spent_after, words_counted}
+use Rattle.lgx_link.proofs.WordsCounted.{in_more, spent_after, words_counted}
 use Rattle.lgx_link.proofs.events.words_in.Goals as goal
 
 pub put_word-requires : goal.put_word-requires

@@ -9,7 +9,7 @@ use Rattle.lgx_core.specs.ControllerView.{ControllerView}
 use Rattle.lgx_core.specs.Represents.{Represents}
 use Rattle.lgx_record.specs.Records.{Records}
 use Rattle.lgx_link.specs.Running.{outs}
-use Rattle.lgx_link.proofs.Words.{outs_more, spent_after, told_more}
+use Rattle.lgx_link.proofs.WordsCounted.{outs_more, spent_after, told_more}
 use Rattle.lgx_link.proofs.events.words_out.Goals as goal
 
 pub apply-requires : goal.apply-requires
