@@ -30,7 +30,7 @@ pub(crate) fn take_times(recording: &mut Recording, event: &Event, count: u32) -
 }
 
 /// Adds the word that a reply is, if it is one.
-#[tactic(auto, using(crate::proofs::Words::range_more))]
+#[tactic(auto, using(crate::proofs::WordsCounted::range_more))]
 fn push_word(words: &mut Words, reply: Reply)
     requires { length words.old < MAX_WORDS }
     ensures word { words.new ≡ words.old ++ word_of reply }
