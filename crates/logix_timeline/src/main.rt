@@ -1,7 +1,9 @@
 //! `logix_timeline`: shows the report on standard input as a drawing, for a document.
 #![tactic(auto)]
 
-use lgx_picture::process;
+mod process;
+
+use crate::process::process;
 use std::process::ExitCode;
 
 fn main(rt: HostRuntime) -> ExitCode {

@@ -1,7 +1,9 @@
 //! `logix_wave`: shows the report on standard input as a wave file, for GTKWave.
 #![tactic(auto)]
 
-use lgx_chart::process;
+mod process;
+
+use crate::process::process;
 use std::process::ExitCode;
 
 fn main(rt: HostRuntime) -> ExitCode {

@@ -1,0 +1,2 @@
+pub mod AfterName
+pub mod Doing
