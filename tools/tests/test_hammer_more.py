@@ -10,9 +10,10 @@ import unittest
 from unittest import mock
 
 from scenario_files import programs
-from lib.hammer import begins, books, corpus, coverage, marks, pieces, scenarios, splits, tool_faults
+from lib.hammer import begins, books, corpus, coverage, covers, marks, pieces, scenarios, sessions, splits, tool_faults
 from lib.hammer.cases import file_text
-from lib.hammer.plain.judge import answer
+from lib.hammer.main import ON_ONE, Hammer
+from lib.hammer.plain.judge import answer, kept_project
 from lib.hammer.plain.required import Requirement, Test
 from lib.hammer.program import Ran
 
@@ -42,6 +43,53 @@ class Made(unittest.TestCase):
             answers = [answer(["replay"], maker.files(random.Random(seed))) for seed in range(30)]
             self.assertGreaterEqual([one[0] for one in answers].count(0), least)
             self.assertGreater(sum(one[1].count(" set ") for one in answers), 60)
+
+
+    def test_a_line_that_is_forgotten_is_seen(self):
+        """A watched place whose mark is lost, and a begin that a stretch went on over."""
+        for make, word in ((marks.marks, b" set "), (begins.begins, b" begin ")):
+            def forgetful(verb, files, out, word=word):
+                lines = out.splitlines(keepends=True)
+                last = max((at for at, line in enumerate(lines) if word in line), default=None)
+                return b"".join(lines[:last] + lines[last + 1:]) if last is not None else out
+            seen = []
+            for seed in range(6):
+                judge, files = make(random.Random(seed), Plain())
+                if judge.word == "replay":
+                    self.assertIsNone(judge(Plain(), files))
+                    seen.append(judge(Plain(forgetful), files))
+            self.assertTrue(seen and any("from byte" in (one or "") for one in seen))
+
+
+class OnOne(unittest.TestCase):
+    """Cases that share a made project."""
+
+    def cases(self, runs, numbers):
+        hammer = Hammer(Plain(), "s", "nowhere", runs=runs)
+        return {(kind, number): hammer.case(kind, number)[1] for kind in ON_ONE for number in numbers}
+
+    def test_some_in_a_row_have_one_project_and_journals_of_their_own(self):
+        made = self.cases(4, range(8))
+        for kind in ON_ONE:
+            projects = [made[kind, number][0] for number in range(8)]
+            self.assertEqual((len(set(projects[:4])), len(set(projects[4:])), len(set(projects))), (1, 1, 2))
+            runs = [files for (one, _), files in made.items() if one == kind and len(files) == 2]
+            self.assertEqual(len({files[1] for files in runs}), len(runs))
+
+    def test_a_case_is_made_by_its_number_alone(self):
+        made = self.cases(4, range(8))
+        for number in (6, 1, 4):
+            for kind in ON_ONE:
+                self.assertEqual(self.cases(4, [number])[kind, number], made[kind, number])
+
+    def test_a_run_leaves_the_project_that_is_kept_as_it_was(self):
+        for kind in ON_ONE:
+            for number in range(6):
+                judge, files = Hammer(Plain(), "s", "nowhere", runs=4).case(kind, number)
+                first = answer([judge.word], files)
+                self.assertEqual(answer([judge.word], files), first)
+                kept_project.cache_clear()
+                self.assertEqual(answer([judge.word], files), first)
 
 
 class Books(unittest.TestCase):
@@ -75,9 +123,87 @@ class Splits(unittest.TestCase):
             return out.replace(b"set n 2", b"set n 3") if b"cpu 4\n" in files[1] else out
         self.assertIn("cut at", splits.of_cuts(Plain(cut_is_seen), self.files()))
 
+    def test_a_program_that_sees_two_cuts(self):
+        def cuts_are_seen(verb, files, out):
+            return out.replace(b"set n 2", b"set n 3") if b"cpu 1\ncpu 2\ncpu 1\n" in files[1] else out
+        self.assertIn(" as [", splits.of_cuts(Plain(cuts_are_seen), self.files()))
+
+    def test_ways(self):
+        self.assertEqual(sorted(splits.ways(3)), [[1, 1, 1], [1, 2], [2, 1], [3]])
+        for steps in (1, 4, 5, 6, 40):
+            made = splits.around(steps, random.Random(steps))
+            self.assertEqual(({sum(way) for way in made}, len({tuple(way) for way in made})), ({steps}, 2 ** (min(steps, 5) - 1)))
+        made = splits.by_chance(["mode run", "cpu 30", "end"], random.Random(1))
+        self.assertEqual(splits.joined(made), ["mode run", "cpu 30", "end"])
+        self.assertGreater(len(made), 3)
+
     def test_lines_of_steps(self):
         self.assertEqual(splits.single(["mode run", "cpu 2", "end"]), ["mode run", "cpu 1", "cpu 1", "end"])
         self.assertEqual(splits.joined(["cpu 2", "cpu 3", "tick 1", "cpu 4"]), ["cpu 5", "tick 1", "cpu 4"])
+
+
+class Counting(Plain):
+    """The plain counts, or bent ones, as what `logix_cover` writes."""
+
+    def __init__(self, bend):
+        super().__init__(bend, folder="room")
+        self.files = {}
+
+    def put(self, name, contents):
+        self.files[name] = contents
+        return name
+
+    def run(self, words, path=None):
+        status, out = answer(["cover"], [self.files[word] for word in words])
+        return Ran(status, self.bend("cover", None, out.encode("latin-1")), b"", 0.0, 0)
+
+
+class Covers(unittest.TestCase):
+    def judged(self, bend):
+        made = [covers.covers(random.Random(seed), None) for seed in range(6)]
+        return [judge(Counting(bend), files) for judge, files in made]
+
+    def test_counts(self):
+        self.assertEqual(self.judged(lambda verb, files, out: out), [None] * 6)
+
+    def test_a_step_that_is_counted_twice_is_seen(self):
+        self.assertTrue(any(self.judged(lambda verb, files, out: out.replace(b" 1 0\n", b" 2 0\n", 1))))
+
+
+class Told(Plain):
+    """The plain controller that is talked to, as a process; where it is bent, it counts its lines from 0."""
+
+    def __init__(self, room, is_bent):
+        super().__init__(folder=room)
+        programs(f"{room}/programs", False)
+        if is_bent:
+            os.rename(f"{room}/programs/logix_live", f"{room}/programs/sound")
+            with open(f"{room}/programs/logix_live", "w", encoding="utf-8") as file:
+                file.write(f"#!/bin/sh\n'{room}/programs/sound' \"$@\" | sed -u 's/^line J1 3$/line J1 2/'\n")
+            os.chmod(f"{room}/programs/logix_live", 0o755)
+
+    def put(self, name, contents):
+        with open(f"{self.room}/{name}", "wb") as file:
+            file.write(contents)
+        return f"{self.room}/{name}"
+
+    def run(self, words, given=b"", path=None):
+        ran = subprocess.run([path, *words], input=given, capture_output=True, check=False, timeout=20)
+        return Ran(ran.returncode, ran.stdout, ran.stderr, 0.0, 0)
+
+
+class Sessions(unittest.TestCase):
+    LINES = b"mode run\ncpu 3\n?\ntick 1\n?\n@0 test P\nend\n"
+
+    def judged(self, is_bent):
+        with tempfile.TemporaryDirectory() as room:
+            return sessions.of_marks(Told(room, is_bent), [books.project(2), self.LINES])
+
+    def test_marks(self):
+        self.assertIsNone(self.judged(False))
+
+    def test_a_mark_with_another_number_is_seen(self):
+        self.assertIn("from byte", self.judged(True))
 
 
 class Met(unittest.TestCase):

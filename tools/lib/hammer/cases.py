@@ -8,8 +8,7 @@ from lib.paths import EXAMPLES
 from .bent import Bender
 from .made import Maker
 from .plain.audit import Counting, Table, event_of
-from .plain.judge import answer
-from .plain.project import Project
+from .plain.judge import answer, kept_project
 from .sound import shown, unsound
 
 
@@ -63,10 +62,17 @@ def journal_text(lines):
 WORDS = ("replay", "replay", "replay", "replay", "trace", "check", "text", "migrate", "xref")
 
 
-def whole(draw, program):
-    """A made project and journal, with some slips."""
+def whole_project(draw):
+    """A made project, some with slips: its maker, who makes its journals too, and its text."""
     maker = Maker(draw, draw.choice((0.0, 0.0, 0.0, 0.002, 0.01)))
-    contents = [file_text(maker.project()), journal_text(maker.journal())]
+    return maker, file_text(maker.project())
+
+
+def whole(draw, program, made=None):
+    """A made project and journal, with some slips; the project perhaps one that was made before."""
+    maker, project = made or whole_project(draw)
+    maker.draw = draw
+    contents = [project, journal_text(maker.journal())]
     verb = draw.choice([word for word in WORDS if word in program.words])
     return judged(verb), contents if verb in ("replay", "trace") else contents[:1]
 
@@ -167,7 +173,7 @@ PROJECT = {
 
 def walks(draw, _):
     """A trace that walks along the laws event by event, and breaks one now and then."""
-    table = Table(Project(file_text(PROJECT)))
+    table = Table(kept_project(file_text(PROJECT)))
     counting, lines = Counting(table), ["act 31 run - ok 1"]
     counting.count(event_of(lines[0].split(" "), table))
     slips = {None: 1.0, 1: draw.choice((0.0, 0.0, 0.01)), 2: 0.2, 3: 0.03}
