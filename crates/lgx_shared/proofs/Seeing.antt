@@ -1,5 +1,5 @@
 -- What a lane's turn tells a pass whose count is the recorder's.
-use Rattle.std.proofs.Common.{◌≡◌, ℕ, ◌+◌, inl, inr, List, [], ◌∷◌, ◌++◌, length, get_or, Option, Some, None, refl, sym, ◌∙◌, ap, arith}
+use Rattle.std.proofs.Common.{◌≡◌, ℕ, ◌+◌, ◌<◌, ◌≤◌, inl, inr, List, [], ◌∷◌, ◌++◌, length, get_or, Option, Some, None, refl, sym, ◌∙◌, ap, subst, arith}
 use Rattle.std.specs.Prelude.{sum, IsSomeAnd}
 use Rattle.std.proofs.lemmas.Bool.{cases_lt}
 use Rattle.std.proofs.lemmas.List.{append-nil, get_or_past, get_or-set_same}
@@ -114,3 +114,13 @@ appended project script lane found Memory events a = ([], append-nil found ∙ s
 pub sees_on : (project : Project) (script : Script) (lane : ℕ) (first seen : List Event) (turn : Turn) (events : List Event) → IsPrefix first seen → Tells project script lane seen turn events → IsPrefix first events
 sees_on project script lane first seen turn events pre t =
     prefix_trans first seen events pre (prefix_trans seen t.found events t.goes_on (appended project script lane t.found turn events t.appends))
+
+-- ---- what the gate was asked for
+
+-- for each number so far, and now for the next one: so for each up to that
+pub asked_on : (Asked : ℕ → Type 0) (first next last : ℕ) → ((n : ℕ) → first ≤ n → n < next → Asked n) → Asked next → last ≤ next + 1 → (n : ℕ) → first ≤ n → n < last → Asked n
+asked_on Asked first next last before here few n from below =
+    elim (cases_lt n next) [
+      | inl l ↦ before n from l
+      | inr ge ↦ (let same : next ≡ n = omega (arith, ge, below, few) in subst Asked same here)
+    ]

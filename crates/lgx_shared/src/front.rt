@@ -76,4 +76,19 @@ impl<I: Input> Front<I> {
         history.show(&mut self.sight, named.journal());
         self.actions = named.made(self.lane);
     }
+
+    /// Gives back its sight of the history, which stands at the journal: so the journal began with what was seen.
+    pub(crate) fn give_back(self, history: &mut History, named: &Named<I>)
+        requires { history.old ≡ history_view I.history (journal_of named.now) }
+        ensures same { history.new ≡ history.old }
+        ensures seen { IsPrefix self.events (journal_of named.now) }
+    {
+        let Front {
+            lane: _,
+            actions: _,
+            sight,
+            input: _,
+        } = self;
+        history.take_in(sight, named.journal());
+    }
 }

@@ -1,5 +1,6 @@
 // What is under the lock: the recorder with the history of its journal, and the books of what the passes counted.
-ghost use Rattle.std.specs.Prelude.{◌≡◌, ◌+◌, ◌<◌, ◌^◌, true, length, sum, slice_index_or, IfSome, IfNone, IsSome};
+ghost use Rattle.std.specs.Prelude.{◌≡◌, ◌+◌, ◌<◌, ◌^◌, true, length, sum, sum_by, vec_len, slice_index_or, All, IfSome, IfNone, IsSome};
+ghost use mathlib.Core.List.{IsPrefix};
 ghost use Rattle.spec_machine.specs.Events.{steps_of};
 ghost use Rattle.spec_lanes.specs.Turns.{lane_of, IsAcceptAt, is_spent};
 ghost use Rattle.lgx_history.specs.Histories.{history_view};
@@ -11,12 +12,12 @@ ghost use Rattle.lgx_shared.specs.Seen.{Tells};
 use crate::front::Front;
 use crate::input::Input;
 use crate::named::Named;
-use crate::pass::Pass;
+use crate::pass::{Pass, merged};
 use crate::recorder::Recorder;
 use crate::turn::Turn;
 use lgx_history::History;
 use std::marker::PhantomData;
-use std::sync::ledger::{Book, Ledger, Share};
+use std::sync::ledger::{Book, Ledger};
 
 /// A ledger that has one part for each lane of the named script, and one for the processor.
 #[derive(Drop)]
@@ -138,23 +139,19 @@ impl<I: Input, A: Ledger, S: Ledger, E: Ledger> Kept<I, A, S, E> {
         Some(turn)
     }
 
-    /// The recorder, once all parts of the ledgers came back.
-    pub(crate) fn close(
-        self,
-        mut actions: Share<A>,
-        mut steps: Share<S>,
-        mut ends: Share<E>,
-    ) -> Recorder
-        requires parts { (actions.parts ≡ A.parts) × (steps.parts ≡ S.parts) × (ends.parts ≡ E.parts) }
+    /// The recorder, once all passes are back, and with them all parts of the ledgers and all sights of the history.
+    pub(crate) fn close(self, passes: Vec<Pass<I, A, S, E>>) -> Recorder
+        requires parts { (vec_len passes ≡ A.parts) × (vec_len passes ≡ S.parts) × (vec_len passes ≡ E.parts) }
         ensures follows { Follows I.project I.script result }
-        ensures actions { sum result.counts ≡ actions.amount }
-        ensures steps { steps_of (journal_of result) ≡ steps.amount }
-        ensures spent { 0 < ends.amount → HasSpent I.project I.script result }
+        ensures sees { All (λ p. IsPrefix p.front.events (journal_of result)) passes.items }
+        ensures actions { sum result.counts ≡ sum_by (λ p. p.actions) passes.items }
+        ensures steps { steps_of (journal_of result) ≡ sum_by (λ p. p.steps) passes.items }
+        ensures spent { 0 < sum_by (λ p. p.ends) passes.items → HasSpent I.project I.script result }
         ensures fits { A.parts ≡ length I.script.lanes + 1 }
     {
         let Kept {
             named,
-            history: _,
+            mut history,
             actions: mut action_book,
             steps: mut step_book,
             ends: mut end_book,
@@ -162,13 +159,14 @@ impl<I: Input, A: Ledger, S: Ledger, E: Ledger> Kept<I, A, S, E> {
             step_parts: _,
             end_parts: _,
         } = self;
-        action_book.audit(&mut actions);
-        step_book.audit(&mut steps);
-        end_book.audit(&mut ends);
         let Fit {
             input: _,
             ledger: _,
         } = action_parts;
+        let (mut actions, mut steps, mut ends) = merged(passes, &mut history, &named);
+        action_book.audit(&mut actions);
+        step_book.audit(&mut steps);
+        end_book.audit(&mut ends);
         named.into_recorder()
     }
 }

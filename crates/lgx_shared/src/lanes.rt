@@ -14,11 +14,18 @@ use std::sync::ledger::Ledger;
 use std::thread;
 use std::thread::Threads;
 
-/// What a lane waits for before each of its turns. Nothing is known of it.
+/// What a lane waits for before each of its turns. Nothing is known of what it does.
 pub trait Gate {
+    ghost use Rattle.std.specs.Prelude.{ℕ};
+
+    /// That `before` was called for a lane with so many actions made. It holds by itself, so an `impl` needs no word of it; but
+    /// code over any gate learns it from a call alone.
+    ghost asked: { Self → ℕ → ℕ → Type 0 } = { λ _ _ _. Unit {0} };
+
     /// Called without the lock, with the lane and the number of its actions that were made; for the processor's pass with
     /// the script's number of lanes, and 0.
-    fn before(&self, lane: u32, index: u32);
+    fn before(&self, lane: u32, index: u32)
+        ensures { asked self.now lane index };
 }
 
 /// The turns of one lane: to its end, to want of memory, or as many as it may make.
@@ -36,6 +43,7 @@ fn lane_loop<I: Input, A: Ledger, S: Ledger, E: Ledger, G: Gate, R: Wait>(
     ensures ran { pass.new.ends ≡ 0 → pass.new.short ≡ false → pass.new.actions + pass.new.steps ≡ pass.old.actions + pass.old.steps + most_turns pass.old.length pass.old.least_steps }
     ensures few { pass.new.actions + pass.new.steps + pass.new.ends ≤ pass.old.actions + pass.old.steps + most_turns pass.old.length pass.old.least_steps }
     ensures short { pass.new.short ≡ true → (pass.new.ends ≡ 0) × IsAcceptAt I.script pass.new.lane pass.new.actions }
+    ensures asked { (n : ℕ) → pass.old.actions ≤ n → n < pass.new.actions + pass.new.ends → G.asked gate.now pass.old.lane n }
 {
     for _turn in 0..pass.most_turns() {
         gate.before(pass.lane, pass.actions);
@@ -47,7 +55,8 @@ fn lane_loop<I: Input, A: Ledger, S: Ledger, E: Ledger, G: Gate, R: Wait>(
 }
 
 /// Each pass on a thread of its own, until it comes to its end, is short of memory at an accept, or made as many turns as it
-/// may. Where no thread can be started, lanes run one after another.
+/// may. Where no thread can be started, lanes run one after another. The gate was asked for each action that a pass made, and
+/// for its end.
 pub fn run_lanes<
     I: Input + Send,
     A: Ledger + Send,
@@ -64,6 +73,7 @@ pub fn run_lanes<
     ensures ran { (i : ℕ) (d : _) → i < length passes.old → let p = slice_index_or passes.old i d in let q = slice_index_or passes.new i d in q.ends ≡ 0 → q.short ≡ false → q.actions + q.steps ≡ p.actions + p.steps + most_turns p.length p.least_steps }
     ensures few { (i : ℕ) (d : _) → i < length passes.old → let p = slice_index_or passes.old i d in let q = slice_index_or passes.new i d in q.actions + q.steps + q.ends ≤ p.actions + p.steps + most_turns p.length p.least_steps }
     ensures short { (i : ℕ) (d : _) → i < length passes.old → let q = slice_index_or passes.new i d in q.short ≡ true → (q.ends ≡ 0) × IsAcceptAt I.script q.lane q.actions }
+    ensures asked { (i : ℕ) (d : _) → i < length passes.old → let p = slice_index_or passes.old i d in let q = slice_index_or passes.new i d in (n : ℕ) → p.actions ≤ n → n < q.actions + q.ends → G.asked gate.now p.lane n }
 {
     let threads = passes.len();
     if threads == 0 {

@@ -1,11 +1,16 @@
 // What a lane's thread carries.
-ghost use Rattle.std.specs.Prelude.{◌≡◌, ◌+◌, ◌≤◌, ◌<◌, true, false, length, vec_len, slice_index_or, sum_by, IsTrue, ◌↔◌, ℕ};
+ghost use Rattle.std.specs.Prelude.{◌≡◌, ◌+◌, ◌≤◌, ◌<◌, true, false, length, vec_len, slice_index_or, sum_by, All, IsTrue, ◌↔◌, ℕ};
+ghost use mathlib.Core.List.{IsPrefix};
 ghost use Rattle.spec_base.specs.declared.limits.TheConstants.{MAX_ACTIONS, MAX_SCRIPT_STEPS};
 ghost use Rattle.spec_lanes.specs.Turns.{lane_of};
+ghost use Rattle.lgx_history.specs.Histories.{history_view};
+ghost use Rattle.lgx_shared.specs.Follows.{journal_of};
 ghost use Rattle.lgx_shared.specs.Lanes.{most_turns};
 
 use crate::front::Front;
 use crate::input::Input;
+use crate::named::Named;
+use lgx_history::History;
 use spec_base::limits::MAX_IMAGE_BYTES;
 use std::marker::PhantomData;
 use std::sync::ledger::{Ledger, Share};
@@ -70,6 +75,7 @@ impl<I: Input, A: Ledger, S: Ledger, E: Ledger> Pass<I, A, S, E> {
         requires parts { (action_share.parts ≡ 1) × (step_share.parts ≡ 1) × (end_share.parts ≡ 1) }
         requires amounts { (action_share.amount ≡ 0) × (step_share.amount ≡ 0) × (end_share.amount ≡ 0) }
         ensures lane { result.lane ≡ lane }
+        ensures front { result.front ≡ front }
         ensures counts { (result.actions ≡ 0) × (result.steps ≡ 0) × (result.ends ≡ 0) × (result.short ≡ false) }
     {
         Pass {
@@ -88,8 +94,12 @@ impl<I: Input, A: Ledger, S: Ledger, E: Ledger> Pass<I, A, S, E> {
         }
     }
 
-    /// Its shares of the ledgers of actions, of processor steps and of ends.
-    fn into_shares(self) -> (Share<A>, Share<S>, Share<E>)
+    /// Gives back its sight of the history, which stands at the journal, and its shares of the ledgers of actions, of processor
+    /// steps and of ends.
+    fn give_back(self, history: &mut History, named: &Named<I>) -> (Share<A>, Share<S>, Share<E>)
+        requires { history.old ≡ history_view I.history (journal_of named.now) }
+        ensures same { history.new ≡ history.old }
+        ensures seen { IsPrefix self.front.events (journal_of named.now) }
         ensures parts { (result.0.parts ≡ 1) × (result.1.parts ≡ 1) × (result.2.parts ≡ 1) }
         ensures amounts { (result.0.amount ≡ self.actions) × (result.1.amount ≡ self.steps) × (result.2.amount ≡ self.ends) }
     {
@@ -101,12 +111,13 @@ impl<I: Input, A: Ledger, S: Ledger, E: Ledger> Pass<I, A, S, E> {
             steps: _,
             ends: _,
             short: _,
-            front: _,
+            front,
             action_share,
             step_share,
             end_share,
             input: _,
         } = self;
+        front.give_back(history, named);
         (action_share, step_share, end_share)
     }
 
@@ -147,11 +158,16 @@ pub(crate) fn all_came<I: Input, A: Ledger, S: Ledger, E: Ledger>(
     true
 }
 
-/// The shares of all passes as one of each ledger.
+/// The shares of all passes as one of each ledger. Each pass gives back its sight of the history, which stands at the journal.
 pub(crate) fn merged<I: Input, A: Ledger, S: Ledger, E: Ledger>(
     passes: Vec<Pass<I, A, S, E>>,
+    history: &mut History,
+    named: &Named<I>,
 ) -> (Share<A>, Share<S>, Share<E>)
-    requires { 0 < vec_len passes }
+    requires some { 0 < vec_len passes }
+    requires history { history.old ≡ history_view I.history (journal_of named.now) }
+    ensures same { history.new ≡ history.old }
+    ensures sees { All (λ p. IsPrefix p.front.events (journal_of named.now)) passes.items }
     ensures parts { (result.0.parts ≡ vec_len passes) × (result.1.parts ≡ vec_len passes) × (result.2.parts ≡ vec_len passes) }
     ensures amounts { (result.0.amount ≡ sum_by (λ p. p.actions) passes.items) × (result.1.amount ≡ sum_by (λ p. p.steps) passes.items) × (result.2.amount ≡ sum_by (λ p. p.ends) passes.items) }
 {
@@ -159,9 +175,9 @@ pub(crate) fn merged<I: Input, A: Ledger, S: Ledger, E: Ledger>(
     let Some(last) = passes.pop() else {
         unreachable!()
     };
-    let (mut actions, mut steps, mut ends) = last.into_shares();
+    let (mut actions, mut steps, mut ends) = last.give_back(history, named);
     while let Some(pass) = passes.pop() {
-        let (action_share, step_share, end_share) = pass.into_shares();
+        let (action_share, step_share, end_share) = pass.give_back(history, named);
         actions.merge(action_share);
         steps.merge(step_share);
         ends.merge(end_share);

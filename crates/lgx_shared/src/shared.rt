@@ -1,7 +1,9 @@
 // The recorder under its lock.
-ghost use Rattle.std.specs.Prelude.{◌≡◌, ℕ, ◌+◌, ◌<◌, ◌≤◌, ◌^◌, true, false, length, sum, sum_by, [], Some, vec_len, slice_index_or, IfOk, IsTrue, ◌↔◌};
+ghost use Rattle.std.specs.Prelude.{◌≡◌, ℕ, ◌+◌, ◌<◌, ◌≤◌, ◌^◌, true, false, length, sum, sum_by, [], Some, vec_len, slice_index_or, All, IfOk, IsTrue, ◌↔◌};
+ghost use mathlib.Core.List.{IsPrefix};
 ghost use Rattle.spec_machine.specs.Events.{steps_of};
 ghost use Rattle.spec_lanes.specs.Turns.{IsAcceptAt};
+ghost use Rattle.spec_lanes.specs.Laws.{opening};
 ghost use Rattle.lgx_history.specs.Histories.{history_view};
 ghost use Rattle.lgx_shared.specs.Turns.{MatchTurn};
 ghost use Rattle.lgx_shared.specs.Follows.{journal_of, Follows, IsNew, HasSpent, HasCompleted};
@@ -12,7 +14,7 @@ use crate::front::Front;
 use crate::input::Input;
 use crate::kept::Kept;
 use crate::named::{Named, begun};
-use crate::pass::{Pass, all_came, merged};
+use crate::pass::{Pass, all_came};
 use crate::recorder::Recorder;
 use crate::turn::Turn;
 use lgx_history::History;
@@ -37,6 +39,7 @@ fn deal<I: Input, A: Ledger, S: Ledger, E: Ledger>(
     ensures same { history.new ≡ history.old }
     ensures len { IfOk result (λ r. vec_len r ≡ length I.script.lanes + 1) }
     ensures lanes { IfOk result (λ r. (i : ℕ) (d : _) → i < vec_len r → (slice_index_or r.items i d).lane ≡ i) }
+    ensures seen { IfOk result (λ r. All (λ p. p.front.events ≡ journal_of named.now) r.items) }
     ensures counts { IfOk result (λ r. (i : ℕ) (d : _) → i < vec_len r → let p = slice_index_or r.items i d in (p.actions ≡ 0) × (p.steps ≡ 0) × (p.ends ≡ 0) × (p.short ≡ false)) }
 {
     let count = named.lanes() + 1;
@@ -79,6 +82,7 @@ impl<I: Input, A: Ledger, S: Ledger, E: Ledger> Shared<I, A, S, E> {
         requires ends { (ends.name ≡ E.name) × (ends.parts ≡ E.parts) × (ends.parts ≡ length I.script.lanes + 1) }
         ensures len { IfOk result (λ r. vec_len r.1 ≡ length I.script.lanes + 1) }
         ensures lanes { IfOk result (λ r. (i : ℕ) (d : _) → i < vec_len r.1 → (slice_index_or r.1.items i d).lane ≡ i) }
+        ensures seen { IfOk result (λ r. All (λ p. p.front.events ≡ opening) r.1.items) }
         ensures counts { IfOk result (λ r. (i : ℕ) (d : _) → i < vec_len r.1 → let p = slice_index_or r.1.items i d in (p.actions ≡ 0) × (p.steps ≡ 0) × (p.ends ≡ 0) × (p.short ≡ false)) }
     {
         let (action_book, action_rest) = actions.open::<A>();
@@ -129,11 +133,13 @@ impl<I: Input, A: Ledger, S: Ledger, E: Ledger> Shared<I, A, S, E> {
     }
 
     /// The recorder, once all passes are back, each at the place of its lane. It has run where every pass came to its end, was
-    /// short of memory, or made as many turns as it may.
+    /// short of memory, or made as many turns as it may. What any pass has seen is a beginning of the recorder's journal: so of
+    /// two passes, one has seen a beginning of what the other has.
     pub fn close(self, passes: Vec<Pass<I, A, S, E>>) -> Recorder
         requires parts { (vec_len passes ≡ A.parts) × (vec_len passes ≡ S.parts) × (vec_len passes ≡ E.parts) }
         requires lanes { (i : ℕ) (d : _) → i < vec_len passes → (slice_index_or passes.items i d).lane ≡ i }
         ensures follows { Follows I.project I.script result }
+        ensures sees { All (λ p. IsPrefix p.front.events (journal_of result)) passes.items }
         ensures actions { sum result.counts ≡ sum_by (λ p. p.actions) passes.items }
         ensures steps { steps_of (journal_of result) ≡ sum_by (λ p. p.steps) passes.items }
         ensures spent { (i : ℕ) (d : _) → i < vec_len passes → (slice_index_or passes.items i d).ends ≡ 1 → HasSpent I.project I.script result }
@@ -143,8 +149,7 @@ impl<I: Input, A: Ledger, S: Ledger, E: Ledger> Shared<I, A, S, E> {
         let Shared { kept } = self;
         let kept = kept.into_inner();
         let ran = all_came(&passes);
-        let (actions, steps, ends) = merged(passes);
-        let mut recorder = kept.close(actions, steps, ends);
+        let mut recorder = kept.close(passes);
         recorder.set_ran(ran);
         recorder
     }

@@ -1,5 +1,5 @@
 -- What the lanes' threads share may cross threads.
-use Rattle.std.proofs.Common.{rules, subst}
+use Rattle.std.proofs.Common.{ℕ, ◌+◌, ◌<◌, ◌≤◌, rules, subst}
 use Rattle.std.specs.Prelude.{slice_index_or}
 use mathlib.Core.List.{IsPrefix}
 use denote.Param.{param}
@@ -29,3 +29,11 @@ returns-clause-sees g c = λ i d below.
     let sees : IsPrefix e.argument.now.front.events e.after_call.now.front.events = search rules in
     subst (λ x. IsPrefix x.front.events (slice_index_or c.for_each_mut.new.s i d).front.events) e.argument_is
     (subst (λ y. IsPrefix e.argument.now.front.events y.front.events) e.left sees)
+
+pub returns-clause-asked : goal.returns-clause-asked
+returns-clause-asked g c = λ i d below.
+    let e = (c.for_each_mut.ensures i d below).1 in
+    let asked : (n : ℕ) → e.argument.now.actions ≤ n → n < e.after_call.now.actions + e.after_call.now.ends → g.G.Gate.asked c.args.gate.now e.argument.now.lane n = search rules in
+    let q = slice_index_or c.for_each_mut.new.s i d in
+    subst (λ x. (n : ℕ) → x.actions ≤ n → n < q.actions + q.ends → g.G.Gate.asked c.args.gate.now x.lane n) e.argument_is
+    (subst (λ y. (n : ℕ) → e.argument.now.actions ≤ n → n < y.actions + y.ends → g.G.Gate.asked c.args.gate.now e.argument.now.lane n) e.left asked)

@@ -1,6 +1,7 @@
 use Rattle.std.proofs.Common.{◌≡◌, ◌<◌, length, false, refl, ap, ◌∙◌, subst, arith, rules}
+use Rattle.lgx_shared.specs.Follows.{journal_of}
 use Rattle.lgx_shared.proofs.Numbers.{none_below, parts_at_first}
-use Rattle.lgx_shared.proofs.Pushes.{each_push}
+use Rattle.lgx_shared.proofs.Pushes.{all_push, each_push}
 use Rattle.lgx_shared.proofs.Seeing.{none_of}
 use Rattle.lgx_shared.proofs.shared.deal.Goals as goal
 
@@ -20,12 +21,14 @@ loop-lane-preserved g c =
       each_push (λ k p. p.lane ≡ k) passes.items c.push.new.self.items c.new-pass.result n items len c.loop-lane.invariant.7 c.new-pass.ensures.lane,
       each_push (λ k p. (p.actions ≡ 0) × (p.steps ≡ 0) × (p.ends ≡ 0) × (p.short ≡ false)) passes.items c.push.new.self.items c.new-pass.result n items len c.loop-lane.invariant.8 c.new-pass.ensures.counts,
       c.new.ensures.same ∙ c.loop-lane.invariant.9,
+      all_push (λ p. p.front.events ≡ journal_of c.args.named.now) passes.items c.push.new.self.items c.new-pass.result items c.loop-lane.invariant.10 (ap (λ f. f.events) (c.new-pass.ensures.front ∙ c.new.ensures.seen)),
     )
 
 pub loop-lane-init : goal.loop-lane-init
 loop-lane-init g c =
     let lanes = c.lanes-count.ensures.is in
-    let p = c.requires.parts in (
+    let p = c.requires.parts in
+    let none : length c.new-passes.result.items ≡ 0 = search rules in (
       parts_at_first c.args.actions.parts (length g.I.Input.script.lanes) c.lanes-count.result p.0 lanes,
       parts_at_first c.args.steps.parts (length g.I.Input.script.lanes) c.lanes-count.result p.1 lanes,
       parts_at_first c.args.ends.parts (length g.I.Input.script.lanes) c.lanes-count.result p.2 lanes,
@@ -36,6 +39,7 @@ loop-lane-init g c =
       (λ i d lt. absurd (none_below i lt)),
       (λ i d lt. absurd (none_below i lt)),
       refl,
+      (λ k d lt. absurd (none_below k (subst (λ n. k < n) none lt))),
     )
 
 pub new-requires : goal.new-requires
@@ -51,3 +55,6 @@ returns-clause-lanes g c = λ i d lt. c.loop-lane.invariant.7 i d (subst (λ n. 
 
 pub returns-clause-counts : goal.returns-clause-counts
 returns-clause-counts g c = λ i d lt. c.loop-lane.invariant.8 i d (subst (λ n. i < n) c.loop-lane.invariant.6 lt)
+
+pub returns-clause-seen : goal.returns-clause-seen
+returns-clause-seen g c = c.loop-lane.invariant.10

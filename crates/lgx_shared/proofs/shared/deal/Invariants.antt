@@ -1,5 +1,6 @@
 use Rattle.std.proofs.Common.{◌≡◌, ℕ, ◌+◌, ◌<◌, false}
-use Rattle.std.specs.Prelude.{vec_len, slice_index_or}
+use Rattle.std.specs.Prelude.{vec_len, slice_index_or, All}
+use Rattle.lgx_shared.specs.Follows.{journal_of}
 use Rattle.lgx_shared.proofs.shared.deal.Given as goal
 
 abbrev pub invariant-loop-lane : goal.invariant-loop-lane
@@ -10,3 +11,4 @@ invariant-loop-lane g l =
     × ((i : ℕ) (d : _) → i < l.lane → (slice_index_or l.passes.items i d).lane ≡ i)
     × ((i : ℕ) (d : _) → i < l.lane → let p = slice_index_or l.passes.items i d in (p.actions ≡ 0) × (p.steps ≡ 0) × (p.ends ≡ 0) × (p.short ≡ false))
     × (l.history ≡ l.fn.history)
+    × All (λ p. p.front.events ≡ journal_of l.named) l.passes.items

@@ -13,7 +13,7 @@ returns-clause-spent g c = λ i d lt e.
     let ps = c.args.passes.items in
     let len : length ps ≡ vec_len c.args.passes = search rules in
     let some = some_end (λ (p : _). p.ends) ps i d (omega (arith, len, lt)) e in
-    rw c.set_ran.ensures (c.close-recorder.ensures.spent (omega (arith, some, c.merged-actions.ensures.amounts.2)))
+    rw c.set_ran.ensures (c.close-recorder.ensures.spent some)
 
 pub returns-clause-complete : goal.returns-clause-complete
 returns-clause-complete g c = λ all.
@@ -30,11 +30,14 @@ returns-clause-complete g c = λ all.
     let ended = all_end (λ (p : _). p.ends) ps (omega (arith, fits)) (λ i d l. all i d (omega (arith, len, l))) in
     rw c.set_ran.ensures
     (all_is_complete g.I.Input.project g.I.Input.script r.counts (journal_of r) follows.served
-    (c.close-recorder.ensures.actions ∙ (c.merged-actions.ensures.amounts.0 ∙ sum))
-    (c.close-recorder.ensures.spent (omega (arith, ended, c.merged-actions.ensures.amounts.2))))
+    (c.close-recorder.ensures.actions ∙ sum)
+    (c.close-recorder.ensures.spent ended))
 
 pub returns-clause-follows : goal.returns-clause-follows
 returns-clause-follows g c = rw c.set_ran.ensures (follows_still g.I.Input.project g.I.Input.script c.close-recorder.result c.all_came-ran.result c.close-recorder.ensures.follows)
+
+pub returns-clause-sees : goal.returns-clause-sees
+returns-clause-sees g c = rw c.set_ran.ensures c.close-recorder.ensures.sees
 
 pub returns-clause-ran : goal.returns-clause-ran
 returns-clause-ran g c = rw c.set_ran.ensures c.all_came-ran.ensures

@@ -12,3 +12,6 @@ deal-requires-clause-parts g c = (
   c.open-step_book.ensures.parts ∙ (sym c.requires.steps.1 ∙ c.requires.steps.2),
   c.open-end_book.ensures.parts ∙ (sym c.requires.ends.1 ∙ c.requires.ends.2),
 )
+
+pub returns-clause-seen : goal.returns-clause-seen
+returns-clause-seen g c = λ k d below. c.in_ok-passes.ensures.seen k d below ∙ c.begun-named.ensures.new.opened
