@@ -10,7 +10,7 @@ import unittest
 from unittest import mock
 
 from scenario_files import programs
-from lib.hammer import begins, books, corpus, coverage, marks, pieces, scenarios, splits, tool_faults
+from lib.hammer import begins, books, corpus, coverage, covers, marks, pieces, scenarios, sessions, splits, tool_faults
 from lib.hammer.cases import file_text
 from lib.hammer.plain.judge import answer
 from lib.hammer.plain.required import Requirement, Test
@@ -75,9 +75,87 @@ class Splits(unittest.TestCase):
             return out.replace(b"set n 2", b"set n 3") if b"cpu 4\n" in files[1] else out
         self.assertIn("cut at", splits.of_cuts(Plain(cut_is_seen), self.files()))
 
+    def test_a_program_that_sees_two_cuts(self):
+        def cuts_are_seen(verb, files, out):
+            return out.replace(b"set n 2", b"set n 3") if b"cpu 1\ncpu 2\ncpu 1\n" in files[1] else out
+        self.assertIn(" as [", splits.of_cuts(Plain(cuts_are_seen), self.files()))
+
+    def test_ways(self):
+        self.assertEqual(sorted(splits.ways(3)), [[1, 1, 1], [1, 2], [2, 1], [3]])
+        for steps in (1, 4, 5, 6, 40):
+            made = splits.around(steps, random.Random(steps))
+            self.assertEqual(({sum(way) for way in made}, len({tuple(way) for way in made})), ({steps}, 2 ** (min(steps, 5) - 1)))
+        made = splits.by_chance(["mode run", "cpu 30", "end"], random.Random(1))
+        self.assertEqual(splits.joined(made), ["mode run", "cpu 30", "end"])
+        self.assertGreater(len(made), 3)
+
     def test_lines_of_steps(self):
         self.assertEqual(splits.single(["mode run", "cpu 2", "end"]), ["mode run", "cpu 1", "cpu 1", "end"])
         self.assertEqual(splits.joined(["cpu 2", "cpu 3", "tick 1", "cpu 4"]), ["cpu 5", "tick 1", "cpu 4"])
+
+
+class Counting(Plain):
+    """The plain counts, or bent ones, as what `logix_cover` writes."""
+
+    def __init__(self, bend):
+        super().__init__(bend, folder="room")
+        self.files = {}
+
+    def put(self, name, contents):
+        self.files[name] = contents
+        return name
+
+    def run(self, words, path=None):
+        status, out = answer(["cover"], [self.files[word] for word in words])
+        return Ran(status, self.bend("cover", None, out.encode("latin-1")), b"", 0.0, 0)
+
+
+class Covers(unittest.TestCase):
+    def judged(self, bend):
+        made = [covers.covers(random.Random(seed), None) for seed in range(6)]
+        return [judge(Counting(bend), files) for judge, files in made]
+
+    def test_counts(self):
+        self.assertEqual(self.judged(lambda verb, files, out: out), [None] * 6)
+
+    def test_a_step_that_is_counted_twice_is_seen(self):
+        self.assertTrue(any(self.judged(lambda verb, files, out: out.replace(b" 1 0\n", b" 2 0\n", 1))))
+
+
+class Told(Plain):
+    """The plain controller that is talked to, as a process; where it is bent, it counts its lines from 0."""
+
+    def __init__(self, room, is_bent):
+        super().__init__(folder=room)
+        programs(f"{room}/programs", False)
+        if is_bent:
+            os.rename(f"{room}/programs/logix_live", f"{room}/programs/sound")
+            with open(f"{room}/programs/logix_live", "w", encoding="utf-8") as file:
+                file.write(f"#!/bin/sh\n'{room}/programs/sound' \"$@\" | sed -u 's/^line J1 3$/line J1 2/'\n")
+            os.chmod(f"{room}/programs/logix_live", 0o755)
+
+    def put(self, name, contents):
+        with open(f"{self.room}/{name}", "wb") as file:
+            file.write(contents)
+        return f"{self.room}/{name}"
+
+    def run(self, words, given=b"", path=None):
+        ran = subprocess.run([path, *words], input=given, capture_output=True, check=False, timeout=20)
+        return Ran(ran.returncode, ran.stdout, ran.stderr, 0.0, 0)
+
+
+class Sessions(unittest.TestCase):
+    LINES = b"mode run\ncpu 3\n?\ntick 1\n?\n@0 test P\nend\n"
+
+    def judged(self, is_bent):
+        with tempfile.TemporaryDirectory() as room:
+            return sessions.of_marks(Told(room, is_bent), [books.project(2), self.LINES])
+
+    def test_marks(self):
+        self.assertIsNone(self.judged(False))
+
+    def test_a_mark_with_another_number_is_seen(self):
+        self.assertIn("from byte", self.judged(True))
 
 
 class Met(unittest.TestCase):

@@ -1,8 +1,10 @@
-"""A stretch of steps gives the same lines wherever it is cut: `cpu N` as two lines at every place, as single steps, and with lines between.
+"""A stretch of steps gives the same lines wherever it is cut: `cpu N` as two lines at every place, some steps of it in all ways, all as single
+steps, joined, by chance, and with lines between.
 
 Nothing that is put between changes anything: a comment, an empty line, and an action that is refused or held, whose reply is taken out.
 """
 
+import random
 import re
 
 from . import begins, marks
@@ -12,14 +14,15 @@ from .made import Maker
 from .sound import shown
 
 STRETCH = re.compile(r"cpu ([0-9]+)")
-MOST_PLACES = 40
+MOST_PLACES, MOST_WAYS = 40, 5
 LANE = 30  # that no maker uses
 NOTHING, REFUSED = f"@{LANE} out Zz 0", re.compile(rb"[0-9]+ [0-9]+ reply %d (?:refused N1|held)\n" % LANE)
 
 
 @law
 def of_cuts(program, contents):
-    """The stretch of this number, cut after each of its steps; then all stretches into single steps, joined, and cut by chance."""
+    """The stretch of this number, cut after each of its steps, and five of its steps cut in all ways; then all stretches into single steps, joined,
+    and cut by chance."""
     project, journal, number = contents
     lines = journal.decode("latin-1").split("\n")
     ran = got(program, {0, 2, 3}, "replay", project, journal)
@@ -34,7 +37,12 @@ def of_cuts(program, contents):
     for place in range(1, steps, 1 + steps // MOST_PLACES):
         between = ([], ["# here", ""], [NOTHING])[place % 3]
         compare(program, project, [*lines[:at], f"cpu {place}", *between, f"cpu {steps - place}", *lines[at + 1:]], whole, f"line {at + 1} cut at {place}")
-    for what, made in (("single steps", single(lines)), ("single steps with refused actions between", single(lines, NOTHING)), ("joined", joined(lines))):
+    draw = random.Random(int(number))
+    for way in around(steps, draw):
+        compare(program, project, [*lines[:at], *(f"cpu {piece}" for piece in way), *lines[at + 1:]], whole, f"line {at + 1} as {way}")
+    for what, made in (
+        ("single steps", single(lines)), ("single steps with refused actions between", single(lines, NOTHING)), ("joined", joined(lines)), ("cut by chance", by_chance(lines, draw)),
+    ):  # fmt: skip
         compare(program, project, made, whole, what)
     same_trace(program, project, journal, single(lines))
     return None
@@ -45,6 +53,31 @@ def compare(program, project, lines, whole, what):
     out = REFUSED.sub(b"", ran.out)
     if out != whole:
         raise Broken(f"{what}: {first_difference(out, whole)}")
+
+
+def ways(steps):
+    """All lists of numbers above 0 that are so many in all."""
+    return [[first, *rest] for first in range(1, steps + 1) for rest in ways(steps - first)] if steps else [[]]
+
+
+def around(steps, draw):
+    """Cuts of a stretch: some steps of it, beside one another, in all ways, with what is before them and after in one piece each."""
+    most = min(steps, MOST_WAYS)
+    before = draw.randrange(steps - most + 1)
+    return [[piece for piece in (before, *way, steps - most - before) if piece] for way in ways(most)]
+
+
+def by_chance(lines, draw):
+    made = []
+    for line in lines:
+        found = STRETCH.fullmatch(line)
+        rest = int(found[1]) if found else 0
+        while rest:
+            piece = draw.randrange(1, rest + 1)
+            made.append(f"cpu {piece}")
+            rest -= piece
+        made += [] if found else [line]
+    return made
 
 
 def single(lines, between=None):
