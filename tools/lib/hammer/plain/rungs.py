@@ -1,7 +1,10 @@
 """Neutral text (FORMATS.md, section 2): a rung is a list of instructions and branches."""
 
 import re
+from functools import lru_cache
 from typing import NamedTuple
+
+from .words import KEPT
 
 MNEMONICS = frozenset(
     "XIC XIO OTE OTL OTU ONS OSR OSF TON RTO TOF CTU CTD RES EQU NEQ LES LEQ GRT GEQ LIM MEQ ADD SUB MUL DIV MOD NEG ABS MOV AND OR "
@@ -33,6 +36,7 @@ class Branch(NamedTuple):
     legs: tuple
 
 
+@lru_cache(KEPT)
 def read_rung(text):
     """The rung that a text spells; else its first fault from the left."""
     return Reader(text).rung()

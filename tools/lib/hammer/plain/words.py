@@ -2,6 +2,7 @@
 
 import re
 import sys
+from functools import lru_cache
 
 sys.set_int_max_str_digits(0)
 
@@ -12,8 +13,10 @@ BASED = {"2": re.compile(r"[01](?:_?[01])*"), "8": re.compile(r"[0-7](?:_?[0-7])
 FLAGS = ("S:FS", "S:V", "S:Z", "S:N")
 TAG_BYTES = re.compile(r"[A-Za-z0-9_:]*")
 DIGITS = re.compile(r"[0-9]+")
+KEPT = 1 << 14  # readings of texts that come again and again
 
 
+@lru_cache(KEPT)
 def is_name(text):
     return len(text) <= 40 and NAME.fullmatch(text) is not None
 
@@ -56,6 +59,7 @@ def signed(number, bits):
     return low - (1 << bits) if low >> (bits - 1) else low
 
 
+@lru_cache(KEPT)
 def operand_form(text):
     """A tag's name and the parts after it: ('member', name), ('at', digits), ('by', form) or ('bit', digits). None of no form."""
     read = form_at(text, 0)
@@ -76,7 +80,7 @@ def form_at(text, start):
         end = read[1]
         if read[0][0] == "bit":
             break
-    return (tag, parts), end
+    return (tag, tuple(parts)), end
 
 
 def member_at(text, start):
