@@ -12,7 +12,8 @@ from unittest import mock
 from scenario_files import programs
 from lib.hammer import begins, books, corpus, coverage, covers, marks, pieces, scenarios, sessions, splits, tool_faults
 from lib.hammer.cases import file_text
-from lib.hammer.plain.judge import answer
+from lib.hammer.main import ON_ONE, Hammer
+from lib.hammer.plain.judge import answer, kept_project
 from lib.hammer.plain.required import Requirement, Test
 from lib.hammer.program import Ran
 
@@ -42,6 +43,37 @@ class Made(unittest.TestCase):
             answers = [answer(["replay"], maker.files(random.Random(seed))) for seed in range(30)]
             self.assertGreaterEqual([one[0] for one in answers].count(0), least)
             self.assertGreater(sum(one[1].count(" set ") for one in answers), 60)
+
+
+class OnOne(unittest.TestCase):
+    """Cases that share a made project."""
+
+    def cases(self, runs, numbers):
+        hammer = Hammer(Plain(), "s", "nowhere", runs=runs)
+        return {(kind, number): hammer.case(kind, number)[1] for kind in ON_ONE for number in numbers}
+
+    def test_some_in_a_row_have_one_project_and_journals_of_their_own(self):
+        made = self.cases(4, range(8))
+        for kind in ON_ONE:
+            projects = [made[kind, number][0] for number in range(8)]
+            self.assertEqual((len(set(projects[:4])), len(set(projects[4:])), len(set(projects))), (1, 1, 2))
+            runs = [files for (one, _), files in made.items() if one == kind and len(files) == 2]
+            self.assertEqual(len({files[1] for files in runs}), len(runs))
+
+    def test_a_case_is_made_by_its_number_alone(self):
+        made = self.cases(4, range(8))
+        for number in (6, 1, 4):
+            for kind in ON_ONE:
+                self.assertEqual(self.cases(4, [number])[kind, number], made[kind, number])
+
+    def test_a_run_leaves_the_project_that_is_kept_as_it_was(self):
+        for kind in ON_ONE:
+            for number in range(6):
+                judge, files = Hammer(Plain(), "s", "nowhere", runs=4).case(kind, number)
+                first = answer([judge.word], files)
+                self.assertEqual(answer([judge.word], files), first)
+                kept_project.cache_clear()
+                self.assertEqual(answer([judge.word], files), first)
 
 
 class Books(unittest.TestCase):

@@ -74,11 +74,18 @@ class Begins:
         return [*lines, "end"]
 
 
-def files(draw):
+def project(draw):
+    """A made project: its maker, who makes its journals too, and its text."""
     made = Begins(draw)
-    return [file_text(made.project()), journal_text(made.journal())]
+    return made, file_text(made.project())
 
 
-def begins(draw, program):
+def files(draw, made=None):
+    maker, text = made or project(draw)
+    maker.draw = draw
+    return [text, journal_text(maker.journal())]
+
+
+def begins(draw, program, made=None):
     verb = draw.choice([verb for verb in ("replay", "replay", "trace") if verb in program.words])
-    return judged(verb), files(draw)
+    return judged(verb), files(draw, made)

@@ -63,10 +63,17 @@ def journal_text(lines):
 WORDS = ("replay", "replay", "replay", "replay", "trace", "check", "text", "migrate", "xref")
 
 
-def whole(draw, program):
-    """A made project and journal, with some slips."""
+def whole_project(draw):
+    """A made project, some with slips: its maker, who makes its journals too, and its text."""
     maker = Maker(draw, draw.choice((0.0, 0.0, 0.0, 0.002, 0.01)))
-    contents = [file_text(maker.project()), journal_text(maker.journal())]
+    return maker, file_text(maker.project())
+
+
+def whole(draw, program, made=None):
+    """A made project and journal, with some slips; the project perhaps one that was made before."""
+    maker, project = made or whole_project(draw)
+    maker.draw = draw
+    contents = [project, journal_text(maker.journal())]
     verb = draw.choice([word for word in WORDS if word in program.words])
     return judged(verb), contents if verb in ("replay", "trace") else contents[:1]
 

@@ -9,7 +9,7 @@ import time
 
 from lib.paths import built
 
-from . import cases, corpus, faults, lanes, laws, limits, more, pieces, texts, turns
+from . import begins, cases, corpus, faults, lanes, laws, limits, marks, more, pieces, texts, turns
 from . import coverage as met
 from .coverage import Coverage, stored, watching
 from .program import PAGE, Program
@@ -39,13 +39,17 @@ IN_TURN = {
     "failed in threads": lambda program: len(turns.turns_of(program).threaded),
     "failed calls": lambda program: len(turns.turns_of(program).system), **more.IN_TURN,
 }
+# Those whose cases may run, some in a row, on one made project: what makes it. Making and reading a project is most of such a case.
+ON_ONE = {"whole": cases.whole_project, "marks": marks.project, "begins": begins.project}
+RUNS = 4  # journals of such a project
 WHOLE_ANYWAY = (*IN_TURN, "little memory")
 FEW = 1_000  # cases: what was met by fewer is told as rare
 
 
 class Hammer:
-    def __init__(self, program, seed, found, coverage=None):
-        self.program, self.seed, self.found, self.coverage = program, seed, found, coverage
+    def __init__(self, program, seed, found, coverage=None, runs=1):
+        self.program, self.seed, self.found, self.coverage, self.runs = program, seed, found, coverage, runs
+        self.projects = {}
         self.counts, self.took = dict.fromkeys(KINDS, 0), dict.fromkeys(KINDS, 0.0)
         self.differences = []
 
@@ -63,7 +67,15 @@ class Hammer:
         """The judge and the files of a case, by its number alone."""
         draw = random.Random(f"{self.seed} {kind} {number}")
         make = KINDS[kind][0]
+        if kind in ON_ONE and self.runs > 1:
+            return make(draw, self.program, self.project(kind, number // self.runs))
         return make(draw, self.program, number) if kind in IN_TURN else make(draw, self.program)
+
+    def project(self, kind, number):
+        """A kind's project of this number; the last one is kept."""
+        if kind not in self.projects or self.projects[kind][0] != number:
+            self.projects[kind] = number, ON_ONE[kind](random.Random(f"{self.seed} {kind} project {number}"))
+        return self.projects[kind][1]
 
     def try_case(self, kind, number):
         began = self.spent()
@@ -90,7 +102,7 @@ class Hammer:
         note = f"{kind}, case {number} of seed {self.seed}: {wrong}\n"
         note += f"smaller: {judge(self.program, smaller)}\n"
         with open(f"{folder}/note.txt", "w", encoding="utf-8") as file:
-            file.write(note + f"again: tools/hammer --seed {self.seed} --again '{kind}:{number}'\n")
+            file.write(note + f"again: tools/hammer --seed {self.seed} --runs {self.runs} --again '{kind}:{number}'\n")
         self.differences.append(note)
         print(f"differs: {folder}\n{note}", flush=True)
 
@@ -149,6 +161,7 @@ def words_of_command(arguments):
     parser.add_argument("--kinds", default="", help=f"some of: {', '.join(KINDS)} (all)")
     parser.add_argument("--cases", type=int, default=None, metavar="N", help="N cases of each kind, or all where there are fewer, however long")
     parser.add_argument("--in-turn", action="store_true", help=f"all cases of {', '.join(IN_TURN)}")
+    parser.add_argument("--runs", type=int, default=RUNS, metavar="N", help=f"journals on each made project, of {', '.join(ON_ONE)} ({RUNS})")
     parser.add_argument("--first", type=int, default=0, metavar="N", help="with --cases: the first one's number (0)")
     parser.add_argument("--again", default=None, metavar="KIND:NUMBER", help="one case of the seed again")
     parser.add_argument("--found", default=None, help="where differences are stored (hammer-SEED in the folder for temporary files)")
@@ -180,7 +193,7 @@ def main(arguments=None):
         return pieces.main(words, seed, FEW)
     program = Program(words.program)
     coverage = Coverage() if words.coverage or words.counts else None
-    hammer = Hammer(program, seed, words.found or f"{os.environ.get('TMPDIR', '/tmp')}/hammer-{seed}", coverage)
+    hammer = Hammer(program, seed, words.found or f"{os.environ.get('TMPDIR', '/tmp')}/hammer-{seed}", coverage, words.runs)
     print(f"seed {seed}", flush=True)
     kinds = hammer.known_kinds(words.kinds)
     try:

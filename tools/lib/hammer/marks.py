@@ -188,10 +188,17 @@ class Marks:
         return [*lines, "end"]
 
 
-def files(draw):
+def project(draw):
+    """A made project: its maker, who makes its journals too, and its text."""
     made = Marks(draw)
-    return [file_text(made.finished()), journal_text(made.journal())]
+    return made, file_text(made.finished())
 
 
-def marks(draw, program):
-    return of_live if program.beside("logix_live") and draw.random() < 0.2 else judged("replay"), files(draw)
+def files(draw, made=None):
+    maker, text = made or project(draw)
+    maker.draw = draw
+    return [text, journal_text(maker.journal())]
+
+
+def marks(draw, program, made=None):
+    return of_live if program.beside("logix_live") and draw.random() < 0.2 else judged("replay"), files(draw, made)

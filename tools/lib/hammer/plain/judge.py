@@ -1,5 +1,7 @@
 """What the program answers to its words, by the plain interpreter: a status and a text."""
 
+from functools import lru_cache
+
 from .audit import Table, read_trace, verdict
 from .cover import cover
 from .explore import Search, canonical
@@ -29,6 +31,12 @@ def whole(contents):
     return contents
 
 
+@lru_cache(2)
+def kept_project(contents):
+    """The project of a file; the last ones are kept, which no run changes."""
+    return Project(contents)
+
+
 def answer(words, contents):
     """The status and the output of the word over these contents of its files; None of a long run."""
     try:
@@ -39,7 +47,7 @@ def answer(words, contents):
 
 def answer_of(verb, contents):
     try:
-        projects = [Project(whole(contents[0]))]
+        projects = [kept_project(whole(contents[0]))]
     except Fault as fault:
         return 2, ("a " if verb == "link" else "") + fault.line() + "\n"
     if verb in OF_PROJECT:
@@ -48,7 +56,7 @@ def answer_of(verb, contents):
         return explored(projects[0], *contents[1:])
     try:
         if verb == "link":
-            projects.append(Project(whole(contents[1])))
+            projects.append(kept_project(whole(contents[1])))
         return OF_MORE[verb](*projects, whole(contents[-1]))
     except Fault as fault:
         return 2, f"b {fault.line()}\n"
@@ -108,7 +116,7 @@ def audited(project, contents):
 def live(contents, lines):
     """What is written of lines that come one by one: the report's lines of those that are done, and the cause of each that isn't."""
     try:
-        reporter = Reporter(Project(contents))
+        reporter = Reporter(kept_project(contents))
     except Fault as fault:
         return 2, fault.line() + "\n"
     written = []
