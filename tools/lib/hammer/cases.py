@@ -8,8 +8,7 @@ from lib.paths import EXAMPLES
 from .bent import Bender
 from .made import Maker
 from .plain.audit import Counting, Table, event_of
-from .plain.judge import answer
-from .plain.project import Project
+from .plain.judge import answer, kept_project
 from .sound import shown, unsound
 
 
@@ -174,7 +173,7 @@ PROJECT = {
 
 def walks(draw, _):
     """A trace that walks along the laws event by event, and breaks one now and then."""
-    table = Table(Project(file_text(PROJECT)))
+    table = Table(kept_project(file_text(PROJECT)))
     counting, lines = Counting(table), ["act 31 run - ok 1"]
     counting.count(event_of(lines[0].split(" "), table))
     slips = {None: 1.0, 1: draw.choice((0.0, 0.0, 0.01)), 2: 0.2, 3: 0.03}

@@ -83,7 +83,7 @@ class Pieces:
 
 def main(words, seed, least):
     """Status 0: all cases were tried and none differs; 1: some do; 3: pieces broke off, and there are fewer."""
-    more = ["--program", words.program] + (["--kinds", ",".join(words.kinds)] if words.kinds else [])
+    more = ["--program", words.program, "--runs", str(words.runs)] + (["--kinds", ",".join(words.kinds)] if words.kinds else [])
     pieces = Pieces(words.folder or f"{os.environ.get('TMPDIR', '/tmp')}/hammer-pieces-{seed}", seed, words.seconds, more)
     enough = pieces.run(words.in_all)
     status = pieces.tell(least)
