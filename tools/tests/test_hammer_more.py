@@ -45,6 +45,22 @@ class Made(unittest.TestCase):
             self.assertGreater(sum(one[1].count(" set ") for one in answers), 60)
 
 
+    def test_a_line_that_is_forgotten_is_seen(self):
+        """A watched place whose mark is lost, and a begin that a stretch went on over."""
+        for make, word in ((marks.marks, b" set "), (begins.begins, b" begin ")):
+            def forgetful(verb, files, out, word=word):
+                lines = out.splitlines(keepends=True)
+                last = max((at for at, line in enumerate(lines) if word in line), default=None)
+                return b"".join(lines[:last] + lines[last + 1:]) if last is not None else out
+            seen = []
+            for seed in range(6):
+                judge, files = make(random.Random(seed), Plain())
+                if judge.word == "replay":
+                    self.assertIsNone(judge(Plain(), files))
+                    seen.append(judge(Plain(forgetful), files))
+            self.assertTrue(seen and any("from byte" in (one or "") for one in seen))
+
+
 class OnOne(unittest.TestCase):
     """Cases that share a made project."""
 
