@@ -41,7 +41,8 @@ def of_cuts(program, contents):
     for way in around(steps, draw):
         compare(program, project, [*lines[:at], *(f"cpu {piece}" for piece in way), *lines[at + 1:]], whole, f"line {at + 1} as {way}")
     for what, made in (
-        ("single steps", single(lines)), ("single steps with refused actions between", single(lines, NOTHING)), ("joined", joined(lines)), ("cut by chance", by_chance(lines, draw)),
+        ("single steps", single(lines)), ("single steps with refused actions between", single(lines, NOTHING)),
+        ("joined", joined(lines)), ("cut by chance", by_chance(lines, draw)),
     ):  # fmt: skip
         compare(program, project, made, whole, what)
     same_trace(program, project, journal, single(lines))
