@@ -1,9 +1,9 @@
 //! `logix_explore`: tells whether any journal of a script shows what a question says is never to be.
 #![tactic(auto)]
 
+use cmd_explore::process;
 use std::io::IsTerminal;
 use std::process::ExitCode;
-use cmd_explore::process;
 
 fn main(rt: HostRuntime) -> ExitCode {
     ExitCode::from(process(&rt, rt.stderr().is_terminal()))
