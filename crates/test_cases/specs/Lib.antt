@@ -24,5 +24,4 @@ pub mod ConveyorRun
 pub mod LawRuns
 pub mod ProjectCases
 pub mod LinkRuns
-pub mod ChangeCases
 pub mod QuestionCases
