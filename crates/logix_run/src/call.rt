@@ -29,7 +29,7 @@ fn follow<F: Files, K: Sink, G: Gate + Sync, R: Threads + Wait + Sync>(
     gate: &G,
 ) -> Status
     requires { HasStations command }
-    ensures { Answered (command_plan (said command))
+    ensures { Answered (command_plan (said command.entry))
         (call_of F.told F.failures files.old files.new K.held K.faults sink.old sink.new (ending_of result)) }
 {
     match command {

@@ -27,7 +27,7 @@ pub(crate) fn follow_plain<F: Files, K: Sink>(
     files: &mut F,
     sink: &mut K,
 ) -> Status
-    ensures { Answered (command_plan (plain (said command)))
+    ensures { Answered (command_plan (plain (said command.entry)))
         (call_of F.told F.failures files.old files.new K.held K.faults sink.old sink.new (ending_of result)) }
 {
     match command {
