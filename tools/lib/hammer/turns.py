@@ -19,6 +19,8 @@ WANTED = {
 OUT_OF_MEMORY = 6
 # Of a call with more allocations every so manieth fails, so that about so many do.
 MOST_ALLOCATIONS = 2_000
+# The output's buffer, and the room for the list of arguments.
+NEEDLESS = 2
 # Words that start threads: their allocations are failed one in each run.
 THREADED = ("run", "stations")
 
@@ -94,7 +96,8 @@ def of_turn(program, contents):
 
 @law
 def of_each(program, contents):
-    """Each allocation of a call fails once. All but one, that of the output's buffer, are needed."""
+    """Each allocation of a call fails once. All are needed but that of the output's buffer, and where the words are collected into a list
+    whose length is known, the room that it asks for beforehand."""
     name, turns = contents[0].decode(), turns_of(program)
     count = turns.counts[name]["allocation"]
     step = 1 + count // MOST_ALLOCATIONS
@@ -105,7 +108,7 @@ def of_each(program, contents):
         turns.judge(program, Turn(name, "allocation", "no memory", number), ran, True)
     turns.judge(program, Turn(name, "allocation", "no memory", ALL), whole, False)
     needless = [number for number, ran in answers.items() if ran.status == whole.status]
-    if len(needless) > 1:
+    if len(needless) > NEEDLESS:
         raise Broken(f"{name}: the answer is right without each of the allocations {needless}")
     return None
 
