@@ -1,7 +1,7 @@
 # What the tools of this folder share about the programs of this repository. To be sourced, with `top` set to its top folder.
 
 # All programs that a user runs.
-programs=(logix logix_cover logix_explore logix_live logix_timeline logix_wave)
+programs=(logix logix_cover logix_explore logix_laws logix_live logix_timeline logix_wave)
 
 # What is said where there is nothing to prove and compile with.
 no_kit="the command 'rt' of the Rattle kit, which proves and compiles these sources, is not on the PATH; without it, install a package that tools/package made on a machine that has it (README.md)"

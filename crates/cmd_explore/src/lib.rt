@@ -9,13 +9,11 @@ mod call;
 mod causes;
 mod counts;
 mod explored;
-mod host;
 mod judged;
 mod progress;
 mod text_out;
 mod word;
 
 pub use call::{USAGE, explore, program};
-pub use host::process;
 pub use progress::Lines;
 pub use word::explore_script;

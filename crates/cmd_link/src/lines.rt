@@ -1,30 +1,13 @@
 // The output, line by line.
-ghost use Rattle.std.specs.Prelude.{◌≡◌, ◌<◌, ◌≤◌, length, take, IfOk};
-ghost use Rattle.std.specs.Io.BufRead.{take_through};
+ghost use Rattle.std.specs.Prelude.{◌≡◌, length, IfOk};
 ghost use Rattle.cmd_link.specs.LinkTexts.{IsLinkText, WasRead, link_rest};
 
-use lgx_answer::Lines;
+use lgx_answer::{Lines, line_length};
 use lgx_link::link_text;
 use lgx_num::Memory;
 use lgx_project::Project;
 use spec_link::LinkScript;
 use std::alloc::Global;
-
-/// How many bytes the first line has, with its LF; all of them if there is no LF.
-fn line_length(lines: &[u8]) -> usize
-    requires { 0 < length lines.now }
-    ensures within { (0 < result) × (result ≤ length lines.now) }
-    ensures line { take result lines.now ≡ take_through 10 lines.now }
-{
-    let mut count = 0;
-    for byte in lines {
-        count += 1;
-        if *byte == b'\n' {
-            break;
-        }
-    }
-    count
-}
 
 /// The lines of a text, from a byte on.
 #[derive(Drop)]

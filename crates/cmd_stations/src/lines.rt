@@ -1,9 +1,8 @@
 // The text, line by line.
-ghost use Rattle.std.specs.Prelude.{◌≡◌, ◌<◌, ◌≤◌, length, take};
-ghost use Rattle.std.specs.Io.BufRead.{take_through};
+ghost use Rattle.std.specs.Prelude.{◌≡◌, length};
 ghost use Rattle.cmd_stations.specs.Rest.{rest_of, left_of};
 
-use lgx_answer::Lines;
+use lgx_answer::{Lines, line_length};
 use lgx_judge::{End, report_line};
 use lgx_num::Memory;
 use lgx_record::Recording;
@@ -15,22 +14,6 @@ pub(crate) enum Place {
     Report(u32),
     /// The line of a station that begins at this byte of theirs.
     Stations(usize),
-}
-
-/// How many bytes the first line has, with its LF; all of them if there is no LF.
-fn line_length(lines: &[u8]) -> usize
-    requires { 0 < length lines.now }
-    ensures within { (0 < result) × (result ≤ length lines.now) }
-    ensures line { take result lines.now ≡ take_through 10 lines.now }
-{
-    let mut count = 0;
-    for byte in lines {
-        count += 1;
-        if *byte == b'\n' {
-            break;
-        }
-    }
-    count
 }
 
 /// The lines of the report of what was recorded, and then those of the stations.

@@ -14,4 +14,6 @@ mod trace_word;
 
 pub use audit_word::audit_trace;
 pub use laws::traces_are_legal;
+pub use lines::{trace_cause_line, yes_line};
+pub use table::table_of;
 pub use trace_word::trace_journal;

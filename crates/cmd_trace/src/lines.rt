@@ -9,7 +9,7 @@ use lgx_watch::{push_count, push_word};
 use std::alloc::Global;
 
 /// How many events the trace has.
-pub(crate) fn yes_line(alloc: Global, events: u64) -> Result<Vec<u8>, Memory>
+pub fn yes_line(alloc: Global, events: u64) -> Result<Vec<u8>, Memory>
     ensures { IfOk result (λ text. text.items ≡ yes_line events) }
 {
     let mut text = Vec::new(alloc);
@@ -51,7 +51,7 @@ fn code_word(code: TraceCode) -> &'static [u8]
 }
 
 /// The line that tells why a file is no trace.
-pub(crate) fn trace_cause_line(alloc: Global, fault: TraceFault) -> Result<Vec<u8>, Memory>
+pub fn trace_cause_line(alloc: Global, fault: TraceFault) -> Result<Vec<u8>, Memory>
     ensures { IfOk result (λ text. text.items ≡ trace_cause_line fault) }
 {
     let mut text = Vec::new(alloc);

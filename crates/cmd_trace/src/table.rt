@@ -51,7 +51,7 @@ fn audit_tasks(
 }
 
 /// The table of a project's tasks, in project order.
-pub(crate) fn table_of(alloc: Global, project: &PlantParts) -> Result<Table, Memory>
+pub fn table_of(alloc: Global, project: &PlantParts) -> Result<Table, Memory>
     ensures { IfOk result (λ table. table ≡ table_of project.now) }
 {
     project.law_of_validity();

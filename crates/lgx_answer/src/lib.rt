@@ -15,7 +15,7 @@ mod status;
 mod word;
 
 pub use driver::{after_read, answer, say, write};
-pub use lines::{Lines, NoLines};
-pub use process::{exit_number, words_of};
+pub use lines::{Lines, NoLines, line_length};
+pub use process::exit_number;
 pub use status::{Status, Verdict};
 pub use word::{Step, Word};

@@ -1,5 +1,6 @@
 // A text that is handed out line by line.
-ghost use Rattle.std.specs.Prelude.{◌≡◌, ◌<◌, ◌++◌, List, [], ℕ, Ok, true, false};
+ghost use Rattle.std.specs.Prelude.{◌≡◌, ◌<◌, ◌≤◌, ◌++◌, List, [], ℕ, Ok, true, false, length, take};
+ghost use Rattle.std.specs.Io.BufRead.{take_through};
 
 use lgx_num::Memory;
 
@@ -30,4 +31,20 @@ impl Lines for NoLines {
     fn line(&mut self, _line: &mut Vec<u8>) -> Result<bool, Memory> {
         Ok(false)
     }
+}
+
+/// How many bytes the first line has, with its LF; all of them if there is no LF.
+pub fn line_length(lines: &[u8]) -> usize
+    requires { 0 < length lines.now }
+    ensures within { (0 < result) × (result ≤ length lines.now) }
+    ensures line { take result lines.now ≡ take_through 10 lines.now }
+{
+    let mut count = 0;
+    for byte in lines {
+        count += 1;
+        if *byte == b'\n' {
+            break;
+        }
+    }
+    count
 }

@@ -20,7 +20,7 @@ pub struct Count {
 }
 
 /// The counts of tasks before the first event.
-pub(crate) fn no_counts(alloc: Global, tasks: usize) -> Result<Vec<Count>, Memory>
+pub fn no_counts(alloc: Global, tasks: usize) -> Result<Vec<Count>, Memory>
     ensures { IfOk result (λ counts. counts.items ≡ replicate tasks no_count) }
 {
     let none = Count {
@@ -94,7 +94,7 @@ fn program_ended(d: AuditTask, c: Count) -> Count
 }
 
 /// Whether every task goes down with the event.
-fn stops(e: &TraceEvent) -> bool
+pub fn stops(e: &TraceEvent) -> bool
     ensures { result ≡ stops e.now }
 {
     match e {
@@ -156,7 +156,7 @@ fn stepped(d: AuditTask, e: &TraceEvent, c: Count) -> Count
 }
 
 /// The task of a step.
-pub(crate) fn stepping(e: &TraceEvent) -> Option<usize>
+pub fn stepping(e: &TraceEvent) -> Option<usize>
     ensures { result ≡ stepping e.now }
 {
     match e {
@@ -168,7 +168,7 @@ pub(crate) fn stepping(e: &TraceEvent) -> Option<usize>
 }
 
 /// The counts of task t after the event.
-pub(crate) fn counted(d: AuditTask, t: usize, e: &TraceEvent, c: Count) -> Count
+pub fn counted(d: AuditTask, t: usize, e: &TraceEvent, c: Count) -> Count
     requires downs { c.downs < 18446744073709551615 }
     requires regions { c.regions < 18446744073709551615 }
     ensures counts { (x : Counted) → c ≡ shown x → result ≡ shown (counted d t e.now x) }
@@ -240,7 +240,7 @@ pub(crate) fn is_for_all(e: &TraceEvent) -> bool
 }
 
 /// The counts after the event: of all tasks, or of the one that steps if no other changes.
-pub(crate) fn count_event(tasks: &[AuditTask], counts: &mut [Count], e: &TraceEvent)
+pub fn count_event(tasks: &[AuditTask], counts: &mut [Count], e: &TraceEvent)
     requires many { length counts.old ≡ length tasks.now }
     requires within { IsWithin (length tasks.now) e.now }
     requires regions { (t : ℕ) → t < length counts.old → (slice_index_or counts.old t no_count).regions < 18446744073709551615 }

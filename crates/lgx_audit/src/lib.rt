@@ -12,6 +12,7 @@ mod watch;
 mod words;
 mod write;
 
+pub use counts::{Count, count_event, counted, no_counts, stepping, stops};
 pub use error::{AuditError, TraceCode, TraceError, TraceFault};
 pub use laws::{breaches_are_told, one_pass_decides, runs_pass_audit, words_are_read_back};
 use lgx_num::Items;

@@ -9,7 +9,6 @@ mod call;
 mod coverage;
 mod covered;
 mod growth;
-mod host;
 mod row;
 mod table;
 mod tables;
@@ -19,6 +18,5 @@ mod word;
 
 pub use call::{USAGE, cover, program};
 pub use coverage::Coverage;
-pub use host::process;
 pub use version::Version;
 pub use word::cover_journal;

@@ -1,6 +1,6 @@
 // The program `logix_timeline`.
-ghost use Rattle.std.specs.Prelude.{◌≡◌, [], map, string_bytes, option_map, IfOk};
-ghost use Rattle.lgx_answer.specs.Answered.{Failures, call_of};
+ghost use Rattle.std.specs.Prelude.{◌≡◌, map, string_bytes, option_map, IfOk};
+ghost use Rattle.lgx_answer.specs.Answered.{call_of};
 ghost use Rattle.lgx_answer.specs.Endings.{ending_of};
 ghost use Rattle.lgx_answer.specs.Laws.{FollowsPlan};
 ghost use Rattle.lgx_answer.specs.Process.{IsProcess};
@@ -9,13 +9,12 @@ ghost use Rattle.lgx_picture.specs.Svg.{svg_text};
 ghost use Rattle.lgx_picture.specs.TimelinePlan.{timeline_plan};
 
 use crate::svg::svg_text;
-use lgx_answer::{Status, exit_number, words_of};
+use lgx_answer::{Status, exit_number};
 use lgx_chart::{Asked, Chart, Picture, asked_of, draw};
-use lgx_io::{Files, Gathered, HostSink, Input, Sink};
+use lgx_io::{Files, Gathered, Sink};
 use lgx_num::Memory;
-use std::alloc::{AllocGlobal, Global};
-use std::env::Env;
-use std::io::{Input as StandardInput, Print, Read, Write};
+use std::alloc::Global;
+use std::io::Write;
 
 /// The line that says how to use the program.
 pub const USAGE: &[u8] =
@@ -77,35 +76,4 @@ pub fn program<F: Files, W: Write + Drop>(
 {
     let status = draw_timeline(alloc, words, files, output);
     exit_number(status, output)
-}
-
-/// What [`program`] does, where the file is what this reader has left.
-fn program_on<R: Read + Drop, W: Write + Drop>(
-    alloc: Global,
-    words: &[String],
-    input: R,
-    output: &mut Gathered<W>,
-) -> u8
-    ensures { (noted : Failures) × IsProcess (timeline_plan (map string_bytes words.now)) (λ name. R.remaining input)
-        (record { old = []; new = noted }) output.old output.new result }
-{
-    let mut files = Input::new(input, alloc);
-    program(alloc, words, &mut files, output)
-}
-
-/// What [`process`] does with these words.
-fn process_words<R: AllocGlobal + StandardInput + Print>(rt: &R, words: &[String]) -> u8 {
-    let alloc = rt.alloc();
-    let mut output = HostSink::new(rt, alloc);
-    program_on(alloc, words, rt.reader(), &mut output)
-}
-
-/// All of the process but the call of this: the words are those of the command line, the file is standard input, and the output
-/// is standard output. Answers the number that the process ends with, which is that of [`program`]; there is none for words
-/// that memory has no room for but that of `Memory`.
-pub fn process<R: Env + AllocGlobal + StandardInput + Print>(rt: &R) -> u8 {
-    match words_of(rt) {
-        Ok(words) => process_words(rt, &words),
-        Err(_) => Status::Memory.number(),
-    }
 }

@@ -63,7 +63,13 @@ impl<'a, R: Env + AllocGlobal> Arguments for HostArguments<'a, R> {
 
     fn all(&self) -> Result<Vec<String>, ArgumentsFault> {
         match env::args(self.rt) {
-            Ok(args) => Ok(args.collect(self.rt.alloc())?),
+            Ok(args) => {
+                let mut all = Vec::new(self.rt.alloc());
+                for word in args {
+                    all.push(word)?;
+                }
+                Ok(all)
+            }
             Err(fault) if fault.kind() == ErrorKind::OutOfMemory => Err(ArgumentsFault::Memory),
             Err(_) => Err(ArgumentsFault::NoText),
         }

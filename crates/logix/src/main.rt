@@ -1,7 +1,9 @@
 //! `logix`: tries a ladder program before it reaches a machine, by a journal or by a script of engineers and modules.
 #![tactic(auto)]
 
-use logix_run::process;
+mod process;
+
+use crate::process::process;
 use std::process::ExitCode;
 
 fn main(rt: HostRuntime) -> ExitCode {

@@ -1,7 +1,9 @@
 //! `logix_explore`: tells whether any journal of a script shows what a question says is never to be.
 #![tactic(auto)]
 
-use cmd_explore::process;
+mod process;
+
+use crate::process::process;
 use std::io::IsTerminal;
 use std::process::ExitCode;
 

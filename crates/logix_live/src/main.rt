@@ -1,9 +1,9 @@
 //! `logix_live`: a controller that is talked to, line by line.
 #![tactic(auto)]
 
-mod host;
+mod process;
 
-use crate::host::process;
+use crate::process::process;
 use std::process::ExitCode;
 
 fn main(rt: HostRuntime) -> ExitCode {

@@ -5,12 +5,10 @@
 mod call;
 mod command;
 mod gate;
-mod host;
 mod plain;
 
 pub use call::{logix, program};
 pub use gate::Open;
-pub use host::process;
 pub use lgx_answer::Status;
 pub use lgx_shared::Gate;
 pub use plain::{USAGE, logix_plain};

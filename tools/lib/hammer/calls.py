@@ -97,6 +97,9 @@ def calls_of(program):
     trace = program.put("turn-trace", program.run(["trace", f"{FIRST}/project.json", f"{FIRST}/journal.txt"]).out)
     made += [Call("audit first", ["audit", f"{FIRST}/project.json", trace])]
     made += [Call(f"audit {name}", ["audit", f"{AUDIT}/project.json", f"{AUDIT}/{name}.txt"]) for name in ("trace", "doctored")]
+    if program.beside("logix_laws"):
+        made += [Call("laws first", [f"{FIRST}/project.json", trace], path=program.beside("logix_laws")),
+                 Call("laws doctored", [f"{AUDIT}/project.json", f"{AUDIT}/doctored.txt"], path=program.beside("logix_laws"))]
     script, middle = f"{SHIFT}/shift.txt", program.put("turn-script", MIDDLE_SCRIPT)
     made.append(Call("run two_engineers", ["run", f"{SHIFT}/project.json", script], script=contents_of(script)))
     made.append(Call("run conveyor", ["run", f"{CONVEYOR}/project.json", middle], script=MIDDLE_SCRIPT))

@@ -13,6 +13,7 @@ import re
 from . import turns
 from .plain import instructions, machine
 from .plain.check import KINDS
+from .plain.laws import LAWS
 
 TIMED, COUNTED, COPIED = ("TON", "TOF", "RTO"), ("CTU", "CTD"), ("COP", "CPS", "FLL")
 BITS = {31: "EN", 30: "TT", 29: "DN"}
@@ -35,7 +36,8 @@ CODE = re.compile(r"\b([MNFETCPYGJKLQUV])([0-9]{1,2})\b")
 WORDS_WITH_STATUSES = {
     "check": (0, 2, 4, 5, 6, 7), "text": (0, 2, 4, 5, 6), "migrate": (0, 2, 4, 5, 6), "xref": (0, 2, 4, 5, 6), "replay": (0, 2, 3, 4, 5, 6), "gen": (0,),
     "trace": (0, 2, 3, 4, 5, 6), "audit": (0, 2, 3, 4, 5, 6, 8), "run": (0, 2, 3, 4, 5, 6), "stations": (0, 2, 3, 4, 5, 6), "link": (0, 2, 3, 4, 5, 6),
-    "logix": (1,), "live": (0, 1, 2, 4, 5, 6), "cover": (0, 1, 2, 3, 4, 5, 6), "explore": (0, 1, 2, 3, 4, 5, 6, 8, 9), "timeline": (0, 1, 2, 4, 5, 6), "wave": (0, 1, 2, 4, 5, 6),
+    "logix": (1,), "live": (0, 1, 2, 4, 5, 6), "cover": (0, 1, 2, 3, 4, 5, 6), "explore": (0, 1, 2, 3, 4, 5, 6, 8, 9), "laws": (0, 1, 2, 3, 4, 5, 6, 8),
+    "timeline": (0, 1, 2, 4, 5, 6), "wave": (0, 1, 2, 4, 5, 6),
 }
 
 
@@ -47,6 +49,7 @@ def rows():
     made = [f"instruction {op} {on}" for op in INSTRUCTIONS for on in ("true", "false") if (op, on) != ("SBR", "false")]
     made += [f"prescan {op}" for op in PRESCANNED] + [f"effect {effect}" for effect in EFFECTS]
     made += [f"cause {letter}{number}" for letter, numbers in CODES.items() for number in numbers] + ["cause held"]
+    made += [f"law {law}" for law in LAWS]
     made += [f"fault {fault}" for fault in FAULTS]
     return made + [f"status {word} {status}" for word, statuses in WORDS_WITH_STATUSES.items() for status in statuses]
 
@@ -75,6 +78,8 @@ class Coverage:
         self.meet(f"status {verb} {ran.status}")
         if (ran.status in (2, 3) or (ran.status, verb) == (8, "audit")) and len(ran.out) < SHORT:
             self.causes(ran.out.decode("latin-1"))
+        elif (ran.status, verb) == (8, "laws"):
+            self.meet(f"law {ran.out.decode('latin-1').split(' ')[1]}")
         elif verb == "replay" and len(ran.out) < SHORT:
             for line in ran.out.decode("latin-1").splitlines():
                 if " reply " in line:

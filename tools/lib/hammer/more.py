@@ -1,6 +1,6 @@
 """The kinds of cases beside those of main.py, as KINDS there; and how many of each the gate tries."""
 
-from . import add_ons, begins, books, controllers, corpus, covers, explore_rules, explores, marks, mixes, pages, pictures, scenarios, sessions, splits, tool_faults, wrong_words
+from . import add_ons, begins, books, controllers, corpus, covers, explore_rules, explores, marks, mixes, pages, pictures, scenarios, sessions, splits, tool_faults, trace_laws, wrong_words
 
 KINDS = {
     "marks": (marks.marks, 20, "replay"), "begins": (begins.begins, 15, "replay"), "splits": (splits.splits, 1, "replay"),
@@ -10,11 +10,11 @@ KINDS = {
     "tools at fault": (tool_faults.tool_faults, 0.05, None), "mixes": (mixes.mixes, 1, "run"), "add-ons": (add_ons.add_ons, 2, "replay"),
     "cover": (covers.covers, 5, "logix_cover"), "explore": (explores.explorations, 5, "logix_explore"),
     "explored rules": (explore_rules.rules, 0.5, "logix_explore"), "pictures": (pictures.pictures, 5, "logix_wave"), "wrong words": (wrong_words.wrong_words, 1, "replay"),
-    "instructions": (wrong_words.instructions, 0.1, "replay"),
+    "instructions": (wrong_words.instructions, 0.1, "replay"), "laws": (trace_laws.laws, 5, "logix_laws"),
 }
 GATE = {
     "marks": 600, "begins": 500, "splits": 25, "books": 40, "sessions": 80, "kept": 1_000, "scenarios": 60, "online": 15, "bad controllers": 26,
-    "tools at fault": 30, "mixes": 6, "add-ons": 20, "cover": 300, "explore": 300, "explored rules": len(explore_rules.RULES), "pictures": 60, "wrong words": 60, "instructions": 2,
+    "tools at fault": 30, "mixes": 6, "add-ons": 20, "cover": 300, "explore": 300, "explored rules": len(explore_rules.RULES), "pictures": 60, "wrong words": 60, "instructions": 2, "laws": 300,
 }
 # Those whose cases are counted, as in IN_TURN of main.py.
 IN_TURN = {

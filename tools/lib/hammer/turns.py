@@ -19,8 +19,7 @@ WANTED = {
 OUT_OF_MEMORY = 6
 # Of a call with more allocations every so manieth fails, so that about so many do.
 MOST_ALLOCATIONS = 2_000
-# The output's buffer, and the room for the list of arguments.
-NEEDLESS = 2
+NEEDLESS = 1
 # Words that start threads: their allocations are failed one in each run.
 THREADED = ("run", "stations")
 

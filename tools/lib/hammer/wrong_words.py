@@ -7,10 +7,11 @@ from .sound import shown
 FILES = ("/dev/null", "nothing", "1", "-1", "x", "--from", "5")
 VERBS = ("check", "text", "migrate", "xref", "replay", "trace", "audit", "run", "stations", "link", "gen")
 NEEDS = {"check": 1, "text": 1, "migrate": 1, "xref": 1, "replay": 2, "trace": 2, "audit": 2, "run": 2, "stations": 3, "link": 3, "gen": 1}
-BESIDE = {"logix_live": 1, "logix_cover": 2, "logix_explore": 3}
+BESIDE = {"logix_live": 1, "logix_cover": 2, "logix_explore": 3, "logix_laws": 2}
 USAGE = {
     "logix": b"usage: logix check P, ", "logix_live": b"usage: logix_live P\n", "logix_timeline": b"usage: logix_timeline ",
     "logix_wave": b"usage: logix_wave ", "logix_cover": b"usage: logix_cover P J\n", "logix_explore": b"usage: logix_explore P S Q\n",
+    "logix_laws": b"usage: logix_laws P T\n",
 }
 OPTIONS = (
     "--from", "--from x", "--from 5 --to 4", "--to 4294967296", "--bool b", "--bool b=1=2", "--bool =1", "--bool b=", "--number n=x", "tick tick", "--to 3 tick",

@@ -12,8 +12,8 @@ from lib.texts import sentence
 
 
 DOCUMENTS = ("FORMATS.md", "CONTROLLER.md")
-CODE = re.compile(r"[A-Z]\d{1,2}|\d/\d{1,2}|\d{1,2}|held")
-CODED = {"status", "code", "answer", "fault"}
+CODE = re.compile(r"[A-Z]\d{1,2}|\d/\d{1,2}|\d{1,2}|held|regions|watchdogs|releases|triggers|scans")
+CODED = {"status", "code", "answer", "fault", "law"}
 MEANING = ("what is wrong", "when", "cause")
 ADVICE = "what to do"
 

@@ -13,7 +13,7 @@ from .telling import parts, place, readable
 WRONG_WORDS, CANT_BE_READ, TOO_LONG = "1", "4", "7"
 REFUSED = ("2", "3", "8")
 # What rows of the statuses are about that are for some programs alone.
-ABOUT = {"logix_timeline": "picture", "logix_wave": "picture", "logix_explore": "exploration"}
+ABOUT = {"logix_timeline": "picture", "logix_wave": "picture", "logix_explore": "exploration", "logix_laws": "leaves out"}
 ANSWERS = (0, 8, 9)
 
 

@@ -15,7 +15,7 @@ MOST_BYTES = 16_777_216
 USAGE = re.compile(r"`usage: logix (.*?)`")
 FILES = {"P": "project", "J": "journal", "S": "script", "T": "trace", "A": "project", "B": "project", "L": "link script", "Q": "question"}
 # The programs beside `logix` that read files, and which.
-OTHERS = {"logix_live": ("P",), "logix_cover": ("P", "J"), "logix_explore": ("P", "S", "Q")}
+OTHERS = {"logix_live": ("P",), "logix_cover": ("P", "J"), "logix_explore": ("P", "S", "Q"), "logix_laws": ("P", "T")}
 
 
 @cache

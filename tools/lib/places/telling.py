@@ -1,4 +1,4 @@
-"""What is said of a refusal in the words of the program that wrote it: `project P10 ..`, `journal J1 line 3`, `no L1 4`."""
+"""What is said of a refusal in the words of the program that wrote it: `project P10 ..`, `journal J1 line 3`, `no L1 4`, `no scans 4`."""
 
 from __future__ import annotations
 
@@ -78,7 +78,7 @@ def parts(text: str) -> tuple[str, list[str]]:
             return word, rest
         if word in KINDS and len(rest) > 1 and re.fullmatch(r"[A-Z]\d", rest[0]):
             return word, [rest[0], rest[2] if rest[1] == "line" and len(rest) > 2 else rest[1]]
-        if word == "no" and len(rest) > 1 and re.fullmatch(r"L\d", rest[0]):
+        if word == "no" and len(rest) > 1 and re.fullmatch(r"L\d|[a-z]+", rest[0]) and rest[1].isdigit():
             return word, rest
     return "", words
 

@@ -7,6 +7,7 @@ from .cover import cover
 from .explore import Search, canonical
 from .gen import journal_of, project_of
 from .journal import LONGEST, Bad, Reader, Script, lines_of, read_journal
+from .laws import verdict as lawful
 from .link import Link, LinkScript
 from .machine import Machine
 from .project import Project, read
@@ -111,6 +112,11 @@ def explored(project, script, question):
 def audited(project, contents):
     table = Table(project)
     return verdict(read_trace(contents, table), table)
+
+
+def judged_by_laws(project, contents):
+    table = Table(project)
+    return lawful(read_trace(contents, table), table, project)
 
 
 def live(contents, lines):
@@ -260,5 +266,5 @@ def seen(said, event):
 
 
 OF_PROJECT = {"check": counted, "text": texts, "migrate": Project.migrated, "xref": xref}
-OF_MORE = {"replay": replayed, "trace": traced, "cover": covered, "audit": audited, "link": linked}
-KIND_OF = {"audit": "trace", "link": "link"}
+OF_MORE = {"replay": replayed, "trace": traced, "cover": covered, "audit": audited, "laws": judged_by_laws, "link": linked}
+KIND_OF = {"audit": "trace", "laws": "trace", "link": "link"}

@@ -1,0 +1,3 @@
+pub mod LawsPlan
+pub mod LawsState
+pub mod OwnTraces

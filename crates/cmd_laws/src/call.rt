@@ -1,0 +1,62 @@
+// The program `logix_laws`, over any files and any sink.
+ghost use Rattle.std.specs.Prelude.{◌≡◌, map, string_bytes};
+ghost use Rattle.lgx_answer.specs.Endings.{ending_of};
+ghost use Rattle.lgx_answer.specs.Answered.{Answered, call_of};
+ghost use Rattle.lgx_answer.specs.Laws.{FollowsPlan};
+ghost use Rattle.lgx_answer.specs.Process.{IsProcess};
+ghost use Rattle.cmd_laws.specs.LawsPlan.{plan_of};
+
+use crate::word::judge_trace;
+use lgx_answer::{Status, Verdict, exit_number, say};
+use lgx_io::{Files, Gathered, Sink};
+use std::alloc::Global;
+use std::io::Write;
+
+/// The line that says how to use the program.
+pub const USAGE: &[u8] = b"usage: logix_laws P T\n";
+
+/// Follows the plan of the words.
+fn follow<F: Files, K: Sink>(alloc: Global, words: &[String], files: &mut F, sink: &mut K) -> Status
+    ensures { Answered (plan_of (map string_bytes words.now))
+        (call_of F.told F.failures files.old files.new K.held K.faults sink.old sink.new (ending_of result)) }
+{
+    match words {
+        [project, trace] => judge_trace(alloc, project.as_str(), trace.as_str(), files, sink),
+        _ => say(Verdict::Usage, USAGE, files, sink),
+    }
+}
+
+/// The program `logix_laws P T`: judges the trace of the file `T`, of a run of the project of the file `P`, by the laws that
+/// `logix audit` leaves out, and writes one line, by one put.
+///
+/// With `Ok` that is `yes N`: the trace has N events, and keeps each law. With `Breach` it is `no LAW K`: event K, counted from 0, is
+/// the first that breaks a law, and LAW is the first in the order of [`Law`](lgx_laws::Law) that it breaks. A project and a
+/// trace are refused as `logix audit` refuses them; any other words are answered with the usage line.
+#[tactic(auto, using(lgx_answer::proofs::Follows::follows_plan))]
+pub fn judge<F: Files, K: Sink>(
+    alloc: Global,
+    words: &[String],
+    files: &mut F,
+    sink: &mut K,
+) -> Status
+    ensures { FollowsPlan (plan_of (map string_bytes words.now))
+        (call_of F.told F.failures files.old files.new K.held K.faults sink.old sink.new (ending_of result)) }
+{
+    follow(alloc, words, files, sink)
+}
+
+/// All that the process does with its words: what [`judge`] does, and then what still waits to be written is written. Answers
+/// the number that the process ends with.
+pub fn program<F: Files, W: Write + Drop>(
+    alloc: Global,
+    words: &[String],
+    files: &mut F,
+    output: &mut Gathered<W>,
+) -> u8
+    ensures { IsProcess (plan_of (map string_bytes words.now)) (F.told files.old)
+        (record { old = F.failures files.old; new = F.failures files.new })
+        output.old output.new result }
+{
+    let status = judge(alloc, words, files, output);
+    exit_number(status, output)
+}

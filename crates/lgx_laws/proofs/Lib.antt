@@ -1,0 +1,11 @@
+pub mod Back
+pub mod Enumerated
+pub mod Breaching
+pub mod ScansAt
+pub mod Masks
+pub mod Events
+pub mod KeptOn
+pub mod FirstBroken
+pub mod TicksAt
+pub mod Proper
+pub mod OwnTraces

@@ -1,4 +1,0 @@
-use Rattle.lgx_picture.proofs.timeline.program_on.Goals as goal
-
-pub returns : goal.returns
-returns g c = (c.program.new.files.failures, rw c.new-files.ensures at c.program.ensures)

@@ -1,0 +1,61 @@
+// The process.
+ghost use Rattle.std.specs.Prelude.{◌≡◌, ℕ, List, [], ◌∷◌, Some};
+ghost use Rattle.lgx_io.specs.Gathered.{GatheredState};
+ghost use Rattle.lgx_answer.specs.declared.status.Verdict.{Verdict as Verdicts};
+ghost use Rattle.lgx_answer.specs.Process.{IsProcess};
+ghost use Rattle.lgx_process.specs.Words.{WithWords};
+ghost use Rattle.cmd_explore.specs.ExplorePlan.{plan_of};
+ghost use Rattle.cmd_explore.specs.Explored.{said_by, EndsExplored};
+
+use cmd_explore::{Lines, program};
+use lgx_answer::Status;
+use lgx_explore::Progress;
+use lgx_io::{Files, Gathered, HostFiles, HostSink};
+use lgx_process::{Arguments, HostArguments, words_of};
+use std::alloc::{AllocGlobal, Global};
+use std::env::Env;
+use std::io::{Eprint, Print, Write};
+use std::rt::Files as FileAccess;
+use std::time::Clock;
+
+/// All of the process but the call of this, over any arguments, any files and any output: with its words it does what [`program`]
+/// does. Answers the number that the process ends with.
+fn process_over<A: Arguments, P: Progress + Drop, F: Files, W: Write + Drop>(
+    alloc: Global,
+    arguments: &A,
+    progress: P,
+    files: &mut F,
+    output: &mut Gathered<W>,
+) -> u8
+    ensures { WithWords GatheredState (A.told arguments.now)
+        (record { old = F.failures files.old; new = F.failures files.new })
+        (record { old = output.old; new = output.new }) result
+        (λ words. IsProcess (plan_of words) (F.told files.old)
+        (record { old = F.failures files.old; new = F.failures files.new })
+        output.old output.new result
+        × ((p s q : List ℕ) (said : Verdicts) → words ≡ p ∷ s ∷ q ∷ [] → said_by result ≡ Some said
+        → EndsExplored (F.told files.old) output.old output.new p s q said)) }
+{
+    match words_of(alloc, arguments) {
+        Ok(words) => program(alloc, &words, progress, files, output),
+        Err(_) => Status::Memory.number(),
+    }
+}
+
+/// What [`process_over`] does, with the arguments and the files of the system and standard output. If lines are wanted, standard
+/// error tells how far it is: at most one a second, from two seconds on.
+pub fn process<R: Env + AllocGlobal + FileAccess + Print + Eprint + Clock>(
+    rt: &R,
+    are_lines_wanted: bool,
+) -> u8 {
+    let alloc = rt.alloc();
+    let mut files = HostFiles::new(rt, alloc);
+    let mut output = HostSink::new(rt, alloc);
+    process_over(
+        alloc,
+        &HostArguments::new(rt),
+        Lines::new(rt, are_lines_wanted),
+        &mut files,
+        &mut output,
+    )
+}

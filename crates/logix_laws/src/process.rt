@@ -1,0 +1,43 @@
+// The process.
+ghost use Rattle.lgx_io.specs.Gathered.{GatheredState};
+ghost use Rattle.lgx_answer.specs.Process.{IsProcess};
+ghost use Rattle.lgx_process.specs.Words.{WithWords};
+ghost use Rattle.cmd_laws.specs.LawsPlan.{plan_of};
+
+use cmd_laws::program;
+use lgx_answer::Status;
+use lgx_io::{Files, Gathered, HostFiles, HostSink};
+use lgx_process::{Arguments, HostArguments, words_of};
+use std::alloc::{AllocGlobal, Global};
+use std::env::Env;
+use std::io::{Print, Write};
+use std::rt::Files as FileAccess;
+
+/// All of the process but the call of this, over any arguments, any files and any output: with its words it does what [`program`]
+/// does. Answers the number that the process ends with.
+fn process_over<A: Arguments, F: Files, W: Write + Drop>(
+    alloc: Global,
+    arguments: &A,
+    files: &mut F,
+    output: &mut Gathered<W>,
+) -> u8
+    ensures { WithWords GatheredState (A.told arguments.now)
+        (record { old = F.failures files.old; new = F.failures files.new })
+        (record { old = output.old; new = output.new }) result
+        (λ words. IsProcess (plan_of words) (F.told files.old)
+        (record { old = F.failures files.old; new = F.failures files.new })
+        output.old output.new result) }
+{
+    match words_of(alloc, arguments) {
+        Ok(words) => program(alloc, &words, files, output),
+        Err(_) => Status::Memory.number(),
+    }
+}
+
+/// What [`process_over`] does, with the arguments and the files of the system and standard output.
+pub fn process<R: Env + AllocGlobal + FileAccess + Print>(rt: &R) -> u8 {
+    let alloc = rt.alloc();
+    let mut files = HostFiles::new(rt, alloc);
+    let mut output = HostSink::new(rt, alloc);
+    process_over(alloc, &HostArguments::new(rt), &mut files, &mut output)
+}

@@ -1,0 +1,57 @@
+"""Traces judged by the laws that the audit leaves out: the text of `logix_laws` is what the plain reading says."""
+
+from .bent import Bender
+from .cases import PROJECT, file_text, journal_text, told, walked
+from .laws import law
+from .made import Maker
+from .plain.audit import Table, event_of
+from .plain.judge import answer
+from .plain.laws import LAWS, Lawful
+from .plain.project import Project
+from .sound import unsound
+
+OTHERS = (
+    "tick 0 0 -", "tick 0 0 -", "tick 0 0 1", "tick 4 0 -", "tick 0 4 -", "step 1 1 trigger:3 -", "step 1 1 trigger:1 minor", "step 0 0 trigger:4 -",
+    "act 31 run - ok 1", "act 3 other - ok 2", "act 3 other - ok 18", "began 0 0 0", "step 0 0 up -", "step 0 0 sync -", "step 0 0 syncend -", "began 1 1 0",
+    "step 1 1 - -", "step 1 1 down -", "left 1 1 ended", "began 1 2 0", "left 0 0 ended",
+)
+
+
+@law
+def of_laws(program, contents):
+    status, text = answer(["laws"], contents) or (None, "")
+    words = [program.put(f"file{at}", one) for at, one in enumerate(contents)]
+    ran = program.run(words, path=program.beside("logix_laws"))
+    return unsound(ran, {0}) if status is None else told(ran, status, text.encode("latin-1"))
+
+
+def laws(draw, _):
+    """A trace of a made run, or another project's, doctored; or one that walks along the laws and breaks one now and then."""
+    return of_laws, doctored(draw) if draw.random() < 0.4 else walk(draw)
+
+
+def doctored(draw):
+    maker = Maker(draw, 0.0)
+    project, journal = file_text(maker.project()), journal_text(maker.journal())
+    wanted = answer(["trace"], [project, journal])
+    trace = wanted[1].encode("latin-1") if wanted and wanted[0] == 0 else b"idle\nend\n"
+    bender = Bender(draw)
+    for _ in range(draw.choice((0, 1, 1, 2, 3))):
+        trace = bender.trace(trace)
+    return [project, bender.text(trace) if draw.random() < 0.1 else trace]
+
+
+def walk(draw):
+    """Events one by one, each that keeps the laws and of the others a few."""
+    project = Project(file_text(PROJECT))
+    table = Table(project)
+    counting, lines = Lawful(table, project), ["act 31 run - ok 1"]
+    counting.count(event_of(lines[0].split(" "), table))
+    slips = {None: 1.0, **{one: draw.choice((0.0, 0.0, 0.02, 0.3)) for one in LAWS}, "scans": draw.choice((0.0, 0.0, 0.01))}
+    for _ in range(draw.randrange(5, 120)):
+        line = walked(draw) if draw.random() < 0.7 else draw.choice(OTHERS)
+        event = event_of(line.split(" "), table)
+        if draw.random() < slips[counting.broken(event)]:
+            lines.append(line)
+            counting.count(event)
+    return [file_text(PROJECT), journal_text([*lines, "end"])]
