@@ -8,7 +8,7 @@ use Rattle.std.proofs.lemmas.List.{get_or-set_same, set-set, set-get_or}
 use Rattle.spec_tables.specs.declared.task.TaskDef.{TaskDef}
 use Rattle.spec_tables.specs.declared.task.Release.TheVariants.{Released, Inhibited}
 use Rattle.spec_tables.specs.Tasks.{Table, chosen, is_continuous, rotate, release, finish}
-use Rattle.lgx_sched.specs.declared.table.ActiveTask.{ActiveTask}
+use Rattle.lgx_sched.specs.declared.active.ActiveTask.{ActiveTask}
 use Rattle.lgx_sched.specs.TableView.{TableView, up_of, def_of, queue_at, place_of, front_of, next_task, answer_of, pushed, popped, enqueued, dequeued, with_active, restarted, is_alone, runs_again}
 use Rattle.lgx_sched.specs.Represents.{Represents, IsSound, IsTable}
 use Rattle.lgx_sched.proofs.Chosen.{next_task-chosen}

@@ -8,7 +8,7 @@ use Rattle.std.proofs.lemmas.Slice.Zip.{length-zip, get_or-zip}
 use Rattle.spec_tables.specs.declared.task.TaskDef.{TaskDef}
 use Rattle.spec_tables.specs.declared.task.Release.TheVariants.{Released, Overlap, Inhibited}
 use Rattle.spec_tables.specs.Tasks.{TaskState, Table, state_of, no_task, is_open, has_open_cps, held, region_count, with_region_count, set_region, region_up, region_down, region_clear, with_cps_open, set_copy, is_continuous, expired, has_expired, task, release_answer, release, release_some, if_released, released_at_run, start, stop}
-use Rattle.lgx_sched.specs.declared.table.ActiveTask.{ActiveTask}
+use Rattle.lgx_sched.specs.declared.active.ActiveTask.{ActiveTask}
 use Rattle.lgx_sched.specs.TableView.{TableView, up_of, def_of, answer_of, has_cps, task_if_open, has_run_out, next_task, with_active, all_down}
 use Rattle.lgx_sched.specs.Represents.{without_rank, Represents, IsSound, IsTable, is_it}
 use Rattle.spec_base.proofs.Lists.{value_of_some}

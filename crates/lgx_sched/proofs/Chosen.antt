@@ -9,7 +9,7 @@ use Rattle.std.proofs.lemmas.Bool.Decides.{nat_tests}
 use Rattle.std.proofs.lemmas.List.{get_or_past, get_or-map, length-map}
 use Rattle.spec_tables.specs.declared.task.TaskDef.{TaskDef}
 use Rattle.spec_tables.specs.Tasks.{TaskState, Table, Candidate, candidates, before, least_of, least, or_else, chosen, is_open, state_of, task, no_task}
-use Rattle.lgx_sched.specs.declared.table.ActiveTask.{ActiveTask}
+use Rattle.lgx_sched.specs.declared.active.ActiveTask.{ActiveTask}
 use Rattle.lgx_sched.specs.TableView.{TableView, up_of, queue_at, has_open, front_of, next_task}
 use Rattle.lgx_sched.specs.Represents.{Ascends, rank_of, without_rank, IsUpAt, Represents, IsSound, is_it}
 use Rattle.lgx_sched.proofs.Queues.{in_cons}

@@ -7,7 +7,7 @@ use Rattle.std.proofs.lemmas.Bool.Decides.{nat_tests}
 use Rattle.std.proofs.lemmas.List.{get_or_default, get_or_past, get_or-set_same, get_or-set_other}
 use Rattle.spec_tables.specs.declared.task.TaskDef.{TaskDef}
 use Rattle.spec_tables.specs.Tasks.{Table, no_task, due, rotate, task}
-use Rattle.lgx_sched.specs.declared.table.ActiveTask.{ActiveTask}
+use Rattle.lgx_sched.specs.declared.active.ActiveTask.{ActiveTask}
 use Rattle.lgx_sched.specs.TableView.{TableView, up_of, def_of, front_of, has_run_out}
 use Rattle.lgx_sched.specs.Represents.{Represents, IsTable}
 use Rattle.lgx_sched.specs.QuietTicks.{is_due, IsIdle, alone_if, keeps_turn, IsQuiet, kept_until, IsQuietAt}

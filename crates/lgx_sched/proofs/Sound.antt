@@ -10,7 +10,7 @@ use Rattle.spec_base.specs.declared.limits.TheConstants.{MAX_TASKS}
 use Rattle.std.proofs.lemmas.List.Sums.{sum_by-set, sum_by-cons, get_or-le-sum_by, count_by-le-length}
 use Rattle.spec_tables.specs.declared.task.TaskDef.{TaskDef}
 use Rattle.spec_tables.specs.Tasks.{TaskState, Table, state_of, task, or_else}
-use Rattle.lgx_sched.specs.declared.table.ActiveTask.{ActiveTask}
+use Rattle.lgx_sched.specs.declared.active.ActiveTask.{ActiveTask}
 use Rattle.lgx_sched.specs.TableView.{TableView, up_of, queue_at, place_of, has_open, front_of, next_task, pushed, popped, enqueued, dequeued, rotated, with_active, all_down}
 use Rattle.lgx_sched.specs.Represents.{without_rank, IsUpAt, Represents, IsSound, is_it}
 use Rattle.lgx_sched.proofs.Chosen.{within, same_length, front-some, up_at_front, state_as_up}

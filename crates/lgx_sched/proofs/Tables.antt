@@ -7,7 +7,7 @@ use Rattle.spec_tables.specs.declared.task.TaskDef.{TaskDef}
 use Rattle.spec_tables.specs.Tasks.{TaskState, Table, state_of, task, no_task, or_else, chosen, is_open, is_up, put_up, put_up_if, release_answer, release, release_some, to_back, unless_open, rotate, with_rank, finish, is_continuous}
 use Rattle.spec_tables.specs.declared.task.Release.{Release}
 use Rattle.spec_tables.specs.declared.task.Release.TheVariants.{Released, Overlap, Inhibited}
-use Rattle.lgx_sched.specs.declared.table.ActiveTask.{ActiveTask}
+use Rattle.lgx_sched.specs.declared.active.ActiveTask.{ActiveTask}
 use Rattle.lgx_sched.specs.TableView.{TableView, up_of, def_of, queue_at, place_of, has_open, front_of, next_task, answer_of, pushed, popped, enqueued, enqueued_if, dequeued, rotated}
 use Rattle.lgx_sched.specs.Represents.{without_rank, Represents, IsSound, IsTable, is_it}
 use Rattle.spec_base.proofs.Lists.{value_of_some}

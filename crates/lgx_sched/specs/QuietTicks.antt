@@ -3,7 +3,7 @@ use Rattle.std.specs.Prelude.{◌≡◌, ℕ, ◌-◌, ◌<◌, Bool, true, fals
 use Rattle.spec_tables.specs.declared.task.TaskDef.{TaskDef}
 use Rattle.spec_tables.specs.declared.task.TaskKind.{TaskKind}
 use Rattle.spec_tables.specs.Tasks.{Table, divides_by_period, expired, due, rotate}
-use Rattle.lgx_sched.specs.declared.table.ActiveTask.{ActiveTask}
+use Rattle.lgx_sched.specs.declared.active.ActiveTask.{ActiveTask}
 use Rattle.lgx_sched.specs.TableView.{TableView, up_of, def_of, front_of, has_run_out, is_alone}
 use Rattle.lgx_sched.specs.Represents.{Represents, IsTable}
 

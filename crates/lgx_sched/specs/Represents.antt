@@ -6,7 +6,7 @@ use Rattle.spec_tables.specs.declared.task.TaskDef.{TaskDef}
 use Rattle.spec_tables.specs.declared.task.TaskKind.{TaskKind}
 use Rattle.spec_tables.specs.declared.task.TaskKind.TheVariants.{Periodic}
 use Rattle.spec_tables.specs.Tasks.{TaskState, Table, state_of, task}
-use Rattle.lgx_sched.specs.declared.table.ActiveTask.{ActiveTask}
+use Rattle.lgx_sched.specs.declared.active.ActiveTask.{ActiveTask}
 use Rattle.lgx_sched.specs.TableView.{TableView, up_of, def_of, queue_at, place_of, has_open}
 
 -- each task has a lower rank than all after it

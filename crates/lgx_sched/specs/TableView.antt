@@ -4,7 +4,7 @@ use Rattle.spec_tables.specs.declared.task.TaskDef.{TaskDef}
 use Rattle.spec_tables.specs.declared.task.Release.{Release}
 use Rattle.spec_tables.specs.declared.task.Release.TheVariants.{Released, Overlap, Inhibited}
 use Rattle.spec_tables.specs.Tasks.{no_task, or_else, is_continuous}
-use Rattle.lgx_sched.specs.declared.table.ActiveTask.{ActiveTask}
+use Rattle.lgx_sched.specs.declared.active.ActiveTask.{ActiveTask}
 
 -- The tasks in project order; for each whether it is up, with its start, open regions and CPS; for each priority, from 1
 -- on, the tasks that are up in the order of their turns; the task that has something open; and the tick of the last

@@ -4,7 +4,7 @@ ghost use Rattle.std.specs.List.{position_from, zip};
 ghost use Rattle.spec_base.specs.declared.limits.TheConstants.{MAX_TASKS};
 ghost use Rattle.lgx_sched.specs.TableView.{has_run_out};
 
-use crate::table::ActiveTask;
+use crate::active::ActiveTask;
 use spec_tables::TaskDef;
 
 /// Whether the task has been up for the ticks of its watchdog.

@@ -6,7 +6,7 @@ ghost use Rattle.lgx_sched.specs.Represents.{HasPeriod};
 ghost use Rattle.lgx_sched.specs.TableView.{has_run_out};
 ghost use Rattle.lgx_sched.specs.QuietTicks.{IsIdle, is_due, kept_until};
 
-use crate::table::ActiveTask;
+use crate::active::ActiveTask;
 use spec_tables::{TaskDef, TaskKind};
 
 /// The ticks between two, both left out.

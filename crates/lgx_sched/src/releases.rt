@@ -5,7 +5,7 @@ ghost use Rattle.spec_base.specs.declared.limits.TheConstants.{MAX_TASKS};
 ghost use Rattle.spec_tables.specs.Tasks.{if_released, is_continuous};
 ghost use Rattle.lgx_sched.specs.TableView.{answer_of};
 
-use crate::table::ActiveTask;
+use crate::active::ActiveTask;
 use spec_tables::{Release, TaskDef, TaskKind};
 
 /// Whether it is the kind of the continuous task.

@@ -2,8 +2,9 @@
 ghost use Rattle.std.specs.Prelude.{◌≡◌, ◌≤◌, true, length, IfOk};
 ghost use Rattle.spec_base.specs.declared.limits.TheConstants.{MAX_TASKS};
 
+use crate::active::ActiveTask;
 use crate::queue::Queues;
-use crate::table::{ActiveTask, TaskTable};
+use crate::table::TaskTable;
 use lgx_num::{Items, Memory};
 use spec_tables::TaskDef;
 use std::alloc::Global;

@@ -7,6 +7,7 @@ ghost use Rattle.lgx_sched.specs.TableView.{TableView, up_of, def_of, queue_at, 
 ghost use Rattle.lgx_sched.specs.QuietTicks.{IsQuiet, IsQuietAt, keeps_turn};
 ghost use Rattle.lgx_sched.specs.Represents.{Represents, IsInLine, AtMostUp, IsTable, HasPeriod, none_up};
 
+use crate::active::{ActiveTask, has_cps, task_if_open};
 use crate::expiry::first_expired;
 use crate::queue::Queues;
 use crate::quiet::{Quiet, all_idle_until, kept_until};
@@ -16,15 +17,6 @@ use lgx_num::{Items, Memory};
 use spec_tables::{Release, TaskDef, TaskKind};
 use std::alloc::Global;
 use std::marker::Model;
-
-/// What is kept of a task that is up: the tick of its start, the number of its open regions, and whether it has a CPS
-/// in progress.
-#[derive(Clone, Copy)]
-pub struct ActiveTask {
-    pub start: u32,
-    pub region_count: u32,
-    pub cps_open: bool,
-}
 
 /// The tasks in project order: which are up, their turns at each priority, and which has something open.
 pub struct TaskTable {
@@ -484,25 +476,4 @@ fn place(defs: &[TaskDef], t: u32) -> usize
     ensures { result ≡ (slice_index_or defs.now t no_task).priority - 1 }
 {
     defs[t as usize].priority as usize - 1
-}
-
-/// The task, if it has something open.
-fn task_if_open(t: u32, up: ActiveTask) -> Option<u32>
-    ensures { result ≡ task_if_open t up }
-{
-    if up.region_count > 0 || up.cps_open {
-        Some(t)
-    } else {
-        None
-    }
-}
-
-/// Whether the task is up with a CPS in progress.
-fn has_cps(up: Option<ActiveTask>) -> bool
-    ensures { result ≡ has_cps up }
-{
-    match up {
-        Some(up) => up.cps_open,
-        None => false,
-    }
 }

@@ -8,7 +8,7 @@ use Rattle.spec_tables.specs.declared.task.Release.TheVariants.{Released, Overla
 use Rattle.spec_tables.specs.Tasks.{TaskState, Table, state_of, region_count, is_open, with_region_count, with_cps_open, with_rank, put_up, put_up_if, release_answer, release, release_some, continuous_task, if_continuous, stop, start, finish, set_region, region_up, region_down, set_copy, chosen, to_back, unless_open, rotate}
 use Rattle.lgx_sched.specs.TableView.{TableView, up_of, region_count_of}
 use Rattle.lgx_sched.specs.Represents.{Represents, without_rank}
-use Rattle.lgx_sched.specs.declared.table.ActiveTask.{ActiveTask}
+use Rattle.lgx_sched.specs.declared.active.ActiveTask.{ActiveTask}
 use Rattle.lgx_steps.proofs.Elements.{each-set, each-get_or, each-of_map}
 
 -- a state with so many open regions at most

@@ -48,14 +48,33 @@ OpeningsWitness =
 -- a due action
 abbrev pub ActionsWitness : Type 0
 ActionsWitness =
-    (p : Project) (script : Script) (q : Question) (counts : List ℕ) (journal : List Event) (lane : ℕ) (action : Action) (line : ℕ) → IsServed p script counts journal → due_action p script journal lane ≡ Some action → InWindow q.within script (journal ++ Act lane action ∷ []) → IsNeverBefore p script q (steps_of journal) → IsFirstLine p q (step (run p journal) (Act lane action)) line → IsWitness p script q journal (Act lane action) line
+    (p : Project) (script : Script) (q : Question) (counts : List ℕ) (journal : List Event) (lane : ℕ) (action : Action) (line : ℕ) →
+    IsServed p script counts journal →
+    due_action p script journal lane ≡ Some action →
+    InWindow q.within script (journal ++ Act lane action ∷ []) →
+    IsNeverBefore p script q (steps_of journal) →
+    IsFirstLine p q (step (run p journal) (Act lane action)) line →
+    IsWitness p script q journal (Act lane action) line
 
 -- a processor step
 abbrev pub StepsWitness : Type 0
 StepsWitness =
-    (p : Project) (script : Script) (q : Question) (counts : List ℕ) (journal : List Event) (line : ℕ) → IsServed p script counts journal → is_spent p script journal ≡ false → InWindow q.within script (journal ++ paced_step script.pace (steps_of journal + 1)) → IsNeverBefore p script q (steps_of journal + 1) → IsFirstLine p q (step (run p journal) Cpu) line → IsWitness p script q journal Cpu line
+    (p : Project) (script : Script) (q : Question) (counts : List ℕ) (journal : List Event) (line : ℕ) →
+    IsServed p script counts journal →
+    is_spent p script journal ≡ false →
+    InWindow q.within script (journal ++ paced_step script.pace (steps_of journal + 1)) →
+    IsNeverBefore p script q (steps_of journal + 1) →
+    IsFirstLine p q (step (run p journal) Cpu) line →
+    IsWitness p script q journal Cpu line
 
 -- the tick after it
 abbrev pub TicksWitness : Type 0
 TicksWitness =
-    (p : Project) (script : Script) (q : Question) (counts : List ℕ) (journal : List Event) (line : ℕ) → IsServed p script counts journal → is_spent p script journal ≡ false → paced_step script.pace (steps_of journal + 1) ≡ Cpu ∷ Tick ∷ [] → InWindow q.within script (journal ++ Cpu ∷ Tick ∷ []) → IsNeverBefore p script q (steps_of journal + 1) → IsFirstLine p q (step (run p (journal ++ Cpu ∷ [])) Tick) line → IsWitness p script q (journal ++ Cpu ∷ []) Tick line
+    (p : Project) (script : Script) (q : Question) (counts : List ℕ) (journal : List Event) (line : ℕ) →
+    IsServed p script counts journal →
+    is_spent p script journal ≡ false →
+    paced_step script.pace (steps_of journal + 1) ≡ Cpu ∷ Tick ∷ [] →
+    InWindow q.within script (journal ++ Cpu ∷ Tick ∷ []) →
+    IsNeverBefore p script q (steps_of journal + 1) →
+    IsFirstLine p q (step (run p (journal ++ Cpu ∷ [])) Tick) line →
+    IsWitness p script q (journal ++ Cpu ∷ []) Tick line

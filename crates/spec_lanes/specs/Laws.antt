@@ -28,7 +28,10 @@ with_one_more counts lane = slice_set counts lane (slice_index_or counts lane 0 
 -- a due action may be made; it is one more, and it leaves the steps spent if they are
 abbrev pub DueActionsServe : Type 0
 DueActionsServe =
-    (project : Project) (script : Script) (counts : List ℕ) (journal : List Event) (lane : ℕ) (action : Action) → IsServed project script counts journal → due_action project script journal lane ≡ Some action → IsServed project script (with_one_more counts lane) (journal ++ Act lane action ∷ []) × (sum (with_one_more counts lane) ≡ sum counts + 1) × (is_spent project script journal ≡ true → is_spent project script (journal ++ Act lane action ∷ []) ≡ true)
+    (project : Project) (script : Script) (counts : List ℕ) (journal : List Event) (lane : ℕ) (action : Action) →
+    IsServed project script counts journal →
+    due_action project script journal lane ≡ Some action →
+    IsServed project script (with_one_more counts lane) (journal ++ Act lane action ∷ []) × (sum (with_one_more counts lane) ≡ sum counts + 1) × (is_spent project script journal ≡ true → is_spent project script (journal ++ Act lane action ∷ []) ≡ true)
 
 -- a processor step may be made until the steps are spent
 abbrev pub StepsServe : Type 0
@@ -38,7 +41,11 @@ StepsServe =
 -- if neither is to be made, the lane has no action left, and all of its actions were made
 abbrev pub NoneIsLeft : Type 0
 NoneIsLeft =
-    (project : Project) (script : Script) (counts : List ℕ) (journal : List Event) (lane : ℕ) → IsServed project script counts journal → due_action project script journal lane ≡ None → is_spent project script journal ≡ true → (next_of script journal lane ≡ None) × (lane < length script.lanes → done_by lane journal ≡ length (lane_of script lane))
+    (project : Project) (script : Script) (counts : List ℕ) (journal : List Event) (lane : ℕ) →
+    IsServed project script counts journal →
+    due_action project script journal lane ≡ None →
+    is_spent project script journal ≡ true →
+    (next_of script journal lane ≡ None) × (lane < length script.lanes → done_by lane journal ≡ length (lane_of script lane))
 
 -- a lane's count is the number of its actions in the journal, and at most the lane's length
 abbrev pub CountsTell : Type 0

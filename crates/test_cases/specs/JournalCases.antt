@@ -67,7 +67,12 @@ words =
 -- lines that have none of the forms
 abbrev pub formless : List (List ℕ)
 formless =
-    codes "  " ∷ codes "cpu" ∷ codes "cpu 1 2" ∷ codes "cpu -1" ∷ codes "cpu 4294967296" ∷ codes "cpu 00000000001" ∷ codes "CPU 1" ∷ codes "cpu\t1" ∷ codes " # no" ∷ codes "@ mode run" ∷ codes "@0" ∷ codes "@0 cpu 1" ∷ codes "mode test" ∷ codes "test 1P" ∷ codes "test P__Q" ∷ codes "in I 0 2147483648" ∷ codes "in I 0 --1" ∷ codes "in I -1 0" ∷ codes "out I" ∷ codes "force" ∷ codes "force disable all" ∷ codes "force I 0 1" ∷ codes "accept P M" ∷ codes "accept P M r" ∷ codes "accept P M r x NOP();" ∷ codes "accept P M d 0 NOP();" ∷ codes "accept P M r 0 NOP(); |" ∷ codes "accept P M d 0|d 0|d 0|d 0|d 0|d 0|d 0|d 0|d 0|d 0|d 0|d 0|d 0|d 0|d 0|d 0|d 0" ∷ codes "run 3 2 0" ∷ codes "end it" ∷ []
+    codes "  " ∷ codes "cpu" ∷ codes "cpu 1 2" ∷ codes "cpu -1" ∷ codes "cpu 4294967296" ∷ codes "cpu 00000000001" ∷ codes "CPU 1" ∷
+    codes "cpu\t1" ∷ codes " # no" ∷ codes "@ mode run" ∷ codes "@0" ∷ codes "@0 cpu 1" ∷ codes "mode test" ∷ codes "test 1P" ∷
+    codes "test P__Q" ∷ codes "in I 0 2147483648" ∷ codes "in I 0 --1" ∷ codes "in I -1 0" ∷ codes "out I" ∷ codes "force" ∷
+    codes "force disable all" ∷ codes "force I 0 1" ∷ codes "accept P M" ∷ codes "accept P M r" ∷ codes "accept P M r x NOP();" ∷
+    codes "accept P M d 0 NOP();" ∷ codes "accept P M r 0 NOP(); |" ∷
+    codes "accept P M d 0|d 0|d 0|d 0|d 0|d 0|d 0|d 0|d 0|d 0|d 0|d 0|d 0|d 0|d 0|d 0|d 0" ∷ codes "run 3 2 0" ∷ codes "end it" ∷ []
 
 abbrev pub before_end : List ℕ → List ℕ
 before_end line = line ++ codes "\nend\n"

@@ -115,7 +115,10 @@ EmptyLegFirst = replay empty_leg_first (lines (codes "mode run"
 
 -- Behind a false condition nothing is examined as true, latched or unlatched; AFI makes one.
 abbrev pub false_conditions : Project
-false_conditions = plain (bool (codes "a") ∷ bool (codes "b") ∷ bool (codes "x") ∷ bool (codes "y") ∷ bool (codes "z") ∷ bool (codes "w") ∷ []) (continuous (codes "XIO(a)XIO(b)OTL(x);" ∷ codes "XIO(a)OTU(y);" ∷ codes "AFI()OTL(z);" ∷ codes "OTU(w);" ∷ []) ∷ []) (is_initially (codes "a") (pos 1) ∷ is_initially (codes "y") (pos 1) ∷ is_initially (codes "w") (pos 1) ∷ []) (codes "x" ∷ codes "y" ∷ codes "z" ∷ codes "w" ∷ [])
+false_conditions = plain (bool (codes "a") ∷ bool (codes "b") ∷ bool (codes "x") ∷ bool (codes "y") ∷ bool (codes "z") ∷ bool
+    (codes "w") ∷ []) (continuous (codes "XIO(a)XIO(b)OTL(x);" ∷ codes "XIO(a)OTU(y);" ∷ codes "AFI()OTL(z);" ∷ codes "OTU(w);" ∷
+    []) ∷ []) (is_initially (codes "a") (pos 1) ∷ is_initially (codes "y") (pos 1) ∷ is_initially (codes "w") (pos 1) ∷ [])
+    (codes "x" ∷ codes "y" ∷ codes "z" ∷ codes "w" ∷ [])
 
 abbrev pub FalseConditions : Type 0
 FalseConditions = replay false_conditions (lines (codes "mode run"
@@ -131,7 +134,18 @@ FalseConditions = replay false_conditions (lines (codes "mode run"
 -- The change to Run prescans each routine that the main one reaches by the text of a JSR, whatever stands before it: M and N,
 -- and not K. A subscript out of range does nothing.
 abbrev pub prescanned : Project
-prescanned = plain (bool (codes "o") ∷ bool (codes "s") ∷ bool (codes "r") ∷ bool (codes "ro") ∷ bool (codes "f") ∷ bool (codes "fo") ∷ timer (codes "t1") ∷ timer (codes "t2") ∷ timer (codes "t3") ∷ counter (codes "c1") ∷ counter (codes "c2") ∷ array (codes "z") OneBit 32 ∷ dint (codes "i") ∷ bool (codes "n") ∷ bool (codes "k") ∷ []) (task (codes "T") Continuous LEAST_PRIORITY (routines (codes "P") (routine (codes "M") (codes "OTE(o)ONS(s)OSR(r,ro)OSF(f,fo);" ∷ codes "TON(t1,?,?)TOF(t2,?,?)RTO(t3,?,?)CTU(c1,?,?)CTD(c2,?,?);" ∷ codes "OTE(z[i])AFI()JSR(N,0);" ∷ []) ∷ routine (codes "K") (codes "OTE(k);" ∷ []) ∷ routine (codes "N") (codes "OTE(n);" ∷ []) ∷ []) ∷ []) ∷ []) (is_initially (codes "o") (pos 1) ∷ is_initially (codes "ro") (pos 1) ∷ is_initially (codes "f") (pos 1) ∷ is_initially (codes "fo") (pos 1) ∷ is_initially (codes "t1.ACC") (pos 3) ∷ is_initially (codes "t1.DN") (pos 1) ∷ is_initially (codes "t2.PRE") (pos 5) ∷ is_initially (codes "t3.ACC") (pos 3) ∷ is_initially (codes "t3.DN") (pos 1) ∷ is_initially (codes "z[3]") (pos 1) ∷ is_initially (codes "i") (pos 40) ∷ is_initially (codes "n") (pos 1) ∷ is_initially (codes "k") (pos 1) ∷ []) (codes "o" ∷ codes "s" ∷ codes "r" ∷ codes "ro" ∷ codes "f" ∷ codes "fo" ∷ codes "t1.ACC" ∷ codes "t1.DN" ∷ codes "t2.ACC" ∷ codes "t3.ACC" ∷ codes "t3.DN" ∷ codes "c1.CU" ∷ codes "c2.CD" ∷ codes "z[3]" ∷ codes "n" ∷ codes "k" ∷ [])
+prescanned = plain (bool (codes "o") ∷ bool (codes "s") ∷ bool (codes "r") ∷ bool (codes "ro") ∷ bool (codes "f") ∷ bool
+    (codes "fo") ∷ timer (codes "t1") ∷ timer (codes "t2") ∷ timer (codes "t3") ∷ counter (codes "c1") ∷ counter (codes "c2") ∷ array
+    (codes "z") OneBit 32 ∷ dint (codes "i") ∷ bool (codes "n") ∷ bool (codes "k") ∷ []) (task (codes "T") Continuous LEAST_PRIORITY
+    (routines (codes "P") (routine (codes "M") (codes "OTE(o)ONS(s)OSR(r,ro)OSF(f,fo);" ∷
+    codes "TON(t1,?,?)TOF(t2,?,?)RTO(t3,?,?)CTU(c1,?,?)CTD(c2,?,?);" ∷ codes "OTE(z[i])AFI()JSR(N,0);" ∷ []) ∷ routine (codes "K")
+    (codes "OTE(k);" ∷ []) ∷ routine (codes "N") (codes "OTE(n);" ∷ []) ∷ []) ∷ []) ∷ []) (is_initially (codes "o") (pos 1) ∷
+    is_initially (codes "ro") (pos 1) ∷ is_initially (codes "f") (pos 1) ∷ is_initially (codes "fo") (pos 1) ∷ is_initially
+    (codes "t1.ACC") (pos 3) ∷ is_initially (codes "t1.DN") (pos 1) ∷ is_initially (codes "t2.PRE") (pos 5) ∷ is_initially
+    (codes "t3.ACC") (pos 3) ∷ is_initially (codes "t3.DN") (pos 1) ∷ is_initially (codes "z[3]") (pos 1) ∷ is_initially (codes "i")
+    (pos 40) ∷ is_initially (codes "n") (pos 1) ∷ is_initially (codes "k") (pos 1) ∷ []) (codes "o" ∷ codes "s" ∷ codes "r" ∷
+    codes "ro" ∷ codes "f" ∷ codes "fo" ∷ codes "t1.ACC" ∷ codes "t1.DN" ∷ codes "t2.ACC" ∷ codes "t3.ACC" ∷ codes "t3.DN" ∷
+    codes "c1.CU" ∷ codes "c2.CD" ∷ codes "z[3]" ∷ codes "n" ∷ codes "k" ∷ [])
 
 abbrev pub Prescanned : Type 0
 Prescanned = replay prescanned (lines (codes "mode run"

@@ -182,7 +182,10 @@ OpenLoop = replay open_loop (lines (codes "mode run"
 
 -- Three tasks of one priority come up in the order C, A, B, and take turns at ticks; A, which has a region open at one, keeps its turn.
 abbrev pub three_in_turn : Project
-three_in_turn = with_words (array (codes "x") Dint 1 ∷ []) (task (codes "D") EventTask 2 (program (codes "PD") (codes "EVENT(C)EVENT(A)EVENT(B);" ∷ []) ∷ []) ∷ task (codes "A") EventTask 3 (program (codes "PA") (codes "UID()NOP();" ∷ []) ∷ []) ∷ task (codes "B") EventTask 3 (program (codes "PB") [] ∷ []) ∷ task (codes "C") EventTask 3 (program (codes "PC") [] ∷ []) ∷ []) (with_trigger 0 (input (codes "I") (codes "x")) ∷ []) [] []
+three_in_turn = with_words (array (codes "x") Dint 1 ∷ []) (task (codes "D") EventTask 2 (program (codes "PD")
+    (codes "EVENT(C)EVENT(A)EVENT(B);" ∷ []) ∷ []) ∷ task (codes "A") EventTask 3 (program (codes "PA") (codes "UID()NOP();" ∷ []) ∷
+    []) ∷ task (codes "B") EventTask 3 (program (codes "PB") [] ∷ []) ∷ task (codes "C") EventTask 3 (program (codes "PC") [] ∷
+    []) ∷ []) (with_trigger 0 (input (codes "I") (codes "x")) ∷ []) [] []
 
 abbrev pub ThreeInTurn : Type 0
 ThreeInTurn = replay three_in_turn (lines (codes "mode run"

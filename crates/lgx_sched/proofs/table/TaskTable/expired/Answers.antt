@@ -1,7 +1,7 @@
 -- The first task that has run out is that of the list.
 use Rattle.std.proofs.Common.{List, Option, ap, ◌∙◌, subst, sym}
 use Rattle.spec_tables.specs.declared.task.TaskDef.{TaskDef}
-use Rattle.lgx_sched.specs.declared.table.ActiveTask.{ActiveTask}
+use Rattle.lgx_sched.specs.declared.active.ActiveTask.{ActiveTask}
 use Rattle.lgx_sched.specs.Represents.{Represents}
 use Rattle.lgx_sched.proofs.Calls.{first_run_out, represents-expired}
 use Rattle.lgx_sched.proofs.table.TaskTable.expired.Goals as goal
