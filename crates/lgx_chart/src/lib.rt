@@ -30,6 +30,6 @@ pub use picture::Picture;
 pub use places::places_of;
 pub use text_out::{push, push_count, push_joined};
 pub use vcd::vcd_text;
-pub use wave_file::{USAGE, program, wave};
+pub use wave_file::{USAGE, WaveProgram, wave};
 pub use word::draw;
 pub use words::owned;

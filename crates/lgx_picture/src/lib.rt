@@ -18,4 +18,4 @@ mod timeline;
 mod values;
 
 pub use svg::svg_text;
-pub use timeline::{USAGE, draw_timeline, program};
+pub use timeline::{TimelineProgram, USAGE, draw_timeline};
