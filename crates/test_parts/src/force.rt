@@ -2,10 +2,10 @@
 ghost use Rattle.std.specs.Prelude.{◌≡◌, length};
 
 use crate::trouble::Trouble;
-use crate::words::{Told, number_at, value_at, word_at};
 use lgx_force::ForceTable;
 use spec_tables::ForceFault;
 use std::alloc::Global;
+use test_rows::{Told, number_at, value_at, word_at};
 
 /// A table of forces, and how many words it has.
 #[derive(Drop)]

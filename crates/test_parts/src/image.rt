@@ -4,11 +4,11 @@ ghost use Rattle.lgx_num.specs.Image.{InBounds, InBoundsAt};
 ghost use Rattle.lgx_num.specs.Paths.{PathInBounds};
 
 use crate::trouble::Trouble;
-use crate::words::{Told, kind_at, number_at, value_at, word_at};
 use lgx_image::{Arg, GRAIN, Image, grain_of};
 use lgx_num::{Index, Kind, Operand, Path, Place, Steps};
 use spec_base::limits::MAX_IMAGE_BYTES;
 use std::alloc::Global;
+use test_rows::{Told, kind_at, number_at, value_at, word_at};
 
 /// `image | LENGTH ? COMMAND; .. | ..`: what the commands answer in an image of so many bytes.
 ///

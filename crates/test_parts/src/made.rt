@@ -1,8 +1,8 @@
 // Generated texts.
 use crate::trouble::Trouble;
-use crate::words::{Told, number_at, word_at};
 use lgx_gen::{gen_journal, gen_project};
 use std::alloc::Global;
+use test_rows::{Told, number_at, word_at};
 
 /// `project | N WHAT .. | ..`: of the project that is made from the number N, `length`: how many bytes there are;
 /// `adler`: their Adler-32 (RFC 1950) in decimal; `line NUMBER`: that line, from 0 on, or `none`; `rung PROGRAM
