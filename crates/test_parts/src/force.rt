@@ -15,7 +15,7 @@ struct Forces {
     ghost all: { length table.words ≡ words },
 }
 
-/// `forces | WORDS ? CALL; .. | ..`: what the calls answer in a table of so many words.
+/// `forces | WORDS ? CALL; .. | ..`: what the calls answer in a table of WORDS words.
 ///
 /// `install FIRST LAST MASK VALUE` answers the last fault of the words from the first to the last, `force WORD VALUE`
 /// what becomes of the value of a word.

@@ -60,7 +60,7 @@ fn line_at(text: &[u8], number: u32) -> Option<&[u8]> {
     None
 }
 
-/// The rung of a number: what stands between quotes in the line of that number among those that begin with four
+/// The rung of a number: what is between quotes in the line of that number among those that begin with four
 /// spaces.
 fn rung_at(text: &[u8], number: u32) -> Option<&[u8]> {
     let mut at = 0u32;
