@@ -44,7 +44,7 @@ class Documents(RoomTest):
         self.assertEqual(self.judge("README.md"), 1)
 
     def test_the_rules(self):
-        self.assertGreaterEqual(self.judge("docs/CONTROLLER.md"), 8)
+        self.assertGreaterEqual(self.judge("docs/CONTROLLER.md"), 6)
 
     def test_the_formats(self):
         self.assertGreaterEqual(self.judge("docs/FORMATS.md"), 10)
