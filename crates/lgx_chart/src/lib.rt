@@ -2,7 +2,7 @@
 //! wave file.
 //!
 //! A report is read without its project, so tasks, programs and watched places are the names in its lines. Which watched places
-//! are BOOLs, which never change, and what they have before the first line, is told by the words of the call.
+//! are BOOLs, which never change, and what they have before the first line, is given by the words of the call.
 #![tactic(auto)]
 
 mod asked;
