@@ -12,6 +12,7 @@ from lib.paths import built
 from . import begins, cases, corpus, faults, lanes, laws, limits, marks, more, pieces, texts, turns
 from . import coverage as met
 from .coverage import Coverage, stored, watching
+from .draw import Draw
 from .program import PAGE, Program
 from .shrink import Shrinker
 
@@ -65,7 +66,7 @@ class Hammer:
 
     def case(self, kind, number):
         """The judge and the files of a case, by its number alone."""
-        draw = random.Random(f"{self.seed} {kind} {number}")
+        draw = Draw(f"{self.seed} {kind} {number}")
         make = KINDS[kind][0]
         if kind in ON_ONE and self.runs > 1:
             return make(draw, self.program, self.project(kind, number // self.runs))
@@ -74,7 +75,7 @@ class Hammer:
     def project(self, kind, number):
         """A kind's project of this number; the last one is kept."""
         if kind not in self.projects or self.projects[kind][0] != number:
-            self.projects[kind] = number, ON_ONE[kind](random.Random(f"{self.seed} {kind} project {number}"))
+            self.projects[kind] = number, ON_ONE[kind](Draw(f"{self.seed} {kind} project {number}"))
         return self.projects[kind][1]
 
     def try_case(self, kind, number):
@@ -108,7 +109,7 @@ class Hammer:
 
     def first(self, kind):
         """The number of a kind's first case: those that come in turn begin at a place of the seed's, so that short runs meet all of them."""
-        return random.Random(f"{self.seed} {kind}").randrange(1 << 20) if kind in IN_TURN else 0
+        return Draw(f"{self.seed} {kind}").randrange(1 << 20) if kind in IN_TURN else 0
 
     def run(self, seconds, kinds):
         """Rounds of all kinds, each as often as it is to be; a rare one in some rounds."""
