@@ -9,7 +9,7 @@ import time
 
 from lib.paths import built
 
-from . import begins, cases, corpus, faults, lanes, laws, limits, marks, more, pieces, texts, turns
+from . import begins, cases, corpus, covers, faults, lanes, laws, limits, marks, more, pieces, texts, turns
 from . import coverage as met
 from .coverage import Coverage, stored, watching
 from .draw import Draw
@@ -41,8 +41,12 @@ IN_TURN = {
     "failed calls": lambda program: len(turns.turns_of(program).system), **more.IN_TURN,
 }
 # Those whose cases may run, some in a row, on one made project: what makes it. Making and reading a project is most of such a case.
-ON_ONE = {"whole": cases.whole_project, "marks": marks.project, "begins": begins.project}
-RUNS = 4  # journals of such a project
+ON_ONE = {
+    "whole": cases.whole_project, "marks": marks.project, "begins": begins.project, "journals": cases.journals_project, "traces": cases.traced,
+    "laws": cases.traced, "links": cases.links_projects, "link laws": cases.links_projects, "journal laws": laws.sound_project, "live": laws.live_project,
+    "stations": laws.stations_project, "scripts": lanes.scripts_project, "lanes": lanes.lanes_project, "threads": lanes.lanes_project, "cover": covers.project,
+}
+RUNS = 12  # cases on such a project
 WHOLE_ANYWAY = (*IN_TURN, "little memory")
 FEW = 1_000  # cases: what was met by fewer is told as rare
 
@@ -69,7 +73,7 @@ class Hammer:
         draw = Draw(f"{self.seed} {kind} {number}")
         make = KINDS[kind][0]
         if kind in ON_ONE and self.runs > 1:
-            return make(draw, self.program, self.project(kind, number // self.runs))
+            return make(draw, self.program, self.project(kind, number // self.runs), number % self.runs)
         return make(draw, self.program, number) if kind in IN_TURN else make(draw, self.program)
 
     def project(self, kind, number):
@@ -118,9 +122,11 @@ class Hammer:
         while kinds and time.monotonic() < until:
             for kind in kinds:
                 due[kind] += KINDS[kind][1]
-                while due[kind] >= 1 and time.monotonic() < until:
-                    due[kind] -= 1
-                    self.try_case(kind, self.first(kind) + self.counts[kind])
+                batch = self.runs if kind in ON_ONE else 1  # (all cases on one project in a row, so that it is read once)
+                while due[kind] >= batch and time.monotonic() < until:
+                    due[kind] -= batch
+                    for _ in range(batch):
+                        self.try_case(kind, self.first(kind) + self.counts[kind])
 
     def run_cases(self, kinds, first, count):
         """So many cases of each kind, from the first; of one that comes in turn, all at most."""

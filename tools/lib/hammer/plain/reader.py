@@ -198,7 +198,7 @@ def described(contents):
     """What a file describes, if its text and its shape are right; its texts with one character a byte."""
     value = value_of(contents)
     FILE(value, ())
-    return bytewise(value)
+    return value if contents.isascii() and b"\\u" not in contents else bytewise(value)
 
 
 def bytewise(value):
