@@ -47,6 +47,7 @@ ON_ONE = {
     "stations": laws.stations_project, "scripts": lanes.scripts_project, "lanes": lanes.lanes_project, "threads": lanes.lanes_project, "cover": covers.project,
 }
 RUNS = 12  # cases on such a project
+SHOWN = 8  # of so many cases one tells what showed of each instruction
 WHOLE_ANYWAY = (*IN_TURN, "little memory")
 FEW = 1_000  # cases: what was met by fewer is told as rare
 
@@ -199,7 +200,7 @@ def main(arguments=None):
     if words.in_all:
         return pieces.main(words, seed, FEW)
     program = Program(words.program)
-    coverage = Coverage() if words.coverage or words.counts else None
+    coverage = Coverage(every=SHOWN) if words.coverage or words.counts else None
     hammer = Hammer(program, seed, words.found or f"{os.environ.get('TMPDIR', '/tmp')}/hammer-{seed}", coverage, words.runs)
     print(f"seed {seed}", flush=True)
     kinds = hammer.known_kinds(words.kinds)
