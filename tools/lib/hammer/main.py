@@ -174,11 +174,13 @@ def words_of_command(arguments):
     parser.add_argument("--again", default=None, metavar="KIND:NUMBER", help="one case of the seed again")
     parser.add_argument("--found", default=None, help="where differences are stored (hammer-SEED in the folder for temporary files)")
     parser.add_argument("--coverage", action="store_true", help="tell at the end how many cases met each instruction, cause, status and effect")
-    parser.add_argument("--counts", default=None, metavar="FILE", help="with --coverage: write the counts there too")
+    parser.add_argument("--counts", default=None, metavar="FILE", help="with --coverage, --in-all or --table: write the counts there too")
     parser.add_argument("--find", type=float, default=None, metavar="SECONDS",
                         help="look so long for cases that meet what few do, by the plain interpreter, and keep them (kept.txt)")
     parser.add_argument("--in-all", type=int, default=None, metavar="N", help="so many cases in pieces of SECONDS, each a process; goes on where it ended before")
-    parser.add_argument("--folder", default=None, help="with --in-all: what the pieces came to (hammer-pieces-SEED in the folder for temporary files)")
+    parser.add_argument("--processors", type=int, default=1, metavar="P", help="with --in-all: so many pieces at a time (1)")
+    parser.add_argument("--folder", default=None, help="with --in-all: pieces.jsonl, a line for each piece, with what they found (hammer-pieces-SEED in the folder for temporary files)")
+    parser.add_argument("--table", nargs="+", default=None, metavar="FILE", help="only tell the table of such lines; with --counts, write their sum as one line")
     words = parser.parse_args(arguments)
     words.kinds = list(IN_TURN) if words.in_turn else [kind.strip() for kind in words.kinds.split(",") if kind]
     unknown = [kind for kind in words.kinds if kind not in KINDS]
@@ -191,6 +193,8 @@ def main(arguments=None):
     """Status 0: nothing differs; 1: something does; 2: there is no program."""
     sys.setrecursionlimit(20_000)
     words = words_of_command(arguments)
+    if words.table:
+        return pieces.tell([line for path in words.table for line in pieces.lines_of(path)], FEW, words.counts)
     if words.find is not None:
         return corpus.main(words.find, words.seed or "find")
     if not os.access(words.program, os.X_OK):
