@@ -177,7 +177,7 @@ P5: a name that nothing has. To do: correct it, or declare it.
 line.json, line 46: 'Stagger' is a TIMER; a BOOL, a bit or an integer must stand here
       "watch": ["LineRun", "Stagger", "Parts.ACC"]
                            ^
-P5: no place of the kind that must stand there; a trigger of an output. To do: name another.
+P5: no place of the kind that is wanted; a trigger of an output. To do: name another.
 """),
     Case("a task's name twice", '"name": "OnEye"', '"name": "every10ms"', "project P6 tasks.1.name", """\
 line.json, line 36: task every10ms: the name 'every10ms' is taken: line 35 has it
