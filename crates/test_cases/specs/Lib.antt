@@ -24,4 +24,5 @@ pub mod ConveyorRun
 pub mod LawRuns
 pub mod ProjectCases
 pub mod LinkRuns
+pub mod ChangeCases
 pub mod QuestionCases

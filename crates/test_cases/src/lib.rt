@@ -2,6 +2,7 @@
 //! function is a law: it does nothing, and its contract is what is computed.
 #![tactic(auto)]
 
+mod change_cases;
 mod duty_cases;
 mod duty_stages;
 mod journal_cases;
@@ -14,6 +15,9 @@ mod question_cases;
 mod runs;
 mod text_cases;
 
+pub use change_cases::{
+    others_change_none, packets_are_broken, packets_are_whole, writers_change_tags,
+};
 pub use duty_cases::{duties_are_broken, duties_are_kept, lazy_traces_are_legal};
 pub use duty_stages::{
     books_are_broken, duties_of_stages_are_broken, duties_of_stages_are_kept, retaken_rungs,
