@@ -13,6 +13,7 @@ from . import begins, cases, corpus, covers, faults, lanes, laws, limits, marks,
 from . import coverage as met
 from .coverage import Coverage, stored, watching
 from .draw import Draw
+from .plain.judge import answer
 from .program import PAGE, Program
 from .shrink import Shrinker
 
@@ -74,13 +75,17 @@ class Hammer:
         draw = Draw(f"{self.seed} {kind} {number}")
         make = KINDS[kind][0]
         if kind in ON_ONE and self.runs > 1:
-            return make(draw, self.program, self.project(kind, number // self.runs), number % self.runs)
+            made, is_refused = self.project(kind, number // self.runs)
+            if is_refused and number % self.runs:
+                return make(draw, self.program)  # (a project that is refused is so each time: one case is enough)
+            return make(draw, self.program, made, number % self.runs)
         return make(draw, self.program, number) if kind in IN_TURN else make(draw, self.program)
 
     def project(self, kind, number):
-        """A kind's project of this number; the last one is kept."""
+        """A kind's project of this number, and whether it is refused; the last one is kept."""
         if kind not in self.projects or self.projects[kind][0] != number:
-            self.projects[kind] = number, ON_ONE[kind](Draw(f"{self.seed} {kind} project {number}"))
+            made = ON_ONE[kind](Draw(f"{self.seed} {kind} project {number}"))
+            self.projects[kind] = number, (made, any(answer(["check"], [text])[0] for text in cases.projects_of(made)))
         return self.projects[kind][1]
 
     def try_case(self, kind, number):
