@@ -134,7 +134,7 @@ class Judge:
 
 class Kind(unittest.TestCase):
     def test_its_cases_break_each_law_and_keep_all(self):
-        firsts = [answer(["laws"], trace_laws.laws(random.Random(seed), None)[1])[1].split(" ")[:2] for seed in range(150)]
+        firsts = [answer(["laws"], trace_laws.laws(random.Random(seed), None)[1])[1].split(" ")[:2] for seed in range(400)]
         self.assertGreater(sum(first[0] == "yes" for first in firsts), 15)
         self.assertLessEqual({"regions", "watchdogs", "releases", "triggers", "scans"}, {first[1] for first in firsts if first[0] == "no"})
 

@@ -70,10 +70,14 @@ class OnOne(unittest.TestCase):
 
     def test_some_in_a_row_have_one_project_and_journals_of_their_own(self):
         made = self.cases(4, range(8))
+        hammer = Hammer(Plain(), "s", "nowhere", runs=4)
         for kind in ON_ONE:
-            first, second = ({made[kind, number][0] for number in numbers} - {file_text(PROJECT)} for numbers in (range(4), range(4, 8)))
-            if kind != "cover":  # (there some projects are bent)
-                self.assertEqual((len(first), len(second), len(first | second)), (1, 1, 2), kind)
+            for batch in range(2):
+                projects = {made[kind, number][0] for number in range(4 * batch, 4 * batch + 4)} - {file_text(PROJECT)}
+                if hammer.project(kind, batch)[1]:
+                    self.assertGreater(len(projects), 1, kind)
+                elif kind != "cover":  # (there some projects are bent)
+                    self.assertEqual(len(projects), 1, kind)
             runs = [tuple(files) for (one, _), files in made.items() if one == kind and len(files) > 1]
             self.assertEqual(len(set(runs)), len(runs), kind)
 

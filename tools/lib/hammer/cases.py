@@ -73,6 +73,11 @@ def made_project(*slips):
     return make
 
 
+def projects_of(made):
+    """The texts of projects in what several cases share."""
+    return [text for one in made for text in (one if isinstance(one, list) else [one]) if isinstance(text, bytes) and text.startswith(b"{")]
+
+
 whole_project = made_project(0.0, 0.0, 0.0, 0.002, 0.01)
 
 

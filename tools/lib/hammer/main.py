@@ -13,23 +13,24 @@ from . import begins, cases, corpus, covers, faults, lanes, laws, limits, marks,
 from . import coverage as met
 from .coverage import Coverage, stored, watching
 from .draw import Draw
+from .plain.judge import answer
 from .program import PAGE, Program
 from .shrink import Shrinker
 
 # Each kind: what draws a case, how often beside the others, and a word that the program must have for it.
 KINDS = {
-    "whole": (cases.whole, 40, "replay"), "long runs": (cases.long_runs, 2, "replay"),
-    "edit runs": (cases.edit_runs, 0.5, "replay"), "projects": (cases.projects, 20, "check"),
-    "journals": (cases.journals, 15, "replay"), "texts": (texts.texts, 2, "replay"), "cuts": (cases.cuts, 10, "check"), "traces": (cases.traces, 5, "audit"),
-    "walks": (cases.walks, 10, "audit"),
-    "links": (cases.links, 8, "link"), "link laws": (laws.link_laws, 2, "link"), "project laws": (laws.project_laws, 3, "migrate"),
-    "journal laws": (laws.journal_laws, 3, "audit"), "stations": (laws.stations, 3, "stations"), "scripts": (lanes.scripts, 8, "run"),
-    "lanes": (lanes.many_lanes, 3, "run"), "threads": (lanes.threads, 8, "run"), "closed pipes": (faults.closed_pipes, 4, "replay"),
-    "failed allocations": (turns.failed_allocations, 0.5, "trace"), "failed in threads": (turns.failed_in_threads, 10, "run"),
-    "failed calls": (turns.failed_calls, 5, "trace"),
-    "full devices": (faults.full_devices, 1, "check"), "little memory": (faults.little_memory, 4, "check"),
-    "lost files": (faults.lost_files, 1, "check"), "live": (laws.live_laws, 3, None),
-    "limits": (limits.limits, 0.2, "run"), "numbers": (laws.numbers, 0.02, "gen"), **more.KINDS,
+    "whole": (cases.whole, 80, "replay"), "long runs": (cases.long_runs, 0.5, "replay"),
+    "edit runs": (cases.edit_runs, 0.1, "replay"), "projects": (cases.projects, 60, "check"),
+    "journals": (cases.journals, 60, "replay"), "texts": (texts.texts, 0.5, "replay"), "cuts": (cases.cuts, 30, "check"), "traces": (cases.traces, 12, "audit"),
+    "walks": (cases.walks, 24, "audit"),
+    "links": (cases.links, 8, "link"), "link laws": (laws.link_laws, 1, "link"), "project laws": (laws.project_laws, 1, "migrate"),
+    "journal laws": (laws.journal_laws, 1, "audit"), "stations": (laws.stations, 2, "stations"), "scripts": (lanes.scripts, 4, "run"),
+    "lanes": (lanes.many_lanes, 0.5, "run"), "threads": (lanes.threads, 3, "run"), "closed pipes": (faults.closed_pipes, 2, "replay"),
+    "failed allocations": (turns.failed_allocations, 0.5, "trace"), "failed in threads": (turns.failed_in_threads, 2, "run"),
+    "failed calls": (turns.failed_calls, 2, "trace"),
+    "full devices": (faults.full_devices, 0.5, "check"), "little memory": (faults.little_memory, 1, "check"),
+    "lost files": (faults.lost_files, 0.3, "check"), "live": (laws.live_laws, 4, None),
+    "limits": (limits.limits, 0.05, "run"), "numbers": (laws.numbers, 0.005, "gen"), **more.KINDS,
 }
 
 # Those whose cases are counted, and come in turn: how many there are.
@@ -74,13 +75,17 @@ class Hammer:
         draw = Draw(f"{self.seed} {kind} {number}")
         make = KINDS[kind][0]
         if kind in ON_ONE and self.runs > 1:
-            return make(draw, self.program, self.project(kind, number // self.runs), number % self.runs)
+            made, is_refused = self.project(kind, number // self.runs)
+            if is_refused and number % self.runs:
+                return make(draw, self.program)  # (a project that is refused is so each time: one case is enough)
+            return make(draw, self.program, made, number % self.runs)
         return make(draw, self.program, number) if kind in IN_TURN else make(draw, self.program)
 
     def project(self, kind, number):
-        """A kind's project of this number; the last one is kept."""
+        """A kind's project of this number, and whether it is refused; the last one is kept."""
         if kind not in self.projects or self.projects[kind][0] != number:
-            self.projects[kind] = number, ON_ONE[kind](Draw(f"{self.seed} {kind} project {number}"))
+            made = ON_ONE[kind](Draw(f"{self.seed} {kind} project {number}"))
+            self.projects[kind] = number, (made, any(answer(["check"], [text])[0] for text in cases.projects_of(made)))
         return self.projects[kind][1]
 
     def try_case(self, kind, number):
@@ -179,7 +184,8 @@ def words_of_command(arguments):
                         help="look so long for cases that meet what few do, by the plain interpreter, and keep them (kept.txt)")
     parser.add_argument("--in-all", type=int, default=None, metavar="N", help="so many cases in pieces of SECONDS, each a process; goes on where it ended before")
     parser.add_argument("--processors", type=int, default=1, metavar="P", help="with --in-all: so many pieces at a time (1)")
-    parser.add_argument("--folder", default=None, help="with --in-all: pieces.jsonl, a line for each piece, with what they found (hammer-pieces-SEED in the folder for temporary files)")
+    parser.add_argument("--folder", default=None, help="with --in-all: for pieces.jsonl, a line for each piece, and what they found"
+                        " (hammer-pieces-SEED in the folder for temporary files)")
     parser.add_argument("--table", nargs="+", default=None, metavar="FILE", help="only tell the table of such lines; with --counts, write their sum as one line")
     words = parser.parse_args(arguments)
     words.kinds = list(IN_TURN) if words.in_turn else [kind.strip() for kind in words.kinds.split(",") if kind]

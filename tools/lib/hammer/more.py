@@ -3,14 +3,14 @@
 from . import add_ons, begins, books, controllers, corpus, covers, explore_rules, explores, marks, mixes, pages, pictures, scenarios, sessions, splits, tool_faults, trace_laws, wrong_words
 
 KINDS = {
-    "marks": (marks.marks, 20, "replay"), "begins": (begins.begins, 15, "replay"), "splits": (splits.splits, 1, "replay"),
-    "books": (books.books, 2, "replay"), "sessions": (sessions.sessions, 4, None), "kept": (corpus.kept, 40, "replay"),
-    "scenarios": (scenarios.scenarios, 2, None), "online": (pages.online, 1, None),
-    "bad controllers": (controllers.bad_controllers, 0.1, None),
-    "tools at fault": (tool_faults.tool_faults, 0.05, None), "mixes": (mixes.mixes, 1, "run"), "add-ons": (add_ons.add_ons, 2, "replay"),
-    "cover": (covers.covers, 5, "logix_cover"), "explore": (explores.explorations, 5, "logix_explore"),
-    "explored rules": (explore_rules.rules, 0.5, "logix_explore"), "pictures": (pictures.pictures, 5, "logix_wave"), "wrong words": (wrong_words.wrong_words, 1, "replay"),
-    "instructions": (wrong_words.instructions, 0.1, "replay"), "laws": (trace_laws.laws, 5, "logix_laws"),
+    "marks": (marks.marks, 12, "replay"), "begins": (begins.begins, 18, "replay"), "splits": (splits.splits, 0.2, "replay"),
+    "books": (books.books, 0.3, "replay"), "sessions": (sessions.sessions, 1, None), "kept": (corpus.kept, 100, "replay"),
+    "scenarios": (scenarios.scenarios, 0.5, None), "online": (pages.online, 0.2, None),
+    "bad controllers": (controllers.bad_controllers, 0.02, None),
+    "tools at fault": (tool_faults.tool_faults, 0.02, None), "mixes": (mixes.mixes, 0.3, "run"), "add-ons": (add_ons.add_ons, 0.5, "replay"),
+    "cover": (covers.covers, 6, "logix_cover"), "explore": (explores.explorations, 1, "logix_explore"),
+    "explored rules": (explore_rules.rules, 0.1, "logix_explore"), "pictures": (pictures.pictures, 2, "logix_wave"), "wrong words": (wrong_words.wrong_words, 1, "replay"),
+    "instructions": (wrong_words.instructions, 0.02, "replay"), "laws": (trace_laws.laws, 8, "logix_laws"),
 }
 GATE = {
     "marks": 600, "begins": 500, "splits": 25, "books": 40, "sessions": 80, "kept": 1_000, "scenarios": 60, "online": 15, "bad controllers": 26,
