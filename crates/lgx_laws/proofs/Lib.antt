@@ -5,7 +5,15 @@ pub mod ScansAt
 pub mod Masks
 pub mod Events
 pub mod KeptOn
+pub mod BooksOn
 pub mod FirstBroken
 pub mod TicksAt
 pub mod Proper
+pub mod RunsBack
+pub mod AtStages
+pub mod Elements
+pub mod CopiesKept
+pub mod ModesKept
+pub mod StartsKept
+pub mod EditsKept
 pub mod OwnTraces

@@ -1,5 +1,5 @@
 -- The law of edits, by the lane that owns a program's edits, and the law of numbers of accepts.
-use Rattle.std.specs.Prelude.{ℕ, ◌+◌, List, [], ◌∷◌, slice_index_or, Bool, true, false, not, ◌&&◌, ◌||◌, nat_eq, is_some, if◌then◌else◌, Option, Some, None}
+use Rattle.std.specs.Prelude.{ℕ, ◌+◌, List, [], ◌∷◌, slice_index_or, Bool, true, false, not, ◌&&◌, ◌||◌, nat_eq, is_none, if◌then◌else◌, Option, Some, None}
 use Rattle.spec_schedule.specs.declared.trace.Verb.{Verb}
 use Rattle.spec_schedule.specs.declared.trace.Verb.TheVariants.{Accept, Test, Untest, Assemble, Cancel}
 use Rattle.spec_schedule.specs.declared.trace.TraceAnswer.{TraceAnswer}
@@ -45,7 +45,7 @@ owns lane (Some owner) = nat_eq owner lane
 -- The owner tests its edits unless they are tested already, takes them back if they are, and assembles or cancels them.
 -- Another lane does none of this. It accepts where no lane owns the program.
 abbrev pub may_be_done : Verb → ℕ → Owned → Numbers → Bool
-may_be_done Accept lane o n = not (is_some o.owner) || owns lane o.owner
+may_be_done Accept lane o n = is_none o.owner || owns lane o.owner
 may_be_done Test lane o n = owns lane o.owner && not n.testing
 may_be_done Untest lane o n = owns lane o.owner && n.testing
 may_be_done _ lane o n = owns lane o.owner
