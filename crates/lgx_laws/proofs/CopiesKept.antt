@@ -16,6 +16,7 @@ use Rattle.spec_machine.specs.declared.event.Event.TheVariants.{Cpu, Tick, Act}
 use Rattle.spec_machine.specs.Machine.{after_step, step}
 use Rattle.spec_machine.specs.ProcessorStep.{plainly, with_progress, with_table, new_scan, next_program, after_effect, scan_step, task_step}
 use Rattle.spec_machine.specs.Project.{Project}
+use Rattle.spec_machine.specs.Releases.{release_task}
 use Rattle.spec_machine.specs.State.{State, Scan, Progress, progress_of, programs_of, dropped, start, Answered}
 use Rattle.spec_machine.specs.ValidProject.{IsValidProject}
 use Rattle.spec_schedule.specs.declared.trace.AuditTask.{AuditTask}
@@ -27,7 +28,7 @@ use Rattle.spec_schedule.specs.declared.trace.TraceEvent.{TraceEvent}
 use Rattle.spec_schedule.specs.declared.trace.TraceEvent.TheVariants as event
 use Rattle.spec_schedule.specs.Counting.{Counted, uncounted, counted, counted_all, marked, Numbers, CountedEvent, stepping}
 use Rattle.spec_schedule.specs.Legal.{no_task as no_audit}
-use Rattle.spec_schedule.specs.TraceView.{audit_tasks, seen}
+use Rattle.spec_schedule.specs.TraceView.{audit_tasks, fault_of, seen}
 use Rattle.spec_reach.proofs.Changes.{TaskView, view_of, Change, Stays, Rotates, GoesDown, ComesUp, Restarts, Begins, Goes, Ends, changed, counts_after, IsStepOf, Makes, Known}
 use Rattle.spec_reach.proofs.Reached.{happens, known_at, start_view}
 use Rattle.spec_reach.proofs.StepChanges.{Made, gone_on, moved, own_ran, own_up, own_down, own_start, own_last, own_copied, own_left, own_minor, own_major, own_trigger, own_next, own_finish}
@@ -41,7 +42,7 @@ use Rattle.spec_legal.proofs.Priority.{step_of_chosen, within_tasks, up_counted}
 use Rattle.spec_duties.specs.CountedBack.{is_up_since, each_with_past}
 use Rattle.lgx_laws.specs.Copies.{copies_on, copied_after, copied, goes_on, keeps_copies}
 use Rattle.lgx_laws.proofs.Elements.{kind_of, EffectKinds, step_kinds}
-use Rattle.lgx_laws.proofs.RunsBack.{all_of_run, no_counts}
+use Rattle.lgx_laws.proofs.RunsBack.{all_of_run, no_counts, no_edits}
 
 -- ---- an event, and the copy of a scan
 
@@ -267,7 +268,7 @@ module _ (p : Project) (valid : IsValidProject p) where
         by_effect effect.Ran k = goes Plain effect.Ran (own_ran p s t is_chosen scan a) (marked_so Plain fault.Plain (k.0 ∙ sym k.1))
         by_effect effect.Up k = goes Up effect.Up (own_up p s t is_chosen scan a) (marked_so Up fault.Plain (k.0 ∙ sym k.1))
         by_effect effect.Down k = goes Down effect.Down (own_down p s t is_chosen scan a) (marked_so Down fault.Plain (k.0 ∙ sym k.1))
-        by_effect (effect.Trigger other) k = goes (Trigger other) (effect.Trigger other) (own_trigger p s t is_chosen scan a other (release_answer s.table other) refl) (marked_so (Trigger other) _ (k.0 ∙ sym k.1))
+        by_effect (effect.Trigger other) k = goes (Trigger other) (effect.Trigger other) (own_trigger p s t is_chosen scan a other (release_answer s.table other) refl) (marked_so (Trigger other) (fault_of (release_task other (moved s t q scan a)).fault) (k.0 ∙ sym k.1))
         by_effect (effect.CopyStart true) k = goes Sync (effect.CopyStart true) (own_start p s t is_chosen scan a true (open_flag false (not_syncing scan.position.copy k.0))) (marked_so Sync fault.Plain (sym k.1))
         by_effect (effect.CopyStart false) k = goes Copy (effect.CopyStart false) (own_start p s t is_chosen scan a false (open_flag false (not_syncing scan.position.copy k.0))) (marked_so Copy fault.Plain (sym k.1))
         by_effect (effect.Copied true true) k = goes SyncEnd (effect.Copied true true) (own_last p s t is_chosen scan a true (open_flag true (syncing scan.position.copy true k.0))) (marked_so SyncEnd fault.Plain (sym k.1))
@@ -344,7 +345,7 @@ module _ (p : Project) (valid : IsValidProject p) where
         keeps_effect effect.Ran k = shown None Plain fault.Plain k.0
         keeps_effect effect.Up k = shown None Up fault.Plain k.0
         keeps_effect effect.Down k = shown None Down fault.Plain k.0
-        keeps_effect (effect.Trigger other) k = shown None (Trigger other) _ k.0
+        keeps_effect (effect.Trigger other) k = shown None (Trigger other) (fault_of (release_task other (moved s t (progress_of s t) scan a)).fault) k.0
         keeps_effect (effect.CopyStart true) k = shown None Sync fault.Plain k.0
         keeps_effect (effect.CopyStart false) k = shown None Copy fault.Plain k.0
         keeps_effect (effect.Copied true true) k = shown (Some true) SyncEnd fault.Plain k.0
@@ -377,4 +378,4 @@ module _ (p : Project) (valid : IsValidProject p) where
 
   pub runs_keep_copies : (events : List Event) → each_with_past keeps_copies [] (counted_run p events) ≡ true
   runs_keep_copies events =
-      all_of_run p valid IsCopied keeps_copies (λ s e cs ns past h k. copied_next s cs ns past h k e) (λ s e cs ns past h k. keeps_here s cs ns past h k e) (none_copied (no_counts p) _) events
+      all_of_run p valid IsCopied keeps_copies (λ s e cs ns past h k. copied_next s cs ns past h k e) (λ s e cs ns past h k. keeps_here s cs ns past h k e) (none_copied (no_counts p) (no_edits p)) events

@@ -36,7 +36,7 @@ use Rattle.spec_schedule.specs.declared.trace.TraceAnswer.{TraceAnswer}
 use Rattle.spec_schedule.specs.declared.trace.TraceAnswer.TheVariants as answer
 use Rattle.spec_schedule.specs.declared.trace.TraceEvent.{TraceEvent}
 use Rattle.spec_schedule.specs.declared.trace.TraceEvent.TheVariants.{Act}
-use Rattle.spec_schedule.specs.Counting.{Counted, Numbers, unedited, CountedEvent}
+use Rattle.spec_schedule.specs.Counting.{Counted, Numbers, unedited, edited_all, CountedEvent}
 use Rattle.spec_schedule.specs.TraceView.{step_seen, seen, program_number, answer_of}
 use Rattle.spec_reach.proofs.EditNames.{names_of, accepted_parts, IsAccepted, is_accepted}
 use Rattle.spec_reach.proofs.Books.{step_books, tick_books}
@@ -49,7 +49,7 @@ use Rattle.spec_legal.proofs.Versions.{HasNumbers, numbers_next, first_numbers}
 use Rattle.spec_duties.specs.CountedBack.{each_with_past}
 use Rattle.lgx_audit.specs.TraceText.{is_edit}
 use Rattle.lgx_laws.specs.Edits.{Owned, unowned, owned_by, owned_after, owned, owns, may_be_done, may_be_refused, answers_edit, keeps_edits, keeps_numbers}
-use Rattle.lgx_laws.proofs.RunsBack.{all_of_run}
+use Rattle.lgx_laws.proofs.RunsBack.{all_of_run, no_edits}
 
 -- ---- the owner of a book
 
@@ -245,7 +245,7 @@ module _ (p : Project) (s : State) (past : List CountedEvent) (owners : Owners s
   Gives v name r = GivesOwners s.books past (Act lane v (program_number p.programs (Some name)) (answer_of (edit_replied s r).answer.reply) 0) (edit_replied s r).state.books
 
   refused : (v : Verb) (name : List ℕ) (f : EditFault) → ((x : Owned) → owned_by lane v answer.No x ≡ x) → Gives v name (Err f)
-  refused v name f keeps = no_owners s.books past _ s.books owners refl (λ g o. refused_owner g lane 0 v (program_number p.programs (Some name)) o keeps)
+  refused v name f keeps = no_owners s.books past (Act lane v (program_number p.programs (Some name)) answer.No 0) s.books owners refl (λ g o. refused_owner g lane 0 v (program_number p.programs (Some name)) o keeps)
 
   by_accept : (c : AcceptCommand) (r : Result Edited EditFault) → accept s.plan.tags s.plan.names s.books lane c ≡ r → Gives verb.Accept c.program r
   by_accept c (Err f) is = refused verb.Accept c.program f (λ x. refl)
@@ -255,7 +255,7 @@ module _ (p : Project) (s : State) (past : List CountedEvent) (owners : Owners s
       let parts = accepted_parts (scope_of s.plan.tags s.plan.names a.number b) lane a.routine c.edits b a.book a.accepted in
       let h = owners a.number in
       let new : HasOwner (record (owned a.number past) { owner = Some lane }) a.book =
-      subst (λ (x : Book). HasOwner (record (owned a.number past) { owner = Some lane }) x) parts.2.0 (record { owner = refl; tested = λ t. has_more b.accepted _ (h.tested t); some = λ t. refl }) in
+      subst (λ (x : Book). HasOwner (record (owned a.number past) { owner = Some lane }) x) parts.2 (record { owner = refl; tested = λ t. has_more b.accepted _ (h.tested t); some = λ t. refl }) in
       subst (λ (y : Edited). Gives verb.Accept c.program (Ok y)) a.result (taken c.program a.number verb.Accept (answer.Number a.book.newest) 0 a.book a.named new)
 
   by_change : (v : Verb) (name : List ℕ) (change : Book → Result Book EditFault) (e : Edited) → on_accepted change s.books lane name ≡ Ok e → ((o : Owned) (b c : Book) → HasOwner o b → has_accepted b ≡ true → change b ≡ Ok c → HasOwner (owned_by lane v answer.Done o) c) → Gives v name (Ok e)
@@ -458,7 +458,7 @@ module _ (p : Project) (s : State) (past : List CountedEvent) (owners : Owners s
         let parts = accepted_parts (scope_of s.plan.tags s.plan.names a.number b) lane a.routine c.edits b a.book a.accepted in
         subst (λ (y : Edited). Counts (Act lane verb.Accept (program_number p.programs (Some c.program)) (answer_of (edit_replied s (Ok y)).answer.reply) mask)) a.result
         (subst (λ (w : Option ℕ). Counts (Act lane verb.Accept w (answer.Number a.book.newest) mask)) (sym (told_number c.program a.number a.named))
-        (eq-eqb a.book.newest _ (sym (ap (λ (x : Book). x.newest) parts.2.0) ∙ ap (λ (x : Numbers). x.merged + 1) (sym (numbers.same a.number)))))
+        (eq-eqb a.book.newest _ (sym (ap (λ (x : Book). x.newest) parts.2) ∙ ap (λ (x : Numbers). x.merged + 1) (sym (numbers.same a.number)))))
 
     action_counts : (a : Action) → Counts (seen p (after_action lane a (act s lane a)).answer)
     action_counts (action.Accept c) = let r = accept s.plan.tags s.plan.names s.books lane c in accept_counts c (edit_replied s r).answer.released r refl
@@ -511,7 +511,7 @@ module _ (p : Project) (valid : IsValidProject p) where
   owners_next s events.Tick cs ns past h k = no_owners s.books past (seen p (step s events.Tick).answer) (step s events.Tick).state.books k (tick_books s) (λ g o. refl)
   owners_next s (events.Act lane a) cs ns past h k = act_gives p s past k (known_at p s h.reached).sizes.names lane a
 
-  books_next : (s : State) (e : Event) (cs : List Counted) (ns : List Numbers) (past : List CountedEvent) → IsPlace p s cs → HasBooks s cs ns past → HasBooks (step s e).state (counts_next p valid s e cs) _ (place p s cs ns e ∷ past)
+  books_next : (s : State) (e : Event) (cs : List Counted) (ns : List Numbers) (past : List CountedEvent) → IsPlace p s cs → HasBooks s cs ns past → HasBooks (step s e).state (counts_next p valid s e cs) (edited_all (seen p (step s e).answer) ns) (place p s cs ns e ∷ past)
   books_next s e cs ns past h k = (numbers_next p valid s e cs ns h k.0, owners_next s e cs ns past h k.1)
 
   edits_here : (s : State) (e : Event) (cs : List Counted) (ns : List Numbers) (past : List CountedEvent) → IsPlace p s cs → HasBooks s cs ns past → keeps_edits past (place p s cs ns e) ≡ true
@@ -524,7 +524,7 @@ module _ (p : Project) (valid : IsValidProject p) where
   numbers_here s events.Tick cs ns past h k = refl
   numbers_here s (events.Act lane a) cs ns past h k = action_counts p s past k.1 (known_at p s h.reached).sizes.names lane cs ns k.0 a
 
-  first_books : HasNumbers p (start p).books _ × Owners (start p).books []
+  first_books : HasNumbers p (start p).books (no_edits p) × Owners (start p).books []
   first_books = (first_numbers p, λ g. first_owners p.programs g)
 
   pub runs_keep_edits : (journal : List Event) → each_with_past keeps_edits [] (counted_run p journal) ≡ true

@@ -6,6 +6,9 @@ pub mod Masks
 pub mod Events
 pub mod KeptOn
 pub mod BooksOn
+pub mod EditsAt
+pub mod ModesAt
+pub mod StartsAt
 pub mod FirstBroken
 pub mod TicksAt
 pub mod Proper

@@ -39,7 +39,8 @@ use Rattle.spec_duties.specs.Modes.{KeepsMode}
 use Rattle.spec_duties.proofs.Duties.{runs_keep_duties}
 use Rattle.lgx_laws.specs.Modes.{mode_shown, mode_after, holds, leads_from, is_answer, answers_mode, keeps_modes}
 use Rattle.lgx_laws.proofs.AtStages.{stage, at_stage}
-use Rattle.lgx_laws.proofs.RunsBack.{all_of_run}
+use Rattle.lgx_laws.proofs.ModesAt.{any_same}
+use Rattle.lgx_laws.proofs.RunsBack.{all_of_run, no_counts, no_edits}
 
 -- ---- the mode after a processor step
 
@@ -132,13 +133,6 @@ module _ (p : Project) where
 
 -- ---- an open CPS
 
-any_same : {A B : Type 0} (f : A → Bool) (g : B → Bool) (xs : List A) (ys : List B) (d : A) (e : B) → length xs ≡ length ys → ((k : ℕ) → k < length xs → f (slice_index_or xs k d) ≡ g (slice_index_or ys k e)) → list_any f xs ≡ list_any g ys
-any_same f g [] [] d e many h = refl
-any_same f g [] (y ∷ ys) d e many h = absurd (omega arith)
-any_same f g (x ∷ xs) [] d e many h = absurd (omega arith)
-any_same f g (x ∷ xs) (y ∷ ys) d e many h =
-    ap (λ b. b || list_any f xs) (h 0 (omega arith)) ∙ ap (λ b. g y || b) (any_same f g xs ys d e (omega arith) (λ k l. h (suc k) (omega arith)))
-
 module _ (p : Project) (valid : IsValidProject p) where
   abbrev pub HasMode : State → List Counted → List Numbers → List CountedEvent → Type 0
   HasMode s cs ns past = mode_after past ≡ s.mode
@@ -216,4 +210,4 @@ module _ (p : Project) (valid : IsValidProject p) where
     keeps_here k (events.Act lane a) = action_keeps k lane a
 
   pub runs_keep_modes : (journal : List Event) → each_with_past keeps_modes [] (counted_run p journal) ≡ true
-  runs_keep_modes journal = all_of_run p valid HasMode keeps_modes mode_next (λ s e cs ns past h k. keeps_here s cs ns past h k e) (first_mode _ _) journal
+  runs_keep_modes journal = all_of_run p valid HasMode keeps_modes mode_next (λ s e cs ns past h k. keeps_here s cs ns past h k e) (first_mode (no_counts p) (no_edits p)) journal

@@ -50,7 +50,8 @@ use Rattle.lgx_laws.specs.Starts.{may_come_up, is_event_mask, may_trigger, keeps
 use Rattle.lgx_laws.proofs.AtStages.{at_stage}
 use Rattle.lgx_laws.proofs.Masks.{mask_same}
 use Rattle.lgx_laws.proofs.ModesKept.{HasMode, mode_next, first_mode, same_held}
-use Rattle.lgx_laws.proofs.RunsBack.{all_of_run}
+use Rattle.lgx_laws.proofs.StartsAt.{any_in_range}
+use Rattle.lgx_laws.proofs.RunsBack.{all_of_run, no_counts, no_edits}
 
 -- ---- masks
 
@@ -73,14 +74,6 @@ module _ (f : ℕ → Bool) (t : ℕ) (only : (u : ℕ) → (u ≡ t → ⊥) �
             let x : mask_below f n + cond (f n) (2 ^ n) 0 ≡ cond (f t) (2 ^ t) 0 = omega arith in
             x)
       ]
-
-any_in_range : (test : ℕ → Bool) (i n t : ℕ) → i ≤ t → t < i + n → test t ≡ true → list_any test (range_with_len i n) ≡ true
-any_in_range test i zero t a b h = absurd (omega arith)
-any_in_range test i (suc n) t a b h =
-    elim (cases_eq i t) [
-      | inl e ↦ or_left (test i) _ (ap test e ∙ h)
-      | inr ne ↦ or_right (test i) _ (any_in_range test (i + 1) n t (omega arith) (omega arith) h)
-    ]
 
 all_at : {A : Type 0} (passes : A → Bool) (xs : List A) (k : ℕ) (d : A) → list_all passes xs ≡ true → k < length xs → passes (slice_index_or xs k d) ≡ true
 all_at passes [] k d h l = absurd (omega arith)
@@ -284,4 +277,4 @@ module _ (p : Project) (valid : IsValidProject p) where
   keeps_here s (events.Act lane a) cs ns past h k = action_keeps p valid s cs ns past h k lane a
 
   pub runs_keep_starts : (journal : List Event) → each_with_past (keeps_starts p.tasks) [] (counted_run p journal) ≡ true
-  runs_keep_starts journal = all_of_run p valid (HasMode p valid) (keeps_starts p.tasks) (mode_next p valid) keeps_here (first_mode p valid _ _) journal
+  runs_keep_starts journal = all_of_run p valid (HasMode p valid) (keeps_starts p.tasks) (mode_next p valid) keeps_here (first_mode p valid (no_counts p) (no_edits p)) journal

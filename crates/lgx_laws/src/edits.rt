@@ -1,9 +1,10 @@
 // What is told of the edits of programs, and the laws of edits and of numbers at one event.
-ghost use Rattle.std.specs.Prelude.{◌≡◌, ◌+◌, ◌∷◌, List, length, nat_eq, replicate, IfOk};
-ghost use Rattle.spec_schedule.specs.Counting.{Counted, CountedEvent, Numbers, edited, edited_all};
+ghost use Rattle.std.specs.Prelude.{◌≡◌, ◌+◌, ◌<◌, ◌∷◌, ℕ, List, Some, length, nat_eq, replicate, slice_index_or, IfOk};
+ghost use Rattle.spec_schedule.specs.declared.trace.TraceEvent.TheVariants.{Act};
+ghost use Rattle.spec_schedule.specs.Counting.{Counted, CountedEvent, Numbers, unedited, edited, edited_all};
 ghost use Rattle.lgx_audit.specs.Along.{IsOfPrograms};
 ghost use Rattle.lgx_audit.specs.TraceText.{is_edit};
-ghost use Rattle.lgx_laws.specs.Edits.{Owned, owned_by, owns, may_be_done, may_be_refused, answers_edit, is_refused, keeps_edits, keeps_numbers};
+ghost use Rattle.lgx_laws.specs.Edits.{owned, owned_by, owns, may_be_done, may_be_refused, answers_edit, is_refused, keeps_edits, keeps_numbers};
 ghost use Rattle.lgx_laws.specs.Kept.{no_booked, booked, owned_in, numbers_in, Books};
 
 use lgx_audit::{TraceAnswer, TraceEvent, Verb};
@@ -151,6 +152,14 @@ fn is_refused(answer: TraceAnswer) -> bool
     }
 }
 
+/// Whether an edit on program g may be answered so.
+fn answers_on(books: &[Booked], g: usize, lane: u32, verb: Verb, answer: TraceAnswer) -> bool
+    requires { g < length books.now }
+    ensures { (ns : List Numbers) (past : List CountedEvent) → Books books.now ns past → result ≡ answers_edit verb lane (owned g past) (slice_index_or ns g unedited) answer }
+{
+    answers_edit(verb, lane, books[g], answer)
+}
+
 /// Whether the event keeps the law of edits.
 pub(crate) fn keeps_edits(books: &[Booked], e: &TraceEvent) -> bool
     requires { IsOfPrograms (length books.now) e.now }
@@ -164,8 +173,15 @@ pub(crate) fn keeps_edits(books: &[Booked], e: &TraceEvent) -> bool
             answer,
             ..
         } => match program {
-            Some(g) => !is_edit(*verb) || answers_edit(*verb, *lane, books[*g as usize], *answer),
-            None => !is_edit(*verb) || is_refused(*answer),
+            Some(g) => {
+                let edits = is_edit(*verb);
+                let right = answers_on(books, *g as usize, *lane, *verb, *answer);
+                !edits || right
+            }
+            None => {
+                let edits = is_edit(*verb);
+                !edits || is_refused(*answer)
+            }
         },
         _ => true,
     }
@@ -178,6 +194,20 @@ fn is_next(b: Booked, number: u32) -> bool
     number as u64 == b.newest as u64 + 1
 }
 
+/// Whether an action on program g has the next number, if it is an accept that was done.
+fn counts_on(b: Booked, verb: Verb, answer: TraceAnswer) -> bool
+    ensures { (cs : List Counted) (ns : List Numbers) (lane g mask : ℕ) → (slice_index_or ns g unedited).merged ≡ b.newest
+        → result ≡ keeps_numbers (record { tasks = cs; programs = ns; event = Act lane verb (Some g) answer mask }) }
+{
+    match verb {
+        Verb::Accept => match answer {
+            TraceAnswer::Number(number) => is_next(b, number),
+            _ => true,
+        },
+        _ => true,
+    }
+}
+
 /// Whether the event keeps the law of numbers.
 pub(crate) fn keeps_numbers(books: &[Booked], e: &TraceEvent) -> bool
     requires { IsOfPrograms (length books.now) e.now }
@@ -185,11 +215,14 @@ pub(crate) fn keeps_numbers(books: &[Booked], e: &TraceEvent) -> bool
 {
     match e {
         TraceEvent::Act {
-            verb: Verb::Accept,
-            program: Some(g),
-            answer: TraceAnswer::Number(number),
+            verb,
+            program,
+            answer,
             ..
-        } => is_next(books[*g as usize], *number),
+        } => match program {
+            Some(g) => counts_on(books[*g as usize], *verb, *answer),
+            None => true,
+        },
         _ => true,
     }
 }

@@ -2,9 +2,10 @@
 ghost use Rattle.std.specs.Prelude.{◌≡◌, ℕ, List, Option};
 ghost use Rattle.spec_schedule.specs.declared.trace.TraceAnswer.TheVariants.{Done};
 ghost use Rattle.spec_schedule.specs.declared.trace.TraceEvent.TheVariants.{Act};
+ghost use Rattle.std.specs.List.{list_any};
 ghost use Rattle.spec_schedule.specs.Counting.{Counted, CountedEvent, Numbers};
 ghost use Rattle.lgx_audit.specs.Along.{Shown};
-ghost use Rattle.lgx_laws.specs.Modes.{mode_shown, mode_after, holds, leads_from, is_answer, keeps_modes};
+ghost use Rattle.lgx_laws.specs.Modes.{mode_shown, mode_after, holds, leads_from, is_answer, answers_mode, keeps_modes};
 
 use lgx_audit::{Count, StepFault, TraceAnswer, TraceEvent, Verb};
 use spec_machine::Mode;
@@ -42,16 +43,18 @@ pub(crate) fn mode_after(e: &TraceEvent, before: Mode) -> Mode
     }
 }
 
+/// Whether a task of these counts has a CPS open.
+fn any_open(counts: &[Count]) -> bool
+    ensures { result ≡ list_any (λ c. c.cps_open) counts.now }
+{
+    counts.iter().any(|count| count.cps_open)
+}
+
 /// Whether some task has a CPS in progress.
 pub(crate) fn holds(counts: &[Count]) -> bool
     ensures { (cs : List Counted) → Shown counts.now cs → result ≡ holds cs }
 {
-    for count in counts.iter() {
-        if count.cps_open {
-            return true;
-        }
-    }
-    false
+    any_open(counts)
 }
 
 /// Whether a command leads from this mode.
@@ -75,6 +78,15 @@ fn is_answer(takes: bool, answer: TraceAnswer) -> bool
     }
 }
 
+/// Whether a command of modes is answered as the mode and an open CPS ask.
+fn answers_mode(counts: &[Count], mode: Mode, verb: Verb, answer: TraceAnswer) -> bool
+    ensures { (cs : List Counted) (past : List CountedEvent) → Shown counts.now cs → mode ≡ mode_after past → result ≡ answers_mode verb past cs answer }
+{
+    let leads = leads_from(verb, mode);
+    let held = holds(counts);
+    is_answer(leads && !held, answer)
+}
+
 /// Whether the event keeps the law of modes.
 pub(crate) fn keeps_modes(counts: &[Count], mode: Mode, e: &TraceEvent) -> bool
     ensures { (cs : List Counted) (ns : List Numbers) (past : List CountedEvent) → Shown counts.now cs → mode ≡ mode_after past
@@ -82,10 +94,9 @@ pub(crate) fn keeps_modes(counts: &[Count], mode: Mode, e: &TraceEvent) -> bool
 {
     match e {
         TraceEvent::Act { verb, answer, .. } => match verb {
-            Verb::Run | Verb::Program | Verb::Clear => {
-                let takes = leads_from(*verb, mode) && !holds(counts);
-                is_answer(takes, *answer)
-            }
+            Verb::Run => answers_mode(counts, mode, Verb::Run, *answer),
+            Verb::Program => answers_mode(counts, mode, Verb::Program, *answer),
+            Verb::Clear => answers_mode(counts, mode, Verb::Clear, *answer),
             _ => true,
         },
         _ => true,

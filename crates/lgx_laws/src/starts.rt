@@ -1,13 +1,16 @@
 // The law of starts at one event.
-ghost use Rattle.std.specs.Prelude.{◌≡◌, ◌^◌, ◌<◌, ◌≤◌, ◌&&◌, ◌||◌, not, ℕ, List, length, nat_eq, slice_index_or};
+ghost use Rattle.std.specs.Prelude.{◌≡◌, ◌^◌, ◌<◌, ◌≤◌, ◌&&◌, ◌||◌, not, ℕ, List, Option, length, nat_eq, slice_index_or};
 ghost use Rattle.spec_tables.specs.Tasks.{no_task, is_continuous};
+ghost use Rattle.spec_machine.specs.declared.reply.Mode.TheVariants.{Run};
 ghost use Rattle.spec_machine.specs.ValidProject.{is_event};
 ghost use Rattle.spec_schedule.specs.Counting.{Counted, CountedEvent, Numbers};
 ghost use Rattle.spec_schedule.specs.declared.trace.TraceEvent.{TraceEvent};
+ghost use Rattle.spec_schedule.specs.declared.trace.TraceEvent.TheVariants.{Act};
+ghost use Rattle.spec_schedule.specs.Refusals.{is_mode};
 ghost use Rattle.spec_duties.specs.TickReleases.{mask_below};
 ghost use Rattle.lgx_audit.specs.Along.{no_count, Shown};
 ghost use Rattle.lgx_laws.specs.Modes.{mode_after};
-ghost use Rattle.lgx_laws.specs.Starts.{is_event_mask, may_trigger, keeps_starts};
+ghost use Rattle.lgx_laws.specs.Starts.{may_come_up, is_event_mask, may_trigger, keeps_starts};
 
 use crate::modes::holds;
 use crate::ticks::bit_if;
@@ -41,7 +44,7 @@ fn comes_up_at_run(task: TaskDef, count: Count) -> bool
 }
 
 /// Whether an input's word may release the task.
-fn may_come_up(task: TaskDef, count: Count) -> bool
+fn starts_event(task: TaskDef, count: Count) -> bool
     ensures { result ≡ ((is_event task.kind && not task.inhibited) && not count.up) }
 {
     is_event(task.kind) && !task.inhibited && !count.up
@@ -67,7 +70,7 @@ fn is_mask_of(mask: u32, t: usize, task: TaskDef, count: Count) -> bool
     ensures { result ≡ (nat_eq mask (2 ^ t) && ((is_event task.kind && not task.inhibited) && not count.up)) }
 {
     let bit = bit_if(true, t);
-    mask == bit && may_come_up(task, count)
+    mask == bit && starts_event(task, count)
 }
 
 /// Whether the mask is that of one task which an input's word may release.
@@ -84,15 +87,23 @@ fn is_event_mask(tasks: &[TaskDef], counts: &[Count], mask: u32) -> bool
     false
 }
 
+fn is_run(mode: Mode) -> bool
+    ensures { result ≡ is_mode mode Run }
+{
+    match mode {
+        Mode::Run => true,
+        _ => false,
+    }
+}
+
 /// Whether an input's word may come in.
 fn may_trigger(counts: &[Count], mode: Mode) -> bool
     ensures { (cs : List Counted) (ns : List Numbers) (past : List CountedEvent) (e : TraceEvent) → Shown counts.now cs → mode ≡ mode_after past
         → result ≡ may_trigger past (record { tasks = cs; programs = ns; event = e }) }
 {
-    match mode {
-        Mode::Run => !holds(counts),
-        Mode::Program | Mode::Faulted => false,
-    }
+    let run = is_run(mode);
+    let held = holds(counts);
+    run && !held
 }
 
 /// Whether an input's word, or another action that is no edit and no command of modes, may have released these.
@@ -102,7 +113,43 @@ fn may_release(tasks: &[TaskDef], counts: &[Count], mode: Mode, mask: u32) -> bo
     ensures { (cs : List Counted) (ns : List Numbers) (past : List CountedEvent) (e : TraceEvent) → Shown counts.now cs → mode ≡ mode_after past
         → result ≡ (nat_eq mask 0 || (may_trigger past (record { tasks = cs; programs = ns; event = e }) && is_event_mask tasks.now (record { tasks = cs; programs = ns; event = e }) mask)) }
 {
-    mask == 0 || (may_trigger(counts, mode) && is_event_mask(tasks, counts, mask))
+    let comes = may_trigger(counts, mode);
+    let one = is_event_mask(tasks, counts, mask);
+    mask == 0 || comes && one
+}
+
+/// Whether the change to Run released these.
+fn is_run_mask(tasks: &[TaskDef], counts: &[Count], mask: u32) -> bool
+    requires few { length tasks.now ≤ 32 }
+    requires many { length counts.now ≡ length tasks.now }
+    ensures { (cs : List Counted) (ns : List Numbers) (past : List CountedEvent) (e : TraceEvent) → Shown counts.now cs
+        → result ≡ nat_eq mask (mask_below (may_come_up is_continuous tasks.now (record { tasks = cs; programs = ns; event = e })) (length tasks.now)) }
+{
+    mask == run_mask(tasks, counts)
+}
+
+/// Whether an action may have released these, by its verb and its answer.
+fn may_have_released(
+    tasks: &[TaskDef],
+    counts: &[Count],
+    mode: Mode,
+    verb: Verb,
+    answer: TraceAnswer,
+    mask: u32,
+) -> bool
+    requires few { length tasks.now ≤ 32 }
+    requires many { length counts.now ≡ length tasks.now }
+    ensures { (cs : List Counted) (ns : List Numbers) (past : List CountedEvent) (lane : ℕ) (g : Option ℕ) → Shown counts.now cs → mode ≡ mode_after past
+        → result ≡ keeps_starts tasks.now past (record { tasks = cs; programs = ns; event = Act lane verb g answer mask }) }
+{
+    match answer {
+        TraceAnswer::Done => match verb {
+            Verb::Run => is_run_mask(tasks, counts, mask),
+            Verb::Other => may_release(tasks, counts, mode, mask),
+            _ => mask == 0,
+        },
+        _ => mask == 0,
+    }
 }
 
 /// Whether the event keeps the law of starts.
@@ -119,18 +166,11 @@ pub(crate) fn keeps_starts(
 {
     match e {
         TraceEvent::Act {
-            verb: Verb::Run,
-            answer: TraceAnswer::Done,
+            verb,
+            answer,
             released,
             ..
-        } => *released == run_mask(tasks, counts),
-        TraceEvent::Act {
-            verb: Verb::Other,
-            answer: TraceAnswer::Done,
-            released,
-            ..
-        } => may_release(tasks, counts, mode, *released),
-        TraceEvent::Act { released, .. } => *released == 0,
+        } => may_have_released(tasks, counts, mode, *verb, *answer, *released),
         _ => true,
     }
 }
