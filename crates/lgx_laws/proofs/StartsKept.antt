@@ -35,7 +35,7 @@ use Rattle.spec_schedule.specs.declared.trace.Verb.{Verb}
 use Rattle.spec_schedule.specs.declared.trace.Verb.TheVariants as verb
 use Rattle.spec_schedule.specs.Counting.{Counted, uncounted, Numbers, CountedEvent, is_task}
 use Rattle.spec_schedule.specs.Refusals.{when, first_of, conn_of, is_no_conn, is_mode, first_cause}
-use Rattle.spec_schedule.specs.TraceView.{step_seen, seen, answer_of}
+use Rattle.spec_schedule.specs.TraceView.{step_seen, seen, named, program_number, answer_of}
 use Rattle.spec_reach.proofs.Changes.{Known}
 use Rattle.spec_reach.proofs.Reached.{known_at}
 use Rattle.spec_legal.specs.LegalRuns.{counted_run}
@@ -124,9 +124,9 @@ module _ (p : Project) (valid : IsValidProject p) (s : State) (cs : List Counted
 
   -- ---- an action that calls for nobody
 
-  calmly : (a : Action) (v : Verb) (g : Option ℕ) (x : TraceAnswer) → ((t : ℕ) → calls_for s a (act s lane a).answer.reply t ≡ false) → (v ≡ verb.Run → x ≡ answer.Done → ⊥) → Keeps (event.Act lane v g x (act s lane a).answer.released)
-  calmly a v g x calm other =
-      quietly v g x (act s lane a).answer.released
+  calmly : (a : Action) (v : Verb) → ((t : ℕ) → calls_for s a (act s lane a).answer.reply t ≡ false) → (v ≡ verb.Run → answer_of (act s lane a).answer.reply ≡ answer.Done → ⊥) → Keeps (event.Act lane v (program_number p.programs (named a)) (answer_of (act s lane a).answer.reply) (act s lane a).answer.released)
+  calmly a v calm other =
+      quietly v (program_number p.programs (named a)) (answer_of (act s lane a).answer.reply) (act s lane a).answer.released
       (released a ∙ mask_none (comes_up_by s a (act s lane a).answer.reply) (length s.table.defs) (λ t. ap (λ b. (b && not (task s.table t).inhibited) && not (is_up s.table t)) (calm t))) other
 
   -- ---- the change to Run
@@ -229,7 +229,7 @@ module _ (p : Project) (valid : IsValidProject p) (s : State) (cs : List Counted
     by_trigger None e free mask is =
         quietly verb.Other None answer.Done mask
         (is ∙ mask_none comes (length s.table.defs) (λ t. comes_if t None e ∙ never (is_mode s.mode mode.Run) (nat_eq (word + 1) c.words) (not (task s.table t).inhibited) (not (is_up s.table t)))) (λ q. absurd (cc q))
-    by_trigger (Some t) e free mask is = subst (λ (m : ℕ). Keeps (event.Act lane verb.Other None answer.Done m)) (sym (is ∙ (mask_is t e ∙ ap (λ b. cond b (2 ^ t) 0) refl))) (by_one t e (comes t) refl free)
+    by_trigger (Some t) e free mask is = subst (λ (m : ℕ). Keeps (event.Act lane verb.Other None answer.Done m)) (sym (is ∙ mask_is t e)) (by_one t e (comes t) refl free)
 
     -- by the reply
     word_keeps : (r : Reply) (mask : ℕ) → mask ≡ mask_where s (comes_up_by s a r) → first_cause s lane a ≡ refusal_in r → Keeps (event.Act lane verb.Other None (answer_of r) mask)
@@ -248,19 +248,19 @@ module _ (p : Project) (valid : IsValidProject p) (s : State) (cs : List Counted
   action_keeps (WordIn name word v) =
       let o : Outcome = (act s lane (WordIn name word v)).answer in
       word_keeps name word v o.reply o.released (released (WordIn name word v)) (at_stage IsAnsweredRightly p (runs_keep_duties p valid).answers s (events.Act lane (WordIn name word v)) h.reached)
-  action_keeps (WordOut name word) = calmly (WordOut name word) verb.Other None _ (λ t. refl) (λ q. absurd (cc q))
-  action_keeps (Accept c) = calmly (Accept c) verb.Accept _ _ (λ t. refl) (λ q. absurd (cc q))
-  action_keeps (Test n) = calmly (Test n) verb.Test _ _ (λ t. refl) (λ q. absurd (cc q))
-  action_keeps (Untest n) = calmly (Untest n) verb.Untest _ _ (λ t. refl) (λ q. absurd (cc q))
-  action_keeps (Assemble n) = calmly (Assemble n) verb.Assemble _ _ (λ t. refl) (λ q. absurd (cc q))
-  action_keeps (Cancel n) = calmly (Cancel n) verb.Cancel _ _ (λ t. refl) (λ q. absurd (cc q))
-  action_keeps (ForceInstall name word mask v) = calmly (ForceInstall name word mask v) verb.Other None _ (λ t. refl) (λ q. absurd (cc q))
-  action_keeps ForceEnable = calmly ForceEnable verb.Other None _ (λ t. refl) (λ q. absurd (cc q))
-  action_keeps ForceDisable = calmly ForceDisable verb.Other None _ (λ t. refl) (λ q. absurd (cc q))
-  action_keeps ForceRemove = calmly ForceRemove verb.Other None _ (λ t. refl) (λ q. absurd (cc q))
+  action_keeps (WordOut name word) = calmly (WordOut name word) verb.Other (λ t. refl) (λ q. absurd (cc q))
+  action_keeps (Accept c) = calmly (Accept c) verb.Accept (λ t. refl) (λ q. absurd (cc q))
+  action_keeps (Test n) = calmly (Test n) verb.Test (λ t. refl) (λ q. absurd (cc q))
+  action_keeps (Untest n) = calmly (Untest n) verb.Untest (λ t. refl) (λ q. absurd (cc q))
+  action_keeps (Assemble n) = calmly (Assemble n) verb.Assemble (λ t. refl) (λ q. absurd (cc q))
+  action_keeps (Cancel n) = calmly (Cancel n) verb.Cancel (λ t. refl) (λ q. absurd (cc q))
+  action_keeps (ForceInstall name word mask v) = calmly (ForceInstall name word mask v) verb.Other (λ t. refl) (λ q. absurd (cc q))
+  action_keeps ForceEnable = calmly ForceEnable verb.Other (λ t. refl) (λ q. absurd (cc q))
+  action_keeps ForceDisable = calmly ForceDisable verb.Other (λ t. refl) (λ q. absurd (cc q))
+  action_keeps ForceRemove = calmly ForceRemove verb.Other (λ t. refl) (λ q. absurd (cc q))
   action_keeps ModeRun = run_keeps (held s.table) s.mode (released ModeRun)
-  action_keeps ModeProgram = calmly ModeProgram verb.Program None _ (λ t. refl) (λ q. absurd (cc q))
-  action_keeps Clear = calmly Clear verb.Clear None _ (λ t. refl) (λ q. absurd (cc q))
+  action_keeps ModeProgram = calmly ModeProgram verb.Program (λ t. refl) (λ q. absurd (cc q))
+  action_keeps Clear = calmly Clear verb.Clear (λ t. refl) (λ q. absurd (cc q))
 
 module _ (p : Project) (valid : IsValidProject p) where
   -- nothing is asked of a processor step

@@ -62,7 +62,9 @@ fn leads_from(verb: Verb, mode: Mode) -> bool
     ensures { result ≡ leads_from verb mode }
 {
     match (verb, mode) {
-        (Verb::Run, Mode::Program) | (Verb::Program, Mode::Run) | (Verb::Clear, Mode::Faulted) => true,
+        (Verb::Run, Mode::Program) => true,
+        (Verb::Program, Mode::Run) => true,
+        (Verb::Clear, Mode::Faulted) => true,
         _ => false,
     }
 }
