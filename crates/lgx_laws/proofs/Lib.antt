@@ -7,6 +7,7 @@ pub mod Events
 pub mod KeptOn
 pub mod BooksOn
 pub mod EditsAt
+pub mod CopiesAt
 pub mod ModesAt
 pub mod StartsAt
 pub mod FirstBroken

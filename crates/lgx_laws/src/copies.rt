@@ -1,5 +1,5 @@
 // The law of copies at one event.
-ghost use Rattle.std.specs.Prelude.{◌≡◌, List, None, Some, length};
+ghost use Rattle.std.specs.Prelude.{◌≡◌, List, None, Some, length, is_none};
 ghost use Rattle.spec_schedule.specs.Counting.{Counted, CountedEvent, Numbers};
 ghost use Rattle.lgx_audit.specs.Along.{IsWithin};
 ghost use Rattle.lgx_laws.specs.Copies.{copies_on, copied_after, is_plain, goes_on, keeps_copies};
@@ -78,20 +78,27 @@ fn goes_on(copy: Option<bool>, mark: TraceMark, fault: StepFault) -> bool
     }
 }
 
+/// Whether the task has no copy in progress.
+fn has_none(since: Since) -> bool
+    ensures { result ≡ is_none since.copy }
+{
+    since.copy.is_none()
+}
+
 /// Whether the event keeps the law of copies.
 pub(crate) fn keeps_copies(kept: &[Since], e: &TraceEvent) -> bool
     requires within { IsWithin (length kept.now) e.now }
     ensures { (cs : List Counted) (ns : List Numbers) (past : List CountedEvent) → Kept kept.now cs past → result ≡ keeps_copies past (record { tasks = cs; programs = ns; event = e.now }) }
 {
     match e {
-        TraceEvent::Began { task, .. } => kept[*task as usize].copy.is_none(),
+        TraceEvent::Began { task, .. } => has_none(kept[*task as usize]),
         TraceEvent::Step {
             task,
             mark,
             fault,
             ..
         } => goes_on(kept[*task as usize].copy, *mark, *fault),
-        TraceEvent::Left { task, .. } => kept[*task as usize].copy.is_none(),
+        TraceEvent::Left { task, .. } => has_none(kept[*task as usize]),
         _ => true,
     }
 }

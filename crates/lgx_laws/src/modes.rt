@@ -21,16 +21,23 @@ fn mode_of(verb: Verb, before: Mode) -> Mode
     }
 }
 
+/// The mode after an action that was answered so.
+fn mode_by(verb: Verb, answer: TraceAnswer, before: Mode) -> Mode
+    ensures { (lane mask : ℕ) (g : Option ℕ) → result ≡ mode_shown (Act lane verb g answer mask) before }
+{
+    match answer {
+        TraceAnswer::Done => mode_of(verb, before),
+        TraceAnswer::No => before,
+        TraceAnswer::Number(_) => before,
+    }
+}
+
 /// The mode after the event.
 pub(crate) fn mode_after(e: &TraceEvent, before: Mode) -> Mode
     ensures { result ≡ mode_shown e.now before }
 {
     match e {
-        TraceEvent::Act {
-            verb,
-            answer: TraceAnswer::Done,
-            ..
-        } => mode_of(*verb, before),
+        TraceEvent::Act { verb, answer, .. } => mode_by(*verb, *answer, before),
         TraceEvent::Step {
             fault: StepFault::Major,
             ..
