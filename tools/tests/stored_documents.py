@@ -44,10 +44,10 @@ class Documents(RoomTest):
         self.assertEqual(self.judge("README.md"), 1)
 
     def test_the_rules(self):
-        self.assertGreaterEqual(self.judge("docs/CONTROLLER.md"), 10)
+        self.assertGreaterEqual(self.judge("docs/CONTROLLER.md"), 6)
 
     def test_the_formats(self):
-        self.assertGreaterEqual(self.judge("docs/FORMATS.md"), 11)
+        self.assertGreaterEqual(self.judge("docs/FORMATS.md"), 10)
 
     def test_the_readme_shows_the_example_that_it_runs(self):
         shown = dict(BLOCK.findall(read_text(f"{TOP}/README.md")))

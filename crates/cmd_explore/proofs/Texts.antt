@@ -31,6 +31,6 @@ pub answer_says : (p : Project) (script : Script) (q : Question) (told : Told) (
 answer_says p script q told said bytes shown is is_said same text =
     (record { told = told; is = is }, (is_said, subst (λ (t : List ℕ). IsToldText q told t) (sym same) text))
 
--- what stands behind a text in words, one after another
+-- what is behind a text in words, one after another
 pub moment_grouped : (t s k : List ℕ) → (((((t ++ 32 ∷ codes "after") ++ 32 ∷ codes "step") ++ 32 ∷ s) ++ 44 ∷ []) ++ 32 ∷ codes "tick") ++ 32 ∷ k ≡ t ++ after_spaces (codes "after" ∷ codes "step" ∷ (s ++ 44 ∷ []) ∷ codes "tick" ∷ k ∷ [])
 moment_grouped t s k = simp (append_assoc, append-nil)

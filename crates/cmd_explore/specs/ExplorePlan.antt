@@ -18,7 +18,7 @@ use Rattle.cmd_explore.specs.QuestionCauses.{question_cause_line}
 
 -- ---- the answer
 
--- what is told of all journals of a script on a project, and that it is so
+-- what is said of all journals of a script on a project, and that it is so
 pub record Answer (p : Project) (script : Script) (q : Question) : Type 0 where
   pub told : Told
   pub is : IsTold p script q told

@@ -33,7 +33,7 @@ pub record AreRead (contents : Contents) (p s q : List ℕ) (project : Project) 
   pub question_came : Came contents q question_text
   pub is_question : question_of (names_of project) question_text ≡ Ok question
 
--- What is told of the three files is so, the verdict is the one for it, and its text was added to the output.
+-- What is said of the three files is so, the verdict is the one for it, and its text was added to the output.
 pub record Explored (contents : Contents) (held : Change (Option (List ℕ))) (p s q : List ℕ) (said : Verdict) : Type 0 where
   pub project : Project
   pub script : Script

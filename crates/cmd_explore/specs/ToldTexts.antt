@@ -1,4 +1,4 @@
--- What is written of what is told of all journals of a script.
+-- What is written of what is said of all journals of a script.
 use Rattle.std.specs.Prelude.{◌≡◌, ℕ, ◌+◌, List, [], ◌∷◌, ◌++◌, length, codes, decimal, Ok, ⊤}
 use Rattle.spec_machine.specs.declared.event.Event.{Event}
 use Rattle.spec_machine.specs.Events.{steps_of}

@@ -21,7 +21,7 @@ pub(crate) struct Said {
     pub(crate) text: Items<u8>,
 }
 
-/// The verdict of what is told.
+/// The verdict of what is said.
 fn verdict_of(told: &Told) -> Verdict
     ensures { result ≡ verdict_of told.now }
 {

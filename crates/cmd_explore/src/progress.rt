@@ -19,7 +19,7 @@ impl<'a, R: Clock + Eprint> Lines<'a, R> {
     }
 }
 
-/// The time in so many seconds; None if the clock can't tell it.
+/// The time in whole seconds; None if the clock can't tell it.
 fn later<R: Clock>(rt: &R, seconds: u64) -> Option<Instant> {
     let now = Instant::now(rt).ok()?;
     now.checked_add(Duration::from_secs(seconds))

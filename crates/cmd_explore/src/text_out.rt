@@ -1,4 +1,4 @@
-// The text of what is told.
+// The text of what is said.
 ghost use Rattle.std.specs.Prelude.{◌≡◌, ◌+◌, ℕ, ◌++◌, length, Ok, IfOk, OnOk};
 ghost use Rattle.spec_text.specs.JournalText.{journal_of};
 ghost use Rattle.lgx_journal.specs.Written.{IsReadable};
@@ -76,7 +76,7 @@ fn witness_text(alloc: Global, journal: &Journal, line: u32) -> Result<Vec<u8>, 
     Ok(text)
 }
 
-/// The text of what is told of a question.
+/// The text of what is said of a question.
 #[tactic(auto, using(crate::proofs::Texts::never_told, crate::proofs::Texts::witness_told, crate::proofs::Texts::unknown_told))]
 pub(crate) fn told_text(alloc: Global, question: &Question, told: &Told) -> Result<Vec<u8>, Memory>
     ensures { IfOk result (λ text. IsToldText question.now told.now text.items) }

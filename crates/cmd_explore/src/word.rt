@@ -104,7 +104,7 @@ impl<'a, P: Progress + Drop> Word for Explore<'a, P> {
     }
 }
 
-/// Writes what is told of all journals of one file's script on another one's project, as a third file's question asks, by one put.
+/// Writes what is said of all journals of one file's script on another one's project, as a third file's question asks, by one put.
 /// A file is read only if none before it is refused.
 pub fn explore_script<P: Progress + Drop, F: Files, K: Sink>(
     alloc: Global,

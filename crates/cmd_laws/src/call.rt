@@ -3,14 +3,13 @@ ghost use Rattle.std.specs.Prelude.{◌≡◌, map, string_bytes};
 ghost use Rattle.lgx_answer.specs.Endings.{ending_of};
 ghost use Rattle.lgx_answer.specs.Answered.{Answered, call_of};
 ghost use Rattle.lgx_answer.specs.Laws.{FollowsPlan};
-ghost use Rattle.lgx_answer.specs.Process.{IsProcess};
 ghost use Rattle.cmd_laws.specs.LawsPlan.{plan_of};
 
 use crate::word::judge_trace;
-use lgx_answer::{Status, Verdict, exit_number, say};
-use lgx_io::{Files, Gathered, Sink};
+use lgx_answer::{Status, Verdict, say};
+use lgx_io::{Files, Sink};
+use lgx_process::Planned;
 use std::alloc::Global;
-use std::io::Write;
 
 /// The line that says how to use the program.
 pub const USAGE: &[u8] = b"usage: logix_laws P T\n";
@@ -45,18 +44,20 @@ pub fn judge<F: Files, K: Sink>(
     follow(alloc, words, files, sink)
 }
 
-/// All that the process does with its words: what [`judge`] does, and then what still waits to be written is written. Answers
-/// the number that the process ends with.
-pub fn program<F: Files, W: Write + Drop>(
-    alloc: Global,
-    words: &[String],
-    files: &mut F,
-    output: &mut Gathered<W>,
-) -> u8
-    ensures { IsProcess (plan_of (map string_bytes words.now)) (F.told files.old)
-        (record { old = F.failures files.old; new = F.failures files.new })
-        output.old output.new result }
-{
-    let status = judge(alloc, words, files, output);
-    exit_number(status, output)
+/// The program `logix_laws`, whose words have a plan.
+pub struct LawsProgram;
+
+impl Planned for LawsProgram {
+    ghost use Rattle.cmd_laws.specs.LawsPlan.{plan_of};
+
+    ghost plan = { λ words. plan_of words };
+
+    fn follow<F: Files, K: Sink>(
+        alloc: Global,
+        words: &[String],
+        files: &mut F,
+        sink: &mut K,
+    ) -> Status {
+        judge(alloc, words, files, sink)
+    }
 }

@@ -9,6 +9,6 @@ mod laws;
 mod lines;
 mod word;
 
-pub use call::{USAGE, judge, program};
+pub use call::{LawsProgram, USAGE, judge};
 pub use laws::traces_say_yes;
 pub use word::judge_trace;

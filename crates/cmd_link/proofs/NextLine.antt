@@ -2,7 +2,7 @@
 use Rattle.std.proofs.Common.{◌≡◌, ℕ, ◌+◌, ◌-◌, List, [], ◌++◌, length, drop, take, take_all, length-drop, sym, ap, ◌∙◌, arith}
 use Rattle.std.proofs.lemmas.List.{take-append-drop, drop-drop}
 
--- a line, which was cut off what stands from a byte on, and what stands behind it
+-- a line, which was cut off what is from a byte on, and what is behind it
 pub next_line : (xs shown front line : List ℕ) (at n : ℕ) → shown ≡ xs → front ≡ [] → line ≡ front ++ take n (take (length shown - at) (drop at shown))
     → drop at xs ≡ line ++ drop (at + n) xs
 next_line xs shown front line at n same empty is =

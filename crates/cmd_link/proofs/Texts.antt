@@ -7,7 +7,7 @@ use Rattle.spec_link.specs.LinkText.{link_of}
 use Rattle.spec_link.specs.LinkOutput.{link_output, linked_journals}
 use Rattle.spec_link.specs.Consumed.{AreDints}
 use Rattle.spec_link.proofs.Scripts.{scripts_keep_whole}
-use Rattle.spec_writers.proofs.Writers.{changes_have_writers}
+use Rattle.spec_beside.proofs.Writers.{changes_have_writers}
 use Rattle.cmd_link.specs.LinkTexts.{IsLinkText}
 
 pub is_link_text : (a b : Project) (bytes : List ℕ) (script : LinkScript) (text : List ℕ) → IsValidProject a → IsValidProject b → link_of a b bytes ≡ Ok script

@@ -43,7 +43,7 @@ few_rungs (r ∷ rs) small =
     let all : rungs_in (r ∷ rs) ≡ length r.source + rungs_in rs = sum_by-cons (λ (r : machine.RoutineText). length r.source) r rs in
     omega arith
 
--- a small program has at most so many routines, and so many rungs
+-- the routines and rungs of a small program are few
 small_parts : (q : machine.ProgramText) → IsTrue (is_small_program q) → (length q.routines ≤ MAX_ROUTINES) × (rungs_in q.routines ≤ MAX_RUNGS * MAX_ROUTINES)
 small_parts q small =
     let parts = and_parts (is_within (length q.routines) MAX_ROUTINES) (list_all (λ r. nat_le (length r.source) MAX_RUNGS) q.routines) small in

@@ -9,15 +9,15 @@ abbrev pub first_left : {X : Type 0} → (X → List ℕ) → (X → List ℕ) �
 first_left part whole [] = []
 first_left part whole (x ∷ xs) = part x ++ flat_map whole xs
 
--- a routine without so many of its lines: the line of its names is the first
+-- a routine without its first n lines, of which the first has its names
 abbrev pub routine_left : List ℕ → ℕ → RoutineText → List ℕ
 routine_left program zero r = routine_lines program r
 routine_left program (suc n) r = rung_lines (drop n r.source)
 
--- a program without so many of its routines, and so many lines of the next
+-- a program without the routines before this place, and the lines of the next before it
 abbrev pub program_left : Place → ProgramText → List ℕ
 program_left p q = first_left (routine_left q.name p.line) (routine_lines q.name) (drop p.routine q.routines)
 
--- the programs without so many of them, and what is gone of the next
+-- the programs without the first n, and what is gone of the next
 abbrev pub programs_left : List ProgramText → ℕ → Place → List ℕ
 programs_left programs n p = first_left (program_left p) program_lines (drop n programs)

@@ -1,3 +1,1 @@
-pub mod Runs
 pub mod Texts
-pub mod Judging

@@ -1,5 +1,5 @@
 -- The plan of `gen N`: a number's project and its journal, judged as files are that are replayed. Of the report the counts and
--- the end line are told.
+-- the end line are said.
 use Rattle.std.specs.Prelude.{ℕ}
 use Rattle.spec_machine.specs.Project.{Project}
 use Rattle.lgx_answer.specs.declared.status.Verdict.TheVariants as verdict

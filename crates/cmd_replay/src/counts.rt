@@ -25,7 +25,7 @@ pub(crate) enum Next {
     Nothing,
 }
 
-/// What is told of the report of what was recorded: how many lines it has, and its end line.
+/// What is said of the report of what was recorded: how many lines it has, and its end line.
 #[derive(Drop)]
 pub(crate) struct Counts {
     /// The number that made the texts.
@@ -74,7 +74,7 @@ impl Lines for Counts {
     }
 }
 
-/// What is told of a journal that is replayed on a project, both made from a number.
+/// What is said of a journal that is replayed on a project, both made from a number.
 pub(crate) fn counts_of(
     alloc: Global,
     number: u32,

@@ -11,7 +11,7 @@ use lgx_project::Project;
 use lgx_record::Recording;
 use std::alloc::Global;
 
-/// Takes an event so many times: processor steps all at once, and others one by one.
+/// Takes an event `count` times: processor steps all at once, others one by one.
 fn apply_run(recording: &mut Recording, event: &Event, count: u32) -> Result<(), Memory>
     requires { recording.old.controller.spent + count ≤ MAX_EVENTS }
     ensures { (project : Projects) (events : List Events) → Records recording.old project events → OnOk result (Records recording.new project (events ++ replicate count event.now)) }

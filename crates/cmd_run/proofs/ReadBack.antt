@@ -12,7 +12,7 @@ use Rattle.spec_text.specs.JournalText.{Tally, event_words, joined, is_end, is_l
 use Rattle.lgx_journal.specs.Written.{AreWritten, IsReadable}
 use Rattle.lgx_journal.proofs.TextsBack.{journal_back}
 
--- ---- the lines of a text, and of what stands behind its line feed
+-- ---- the lines of a text, and of what is behind its line feed
 
 cut_more : (b : Bool) (c : ℕ) (p : List ℕ) (ps qs : List (List ℕ)) → cut b c ((p ∷ ps) ++ qs) ≡ cut b c (p ∷ ps) ++ qs
 cut_more true c p ps qs = refl

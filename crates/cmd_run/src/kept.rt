@@ -31,7 +31,7 @@ fn show_edits(edits: &[RungEdit])
     }
 }
 
-/// An action.
+/// Lets the prover see that an action keeps its limits.
 fn show_action(action: &Action)
     ensures { IsTrue (is_kept_action action.now) }
 {
@@ -73,7 +73,7 @@ fn show_action(action: &Action)
     }
 }
 
-/// An event that stands there so often.
+/// An event that is there so often.
 fn show_event(event: &Event, count: u32)
     ensures { IsTrue (is_kept_run (event_run event.now count)) }
 {

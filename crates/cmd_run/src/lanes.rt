@@ -17,7 +17,7 @@ use std::thread::Threads;
 /// The same recorder, after the lanes of its script ran on its project. What may be left to do is left: a lane that was short of
 /// memory, or made all the turns that it may.
 ///
-/// No type of a pass stands in its signature: so its caller may say what the input and the ledgers name.
+/// No type of a pass is in its signature: so its caller may say what the input and the ledgers name.
 fn run_shared<
     I: Input + Send,
     A: Ledger + Send,

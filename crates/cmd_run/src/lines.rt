@@ -48,7 +48,7 @@ impl RunLines {
     }
 }
 
-/// Makes the line of the journal's run number `i`, in place of what stands in `line`.
+/// Makes the line of the journal's run number `i`, in place of what is in `line`.
 fn run_line(line: &mut Vec<u8>, journal: &Journal, i: u32) -> Result<(), Memory>
     requires { i < length (joined journal.now.events) }
     ensures { OnOk result (line.new.items ≡ run_line (run_at journal.now.events i)) }
@@ -58,7 +58,7 @@ fn run_line(line: &mut Vec<u8>, journal: &Journal, i: u32) -> Result<(), Memory>
     Ok(())
 }
 
-/// Makes the line `end`, in place of what stands in `line`.
+/// Makes the line `end`, in place of what is in `line`.
 fn journal_end(line: &mut Vec<u8>) -> Result<(), Memory>
     ensures { OnOk result (line.new.items ≡ codes "end" ++ 10 ∷ []) }
 {

@@ -12,7 +12,7 @@ use Rattle.cmd_trace.specs.TraceLeft.{no_run, events_left, HasNext}
 abbrev at : List EventRun → ℕ → EventRun
 at runs i = slice_index_or runs i no_run
 
--- one of so many
+-- one of n
 one_less : (n : ℕ) (e : Event) (es : List Event) → 0 < n → replicate n e ++ es ≡ e ∷ (replicate (n - 1) e ++ es)
 one_less zero e es h = absurd (omega arith)
 one_less (suc n) e es h = ap (λ k. e ∷ (replicate k e ++ es)) (let z : n ≡ suc n - 1 = omega arith in z)

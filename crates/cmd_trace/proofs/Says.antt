@@ -1,4 +1,4 @@
--- What a trace is told, by what the audit finds.
+-- What is said of a trace, by what the audit finds.
 use Rattle.std.proofs.Common.{◌≡◌, ℕ, List, length, Option, Some, None, Result, Ok, Err, refl, sym, ◌∙◌, ap, subst}
 use Rattle.spec_schedule.specs.declared.trace.Table.{Table}
 use Rattle.spec_schedule.specs.declared.trace.TraceEvent.{TraceEvent}

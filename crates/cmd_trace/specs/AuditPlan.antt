@@ -16,7 +16,7 @@ use Rattle.lgx_audit.specs.Breaches.{Breach, breach, IsBreach}
 
 -- ---- lines
 
--- so many events, and none breaks a law
+-- the trace has this number of events, and none breaks a law
 abbrev pub yes_line : ℕ → List ℕ
 yes_line events = line_of (codes "yes" ∷ decimal events ∷ [])
 
@@ -34,13 +34,13 @@ trace_cause_line f = line_of (codes "trace" ∷ code_word f.code ∷ codes "line
 
 -- ---- the plan
 
--- Yes is said of a trace that is legal, and of no other; else the breach is told that it has. That this is so is part of what may be
--- written: a text that says yes of another trace is none of these.
+-- Yes is said of a trace that is legal, and of no other; else its breach is named. That this is so is part of what may be written: a
+-- text that says yes of another trace is none of these.
 abbrev pub by_breach : Table → List TraceEvent → Option Breach → Plan
 by_breach table trace None = Say verdict.Ok (λ text. (text ≡ yes_line (length trace)) × Legal table trace)
 by_breach table trace (Some b) = Say verdict.Breach (λ text. (text ≡ no_line b) × IsBreach table trace b.law b.at)
 
--- what a trace is told
+-- what is said of a trace
 abbrev pub judged : Table → List TraceEvent → Plan
 judged table trace = by_breach table trace (breach table trace)
 

@@ -40,7 +40,7 @@ trace_view bytes journal made ended = record { text = file_left (project_of byte
 abbrev pub no_run : EventRun
 no_run = record { event = Cpu; count = 0 }
 
--- the events of runs, without so many runs, and so many events of the next
+-- the events of runs, without those of the first `run` runs and `done` of the next
 abbrev pub events_left : List EventRun → ℕ → ℕ → List Event
 events_left [] run done = []
 events_left (r ∷ rs) zero done = replicate (r.count - done) r.event ++ events_of rs

@@ -34,7 +34,7 @@ struct Saying {
     text: Items<u8>,
 }
 
-/// What a trace is told.
+/// What is said of a trace.
 fn judged(alloc: Global, table: &Table, trace: &Trace) -> Result<Saying, Memory>
     requires { AreInTable table.now trace.now }
     ensures { IfOk result (λ s. Says (judged table.now trace.now) s.verdict s.text) }
@@ -58,7 +58,7 @@ fn judged(alloc: Global, table: &Table, trace: &Trace) -> Result<Saying, Memory>
     }
 }
 
-/// What the bytes of a trace are told.
+/// What is said of the bytes of a trace.
 fn on_trace(alloc: Global, table: &Table, bytes: &[u8]) -> Result<Saying, Memory>
     ensures { IfOk result (λ s. Says (on_trace table.now bytes.now) s.verdict s.text) }
 {

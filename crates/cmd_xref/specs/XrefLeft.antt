@@ -4,11 +4,11 @@ use Rattle.spec_machine.specs.Project.{Project}
 use Rattle.lgx_xref.specs.Indexes.{tag_numbers}
 use Rattle.cmd_xref.specs.XrefText.{tag_lines}
 
--- all but so many of the first tag's lines, and all of the others'
+-- all but n of the first tag's lines, and all of the others'
 abbrev pub left_of : List (List (List ℕ)) → ℕ → List (List ℕ)
 left_of [] n = []
 left_of (lines ∷ more) n = drop n lines ++ flat_map (λ ls. ls) more
 
--- the lines without those of so many tags, and so many of the next
+-- the lines without those of the first `tags` tags and n of the next
 abbrev pub lines_left : Project → ℕ → ℕ → List (List ℕ)
 lines_left p tags n = left_of (drop tags (map (tag_lines p) (tag_numbers p))) n

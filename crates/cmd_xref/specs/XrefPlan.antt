@@ -8,6 +8,6 @@ use Rattle.cmd_xref.specs.XrefText.{xref_text}
 abbrev pub xref_judged : List ℕ → Plan
 xref_judged = on_project (λ project. Say verdict.Ok (only (xref_text project)))
 
--- the file of this name is read, and the uses of its tags are told if it is a project
+-- the file of this name is read, and the uses of its tags are listed if it is a project
 abbrev pub xref_plan : List ℕ → Plan
 xref_plan name = Read name xref_judged

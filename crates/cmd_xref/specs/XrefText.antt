@@ -24,7 +24,7 @@ routine_names programs n = elim (slice_get programs n) [ None ↦ [] | Some q �
 abbrev pub routine_name : List ProgramText → ℕ → ℕ → List ℕ
 routine_name programs n r = name (routine_names programs n) r
 
--- before the name of a program's tag stand `Program:`, the program and a dot
+-- before the name of a program's tag are `Program:`, the program and a dot
 abbrev pub scope_prefix : List ProgramText → Scope → List ℕ
 scope_prefix programs Controller = []
 scope_prefix programs (Program n) = codes "Program:" ++ program_name programs n ++ codes "."

@@ -12,7 +12,7 @@ use lgx_tags::Scope;
 use lgx_watch::{push_count, push_word};
 use spec_uses::Use;
 
-/// Adds what stands before the name of a tag of this scope.
+/// Adds what is before the name of a tag of this scope.
 fn push_scope(line: &mut Vec<u8>, programs: &[ProgramText], scope: Scope) -> Result<(), Memory>
     ensures { OnOk result (line.new.items ≡ line.old.items ++ scope_prefix (map program_of programs.now) scope) }
 {
@@ -36,7 +36,7 @@ fn push_tag(line: &mut Vec<u8>, project: &PlantParts, tag: u32) -> Result<(), Me
     Ok(())
 }
 
-/// Makes the line of a tag's name, in place of what stands in `line`.
+/// Makes the line of a tag's name, in place of what is in `line`.
 pub(crate) fn name_line(project: &PlantParts, tag: u32, line: &mut Vec<u8>) -> Result<(), Memory>
     requires { tag < length (spans_of project.now.tags) }
     ensures { OnOk result (line.new.items ≡ name_line project.now tag) }
@@ -48,7 +48,7 @@ pub(crate) fn name_line(project: &PlantParts, tag: u32, line: &mut Vec<u8>) -> R
     Ok(())
 }
 
-/// Makes the line of a use, in place of what stands in `line`.
+/// Makes the line of a use, in place of what is in `line`.
 fn use_line(
     programs: &[ProgramText],
     does: &[u8],
@@ -69,7 +69,7 @@ fn use_line(
     Ok(())
 }
 
-/// Makes line `at` of a tag's uses, its writers before its readers, in place of what stands in `line`; `false` if it has no more.
+/// Makes line `at` of a tag's uses, its writers before its readers, in place of what is in `line`; `false` if it has no more.
 pub(crate) fn uses_line(
     programs: &[ProgramText],
     writers: &[Use],

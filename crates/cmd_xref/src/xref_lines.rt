@@ -40,7 +40,7 @@ impl Model for XrefLines {
     ghost invariant = { λ l. l.xref ≡ index_of l.project };
 }
 
-/// Makes line `at` of a tag, in place of what stands in `line`; `false` if the tag has no more.
+/// Makes line `at` of a tag, in place of what is in `line`; `false` if the tag has no more.
 fn tag_line(
     project: &PlantParts,
     xref: &Xref,
@@ -62,7 +62,7 @@ fn tag_line(
     uses_line(programs, xref.writers(tag), xref.readers(tag), at - 1, line)
 }
 
-/// Makes the next line of a project, in place of what stands in `line`; `false` if there is none.
+/// Makes the next line of a project, in place of what is in `line`; `false` if there is none.
 fn next_line(
     project: &PlantParts,
     xref: &Xref,

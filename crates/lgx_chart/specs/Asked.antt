@@ -60,7 +60,7 @@ place_of word value =
 abbrev pub is_told : List Place → List ℕ → Bool
 is_told places name = list_any (λ p. bytes_eq p.name name) places
 
--- a place is told once, and there are no more than a project watches
+-- a place is given once, and there are no more than a project watches
 abbrev pub may_tell : List Place → List ℕ → Bool
 may_tell places name = not (is_told places name) && nat_lt (length places) MAX_WATCHES
 

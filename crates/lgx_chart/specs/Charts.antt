@@ -16,7 +16,7 @@ use Rattle.lgx_chart.specs.declared.error.ChartCode.TheVariants.{V1, V2, V3, V4,
 use Rattle.lgx_chart.specs.declared.error.ChartFault.{ChartFault}
 use Rattle.lgx_chart.specs.Forms.{entry_of, end_of}
 
--- ---- what stands before a line
+-- ---- what is before a line
 
 -- the number of lines, the last tick and number of steps, the tasks that began, the watched places that changed
 pub record Seen : Type 0 where
@@ -64,7 +64,7 @@ comes_after seen tick step = nat_le seen.tick tick && nat_le seen.step step
 
 -- ---- line by line
 
--- what a line says, if it may stand here, or its first cause
+-- what a line says, if it may come here, or its first cause
 abbrev pub taken : Seen → Entry → Result Entry ChartCode
 taken seen e =
     unless (comes_after seen e.tick e.step) V2 >>= λ _. unless (is_within_limits (seen_with seen e)) V3 >>= λ _. Ok e
@@ -76,7 +76,7 @@ entry_at seen words = some_or (entry_of words) V1 >>= taken seen
 abbrev pub refused : {A : Type 0} → ℕ → ChartCode → Result A ChartFault
 refused line code = Err (record { code = code; line = line })
 
--- what stands after the end line's line feed is nothing
+-- what is after the end line's line feed is nothing
 abbrev pub nothing_follows : List (List ℕ) → Bool
 nothing_follows [] = false
 nothing_follows (rest ∷ []) = is_empty rest
@@ -98,7 +98,7 @@ by_line seen (Some end) entry rest others = chart_at_end seen end rest
 by_line seen None (Err code) rest others = refused (seen.lines + 1) code
 by_line seen None (Ok e) rest others = with_entry e (others (seen_with seen e))
 
--- the report that goes on with these lines; what stands after the last line feed is no line
+-- the report that goes on with these lines; what is after the last line feed is no line
 abbrev pub chart_from : Seen → List (List ℕ) → Result Chart ChartFault
 chart_from seen [] = refused (seen.lines + 1) V4
 chart_from seen (rest ∷ []) = refused (seen.lines + 1) V4

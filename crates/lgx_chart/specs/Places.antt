@@ -1,4 +1,4 @@
--- The watched places of a picture: those that are told, and those that a report names besides.
+-- The watched places of a picture: those that are given, and those that a report names besides.
 use Rattle.std.specs.Prelude.{ℕ, List, ◌++◌, map, fold, Bool, false, ◌&&◌, nat_le, nat_lt, if◌then◌else◌, ℤ, Option, Some, None}
 use Rattle.std.specs.Option.{option_or}
 use Rattle.std.specs.List.{list_any, filter_map}
@@ -35,7 +35,7 @@ set_to name (Set watch value) = if bytes_eq watch name then Some value else None
 abbrev pub after_line : View → List ℕ → Option ℤ → Entry → Option ℤ
 after_line view name value e = if is_before view e then option_or (set_to name e.note) value else value
 
--- what stands there when the first time that is shown begins
+-- what is there when the first time that is shown begins
 abbrev pub value_at_start : View → List Entry → List ℕ → Option ℤ → Option ℤ
 value_at_start view es name value = fold (after_line view name) value es
 
@@ -44,14 +44,14 @@ value_at_start view es name value = fold (after_line view name) value es
 abbrev pub shown : View → List Entry → Place → Place
 shown view es p = record p { start = value_at_start view es p.name p.start }
 
--- of a place that isn't told, nothing is known before its first change
+-- of a place that isn't given, nothing is known before its first change
 abbrev pub unknown : List ℕ → Place
 unknown name = record { name = name; is_bool = false; start = None }
 
 abbrev pub untold : List Place → List ℕ → Option Place
 untold places name = if is_told places name then None else Some (unknown name)
 
--- the places that are told, and then those that changed besides
+-- the places that are given, and then those that changed besides
 abbrev pub places_of : Asked → Chart → List Place
 places_of a chart = map (shown a.view chart.entries) (a.places ++ filter_map (untold a.places) chart.watches)
 

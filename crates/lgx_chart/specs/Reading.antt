@@ -1,4 +1,4 @@
--- How a reader's answer stands to what its definition says.
+-- How a reader's answer relates to what its definition says.
 use Rattle.std.specs.Prelude.{ℕ, List, ◌++◌, Option, Some, None, Result, Ok, Err}
 use Rattle.lgx_chart.specs.declared.entry.Entry.{Entry}
 use Rattle.lgx_chart.specs.declared.entry.Chart.{Chart}

@@ -21,7 +21,7 @@ use Rattle.lgx_chart.specs.Places.{is_shown, is_bool, places_of}
 
 -- ---- values
 
--- the lowest binary digits of a number, so many, the highest first
+-- a number's lowest binary digits, as many as the first number says, the highest of them first
 unfoldable pub binary : ℕ → ℕ → List ℕ
 binary zero n = []
 binary (suc count) n = binary count (n / 2) ++ (48 + n % 2) ∷ []
@@ -60,7 +60,7 @@ abbrev pub is_now : Option ℕ → ℕ → Bool
 is_now None time = false
 is_now (Some last) time = nat_eq last time
 
--- a time stands before the first of its changes
+-- a time is before the first of its changes
 abbrev pub stamp : Option ℕ → ℕ → List ℕ
 stamp last time = if is_now last time then [] else codes "#" ++ decimal time ++ codes "\n"
 
@@ -167,7 +167,7 @@ abbrev pub beginning : ℕ → List (List ℕ) → List ℕ → List ℕ
 beginning from tasks values =
     if is_empty values then [] else stamp None from ++ values_text ++ values ++ flat_map idle_task tasks ++ idle_text
 
--- the time that stands before the changes
+-- the time that is before the changes
 abbrev pub begun_at : ℕ → List ℕ → Option ℕ
 begun_at from values = if is_empty values then None else Some from
 

@@ -132,7 +132,7 @@ pub(crate) fn is_told(places: &[Place], name: &[u8]) -> bool
     places.iter().any(|place| place.name.as_slice() == name)
 }
 
-/// Whether a place of that name may be told beside these.
+/// Whether a place of that name may be given beside these.
 fn may_tell(places: &[Place], name: &[u8]) -> bool
     ensures { result ≡ may_tell places.now name.now }
 {
@@ -168,7 +168,7 @@ impl Model for Reading {
 }
 
 impl Reading {
-    /// No option.
+    /// What is asked before an option is read: all of the report, by this clock.
     fn new(alloc: Global, clock: Clock) -> Reading
         ensures { result ≡ untold clock }
     {
@@ -178,7 +178,7 @@ impl Reading {
         }
     }
 
-    /// Adds a place, if it may be told. Answers whether it may.
+    /// Adds a place, if it may be given. Answers whether it may.
     fn add(&mut self, place: Place) -> Result<bool, Memory>
         ensures taken { IfOk result (λ ok. IsTrue ok → with_place self.old place ≡ Some self.new) }
         ensures refused { IfOk result (λ ok. IsFalse ok → with_place self.old place ≡ None) }

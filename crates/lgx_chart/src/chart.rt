@@ -17,7 +17,7 @@ use spec_machine::limits::MAX_WATCHES;
 use std::alloc::Global;
 use std::marker::Model;
 
-/// What stands before a line.
+/// What is before a line.
 #[derive(Drop)]
 struct Seen {
     lines: u64,
@@ -42,7 +42,7 @@ impl Model for Seen {
     } };
 }
 
-/// Whether a name stands in a list.
+/// Whether a name is in a list.
 fn has_name(names: &[Items<u8>], name: &[u8]) -> bool
     ensures { result ≡ list_any (λ n. bytes_eq n name.now) names.now }
 {
@@ -60,7 +60,7 @@ fn add_name(alloc: Global, names: &mut Vec<Items<u8>>, name: &[u8]) -> Result<()
 }
 
 impl Seen {
-    /// Nothing.
+    /// What is seen before the first line: nothing.
     fn new(alloc: Global) -> Seen
         ensures { result ≡ nothing }
     {
@@ -104,7 +104,7 @@ impl Seen {
         }
     }
 
-    /// Counts a line that says this, if it may stand here.
+    /// Counts a line that says this, if it may come here.
     fn take(&mut self, alloc: Global, entry: &Entry) -> Result<(), ChartError>
         requires { self.old.lines < 2 ^ 63 }
         ensures entry { OnOk result (taken self.old entry.now ≡ Ok entry.now) }

@@ -17,7 +17,7 @@ pub enum ChartCode {
     /// The text ends without an end line and the line feed after it; the number is that of the line that should have been the
     /// end line.
     V4,
-    /// Something stands after the end line.
+    /// Something follows the end line.
     V5,
 }
 

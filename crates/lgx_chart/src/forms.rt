@@ -30,7 +30,7 @@ fn begun(alloc: Global, task: &[u8], program: &[u8], version: &[u8]) -> Result<O
     }))
 }
 
-/// `TASK PROGRAM VERSION`
+/// What `TASK PROGRAM VERSION` says after `begin`; None if the words have another form.
 fn begin_of(alloc: Global, words: &[&[u8]]) -> Result<Option<Note>, Memory>
     ensures { IfOk result (λ note. note ≡ begin_of (map (λ w. w.now) words.now)) }
 {
@@ -84,7 +84,7 @@ fn is_answer(words: &[&[u8]]) -> bool
     }
 }
 
-/// `LANE ANSWER`
+/// What `LANE ANSWER` says after `reply`; None if the words have another form.
 fn reply_of(alloc: Global, words: &[&[u8]]) -> Result<Option<Note>, Memory>
     ensures { IfOk result (λ note. note ≡ reply_of (map (λ w. w.now) words.now)) }
 {
@@ -100,14 +100,14 @@ fn reply_of(alloc: Global, words: &[&[u8]]) -> Result<Option<Note>, Memory>
     Ok(Some(Note::Reply(all_owned(alloc, words)?)))
 }
 
-/// A severity.
+/// Whether a word is a severity, `minor` or `major`.
 fn is_severity(word: &[u8]) -> bool
     ensures { result ≡ is_severity word.now }
 {
     word == b"minor".as_slice() || word == b"major".as_slice()
 }
 
-/// `TYPE/CODE`
+/// Whether a word is a fault's `TYPE/CODE`.
 #[tactic(auto, using(crate::proofs::WordLists::three_numbers))]
 fn is_fault_number(word: &[u8]) -> bool
     ensures { result ≡ is_fault_number word.now }
@@ -154,7 +154,7 @@ fn fault_of(alloc: Global, words: &[&[u8]]) -> Result<Option<Note>, Memory>
     }
 }
 
-/// `WATCH VALUE`
+/// What `WATCH VALUE` says after `set`; None if the words have another form.
 fn set_of(alloc: Global, words: &[&[u8]]) -> Result<Option<Note>, Memory>
     ensures { IfOk result (λ note. note ≡ set_of (map (λ w. w.now) words.now)) }
 {
@@ -212,7 +212,7 @@ fn entry_of(alloc: Global, words: &[&[u8]]) -> Result<Option<Entry>, Memory>
     Ok(Some(Entry { tick, step, note }))
 }
 
-/// A mode.
+/// Whether a word is a mode: `program`, `run` or `faulted`.
 fn is_mode(word: &[u8]) -> bool
     ensures { result ≡ is_mode word.now }
 {

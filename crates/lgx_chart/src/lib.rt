@@ -2,7 +2,7 @@
 //! wave file.
 //!
 //! A report is read without its project, so tasks, programs and watched places are the names in its lines. Which watched places
-//! are BOOLs, which never change, and what they have before the first line, is told by the words of the call.
+//! are BOOLs, which never change, and what they have before the first line, is given by the words of the call.
 #![tactic(auto)]
 
 mod asked;
@@ -30,6 +30,6 @@ pub use picture::Picture;
 pub use places::places_of;
 pub use text_out::{push, push_count, push_joined};
 pub use vcd::vcd_text;
-pub use wave_file::{USAGE, program, wave};
+pub use wave_file::{USAGE, WaveProgram, wave};
 pub use word::draw;
 pub use words::owned;

@@ -11,7 +11,7 @@ pub trait Picture: Drop + Sized {
     /// The text of a report's picture.
     ghost text: { Self → ChartView → List ℕ };
 
-    /// The picture's text.
+    /// What the picture of a chart is as a file.
     fn to_text(&self, alloc: Global, chart: &Chart) -> Result<Vec<u8>, Memory>
         ensures { IfOk result (λ t. t.items ≡ text self.now chart.now) };
 }

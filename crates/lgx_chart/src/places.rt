@@ -77,7 +77,7 @@ fn shown(alloc: Global, view: View, entries: &[Entry], place: &Place) -> Result<
     })
 }
 
-/// Adds the places that are told.
+/// Adds the places that are given.
 fn push_told(
     places: &mut Vec<Place>,
     alloc: Global,
@@ -92,7 +92,7 @@ fn push_told(
     Ok(())
 }
 
-/// A place that isn't told, as it is shown.
+/// A place that isn't given, as it is shown.
 fn unknown(alloc: Global, view: View, entries: &[Entry], name: &[u8]) -> Result<Place, Memory>
     ensures { IfOk result (λ p. p ≡ shown view entries.now (unknown name.now)) }
 {
@@ -103,7 +103,7 @@ fn unknown(alloc: Global, view: View, entries: &[Entry], name: &[u8]) -> Result<
     })
 }
 
-/// Adds the places that are named and not told.
+/// Adds the places that are named and not given.
 fn push_untold(
     places: &mut Vec<Place>,
     alloc: Global,

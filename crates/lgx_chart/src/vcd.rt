@@ -16,7 +16,7 @@ use crate::vcd_texts::{
 use lgx_num::{Items, Memory, is_name_byte};
 use std::alloc::Global;
 
-/// Adds the lowest binary digits of a number, so many.
+/// Adds the lowest `count` binary digits of a number.
 #[tactic(auto, using(crate::proofs::Texts::binary_none, crate::proofs::Texts::binary_step))]
 fn push_binary(text: &mut Vec<u8>, count: u32, number: u32) -> Result<(), Memory>
     ensures { OnOk result (text.new.items ≡ text.old.items ++ binary count number) }
@@ -90,7 +90,7 @@ fn level_of(value: i32) -> &'static [u8]
     if value == 0 { b"0" } else { b"1" }
 }
 
-/// Adds a value.
+/// Adds a value: a BOOL as one digit, a number as its 32 binary digits.
 fn push_value(text: &mut Vec<u8>, is_bool: bool, value: i32) -> Result<(), Memory>
     ensures { OnOk result (text.new.items ≡ text.old.items ++ value_of is_bool value) }
 {
@@ -211,7 +211,7 @@ fn push_task_signals(text: &mut Vec<u8>, tasks: &[Items<u8>]) -> Result<(), Memo
     Ok(())
 }
 
-/// What stands before the name of a watched place.
+/// What is before the name of a watched place.
 fn kind_text(is_bool: bool) -> &'static [u8]
     ensures { result.now ≡ kind_text is_bool }
 {
@@ -259,7 +259,7 @@ fn push_ending(text: &mut Vec<u8>, alloc: Global, end: &End) -> Result<(), Memor
     push_count(text, alloc, lost_text(), u64::from(end.lost))
 }
 
-/// Adds what stands before the signals.
+/// Adds what is before the signals.
 fn push_opening(text: &mut Vec<u8>, alloc: Global, clock: Clock, end: &End) -> Result<(), Memory>
     ensures { OnOk result (text.new.items ≡ text.old.items ++ opening clock end.now) }
 {
@@ -332,7 +332,7 @@ fn push_beginning(
     push(text, idle_text())
 }
 
-/// The time that stands before the changes.
+/// The time that is before the changes.
 #[tactic(auto, using(crate::proofs::Texts::some_values, crate::proofs::Texts::no_values))]
 fn begun_at(from: u32, values: &[u8]) -> Option<u32>
     ensures { result ≡ begun_at from values.now }
@@ -343,7 +343,7 @@ fn begun_at(from: u32, values: &[u8]) -> Option<u32>
     Some(from)
 }
 
-/// Adds what stands after the signals.
+/// Adds what is after the signals.
 fn push_after_signals(
     text: &mut Vec<u8>,
     alloc: Global,

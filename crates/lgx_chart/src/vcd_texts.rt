@@ -1,4 +1,4 @@
-// The fixed texts of a wave file. Proofs of what stands beside them don't look inside.
+// The fixed texts of a wave file. Proofs of what is beside them don't look inside.
 ghost use Rattle.std.specs.Prelude.{◌≡◌};
 ghost use Rattle.lgx_chart.specs.Vcd.{version_text, lost_text, timescale_text, end_text, task_text, wire_text, watch_text, tasks_scope, watches_scope, other_signals, values_text, idle_text};
 

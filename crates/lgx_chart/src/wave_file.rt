@@ -3,7 +3,6 @@ ghost use Rattle.std.specs.Prelude.{◌≡◌, map, string_bytes, option_map, If
 ghost use Rattle.lgx_answer.specs.Answered.{call_of};
 ghost use Rattle.lgx_answer.specs.Endings.{ending_of};
 ghost use Rattle.lgx_answer.specs.Laws.{FollowsPlan};
-ghost use Rattle.lgx_answer.specs.Process.{IsProcess};
 ghost use Rattle.lgx_chart.specs.Vcd.{vcd_text};
 ghost use Rattle.lgx_chart.specs.WavePlan.{wave_asked, wave_plan};
 
@@ -12,11 +11,11 @@ use crate::entry::Chart;
 use crate::picture::Picture;
 use crate::vcd::vcd_text;
 use crate::word::draw;
-use lgx_answer::{Status, exit_number};
-use lgx_io::{Files, Gathered, Sink};
+use lgx_answer::Status;
+use lgx_io::{Files, Sink};
 use lgx_num::Memory;
+use lgx_process::Planned;
 use std::alloc::Global;
-use std::io::Write;
 
 /// The line that says how to use the program.
 pub const USAGE: &[u8] =
@@ -67,18 +66,20 @@ pub fn wave<F: Files, K: Sink>(
     draw(alloc, USAGE, wave_asked(alloc, words), files, sink)
 }
 
-/// All that the process does with its words: what [`wave`] does, and then what still waits to be written is written. Answers
-/// the number that the process ends with.
-pub fn program<F: Files, W: Write + Drop>(
-    alloc: Global,
-    words: &[String],
-    files: &mut F,
-    output: &mut Gathered<W>,
-) -> u8
-    ensures { IsProcess (wave_plan (map string_bytes words.now)) (F.told files.old)
-        (record { old = F.failures files.old; new = F.failures files.new })
-        output.old output.new result }
-{
-    let status = wave(alloc, words, files, output);
-    exit_number(status, output)
+/// The program `logix_wave`, whose words have a plan.
+pub struct WaveProgram;
+
+impl Planned for WaveProgram {
+    ghost use Rattle.lgx_chart.specs.WavePlan.{wave_plan};
+
+    ghost plan = { λ words. wave_plan words };
+
+    fn follow<F: Files, K: Sink>(
+        alloc: Global,
+        words: &[String],
+        files: &mut F,
+        sink: &mut K,
+    ) -> Status {
+        wave(alloc, words, files, sink)
+    }
 }

@@ -16,7 +16,7 @@ use Rattle.spec_reach.proofs.Reached.{run_more}
 use Rattle.lgx_steps.specs.Executing.{executed_of}
 use Rattle.lgx_core.specs.Represents.{StandsFor}
 use Rattle.lgx_core.proofs.Runs.{trace-more}
-use Rattle.lgx_cover.proofs.Runs.{one_more}
+use Rattle.lgx_judge.proofs.Runs.{one_more}
 use Rattle.lgx_cover.specs.declared.version.Version.{Version}
 use Rattle.lgx_cover.specs.declared.coverage.Coverage.{Coverage}
 use Rattle.lgx_cover.specs.Executions.{Occurrence, version_in, occurrences, begun_by, begins, executions}

@@ -1,5 +1,3 @@
-pub mod Runs
-pub mod Judging
 pub mod Executed
 pub mod Ends
 pub mod Onces

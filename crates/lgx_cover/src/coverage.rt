@@ -34,7 +34,7 @@ impl Coverage {
         })
     }
 
-    /// The counts.
+    /// The counts of all versions so far.
     pub(crate) fn tables(&self) -> &Tables
         ensures { result.now ≡ self.now.tables }
     {
@@ -87,7 +87,7 @@ impl Coverage {
         Ok(())
     }
 
-    /// One event.
+    /// Takes an event, and counts what it executes.
     pub(crate) fn apply(&mut self, event: &Event) -> Result<(), Memory>
         requires coverage { IsCoverage self.old }
         requires room { self.old.controller.spent < MAX_EVENTS }

@@ -11,7 +11,7 @@ use lgx_journal::{Event, Journal};
 use lgx_num::Memory;
 use std::alloc::Global;
 
-/// Takes an event so many times: processor steps all at once, and others one by one.
+/// Takes an event `count` times: processor steps all at once, others one by one.
 fn apply_run(coverage: &mut Coverage, event: &Event, count: u32) -> Result<(), Memory>
     requires coverage { IsCoverage coverage.old }
     requires room { coverage.old.controller.spent + count ≤ MAX_EVENTS }

@@ -16,7 +16,7 @@ mod text_out;
 mod version;
 mod word;
 
-pub use call::{USAGE, cover, program};
+pub use call::{CoverProgram, USAGE, cover};
 pub use coverage::Coverage;
 pub use version::Version;
 pub use word::cover_journal;

@@ -61,7 +61,7 @@ impl Model for Row {
 }
 
 impl Row {
-    /// No counts.
+    /// A row of no instruction yet.
     pub(crate) fn new(alloc: Global) -> Row
         ensures { result ≡ [] }
     {

@@ -68,7 +68,7 @@ impl Tables {
         None
     }
 
-    /// The table of a program's present version stands there.
+    /// The table of a program's present version is there.
     fn set_place(&mut self, program: u32, place: usize) -> Result<(), Memory>
         ensures current { OnOk result ((q : ℕ) → slice_index_or self.new.current.items q None ≡ (if nat_eq q program then Some place else slice_index_or self.old.current.items q None)) }
         ensures tables { self.new.tables ≡ self.old.tables }

@@ -20,7 +20,7 @@ fn push_number(text: &mut Vec<u8>, number: u32) -> Result<(), Memory>
     Ok(())
 }
 
-/// Where an instruction stands: in which version, in which routine of it, and before how many pieces of code.
+/// Where an instruction is: in which version, in which routine of it, and before how many pieces of code.
 #[derive(Clone, Copy)]
 struct At {
     version: Version,

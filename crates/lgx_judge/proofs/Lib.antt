@@ -1,3 +1,5 @@
 pub mod CauseLine
 pub mod Follow
 pub mod Reports
+pub mod Judging
+pub mod Runs

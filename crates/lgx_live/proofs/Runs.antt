@@ -1,4 +1,4 @@
--- The lines of a log, and those of an event so many times, as they are put.
+-- The lines of a log, and those of an event n times, as they are put.
 use Rattle.std.proofs.Common.{◌≡◌, ℕ, ◌+◌, ◌-◌, ◌<◌, List, [], ◌∷◌, ◌++◌, take, drop, replicate, Some, Err, sym, ap, ◌∙◌, subst, append_assoc}
 use Rattle.std.specs.Prelude.{flat_map, slice_get, option_map}
 use Rattle.lgx_io.specs.declared.sink.SinkFault.{SinkFault}
@@ -36,7 +36,7 @@ log_cut fault a b c names lines i old line shown h none is same k =
     rest_of_log names lines (i + 1) ∙ ap (λ t. t ++ rest) (line_of_log names lines i old line none is) ∙ append_assoc before line rest in
     subst (λ t. Says a c t (Err fault)) (sym all) (says_cut fault a b c before line rest h (subst (λ t. Says b c t (Err fault)) same k))
 
--- ---- an event so many times
+-- ---- an event n times
 
 pub text_of_event : (project : Project) (events : List Event) (e : Event) (names : Names) (log : Kept) → names ≡ names_of project → log ≡ record { lines = lines_with project events (e ∷ []); lost = 0 }
     → flat_map (line_text names) log.lines ≡ text_with project events (e ∷ [])

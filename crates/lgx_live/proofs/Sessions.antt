@@ -82,7 +82,7 @@ report_uncut project events lines is few =
 
 -- ---- the journal
 
--- a line that could stand alone can stand after these
+-- a line that could be alone can come after these
 abbrev reading : Bool → Option EventRun → Bool → (EventRun → Bool) → Result EventRun JournalCode
 reading line run lane allowed = do
   _ ← unless line J1

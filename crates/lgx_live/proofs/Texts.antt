@@ -28,7 +28,7 @@ line_of_log names lines i old shown none h = ap (λ k. flat_map (line_text names
         append-nil (line_text names x) ∙ is
     at (x ∷ xs) (suc i) h = ap (λ t. line_text names x ++ t) (at xs i h) ∙ sym (append_assoc (line_text names x) (flat_map (line_text names) (take i xs)) shown)
 
--- what stands after them
+-- what is after them
 pub rest_of_log : (names : Names) (lines : List Stamped) (n : ℕ) → flat_map (line_text names) lines ≡ flat_map (line_text names) (take n lines) ++ flat_map (line_text names) (drop n lines)
 rest_of_log names [] zero = refl
 rest_of_log names [] (suc n) = refl
@@ -69,13 +69,13 @@ text_with_both project events xs ys =
     ap (flat_map (line_text (names_of project))) (lines_with_both project events xs ys)
     ∙ flat_map-append (line_text (names_of project)) (lines_with project events xs) (lines_with project (events ++ xs) ys)
 
--- ---- an event so many times
+-- ---- an event n times
 
 -- once more
 pub once_more : (e : Event) (n : ℕ) → replicate (n + 1) e ≡ replicate n e ++ e ∷ []
 once_more e n = sym (replicate-append-replicate n 1 e)
 
--- of more times, so many, once, and the others
+-- of n more times: once, and the others
 pub parted : (e : Event) (n k : ℕ) → k < n → replicate n e ≡ replicate k e ++ (e ∷ [] ++ replicate (n - (k + 1)) e)
 parted e n k h =
     let all : n ≡ k + (1 + (n - (k + 1))) = omega arith in

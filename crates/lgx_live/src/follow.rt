@@ -26,7 +26,7 @@ pub trait Follow {
     fn names(&self) -> &Names
         ensures { (project : Project) (events : List Events) → follows self.now project events → result.now ≡ names_of project };
 
-    /// Makes the end line of the report, in place of what stands in the text, and empties the log.
+    /// Makes the end line of the report, in place of what is in the text, and empties the log.
     fn end_line(&self, log: &mut Log, text: &mut Vec<u8>) -> Result<(), Memory>
         ensures { (project : Project) (events : List Events) → follows self.now project events → OnOk result (text.new.items ≡ last_line project events) };
 }

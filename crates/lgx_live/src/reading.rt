@@ -51,7 +51,7 @@ fn keep(line: &mut Vec<u8>, byte: u8) -> Result<(), AskFault>
     }
 }
 
-/// Reads up to a line feed, or to the end: `true` if a line feed came. As much of the line as may matter stands in `line` then.
+/// Reads up to a line feed, or to the end: `true` if a line feed came. As much of the line as may matter is in `line` then.
 pub(crate) fn read_line<R: Read>(reader: &mut R, line: &mut Vec<u8>) -> Result<bool, AskFault>
     ensures whole { result ≡ Ok true → CameWhole (R.remaining reader.old) (R.remaining reader.new) line.new.items }
     ensures last { result ≡ Ok false → CameLast (R.remaining reader.old) (R.remaining reader.new) line.new.items }

@@ -20,7 +20,7 @@ fn journal_code(code: JournalCode) -> &'static [u8]
     }
 }
 
-/// Makes the line, in place of what stands in the text.
+/// Makes the line, in place of what is in the text.
 #[tactic(auto, unfolding(crate::specs::Output::refusal_line))]
 pub(crate) fn refusal_line(text: &mut Vec<u8>, fault: JournalFault) -> Result<(), Memory>
     ensures { OnOk result (text.new.items ≡ refusal_line fault) }

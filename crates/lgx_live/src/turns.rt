@@ -57,7 +57,7 @@ fn put_log<C: Console>(
     Ok(())
 }
 
-/// Takes an event so many times, and puts the report's lines of each.
+/// Takes the event of a run as often as the run says, and puts the report's lines of each.
 fn take_run<C: Console, F: Follow>(
     console: &mut C,
     follow: &mut F,
@@ -82,7 +82,7 @@ fn take_run<C: Console, F: Follow>(
     Ok(())
 }
 
-/// The events of a line, after so many, or its first cause.
+/// The run that a line asks for, after `events` events, or the first cause why it is refused.
 fn run_asked(alloc: Global, events: u32, line: &[u8]) -> Result<EventRun, LineError>
     requires { has_byte 10 line.now ≡ false }
     ensures run { (before : List Events) → events ≡ length before → IfOk result (λ run. run_asked before line.now ≡ Ok run) }

@@ -1,4 +1,4 @@
--- The marks of a lane: where they stand, and what is drawn of them.
+-- The marks of a lane: where they are, and what is drawn of them.
 use Rattle.std.specs.Prelude.{ℕ, ◌+◌, ◌-◌, ◌*◌, ◌/◌, ◌^◌, min, max, List, [], ◌∷◌, ◌++◌, length, fold, Bool, false, nat_eq, nat_le, nat_lt, if◌then◌else◌, codes, ℤ, pos, ◌+ℤ◌, Option, Some, None, option_map, unsigned_abs, unwrap_or}
 use Rattle.std.specs.Fmt.{decimal, signed_decimal}
 use Rattle.std.specs.List.{flat_map, filter_map}
@@ -21,7 +21,7 @@ use Rattle.lgx_picture.specs.Lanes.{said_in}
 
 -- ---- places
 
--- what is shown, the last time of it, and from the first time to the last so many pixels
+-- what is shown, the last time of it, and how many pixels there are from the first time to the last
 abbrev pub scale_of : View → End → Scale
 scale_of view end = record {
   view = view;
@@ -29,12 +29,12 @@ scale_of view end = record {
   width = unwrap_or view.width PAGE - (LEFT + AFTER);
 }
 
--- where a time stands: the first at the left, the last at the right
+-- where a time is: the first at the left, the last at the right
 abbrev pub x_of : Scale → ℕ → ℕ
 x_of scale time =
     LEFT + (min time scale.end - scale.view.from) * scale.width / max (scale.end - scale.view.from) 1
 
--- where the last time stands
+-- where the last time is
 abbrev pub right_of : Scale → ℕ
 right_of scale = LEFT + scale.width
 
@@ -42,7 +42,7 @@ right_of scale = LEFT + scale.width
 abbrev pub edge_of : Scale → ℕ
 edge_of scale = LEFT + scale.width + AFTER
 
--- how high a value stands, counted from the least DINT
+-- how high a value is, counted from the least DINT
 abbrev pub level_at : ℤ → ℕ
 level_at value = unsigned_abs (value +ℤ pos (2 ^ 31))
 
@@ -87,7 +87,7 @@ highest start ms = fold (λ level m. max level m.level) (max ZERO (start_level s
 abbrev pub band_of : ℕ → Option ℤ → List Mark → Band
 band_of top start ms = record { top = top; low = lowest start ms; high = highest start ms }
 
--- where a level stands between the lowest and the highest
+-- where a level is between the lowest and the highest
 abbrev pub y_of : Band → ℕ → ℕ
 y_of band level = band.top + (FLOOR - RISE * (level - band.low) / max (band.high - band.low) 1)
 
@@ -139,18 +139,18 @@ told m = codes "tick " ++ decimal m.tick ++ codes ", step " ++ decimal m.step ++
 abbrev pub opening : Option ℕ → ℕ → List ℕ
 opening before x = if is_at before x then codes "\n" else codes "<g><title>"
 
--- the stroke, unless the next mark stands in the same place; the last mark's text is written beside it
+-- the stroke, unless the next mark is in the same place; the last mark's text is written beside it
 abbrev pub closing : Scale → ℕ → Option ℕ → Mark → List ℕ
 closing scale top next m =
     if is_at next m.x then [] else codes "</title>" ++ upright (codes "mark") m.x (top + 8) (top + 40) ++ beside top (unwrap_or next (edge_of scale)) m.x m.label ++ codes "</g>\n"
 
--- the strokes after a place; what stands after all of them begins at another
+-- the strokes after a place; what is after all of them begins at another
 abbrev pub strokes : Scale → ℕ → Option ℕ → Option ℕ → List Mark → List ℕ
 strokes scale top after before [] = []
 strokes scale top after before (m ∷ ms) =
     opening before m.x ++ told m ++ closing scale top (option_or (first_x ms) after) m ++ strokes scale top after (Some m.x) ms
 
--- ---- begins that stand close together: more than a few are a bar with their count
+-- ---- begins that are close together: more than a few are a bar with their count
 
 -- a mark before runs: it joins the first if that begins close to it
 abbrev pub joined : Mark → List (List Mark) → List (List Mark)
@@ -159,7 +159,7 @@ joined m ([] ∷ others) = (m ∷ []) ∷ others
 joined m ((n ∷ run) ∷ others) =
     if nat_le n.x (m.x + GAP) then (m ∷ n ∷ run) ∷ others else (m ∷ []) ∷ (n ∷ run) ∷ others
 
--- marks by runs, in each of which every mark stands close to the one before
+-- marks by runs, in each of which every mark is close to the one before
 abbrev pub runs_of : List Mark → List (List Mark)
 runs_of [] = []
 runs_of (m ∷ ms) = joined m (runs_of ms)
@@ -177,7 +177,7 @@ bar_ends first last = (codes "\nfrom " ++ told first) ++ (codes "\nto " ++ told 
 unfoldable pub bar_title : List ℕ → Mark → Mark → List ℕ
 bar_title said first last = codes "<g><title>" ++ said ++ bar_ends first last ++ codes "</title>"
 
--- a bar from the first to the last of so many
+-- a bar from the first to the last of `count` marks
 abbrev pub bar_of : Scale → ℕ → Option ℕ → Mark → Mark → ℕ → List ℕ
 bar_of scale top next first last count =
     bar_title (count_text count) first last ++ bar first.x last.x (top + 24) ++ beside top (unwrap_or next (edge_of scale)) first.x (count_text count) ++ codes "</g>\n"

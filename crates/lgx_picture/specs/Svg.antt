@@ -81,7 +81,7 @@ reaches end spacing = nat_le end (10 * spacing)
 unfoldable pub spacing : ℕ → ℕ
 spacing end = unwrap_or (find (reaches end) SPACINGS) MAX_SPACING
 
--- so many multiples of a time, from 0 on
+-- the first `count` multiples of a time, from 0 on
 unfoldable pub multiples : ℕ → ℕ → List ℕ
 multiples time count = map (λ k. k * time) (range_with_len 0 count)
 
@@ -125,7 +125,7 @@ unfoldable pub ending : End → List ℕ
 ending end =
     codes "ends in " ++ end.mode ++ codes " at tick " ++ decimal end.tick ++ codes ", step " ++ decimal end.step ++ codes "; lines lost: " ++ decimal end.lost
 
--- what stands before the lanes: how the report ends, what the colours mean, the times
+-- what is before the lanes: how the report ends, what the colours mean, the times
 abbrev pub front : Scale → End → ℕ → List ℕ
 front scale end bottom =
     head (edge_of scale) (bottom + 30) ++ words (codes "head") 10 22 (ending end) ++ legend ++ hint_within (edge_of scale) ++ grid scale bottom ++ words (codes "unit") 10 (bottom + 22) (unit_of scale.view.clock)

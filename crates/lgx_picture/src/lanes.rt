@@ -101,7 +101,7 @@ fn spaced(alloc: Global, words: &[Items<u8>]) -> Result<Items<u8>, Memory>
     Ok(Items::of(text))
 }
 
-/// `PROGRAM:VERSION`
+/// The text at a begin: `PROGRAM:VERSION`.
 fn begun(alloc: Global, program: &[u8], version: u32) -> Result<Items<u8>, Memory>
     ensures { IfOk result (λ text. text ≡ program.now ++ codes ":" ++ decimal version) }
 {
@@ -138,7 +138,7 @@ fn begun_in(alloc: Global, name: &[u8], note: &Note) -> Result<Option<Items<u8>>
     }
 }
 
-/// A fault.
+/// The text at a fault, if the note is one.
 fn fault_in(alloc: Global, note: &Note) -> Result<Option<Items<u8>>, Memory>
     ensures { IfOk result (λ said. said ≡ fault_in note.now) }
 {
@@ -148,7 +148,7 @@ fn fault_in(alloc: Global, note: &Note) -> Result<Option<Items<u8>>, Memory>
     }
 }
 
-/// A reply.
+/// The text at a reply, if the note is one.
 fn reply_in(alloc: Global, note: &Note) -> Result<Option<Items<u8>>, Memory>
     ensures { IfOk result (λ said. said ≡ reply_in note.now) }
 {

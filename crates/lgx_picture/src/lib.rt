@@ -1,7 +1,7 @@
 //! A report as a drawing for a document: one file of Scalable Vector Graphics, readable on light and on dark pages.
 //!
 //! Each line of the times that are shown is drawn. What the drawing says of a lane's marks is said of the last of those in one
-//! place, and a viewer shows all of them when their stroke is pointed at. Many begins that stand close together are one bar with
+//! place, and a viewer shows all of them when their stroke is pointed at. Many begins that are close together are one bar with
 //! their count; pointing at it shows the first and the last.
 #![tactic(auto)]
 
@@ -18,4 +18,4 @@ mod timeline;
 mod values;
 
 pub use svg::svg_text;
-pub use timeline::{USAGE, draw_timeline, program};
+pub use timeline::{TimelineProgram, USAGE, draw_timeline};

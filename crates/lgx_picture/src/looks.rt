@@ -1,4 +1,4 @@
-// How a drawing looks. Proofs of what stands beside these texts don't look inside.
+// How a drawing looks. Proofs of what is beside these texts don't look inside.
 ghost use Rattle.std.specs.Prelude.{◌≡◌};
 ghost use Rattle.lgx_picture.specs.Svg.{open_text, height_text, view_text, style, legend, hint};
 

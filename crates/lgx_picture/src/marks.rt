@@ -8,7 +8,7 @@ use lgx_chart::{Entry, Note, time_of};
 use lgx_num::{Items, Memory};
 use std::alloc::Global;
 
-/// A mark of a lane: where it stands, its tick and number of steps, the height of its value, counted from the least
+/// A mark of a lane: where it is, its tick and number of steps, the height of its value, counted from the least
 /// DINT, and its text.
 #[derive(Drop)]
 pub(crate) struct Mark {
@@ -19,14 +19,14 @@ pub(crate) struct Mark {
     pub label: Items<u8>,
 }
 
-/// How high a value stands.
+/// How high a value is.
 pub(crate) fn level_at(value: i32) -> u32
     ensures { result ≡ level_at value }
 {
     value.abs_diff(i32::MIN)
 }
 
-/// How high a line's value stands; 0 if it has none.
+/// How high a line's value is; 0 if it has none.
 fn level_of(note: &Note) -> u32
     ensures { result ≡ level_of note.now }
 {

@@ -1,4 +1,4 @@
-// Begins that stand close together.
+// Begins that are close together.
 ghost use Rattle.std.specs.Prelude.{◌≡◌, ◌<◌, ◌≤◌, ◌++◌, length, OnOk, IfOk};
 ghost use Rattle.lgx_picture.specs.Marks.{told, last_of, count_text, bar_title, bar_of, run_text, run_texts, runs_of, marks_text};
 ghost use Rattle.lgx_picture.specs.Runs.{close_after, first_run};
@@ -13,7 +13,7 @@ use lgx_chart::{push, push_count};
 use lgx_num::Memory;
 use std::alloc::Global;
 
-/// How many of these marks stand close to the one before, one after another; the first to a place.
+/// How many of these marks are close to the one before, one after another; the first to a place.
 fn close_after(place: u32, marks: &[Mark]) -> usize
     ensures value { result ≡ close_after place marks.now }
     ensures few { result ≤ length marks.now }
@@ -82,7 +82,7 @@ fn push_bar_title(
     push(text, b"</title>")
 }
 
-/// Adds a bar.
+/// Adds the bar of a run of begins, with their count.
 fn push_bar_of(
     text: &mut Vec<u8>,
     alloc: Global,

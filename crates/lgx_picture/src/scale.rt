@@ -1,11 +1,11 @@
-// Where times stand.
+// Where times are.
 ghost use Rattle.std.specs.Prelude.{◌≡◌, ◌≤◌};
 ghost use Rattle.lgx_picture.specs.Marks.{scale_of, x_of, right_of, edge_of};
 
 use crate::sizes::{AFTER, LEFT, PAGE};
 use lgx_chart::{End, View, time_of};
 
-/// What is shown, the last time of it, and from the first time to the last so many pixels.
+/// What is shown, the last time of it, and how many pixels there are from the first time to the last.
 #[derive(Clone, Copy)]
 pub(crate) struct Scale {
     pub view: View,
@@ -28,7 +28,7 @@ impl Scale {
         }
     }
 
-    /// Where a time stands.
+    /// Where a time is.
     #[tactic(auto, using(crate::proofs::Places::within, crate::proofs::Places::small_area))]
     pub(crate) fn x_of(self, time: u32) -> u32
         ensures value { result ≡ x_of self time }
@@ -39,7 +39,7 @@ impl Scale {
         (LEFT + shown * u64::from(self.width) / all) as u32
     }
 
-    /// Where the last time stands.
+    /// Where the last time is.
     pub(crate) fn right(self) -> u64
         ensures { result ≡ right_of self }
     {

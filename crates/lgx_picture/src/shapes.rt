@@ -136,7 +136,7 @@ pub(crate) fn push_ground_line(
     push_across_to(text, alloc, right)
 }
 
-/// What a broad line begins with. Proofs of what stands beside it don't look inside.
+/// What a broad line begins with. Proofs of what is beside it don't look inside.
 #[tactic(auto, unfolding(crate::specs::Shapes::bar_text))]
 fn bar_text() -> &'static [u8]
     ensures { result.now ≡ bar_text }

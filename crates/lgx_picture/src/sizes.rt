@@ -2,7 +2,7 @@
 use spec_base::limits::MAX_TASKS;
 use spec_machine::limits::MAX_WATCHES;
 
-/// Where the first time stands; names stand before it.
+/// Where the first time is; names are before it.
 pub(crate) const LEFT: u64 = 200;
 
 /// From the last time to the edge of the drawing.
@@ -14,7 +14,7 @@ pub(crate) const PAGE: u16 = 1400;
 /// The least width with room for all of the legend.
 pub(crate) const HINT_WIDTH: u64 = 1140;
 
-/// How far a begin stands from the one before at most, in pixels, if both are of one bar; and how many begins are no bar yet.
+/// How far a begin is from the one before at most, in pixels, if both are of one bar; and how many begins are no bar yet.
 pub(crate) const GAP: u32 = 3;
 
 /// Where the first lane begins.
@@ -23,10 +23,10 @@ pub(crate) const TOP: u64 = 92;
 /// The height of a lane.
 pub(crate) const LANE: u64 = 44;
 
-/// Where the least value stands in its lane.
+/// Where the least value is in its lane.
 pub(crate) const FLOOR: u64 = 38;
 
-/// How far values of a lane stand apart at most.
+/// How far values of a lane are apart at most.
 pub(crate) const RISE: u64 = 18;
 
 /// The width of a letter, rounded up.
@@ -41,7 +41,7 @@ pub(crate) const NAME_LETTERS: usize = 25;
 /// The letters of a longer name that are written, after two dots.
 pub(crate) const CUT_LETTERS: usize = 23;
 
-/// The lanes of a drawing: tasks, watched places that are told and others, faults and replies.
+/// The lanes of a drawing: tasks, watched places that are given and others, faults and replies.
 pub(crate) const MAX_LANES: usize = MAX_TASKS + 2 * MAX_WATCHES + 2;
 
 /// The lines down a drawing, at most.

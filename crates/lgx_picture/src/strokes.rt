@@ -12,7 +12,7 @@ use lgx_chart::{push, push_count};
 use lgx_num::Memory;
 use std::alloc::Global;
 
-/// Whether another mark stands in this place.
+/// Whether another mark is in this place.
 fn is_at(other: Option<u32>, x: u32) -> bool
     ensures { result ≡ is_at other x }
 {
@@ -22,7 +22,7 @@ fn is_at(other: Option<u32>, x: u32) -> bool
     }
 }
 
-/// Where the first mark stands.
+/// Where the first mark is.
 pub(crate) fn first_x(marks: &[Mark]) -> Option<u32>
     ensures { result ≡ first_x marks.now }
 {
@@ -42,7 +42,7 @@ pub(crate) fn push_told(text: &mut Vec<u8>, alloc: Global, mark: &Mark) -> Resul
     push_escaped(text, mark.label.as_slice())
 }
 
-/// Adds what stands before a mark's words.
+/// Adds what is before a mark's words.
 fn push_opening(text: &mut Vec<u8>, before: Option<u32>, x: u32) -> Result<(), Memory>
     ensures { OnOk result (text.new.items ≡ text.old.items ++ opening before x) }
 {
@@ -98,7 +98,7 @@ fn first_place(next: Option<u32>, after: Option<u32>) -> Option<u32>
     }
 }
 
-/// Adds what stands after a mark's words.
+/// Adds what is after a mark's words.
 fn push_closing(
     text: &mut Vec<u8>,
     alloc: Global,
@@ -127,7 +127,7 @@ fn push_closing(
     push(text, b"</g>\n")
 }
 
-/// Adds the strokes of marks, after which another mark may stand.
+/// Adds the strokes of marks, after which another mark may come.
 pub(crate) fn push_strokes(
     text: &mut Vec<u8>,
     alloc: Global,

@@ -45,7 +45,7 @@ fn push_lane_head(
     push_ground_line(text, alloc, scale.right(), u64::from(top) + 40)
 }
 
-/// Adds a lane.
+/// Adds a lane: its name, and its marks from the height `top` down.
 fn push_lane(
     text: &mut Vec<u8>,
     alloc: Global,
@@ -108,7 +108,7 @@ fn first_reaching(end: u32, spacings: &[u32]) -> Option<u32>
     None
 }
 
-/// How far the lines down a drawing stand apart.
+/// How far the lines down a drawing are apart.
 #[tactic(auto, unfolding(crate::specs::Svg::spacing))]
 fn spacing(end: u32) -> u32
     ensures { result ≡ spacing end }
@@ -196,7 +196,7 @@ fn push_view_box(text: &mut Vec<u8>, alloc: Global, edge: u64, height: u64) -> R
     push(text, b"\">\n")
 }
 
-/// Adds the head.
+/// Adds the head of a drawing of this width and height.
 #[tactic(auto, unfolding(crate::specs::Svg::head))]
 fn push_head(text: &mut Vec<u8>, alloc: Global, edge: u64, height: u64) -> Result<(), Memory>
     ensures { OnOk result (text.new.items ≡ text.old.items ++ head edge height) }
@@ -235,7 +235,7 @@ fn push_head_words(text: &mut Vec<u8>, alloc: Global, end: &End) -> Result<(), M
     push_words(text, alloc, b"head", 10, 22, &ending)
 }
 
-/// Adds what stands before the lanes.
+/// Adds what is before the lanes.
 fn push_front(
     text: &mut Vec<u8>,
     alloc: Global,
@@ -280,7 +280,7 @@ fn lanes_asked(alloc: Global, asked: &Asked, chart: &Chart) -> Result<Vec<Lane>,
 }
 
 /// A report as a drawing: a lane for each task that began, the faults, the replies and each watched place, with time from left to
-/// right. Marks that follow one another in one place share a stroke, and many begins that stand close together are a bar with
+/// right. Marks that follow one another in one place share a stroke, and many begins that are close together are a bar with
 /// their count, so of a report that was read a lane has at most as many as the drawing has places across. Out of memory is the
 /// one fault.
 pub fn svg_text(alloc: Global, asked: &Asked, chart: &Chart) -> Result<Vec<u8>, Memory>

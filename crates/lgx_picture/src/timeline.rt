@@ -3,18 +3,17 @@ ghost use Rattle.std.specs.Prelude.{◌≡◌, map, string_bytes, option_map, If
 ghost use Rattle.lgx_answer.specs.Answered.{call_of};
 ghost use Rattle.lgx_answer.specs.Endings.{ending_of};
 ghost use Rattle.lgx_answer.specs.Laws.{FollowsPlan};
-ghost use Rattle.lgx_answer.specs.Process.{IsProcess};
 ghost use Rattle.lgx_chart.specs.Asked.{asked_of};
 ghost use Rattle.lgx_picture.specs.Svg.{svg_text};
 ghost use Rattle.lgx_picture.specs.TimelinePlan.{timeline_plan};
 
 use crate::svg::svg_text;
-use lgx_answer::{Status, exit_number};
+use lgx_answer::Status;
 use lgx_chart::{Asked, Chart, Picture, asked_of, draw};
-use lgx_io::{Files, Gathered, Sink};
+use lgx_io::{Files, Sink};
 use lgx_num::Memory;
+use lgx_process::Planned;
 use std::alloc::Global;
-use std::io::Write;
 
 /// The line that says how to use the program.
 pub const USAGE: &[u8] =
@@ -62,18 +61,20 @@ pub fn draw_timeline<F: Files, K: Sink>(
     draw(alloc, USAGE, drawing_asked(alloc, words), files, sink)
 }
 
-/// All that the process does with its words: what [`draw_timeline`] does, and then what still waits to be written is written.
-/// Answers the number that the process ends with.
-pub fn program<F: Files, W: Write + Drop>(
-    alloc: Global,
-    words: &[String],
-    files: &mut F,
-    output: &mut Gathered<W>,
-) -> u8
-    ensures { IsProcess (timeline_plan (map string_bytes words.now)) (F.told files.old)
-        (record { old = F.failures files.old; new = F.failures files.new })
-        output.old output.new result }
-{
-    let status = draw_timeline(alloc, words, files, output);
-    exit_number(status, output)
+/// The program `logix_timeline`, whose words have a plan.
+pub struct TimelineProgram;
+
+impl Planned for TimelineProgram {
+    ghost use Rattle.lgx_picture.specs.TimelinePlan.{timeline_plan};
+
+    ghost plan = { λ words. timeline_plan words };
+
+    fn follow<F: Files, K: Sink>(
+        alloc: Global,
+        words: &[String],
+        files: &mut F,
+        sink: &mut K,
+    ) -> Status {
+        draw_timeline(alloc, words, files, sink)
+    }
 }

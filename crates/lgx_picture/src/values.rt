@@ -66,7 +66,7 @@ impl Band {
         }
     }
 
-    /// Where a level stands.
+    /// Where a level is.
     fn y_of(self, level: u32) -> u64
         ensures { result ≡ y_of self level }
     {

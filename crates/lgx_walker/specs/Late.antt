@@ -4,7 +4,7 @@ use Rattle.spec_text.specs.Scripts.{Script}
 use Rattle.spec_lanes.specs.Turns.{lane_of}
 use Rattle.spec_explore.specs.Questions.{is_late_at}
 
--- the next action of the lane, which made so many as its count
+-- the next action of the lane, by the count of those that it made
 abbrev pub is_late_by : Option ℕ → Script → List ℕ → ℕ → ℕ → Bool
 is_late_by None script counts tick lane = false
 is_late_by (Some most) script counts tick lane = is_late_at most tick (slice_get (lane_of script lane) (slice_index_or counts lane 0))

@@ -1,4 +1,4 @@
--- What is told of all journals of a script.
+-- What is said of all journals of a script.
 use Rattle.std.specs.Prelude.{◌≡◌, ℕ, List, [], ◌∷◌, ◌++◌, IsTrue}
 use Rattle.spec_machine.specs.declared.event.Event.{Event}
 use Rattle.spec_machine.specs.Project.{Project}
@@ -38,7 +38,7 @@ IsTold p script q (told.Unknown k) = IsNeverBefore p script q k
 abbrev pub IsAtStart : Watcher → Type 0
 IsAtStart watcher = (p : Project) × Watches watcher p []
 
--- what was found is told of some valid project and some question
+-- what was found is said of some valid project and some question
 pub record IsFound (script : Script) (found : Found Walker) : Type 0 where
   pub project : Project
   pub question : Question

@@ -14,16 +14,16 @@ use Rattle.lgx_walker.specs.declared.trail.Trail.{Trail}
 
 -- ---- journals
 
--- so many processor steps after `done` of them, each with its tick if it has one
+-- n processor steps after `done` of them, each with its tick if it has one
 abbrev pub steps_from : ℕ → ℕ → ℕ → List Event
 steps_from pace done zero = []
 steps_from pace done (suc n) = steps_from pace done n ++ paced_step pace (done + n + 1)
 
--- the journal with so many more processor steps
+-- the journal with n more processor steps
 abbrev pub with_steps : Script → List Event → ℕ → List Event
 with_steps script journal n = journal ++ steps_from script.pace (steps_of journal) n
 
--- an action of a lane as an event; none if the lane hasn't so many
+-- an action of a lane as an event; none if the lane has no such
 abbrev pub act_of : ℕ → Option Timed → List Event
 act_of lane None = []
 act_of lane (Some t) = Act lane t.action ∷ []
@@ -36,7 +36,7 @@ abbrev pub placed_from : Script → List Event → List Placed → List Event
 placed_from script journal [] = journal
 placed_from script journal (m ∷ ms) = placed_from script (with_placed script journal m) ms
 
--- the opening, the actions with the steps before each, and so many steps after the last
+-- the opening, the actions with the steps before each, and `since` steps after the last
 abbrev pub journal_of : Script → List Placed → ℕ → List Event
 journal_of script placed since = with_steps script (placed_from script opening placed) since
 

@@ -18,7 +18,7 @@ pub record Watches (watcher : Watcher) (p : Project) (journal : List Event) : Ty
   pub places_are : watcher.places ≡ places_of p
   pub stands_for : StandsFor p journal watcher.controller
 
--- it made so many actions and processor steps, and watches the journal
+-- it has counted the lanes' actions and the processor steps of the journal, which it watches
 pub record Walks (walker : Walker) (p : Project) (counts : List ℕ) (journal : List Event) : Type 0 where
   pub counts_are : walker.trail.counts ≡ counts
   pub steps_are : walker.trail.steps ≡ steps_of journal

@@ -39,7 +39,7 @@ fn told(alloc: Global, script: &Script, found: Found<Walker>) -> Result<Told, Me
     }
 }
 
-/// What is told from a walker on that stands before the opening.
+/// What is said from a walker on that is before the opening.
 fn tell_from<P: Progress>(
     alloc: Global,
     mut walker: Walker,
@@ -67,8 +67,8 @@ fn tell_from<P: Progress>(
     }
 }
 
-/// What is told of all journals of a script within the question's window: whether a line of the question ever holds, and after
-/// which journal of the least processor steps. A layer, which has the states after so many steps, may have at most `most`.
+/// What is said of all journals of a script within the question's window: whether a line of the question ever holds, and after
+/// which journal of the least processor steps. A layer, the states after one number of steps, may have at most `most`.
 /// Out of memory is the one fault. `progress` is told how far it is.
 pub fn tell<P: Progress>(
     alloc: Global,

@@ -17,7 +17,7 @@ fn is_lane_late(script: &Script, most: u32, counts: &[u32], tick: u64, lane: u32
     }
 }
 
-/// Whether the next action of some lane is late at a tick, where the lanes made so many actions.
+/// Whether the next action of some lane is late at a tick, by how many actions each lane made.
 pub(crate) fn is_some_late(script: &Script, within: Option<u32>, counts: &[u32], tick: u64) -> bool
     ensures some { result ≡ true → SomeIsLate within script.now counts.now tick }
     ensures none { result ≡ false → NoneIsLate within script.now counts.now tick }

@@ -1,4 +1,4 @@
-//! A controller on its way through a script's journals, and what is told of all of them.
+//! A controller on its way through a script's journals, and what is said of all of them.
 //!
 //! A [`Walker`] is a node of the exploration: a controller with the actions that led to it. [`tell`] explores all journals of a
 //! script from the opening on, and makes the journal of what is shown.

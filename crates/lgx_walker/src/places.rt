@@ -1,4 +1,4 @@
-// The watched places of a project, and the numbers that stand there.
+// The watched places of a project, and the numbers that are there.
 ghost use Rattle.std.specs.Prelude.{◌≡◌, true, false, map, length, IfOk};
 ghost use Rattle.lgx_num.specs.Image.{number, InBounds};
 ghost use Rattle.spec_machine.specs.State.{State};
@@ -58,7 +58,7 @@ fn same_place(place: Place, other: Place) -> bool
     place == other
 }
 
-/// Whether a place lies in an image of so many bytes.
+/// Whether a place lies in an image of `len` bytes.
 fn lies_in(place: Place, len: u32) -> bool
     ensures yes { result ≡ true → InBounds place len }
     ensures no { result ≡ false → InBounds place len → ⊥ }
@@ -84,7 +84,7 @@ pub(crate) fn number_at(controller: &Controller, place: Place) -> i32
     }
 }
 
-/// Reads the numbers at places of the controller's image. Once `values` has had so many, it takes no memory.
+/// Reads the numbers at places of the controller's image. It takes no memory once `values` has had room for as many.
 pub(crate) fn read_numbers(
     controller: &Controller,
     places: &[Place],

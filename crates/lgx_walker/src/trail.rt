@@ -50,7 +50,7 @@ fn with_placed(alloc: Global, placed: &[Placed], one: Placed) -> Result<Items<Pl
 }
 
 impl Trail {
-    /// The trail after the opening, with no action of so many lanes and no step.
+    /// The trail after the opening, with no action of any of `lanes` lanes, and no step.
     pub(crate) fn new(alloc: Global, lanes: usize) -> Result<Trail, Memory>
         ensures { IfOk result (λ trail. trail ≡ trail_of (replicate lanes 0) [] 0 0) }
     {

@@ -121,7 +121,7 @@ fn is_late_by_step(walker: &Walker, script: &Script, within: Option<u32>, has_ti
     is_some_late(script, within, walker.trail.counts.as_slice(), tick + 1)
 }
 
-/// Whether an action is late after so many actions of each lane, at the present tick.
+/// Whether an action is late at the present tick, by how many actions each lane made.
 fn is_late_now(watcher: &Watcher, script: &Script, within: Option<u32>, counts: &[u32]) -> bool
     ensures some { result ≡ true → (p : Project) (journal : List Events) → Watches watcher.now p journal → SomeIsLate within script.now counts.now (ticks_of journal) }
     ensures none { result ≡ false → (p : Project) (journal : List Events) → Watches watcher.now p journal → NoneIsLate within script.now counts.now (ticks_of journal) }

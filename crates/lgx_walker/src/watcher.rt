@@ -21,7 +21,7 @@ use spec_base::limits::MAX_QUESTION_LINES;
 use spec_machine::{Moment, What};
 use std::alloc::Global;
 
-/// A controller with the watched places of its project. `values` is room for the numbers that stand there.
+/// A controller with the watched places of its project. `values` is room for the numbers that are there.
 pub struct Watcher {
     pub(crate) controller: Controller,
     pub(crate) places: Items<Place>,

@@ -36,7 +36,7 @@ fn add_step(journal: &mut Journal, has_tick: bool) -> Result<(), Memory>
     Ok(())
 }
 
-/// Puts so many processor steps last, each with its tick if it has one. The journal has `done` steps before them.
+/// Puts `count` processor steps last, each with its tick if it has one. The journal has `done` steps before them.
 fn add_steps(journal: &mut Journal, script: &Script, done: u32, count: u32) -> Result<(), Memory>
     requires done { done ≡ steps_of journal.old.events }
     requires few { length (with_steps script.now journal.old.events count) + 2 ≤ MAX_EVENTS }
@@ -48,7 +48,7 @@ fn add_steps(journal: &mut Journal, script: &Script, done: u32, count: u32) -> R
     Ok(())
 }
 
-/// Puts an action last, if the lane has so many.
+/// Puts an action of a lane last, if the lane has it.
 fn add_act(
     alloc: Global,
     journal: &mut Journal,

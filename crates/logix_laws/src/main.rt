@@ -1,11 +1,10 @@
 //! `logix_laws`: tells whether a trace keeps the laws that the audit leaves out.
 #![tactic(auto)]
 
-mod process;
-
-use crate::process::process;
+use cmd_laws::LawsProgram;
+use lgx_process::process;
 use std::process::ExitCode;
 
 fn main(rt: HostRuntime) -> ExitCode {
-    ExitCode::from(process(&rt))
+    ExitCode::from(process::<LawsProgram, HostRuntime>(&rt))
 }

@@ -6,7 +6,7 @@ use Rattle.spec_project.specs.Projects.{project_of}
 use Rattle.spec_valid.proofs.Given.{given_is_valid}
 use Rattle.lgx_core.proofs.Lawful.{valid-is-lawful}
 use Rattle.spec_duties.proofs.Duties.{runs_keep_duties}
-use Rattle.spec_writers.proofs.Writers.{changes_have_writers}
+use Rattle.spec_beside.proofs.Writers.{changes_have_writers}
 use Rattle.lgx_answer.specs.Plan.{Plan}
 use Rattle.lgx_answer.specs.Answered.{Call, Answered}
 use Rattle.lgx_answer.proofs.Follows.{follows_plan}

@@ -21,15 +21,5 @@ said Usage = words.Usage
 
 -- where stations watch, there are 1 to 8
 abbrev pub HasStations : Command → Type 0
-HasStations (Check p) = ⊤
-HasStations (Text p) = ⊤
-HasStations (Migrate p) = ⊤
-HasStations (Xref p) = ⊤
-HasStations (Gen n) = ⊤
-HasStations (Replay p j) = ⊤
-HasStations (Trace p j) = ⊤
-HasStations (Audit p t) = ⊤
-HasStations (Run p s) = ⊤
-HasStations (Link a b l) = ⊤
 HasStations (Stations p j c) = (0 < c) × (c ≤ MAX_STATIONS)
-HasStations Usage = ⊤
+HasStations _ = ⊤

@@ -112,18 +112,9 @@ command_plan Usage = usage_plan
 
 -- a command that needs no thread of its own; the others are unknown
 abbrev pub plain : Command → Command
-plain (Check p) = Check p
-plain (Text p) = Text p
-plain (Migrate p) = Migrate p
-plain (Xref p) = Xref p
-plain (Gen n) = Gen n
-plain (Replay p j) = Replay p j
-plain (Trace p j) = Trace p j
-plain (Audit p t) = Audit p t
 plain (Run p s) = Usage
-plain (Link a b l) = Link a b l
 plain (Stations p j c) = Usage
-plain Usage = Usage
+plain c = c
 
 -- ---- the plan of the words
 

@@ -1,11 +1,10 @@
 //! `logix_wave`: shows the report on standard input as a wave file, for GTKWave.
 #![tactic(auto)]
 
-mod process;
-
-use crate::process::process;
+use lgx_chart::WaveProgram;
+use lgx_process::process_of_input;
 use std::process::ExitCode;
 
 fn main(rt: HostRuntime) -> ExitCode {
-    ExitCode::from(process(&rt))
+    ExitCode::from(process_of_input::<WaveProgram, HostRuntime>(&rt))
 }

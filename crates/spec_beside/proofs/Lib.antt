@@ -15,3 +15,10 @@ pub mod TextLists
 pub mod SiteTags
 pub mod Routines
 pub mod Prescans
+pub mod Unedited
+pub mod Stands
+pub mod WriterSteps
+pub mod Told
+pub mod Along
+pub mod WriterWords
+pub mod Writers

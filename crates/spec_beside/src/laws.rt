@@ -1,4 +1,4 @@
-// Laws of what instructions write beside. Each function is a law: it does nothing, and its contract is what is shown.
+// Laws of what instructions write beside, and of which event may change a tag. Each function is a law: it does nothing, and its contract is what is shown.
 ghost use Rattle.spec_beside.specs.Copies.{CopiesGoOnBeside, CopiesStartBeside, ElementsWriteBeside};
 ghost use Rattle.spec_beside.specs.InTags.{CheckedInTags, FoundInTag, SubscriptsInTags};
 ghost use Rattle.spec_beside.specs.Prescans.{PrescanWritesBeside};
@@ -6,6 +6,7 @@ ghost use Rattle.spec_beside.specs.Routines.{CallsStand, FramesBegin, FramesStay
 ghost use Rattle.spec_beside.specs.Rows.{RowsWriteBeside};
 ghost use Rattle.spec_beside.specs.Sites.{BytesAreOfOneTag, SitesWriteBeside};
 ghost use Rattle.spec_beside.specs.Steps.{StepsCopyBeside, StepsWriteBeside};
+ghost use Rattle.spec_uses.specs.Changes.{ChangesHaveWriters};
 
 /// What a text and an operand name lies in one tag, and so does each subscript; no two tags have a byte in common, and an
 /// instruction that isn't among a tag's writers writes beside its bytes.
@@ -42,4 +43,10 @@ pub fn scans_keep_frames()
     ensures calls { CallsStand }
     ensures begin { FramesBegin }
     ensures stay { FramesStay }
+{}
+
+/// Where an event changes a byte of a tag, it is a word in on a connection of the tag, a change to Run and the tag has a writer, or
+/// a step of a program whose instruction is among the tag's writers. It is shown of every run without accepted edits.
+pub fn changes_have_writers()
+    ensures { ChangesHaveWriters }
 {}

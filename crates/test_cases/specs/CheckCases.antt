@@ -92,7 +92,7 @@ abbrev pub WrongCounts : Type 0
 WrongCounts = map code_alone (ins Xic [] ∷ ins Xic (codes "only" ∷ codes "zz" ∷ []) ∷ ins Ton (codes "t" ∷ codes "?" ∷ []) ∷ ins Jsr [] ∷ ins Jsr (codes "M" ∷ codes "2" ∷ codes "i" ∷ []) ∷ ins Nop (codes "zz" ∷ []) ∷ ins Lbl (codes "a" ∷ codes "b" ∷ []) ∷ [])
     ≡ replicate 7 (Some C1)
 
--- C2: what was found isn't what is wanted; a number or a flag where neither stands; a text that is no name
+-- C2: what was found isn't what is wanted; a number or a flag where neither may be; a text that is no name
 abbrev pub WrongTypes : Type 0
 WrongTypes = map code_alone (
     ins Xic (codes "5" ∷ []) ∷ ins Xic (codes "99999999999" ∷ []) ∷ ins Xic (codes "i" ∷ []) ∷ ins Xic (codes "bits" ∷ []) ∷ ins Ote (codes "t" ∷ [])
@@ -170,7 +170,7 @@ LabelFaults = map fault_of (
     ∷ [])
     ≡ fault_at C13 2 0 ∷ fault_at C13 0 1 ∷ fault_at C14 0 1 ∷ fault_at C14 0 0 ∷ fault_at C14 0 1 ∷ fault_at C14 1 1 ∷ fault_at C12 0 0 ∷ []
 
--- rungs from this one on, after so many instructions
+-- rungs from this one on, after `before` instructions
 abbrev pub fault_after : ℕ → ℕ → List Source → Option CheckFault
 fault_after rung before rungs = result_err (checked_from (instruction_of shop_scope []) rung before rungs)
 

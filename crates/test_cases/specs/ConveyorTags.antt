@@ -1,4 +1,4 @@
--- The conveyor: its structures, tags and aliases, and the rungs of its three programs. Its cases stand after them.
+-- The conveyor: its structures, tags and aliases, and the rungs of its three programs. Its cases follow.
 use Rattle.std.specs.Prelude.{ℕ, true, false, List, [], ◌∷◌, codes}
 use Rattle.lgx_rung.specs.Tree.{Tree, end, one, fork, last, leg, Source, SourceIns}
 use Rattle.lgx_rung.specs.declared.op.Op.{Op}

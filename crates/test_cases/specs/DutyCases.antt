@@ -107,7 +107,7 @@ no_watchdog = mode_run 1 ∷ quiet ∷ Tick 2 0 None ∷ turn_of_periodic ++ qui
 abbrev pub barks_early : List TraceEvent
 barks_early = mode_run 1 ∷ quiet ∷ Tick 2 0 None ∷ turn_of_periodic ++ quiet ∷ Tick 0 0 (Some 0) ∷ []
 
--- two run out in one tick: the first of the table is told, and not the second
+-- two run out in one tick: the first of the table is named, and not the second
 abbrev pub both_out : List TraceEvent
 both_out = mode_run 1 ∷ quiet ∷ Tick 2 0 None ∷ quiet ∷ Tick 0 2 None ∷ Tick 0 0 (Some 0) ∷ []
 

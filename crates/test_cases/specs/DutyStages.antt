@@ -90,11 +90,11 @@ as_if x f mask after = record { before = x.before; entry = done f mask x.entry; 
 abbrev pub ignores_trigger : Stage
 ignores_trigger = as_if triggers None 0 (record triggers.after { table = triggers.before.table; progress = triggers.before.progress })
 
--- it is told, but nobody comes up
+-- it is named, but nobody comes up
 abbrev pub only_tells : Stage
 only_tells = record triggers { after = record triggers.after { table = triggers.before.table; progress = triggers.before.progress } }
 
--- the overlap isn't told
+-- the overlap isn't named
 abbrev pub hides_overlap : Stage
 hides_overlap = as_if overlaps None 0 (record overlaps.after { faults = overlaps.before.faults })
 
@@ -110,7 +110,7 @@ runs_without_release = as_if comes_to_run None 0 (record comes_to_run.after { ta
 abbrev pub runs_without_prescan : Stage
 runs_without_prescan = record comes_to_run { after = record comes_to_run.after { image = comes_to_run.before.image } }
 
--- the watchdog's task is told, and the controller goes on in Run; or its tasks stay up
+-- the watchdog's task is named, and the controller goes on in Run; or its tasks stay up
 abbrev pub goes_on : Stage
 goes_on = record barks { after = record barks.before { tick = 1; faults = barks.after.faults } }
 

@@ -134,7 +134,7 @@ EditRefusals = replay two_moves (lines (codes "@0 accept Q M r 0 NOP();"
     ∷ codes "end 0 0 program lost 0"
     ∷ [])
 
--- Insertions stand in the order of acceptance; numbers go on after an assemble and a cancel.
+-- Insertions are in the order of acceptance; numbers go on after an assemble and a cancel.
 abbrev pub MergedOrder : Type 0
 MergedOrder = replay two_moves (lines (codes "@0 accept P M i 1 MOV(7,n); | i 1 MOV(8,n); | d 0"
     ∷ codes "@0 accept P M i 1 MOV(9,n);"

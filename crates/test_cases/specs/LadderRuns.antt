@@ -96,7 +96,7 @@ CallDepth = replay call_depth (lines (codes "mode run"
     ∷ codes "end 0 30 faulted lost 0"
     ∷ [])
 
--- An empty leg counts wherever it stands.
+-- An empty leg counts wherever it is.
 abbrev pub empty_leg_first : Project
 empty_leg_first = plain (bool (codes "a") ∷ bool (codes "b") ∷ bool (codes "c") ∷ bool (codes "d") ∷ bool (codes "e") ∷ []) (continuous (codes "XIC(a)[,XIC(b)]OTE(c);" ∷ codes "XIC(a)[XIC(b),,]OTE(d);" ∷ codes "[XIC(a),XIC(b)]OTE(e);" ∷ []) ∷ []) (is_initially (codes "a") (pos 1) ∷ []) (codes "c" ∷ codes "d" ∷ codes "e" ∷ [])
 
@@ -131,7 +131,7 @@ FalseConditions = replay false_conditions (lines (codes "mode run"
     ∷ codes "end 0 10 run lost 0"
     ∷ [])
 
--- The change to Run prescans each routine that the main one reaches by the text of a JSR, whatever stands before it: M and N,
+-- The change to Run prescans each routine that the main one reaches by the text of a JSR, whatever is before it: M and N,
 -- and not K. A subscript out of range does nothing.
 abbrev pub prescanned : Project
 prescanned = plain (bool (codes "o") ∷ bool (codes "s") ∷ bool (codes "r") ∷ bool (codes "ro") ∷ bool (codes "f") ∷ bool

@@ -12,7 +12,7 @@ alone op = one (record { op = op; texts = [] }) end
 abbrev pub three_rungs : List Source
 three_rungs = alone Nop ∷ alone Afi ∷ alone Tnd ∷ []
 
--- Two inserts before the first rung keep their order, one past the last stands at the end, and one before a deleted rung stays.
+-- Two inserts before the first rung keep their order, one past the last is at the end, and one before a deleted rung stays.
 -- The second rung is replaced.
 abbrev pub six_edits : List Change
 six_edits = Inserted 0 (alone Uid) ∷ Replaced 1 (alone Mcr) ∷ Inserted 3 (alone Uie) ∷ Deleted 2 ∷ Inserted 0 (alone Mcr) ∷ Inserted 2 (alone Afi) ∷ []
@@ -20,7 +20,7 @@ six_edits = Inserted 0 (alone Uid) ∷ Replaced 1 (alone Mcr) ∷ Inserted 3 (al
 abbrev pub six_edited : List Source
 six_edited = alone Uid ∷ alone Mcr ∷ alone Nop ∷ alone Mcr ∷ alone Afi ∷ alone Uie ∷ []
 
--- A rung that was taken isn't taken again, and none stands past the last.
+-- A rung that was taken isn't taken again, and none is past the last.
 abbrev pub late_edits : List Change
 late_edits = Deleted 0 ∷ Replaced 0 (alone Uid) ∷ Replaced 3 (alone Uie) ∷ Deleted 3 ∷ Inserted 4 (alone Uid) ∷ []
 

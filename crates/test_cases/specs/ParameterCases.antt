@@ -1,4 +1,4 @@
--- Cases of checked calls: counts, inputs and returns, and where an SBR may stand.
+-- Cases of checked calls: counts, inputs and returns, and where an SBR may be.
 use Rattle.std.specs.Prelude.{◌≡◌, ℕ, List, [], ◌∷◌, ◌++◌, map, codes, replicate, pos, Some, None}
 use Rattle.lgx_num.specs.declared.number.Kind.TheVariants.{Int as KInt, Dint as KDint}
 use Rattle.lgx_num.specs.declared.place.Operand.{Operand}
@@ -62,7 +62,7 @@ WrongParameters = map code_alone (
 abbrev pub sbr : SourceIns
 sbr = ins Sbr []
 
--- an SBR is the first element of its routine's first rung; the least number is told if it has other faults
+-- an SBR is the first element of its routine's first rung; the least number is named if it has other faults
 abbrev pub EntryFaults : Type 0
 EntryFaults = map fault_of (
     (line (sbr ∷ ins Nop [] ∷ []) ∷ line (ins Nop [] ∷ []) ∷ [])

@@ -68,7 +68,7 @@ beat n = flat_map (λ (k : ℕ). cpu 1 ++ tick 1) (replicate n 0)
 abbrev pub late_after : Option ℕ → ℕ → Bool
 late_after within n = is_late within one_word (Act OWN_LANE ModeRun ∷ beat n) 0
 
--- after so many ticks, with the action made
+-- after n ticks, with the action made
 abbrev pub late_when_made : ℕ → Bool
 late_when_made n = is_late (Some 0) one_word (Act OWN_LANE ModeRun ∷ beat n ++ Act 0 (WordIn (codes "In") 0 (pos 7)) ∷ beat 4) 0
 
@@ -126,6 +126,6 @@ formless_lines =
     ∷ codes "Never Fwd = 1"
     ∷ []
 
--- a line with so many tests
+-- a line with n tests more
 abbrev pub with_tests : ℕ → List ℕ
 with_tests n = codes "never Fwd = 1" ++ flat_map (λ (k : ℕ). codes " and Fwd = 1") (replicate n 0)

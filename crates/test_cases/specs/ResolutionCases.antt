@@ -35,7 +35,7 @@ abbrev pub ShopElements : Type 0
 ShopElements = map (found shop Controller) (codes "arr[3]" ∷ codes "arr[0000000000000000000000000000000000000000000000001]" ∷ codes "arr" ∷ codes "arr[1].31" ∷ codes "s.7" ∷ codes "bits[31]" ∷ codes "cells[2].inner[1].d[9]" ∷ codes "cells[1].c" ∷ codes "cells[1].t.DN" ∷ [])
     ≡ place_in (single Dint) 12 16 ∷ place_in (single Dint) 4 16 ∷ place_in (many Dint 4) 0 16 ∷ bit_in 63 16 ∷ bit_in 167 21 ∷ bit_in 223 28 ∷ bit_in 1865 244 ∷ place_in (many Counter 2) 120 244 ∷ bit_in 861 244 ∷ []
 
--- a subscript at a place, over so many elements, so many bits apart
+-- a subscript at a place, over `length` elements, `stride` bits apart
 abbrev pub over : Kind → ℕ → ℕ → ℕ → Index
 over kind byte stride length = record { of = record { kind = kind; at = 8 * byte }; stride = stride; length = length }
 
@@ -70,7 +70,7 @@ UnknownTags = map (found shop (Program 0)) (codes "zz" ∷ codes "zz.x[9]" ∷ c
 abbrev pub UnknownMembers : Type 0
 UnknownMembers = map (found shop (Program 0)) (codes "i.PRE" ∷ codes "arr.x" ∷ codes "cells.f" ∷ codes "t.CU" ∷ codes "t.XX[zz]" ∷ codes "arr[t.q]" ∷ []) ≡ replicate 6 (Err G4)
 
--- G5: out of range; a bit of what is no integer; a `[` at what is no array, whatever stands after it
+-- G5: out of range; a bit of what is no integer; a `[` at what is no array, whatever is after it
 abbrev pub OutOfRange : Type 0
 OutOfRange = map (found shop (Program 0)) (codes "arr[4]" ∷ codes "arr[18446744073709551616]" ∷ codes "i.16" ∷ codes "only.0" ∷ codes "arr.3" ∷ codes "t.0" ∷ codes "i[0]" ∷ codes "i[zz]" ∷ codes "arr[i[zz]]" ∷ codes "arr[9].q" ∷ codes "arr[1][zz]" ∷ []) ≡ replicate 11 (Err G5)
 
@@ -109,7 +109,7 @@ SealFaults = map (λ more. seal_fault (with_aliases more)) (
     b_then (codes "arr[3].31") ∷ b_then (codes "1x") ∷ b_then (codes "zz") ∷ b_then (codes "arr.q") ∷ b_then (codes "arr[4]") ∷ b_then (codes "arr[b]") ∷ b_then (codes "a") ∷ b_then (codes "b.q") ∷ []
     ) ≡ None ∷ Some (G10, 0) ∷ Some (G3, 0) ∷ Some (G4, 0) ∷ Some (G5, 0) ∷ Some (G6, 0) ∷ Some (G7, 0) ∷ Some (G7, 0) ∷ []
 
--- the alias's number counts aliases alone; the first is told whose chain has a fault
+-- the alias's number counts aliases alone; the first is named whose chain has a fault
 abbrev pub SealOrder : Type 0
 SealOrder = map (λ more. seal_fault (with_aliases more)) (
     (alias_of (codes "a") (codes "arr") ∷ tag_of (codes "x") (single Dint) ∷ alias_of (codes "b") (codes "a[0].q") ∷ alias_of (codes "c") (codes "c") ∷ [])

@@ -95,7 +95,7 @@ pub fn routine_cases()
     ensures length { LongRoutines }
 {}
 
-/// Calls with parameters, their faults, and where an SBR may stand.
+/// Calls with parameters, their faults, and where an SBR may be.
 pub fn parameter_cases()
     ensures parameters { Parameters }
     ensures counts { WrongParameterCounts }

@@ -6,7 +6,7 @@ use std::alloc::{AllocError, Global};
 use std::io::Cursor;
 use test_rows::Told;
 
-/// Says `STATUS / COUNT strokes` of a drawing of a report of so many lines, each a reply, or all of its text if there are none.
+/// Says `STATUS / COUNT strokes` of a drawing of a report of `lines` lines, each a reply, or all of its text if there are none.
 pub(crate) fn say_strokes(alloc: Global, lines: &str, told: &mut Told) {
     let mut sink = MemSink::new(alloc, Vec::new(alloc));
     let status = drawn(alloc, lines, "reply 0 ok", &mut sink, told);
@@ -15,7 +15,7 @@ pub(crate) fn say_strokes(alloc: Global, lines: &str, told: &mut Told) {
     say_count(sink.held(), told);
 }
 
-/// Says `STATUS / COUNT begins` of a drawing of a report of so many lines, each a begin of one task.
+/// Says `STATUS / COUNT begins` of a drawing of a report of `lines` lines, each a begin of one task.
 pub(crate) fn say_bar(alloc: Global, lines: &str, told: &mut Told) {
     let mut sink = MemSink::new(alloc, Vec::new(alloc));
     let status = drawn(alloc, lines, "begin T P 0", &mut sink, told);
@@ -26,7 +26,7 @@ pub(crate) fn say_bar(alloc: Global, lines: &str, told: &mut Told) {
     told.text(shown.lines().next().unwrap_or("").as_bytes());
 }
 
-/// Draws a report of so many lines that say this.
+/// Draws a report of `lines` lines, each with these words.
 fn drawn(alloc: Global, lines: &str, said: &str, sink: &mut MemSink, told: &mut Told) -> Status {
     let mut report = String::new(alloc);
     if push_lines(&mut report, lines.parse().unwrap_or(0), said).is_err() {
@@ -36,7 +36,7 @@ fn drawn(alloc: Global, lines: &str, said: &str, sink: &mut MemSink, told: &mut 
     draw_timeline(alloc, &[], &mut files, sink)
 }
 
-/// Adds so many lines that say this.
+/// Adds `lines` lines, each with these words.
 fn push_lines(report: &mut String, lines: u32, said: &str) -> Result<(), AllocError> {
     for line in 0..lines {
         let step = u64::from(line) + 1;

@@ -7,12 +7,12 @@
 //! | kind | the call | TEXT |
 //! |---|---|---|
 //! | `wave`, `tick`, `more-words` | `logix_wave` with no word, the word `tick`, two words | all that is written |
-//! | `changes`, `ticks` | the same with no word, the word `tick` | what stands after the definitions |
+//! | `changes`, `ticks` | the same with no word, the word `tick` | what is after the definitions |
 //! | `failing` | the same; the sink fails at its first put, and keeps ten bytes of it | |
 //! | `drawing`, `drawing-more-words` | `logix_timeline` with no word, two words | all that is written |
-//! | `drawn`, `drawn-tick` | the same with no word, the word `tick` | what stands after the legend |
+//! | `drawn`, `drawn-tick` | the same with no word, the word `tick` | what is after the legend |
 //! | `drawing-failing` | the same; the sink fails as above | |
-//! | `long` | `logix_timeline` on a report of so many lines, each a reply | how many strokes there are |
+//! | `long` | `logix_timeline` on a report of this number of lines, each a reply | how many strokes there are |
 //! | `long-begins` | the same, each a begin of one task | what the first bar shows first |
 #![tactic(auto)]
 
@@ -26,7 +26,7 @@ use std::alloc::{AllocError, Global};
 use std::io::{self, Cursor};
 use test_rows::{Row, Texts, Told, judge_table, push_plain};
 
-/// What stands before the changes of a wave file.
+/// What is before the changes of a wave file.
 const DEFINED: &str = "$enddefinitions $end\n";
 
 /// What the legend of a drawing ends with.
@@ -96,7 +96,7 @@ fn push_words(alloc: Global, words: &mut Vec<String>, kind: &str) -> Result<(), 
     Ok(())
 }
 
-/// Adds the words that stand after the first.
+/// Adds the words after the first.
 fn push_more_words(alloc: Global, words: &mut Vec<String>, kind: &str) -> Result<(), AllocError> {
     for word in kind.split(' ').skip(1) {
         words.push(String::from_str(alloc, word)?)?;

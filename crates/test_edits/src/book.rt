@@ -13,7 +13,7 @@ type Answer = Result<Option<u32>, EditFault>;
 
 /// `book | PROGRAMS ? COMMAND / .. | ..`: what the commands answer, one after another; of a command after `!` the
 /// answer isn't said. The programs are as [`Bench::load`] has them, and the edit commands as in a journal. Of program
-/// N, 0 if it isn't told, `hold N` holds what is selected and answers its number, `drop N` drops it, `slots N`
+/// N, 0 if it isn't given, `hold N` holds what is selected and answers its number, `drop N` drops it, `slots N`
 /// answers the number in each slot, `text R N` the rungs of routine R that are selected, and `held R N` those that
 /// are held.
 pub fn say_book(alloc: Global, said: &mut Told, text: &str) -> Result<(), Trouble> {

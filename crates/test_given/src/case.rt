@@ -18,7 +18,7 @@ pub(crate) struct Case {
 }
 
 impl Case {
-    /// Nothing given.
+    /// A case of which nothing is given yet.
     pub(crate) fn new(alloc: Global) -> Case {
         Case {
             words: Vec::new(alloc),

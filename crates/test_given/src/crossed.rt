@@ -21,7 +21,7 @@ pub struct Crossed {
 }
 
 impl Crossed {
-    /// Nobody has come.
+    /// A meeting to which nobody has come.
     pub(crate) fn new() -> Crossed {
         Crossed {
             published: AtomicU64::new(0),

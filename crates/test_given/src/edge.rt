@@ -99,7 +99,7 @@ fn say_held(held: &[u8], told: &mut Told) {
     told.text(held);
 }
 
-/// What stands in a row as one text.
+/// What is in a row as one text.
 fn plain(alloc: Global, text: &str, told: &mut Told) -> Vec<u8> {
     let mut bytes = Vec::new(alloc);
     if push_plain(&mut bytes, text).is_err() {

@@ -1,6 +1,6 @@
 // Parts of a text.
 
-/// What stands before the first of these separators, and what after it: nothing, where there is none.
+/// What is before the first of these separators, and what after it: nothing, where there is none.
 pub(crate) fn cut<'a>(text: &'a str, separator: &str) -> (&'a str, &'a str) {
     text.split_once(separator).unwrap_or((text, ""))
 }
@@ -34,7 +34,7 @@ pub(crate) fn has_pieces(text: &str, pieces: &str) -> bool {
     left == 0
 }
 
-/// What stands after a piece; none if a text hasn't got it, or not at its beginning where it is to be the first.
+/// What is after a piece; none if a text hasn't got it, or not at its beginning where it is to be the first.
 fn after_piece<'a>(text: &'a str, piece: &str, is_first: bool) -> Option<&'a str> {
     let (before, after) = text.split_once(piece)?;
     (before.is_empty() || !is_first).then_some(after)

@@ -31,7 +31,7 @@ impl Hold {
         Hold::Crossed(Crossed::new())
     }
 
-    /// Holds a lane that made so many of its actions.
+    /// Holds a lane before its action number `index`.
     pub fn before(&self, lane: u32, index: u32) {
         match self {
             Hold::Nobody => {}

@@ -20,8 +20,8 @@
 //! `-` is nothing, and the name of a text is that text. `sure` and the kinds with `-sure` go over files and a sink that never fail.
 //!
 //! - `check | KEYS = VALUES | ANSWER`: the answer of `check` to a small project, in which the field of each key has its value, or
-//!   is left out if the value is `-`; between values stands ` ~ `. With the key `file` the value is the whole text. `N*TEXT`
-//!   inside braces, as in `{{3*1,}}`, stands for the text so many times. VALUES may be the name of a text. A refusal stands
+//!   is left out if the value is `-`; between values is ` ~ `. With the key `file` the value is the whole text. `N*TEXT`
+//!   inside braces, as in `{{3*1,}}`, is the text N times. VALUES may be the name of a text. A refusal stands
 //!   without its first word.
 //! - `cuts | TEXT | ANSWER`: the answer of `check` to each shorter beginning of a text.
 //! - `migrate | TEXT | ANSWER`: the answer of `migrate`, likewise.

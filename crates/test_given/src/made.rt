@@ -69,7 +69,7 @@ fn push_lane(
 /// The most lanes that a script may have.
 const LANES: u32 = 31;
 
-/// A script that begins with these words, with so many actions, dealt to 31 lanes one after another; less of it, where there is
+/// A script that begins with these words, with `actions` actions, dealt to 31 lanes one after another; less of it, where there is
 /// no memory.
 pub(crate) fn full_script_of(alloc: Global, front: &str, actions: u32) -> String {
     let mut script = String::new(alloc);

@@ -44,7 +44,7 @@ impl File {
     }
 
     /// Writes the file of `KEYS = VALUES`: the small project in which the field of each key has its value, or is left out if the
-    /// value is `-`; between values stands ` ~ `. With the key `file` the value is the whole text. VALUES may be
+    /// value is `-`; between values is ` ~ `. With the key `file` the value is the whole text. VALUES may be
     /// the name of a text.
     fn write(&mut self, texts: &Texts, given: &str) -> Result<(), AllocError> {
         let (keys, values) = cut(given, "=");

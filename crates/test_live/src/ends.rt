@@ -20,7 +20,7 @@ impl Talk {
         }
     }
 
-    /// All of it.
+    /// All that was written.
     pub(crate) fn into_text(self) -> Vec<u8> {
         let Talk { text, .. } = self;
         text.into_inner()

@@ -1,13 +1,13 @@
 //! Judges the rows of a table of sessions on standard input: calls of `logix_live` over a reader and a writer in memory.
 //!
-//! A row is `KIND | GIVEN | STATUS / TALK`. The status is how the call ends. In TALK stands what was written, `\n` for a line feed,
+//! A row is `KIND | GIVEN | STATUS / TALK`. The status is how the call ends. TALK is what was written, `\n` for a line feed,
 //! with a `?` wherever the first byte of a line was asked for, or a `!` if something was written then that wasn't flushed. `-` is
 //! nothing: no line was asked for.
 //!
 //! - `session`: the project is the text `PROJECT`, and GIVEN is what comes in, in which `{{N*TEXT}}` stands for the text so many
 //!   times, and `\s`, `\r`, `\n` and `\p` for a blank, CR, LF and the bar.
 //! - `call`: GIVEN is `WORDS` or `WORDS / SETTING`, and what comes in is the text `INPUT`. Each word that is the name of a text is
-//!   the name of a file with this text. With the setting `read` the file can't be read; with `blanks=N` it has so many blanks; with
+//!   the name of a file with this text. With the setting `read` the file can't be read; with `blanks=N` it has N blanks; with
 //!   `write=N` the Nth write or flush fails.
 //! - `read-faults`, `write-faults`: as `session`, and the row wants TALK alone. The session is held again and again: it fails at
 //!   its first read of a byte, at its second, and so on; or at its first write or flush, and from then on, at its second, and so

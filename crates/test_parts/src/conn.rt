@@ -3,12 +3,12 @@ ghost use Rattle.std.specs.Prelude.{◌≡◌, ◌+◌, ◌*◌, ◌≤◌, IfSo
 ghost use Rattle.spec_base.specs.declared.limits.TheConstants.{MAX_CONNECTION_WORDS, MAX_IMAGE_BYTES};
 
 use crate::trouble::Trouble;
-use crate::words::{Told, name_at, number_at, word_at};
 use lgx_conn::Conns;
 use lgx_num::{Memory, Name};
 use spec_base::limits::MAX_CONNECTION_WORDS;
 use spec_tables::{ConnDef, ConnFault, Slot};
 use std::alloc::Global;
+use test_rows::{Told, name_at, number_at, word_at};
 
 /// `conns | CONNECTION, CONNECTION ? CALL; .. | ..`: what the calls answer.
 ///

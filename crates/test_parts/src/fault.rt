@@ -1,11 +1,11 @@
 // The log of faults.
 use crate::trouble::Trouble;
-use crate::words::{Told, number_at};
 use lgx_fault::FaultLog;
 use spec_tables::{Fault, Severity};
 use std::alloc::Global;
+use test_rows::{Told, number_at};
 
-/// `log | COUNT ? NUMBER .. | ..`: after so many faults, one a tick from tick 0 on, whether the log is empty, how
+/// `log | COUNT ? NUMBER .. | ..`: after COUNT faults, one a tick from tick 0 on, whether the log is empty, how
 /// many it keeps, and the ticks of those of these numbers.
 pub fn say_log(alloc: Global, said: &mut Told, count: &str, numbers: &str) -> Result<(), Trouble> {
     let mut log = FaultLog::new(alloc)?;

@@ -2,10 +2,10 @@
 ghost use Rattle.std.specs.Prelude.{◌≡◌, length};
 
 use crate::trouble::Trouble;
-use crate::words::{Told, number_at, value_at, word_at};
 use lgx_force::ForceTable;
 use spec_tables::ForceFault;
 use std::alloc::Global;
+use test_rows::{Told, number_at, value_at, word_at};
 
 /// A table of forces, and how many words it has.
 #[derive(Drop)]
@@ -15,7 +15,7 @@ struct Forces {
     ghost all: { length table.words ≡ words },
 }
 
-/// `forces | WORDS ? CALL; .. | ..`: what the calls answer in a table of so many words.
+/// `forces | WORDS ? CALL; .. | ..`: what the calls answer in a table of WORDS words.
 ///
 /// `install FIRST LAST MASK VALUE` answers the last fault of the words from the first to the last, `force WORD VALUE`
 /// what becomes of the value of a word.

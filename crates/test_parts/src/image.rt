@@ -4,13 +4,13 @@ ghost use Rattle.lgx_num.specs.Image.{InBounds, InBoundsAt};
 ghost use Rattle.lgx_num.specs.Paths.{PathInBounds};
 
 use crate::trouble::Trouble;
-use crate::words::{Told, kind_at, number_at, value_at, word_at};
 use lgx_image::{Arg, GRAIN, Image, grain_of};
 use lgx_num::{Index, Kind, Operand, Path, Place, Steps};
 use spec_base::limits::MAX_IMAGE_BYTES;
 use std::alloc::Global;
+use test_rows::{Told, kind_at, number_at, value_at, word_at};
 
-/// `image | LENGTH ? COMMAND; .. | ..`: what the commands answer in an image of so many bytes.
+/// `image | LENGTH ? COMMAND; .. | ..`: what the commands answer in an image of LENGTH bytes.
 ///
 /// `put KIND AT VALUE`, `get KIND AT`, `set AT BIT` and `bit AT` write and read at a bit; `copy FROM TO SIZE` copies
 /// bytes; `marked GRAIN` answers the least marked grain from there on, and `clear` takes the marks. `watch KIND AT` watches
@@ -70,7 +70,7 @@ fn watch(said: &mut Told, image: &mut Image, command: &str) {
     }
 }
 
-/// The place of the kind and the bit that stand after a command's word.
+/// The place of the kind and the bit that are after a command's word.
 fn place_of(said: &mut Told, command: &str) -> Place {
     let kind = kind_at(said, command, 1);
     let at = number_at(said, command, 2);
@@ -114,7 +114,7 @@ fn say_number(said: &mut Told, image: &Image, command: &str) {
     }
 }
 
-/// The place of the BOOL at the bit that stands after a command's word.
+/// The place of the BOOL at the bit that is after a command's word.
 fn bit_of(said: &mut Told, command: &str) -> Place
     ensures { result.kind ≡ Kind.Bool }
 {

@@ -3,13 +3,12 @@
 // In a text that is given `{{N*TEXT}}` stands for N times the text, and `\n`, `\s`, `\p` and such for bytes that a
 // row can't hold. A refused text is answered with its cause and line.
 use crate::trouble::Trouble;
-use crate::words::Told;
 use lgx_journal::{
     Event, Journal, JournalError, Timed, read_journal, read_script, write_event, write_journal,
 };
 use lgx_num::Items;
 use std::alloc::Global;
-use test_rows::{expanded, unescaped};
+use test_rows::{Told, expanded, unescaped};
 
 /// `journal | TEXT | ..`: the canonical text of the journal.
 pub fn say_journal(alloc: Global, said: &mut Told, given: &str) -> Result<(), Trouble> {

@@ -1,8 +1,8 @@
 // Generated texts.
 use crate::trouble::Trouble;
-use crate::words::{Told, number_at, word_at};
 use lgx_gen::{gen_journal, gen_project};
 use std::alloc::Global;
+use test_rows::{Told, number_at, word_at};
 
 /// `project | N WHAT .. | ..`: of the project that is made from the number N, `length`: how many bytes there are;
 /// `adler`: their Adler-32 (RFC 1950) in decimal; `line NUMBER`: that line, from 0 on, or `none`; `rung PROGRAM
@@ -60,7 +60,7 @@ fn line_at(text: &[u8], number: u32) -> Option<&[u8]> {
     None
 }
 
-/// The rung of a number: what stands between quotes in the line of that number among those that begin with four
+/// The rung of a number: what is between quotes in the line of that number among those that begin with four
 /// spaces.
 fn rung_at(text: &[u8], number: u32) -> Option<&[u8]> {
     let mut at = 0u32;

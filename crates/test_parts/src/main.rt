@@ -15,7 +15,6 @@ mod num;
 mod rung;
 mod sched;
 mod trouble;
-mod words;
 
 use std::alloc::Global;
 use std::io;

@@ -1,8 +1,8 @@
 // Numbers, names and operands.
 use crate::trouble::Trouble;
-use crate::words::{Told, kind_at, name_at, value_at, word_at};
 use lgx_num::{Items, Memory, Name, bytes_of, dint_of, fits, same, store_low};
 use std::alloc::Global;
+use test_rows::{Told, kind_at, name_at, value_at, word_at};
 
 /// `name | TEXT | ..`: the name that it is, or `no`.
 pub fn say_name(said: &mut Told, text: &str) {

@@ -1,12 +1,11 @@
 // Mnemonics, and neutral text.
 use crate::trouble::Trouble;
-use crate::words::Told;
 use lgx_neutral::{RungError, read_rung, write_rung};
 use lgx_num::Memory;
 use lgx_rung::{Op, SourceRung, TextFault};
 use spec_base::limits::MAX_FILE_BYTES;
 use std::alloc::Global;
-use test_rows::unescaped;
+use test_rows::{Told, unescaped};
 
 /// `op | LETTERS | ..`: the mnemonic that they are, its family and the kinds of the operands that it always has, or
 /// `no`.

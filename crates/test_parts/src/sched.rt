@@ -4,11 +4,11 @@ ghost use Rattle.spec_base.specs.declared.limits.TheConstants.{LEAST_PRIORITY};
 ghost use Rattle.test_parts.specs.Periods.{HasTicks};
 
 use crate::trouble::Trouble;
-use crate::words::{Told, number_at, word_at};
 use lgx_num::Memory;
 use lgx_sched::{Release, TaskDef, TaskKind, TaskTable};
 use spec_base::limits::LEAST_PRIORITY;
 use std::alloc::Global;
+use test_rows::{Told, number_at, word_at};
 
 /// A table of four tasks.
 #[derive(Drop)]

@@ -1,7 +1,7 @@
 //! Judges the rows of a table on standard input: calls of the program, and of the files and sinks that it is called with.
 //!
-//! The kinds of rows stand in `test_given`. One more is `stretches | STEPS PROJECT | COUNT`: in how many stretches the controller
-//! makes so many processor steps in Run of the project that is the text of this name.
+//! The kinds of rows are in `test_given`. One more is `stretches | STEPS PROJECT | COUNT`: in how many stretches the controller
+//! makes STEPS processor steps in Run of the project that is the text of this name.
 //!
 //! What differs is printed, and at the end how many rows there were.
 #![tactic(auto)]

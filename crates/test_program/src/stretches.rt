@@ -5,14 +5,14 @@ use spec_base::limits::MAX_EVENTS;
 use std::alloc::Global;
 use test_rows::{Texts, Told};
 
-/// Says in how many stretches a controller makes so many processor steps, of `STEPS PROJECT`.
+/// Says in how many stretches a controller makes the processor steps of `STEPS PROJECT`.
 pub(crate) fn say_stretches(texts: &Texts, given: &str, told: &mut Told) {
     let (steps, name) = given.split_once(' ').unwrap_or((given, ""));
     let steps = steps.parse::<u32>().unwrap_or(0);
     told.or_none(stretches_of(texts.alloc, texts.get(name).unwrap_or(b""), steps));
 }
 
-/// How many stretches so many processor steps of a project in Run are; None if it is refused or memory runs out.
+/// In how many stretches `steps` processor steps of a project in Run are made; None if it is refused or memory runs out.
 fn stretches_of(alloc: Global, project: &[u8], steps: u32) -> Option<u32> {
     let project = read_project(alloc, project).ok()?;
     let mut controller = Controller::new(alloc, project).ok()?;
@@ -22,7 +22,7 @@ fn stretches_of(alloc: Global, project: &[u8], steps: u32) -> Option<u32> {
     Some(count_stretches(&mut controller, steps))
 }
 
-/// Makes so many processor steps, as long as the controller can count them; hits are taken before each stretch.
+/// Makes `steps` processor steps, as long as the controller can count them; hits are taken before each stretch.
 fn count_stretches(controller: &mut Controller, steps: u32) -> u32 {
     let mut left = steps;
     let mut begins = Begins::new();

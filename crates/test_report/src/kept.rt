@@ -5,7 +5,7 @@ use lgx_watch::{Line, Log, WatchIndex, WatchSet};
 use std::alloc::Global;
 use test_rows::Told;
 
-/// Says how many of so many lines a log keeps, and how many it counts.
+/// Says how many of COUNT lines a log keeps, and how many it counts.
 pub(crate) fn say_log(alloc: Global, given: &str, told: &mut Told) {
     match Log::new(alloc) {
         Ok(mut log) => say_full(&mut log, number_at(given, 0), told),

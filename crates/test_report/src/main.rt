@@ -1,6 +1,6 @@
 //! Judges the rows of a table of lines of reports, of the log and of the watched places, on standard input.
 //!
-//! The tasks are `T` and `Event_Task`, the programs `P` and `Q`, the watched places `t.ACC` and `Program:P.x`, each told by its
+//! The tasks are `T` and `Event_Task`, the programs `P` and `Q`, the watched places `t.ACC` and `Program:P.x`, each given by its
 //! number.
 //!
 //! - `begin | TICK STEP TASK PROGRAM VERSION | LINE`, and `alone` of the same line made by itself.
@@ -8,7 +8,7 @@
 //! - `set | TICK STEP WATCH VALUE | LINE`.
 //! - `reply | TICK STEP LANE WORD NUMBERS | LINE`: WORD is `done`, `word`, `version`, `held`, or a code.
 //! - `end | TICK STEP MODE | LINE`.
-//! - `log | COUNT | KEPT kept, LOST lost`: how many of so many lines a log keeps.
+//! - `log | COUNT | KEPT kept, LOST lost`: how many of COUNT lines a log keeps.
 //! - `watches | GRAIN GRAIN .. | WATCHES`: which of five watched places have a byte in one of these grains of 64 bytes. They
 //!   stand at the bytes 0, 60, 64 and 60, and over the bytes 190 to 193.
 //! - `words | WORD WORD .. | WATCHES`: the same of words of 4 bytes.

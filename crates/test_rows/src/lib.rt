@@ -9,6 +9,7 @@ mod short;
 mod table;
 mod texts;
 mod told;
+mod words;
 
 pub use short::{expanded, unescaped};
 use std::alloc::Global;
@@ -16,6 +17,7 @@ use std::io;
 pub use table::{Row, judge_table};
 pub use texts::{Texts, push_plain};
 pub use told::Told;
+pub use words::{kind_at, name_at, number_at, value_at, word_at};
 
 /// Judges each row on standard input: prints what differs, with what was found in its place, and at the end how many rows
 /// there were. Empty lines, and lines that begin with `--`, are no rows.

@@ -1,7 +1,7 @@
 // What is written short in rows.
 use std::alloc::{AllocError, Global};
 
-/// The text with each `{{N*TEXT}}` written out, as so many times the text, the inner ones first.
+/// The text with each `{{N*TEXT}}` written out, as N times the text, the inner ones first.
 pub fn expanded(alloc: Global, text: &str) -> Result<String, AllocError> {
     let mut made = String::from_str(alloc, text)?;
     for _ in 0..text.len() {
@@ -38,7 +38,7 @@ fn put_together(
     Ok(made)
 }
 
-/// Adds the text of `N*TEXT` so many times.
+/// Adds the text of `N*TEXT` N times.
 fn repeat(made: &mut String, inside: &str) -> Result<(), AllocError> {
     let (count, piece) = inside.split_once('*').unwrap_or(("0", inside));
     for _ in 0..count.parse::<u32>().unwrap_or(0) {

@@ -101,7 +101,7 @@ impl Told {
         (!is_wanted).then_some(self.into_text())
     }
 
-    /// The words.
+    /// The words, with blanks between them.
     pub fn into_text(self) -> String {
         let Told { text, .. } = self;
         text

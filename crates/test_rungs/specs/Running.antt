@@ -7,7 +7,7 @@ use Rattle.lgx_prog.specs.FlatProgram.{Program}
 use Rattle.lgx_engine.specs.Views.{PositionView}
 use Rattle.lgx_engine.specs.Represents.{IsRunOf}
 
--- the program, where its scan stands, and the tags and flags
+-- the program, where its scan is, and the tags and flags
 pub record Running : Type 0 where
   pub program : Program
   pub place : PositionView

@@ -13,7 +13,7 @@ use lgx_prog::FlatProgram;
 use std::alloc::Global;
 use std::marker::Model;
 
-/// A program that runs over the tags of rows, and where its scan stands.
+/// A program that runs over the tags of rows, and where its scan is.
 ///
 /// That it runs is its invariant: it was made of rungs that can be executed, and every step keeps it.
 pub struct Bench {

@@ -48,7 +48,7 @@ fn say_fault(said: &mut Told, fault: CheckFault) {
     said.shown(&ins);
 }
 
-/// `labels | COUNT RUNGS | ..`: the same of so many rungs `LBL(L0);`, `LBL(L1);` and so on, with others after them.
+/// `labels | COUNT RUNGS | ..`: the same of COUNT rungs `LBL(L0);`, `LBL(L1);` and so on, with others after them.
 pub fn say_labels(alloc: Global, said: &mut Told, given: &str) -> Result<(), Refusal> {
     let (count, others) = given.split_once(' ').ok_or(Refusal::Form)?;
     let count = count.parse::<u32>().ok().ok_or(Refusal::Form)?;

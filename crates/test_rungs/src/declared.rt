@@ -14,7 +14,7 @@ use spec_base::limits::MAX_ELEMENTS;
 use spec_language::{Base, DataType};
 use std::alloc::Global;
 
-/// A table that isn't sealed, of so many programs, with at most so many aliases.
+/// A table that isn't sealed, with its number of programs and a bound on that of its aliases.
 pub struct Declared {
     table: Box<TagTable>,
     programs: u32,
@@ -47,7 +47,7 @@ impl Drop for Sealed {
 }
 
 impl Declared {
-    /// No tags, in so many programs, over the structures of a text.
+    /// No tags, in `programs` programs, over the structures of a text.
     pub fn new(alloc: Global, types: &str, programs: u32) -> Result<Declared, Refusal> {
         let types = table_of(alloc, &structures_of(alloc, types)?)?;
         let table = Box::new(alloc, TagTable::new(alloc, types, programs)?)?;
@@ -122,7 +122,7 @@ fn base(types: &TypeTable, word: &str) -> Result<Base, Refusal> {
     types.find(&name).ok_or(Refusal::Form)
 }
 
-/// Whether a table of so many programs has the scope.
+/// Whether a table of `programs` programs has the scope.
 fn is_scope(scope: Scope, programs: u32) -> bool
     ensures { IsTrue result → IsScopeOf programs scope }
 {

@@ -1,12 +1,11 @@
 // Rows of declared structures.
 use crate::errors::Refusal;
-use crate::read::{name_at, number_at, word_at};
 use crate::types::{structures_of, table_of};
 use lgx_types::{TypeError, TypeTable};
 use spec_base::limits::MAX_ELEMENTS;
 use spec_language::{Base, DataType, TypeFault};
 use std::alloc::Global;
-use test_rows::Told;
+use test_rows::{Told, name_at, number_at, word_at};
 
 /// `types | STRUCTURE; .. ? CALL; .. | ..`: what the calls answer at a table of these structures, or the first fault:
 /// its code, the number of the structure and that of the member.

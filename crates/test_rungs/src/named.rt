@@ -3,10 +3,9 @@ ghost use Rattle.std.specs.Prelude.{◌≡◌, true};
 
 use crate::declared::{Declared, declare_text, scoped};
 use crate::errors::Refusal;
-use crate::read::{number_at, word_at};
 use lgx_tags::{Found, SealError, TagError, TagSpan, TagTable};
 use std::alloc::Global;
-use test_rows::Told;
+use test_rows::{Told, number_at, word_at};
 
 /// `tags | TYPES ? PROGRAMS; DECLARATION; .. ? CALL; .. | ..`: which declarations are refused, and for what; the
 /// answer of sealing, if it is refused; and else what the calls answer.

@@ -1,10 +1,9 @@
 // What operands stand for, in words.
 ghost use Rattle.std.specs.Prelude.{◌≤◌, ◌<◌};
 
-use crate::read::{kind_at, number_at, value_at, word_at};
 use lgx_num::{Block, Flag, Index, Kind, Operand, Path, Place, Steps};
 use spec_base::limits::MAX_SUBSCRIPTS;
-use test_rows::Told;
+use test_rows::{Told, kind_at, number_at, value_at, word_at};
 
 /// Says an operand: of a path the kind and the first bit, and then for each subscript `by`, the bit of its number,
 /// its stride and its length.

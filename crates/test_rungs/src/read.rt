@@ -1,8 +1,7 @@
 // The words of a row.
 use crate::errors::Refusal;
-use lgx_num::{Kind, Name};
+use lgx_num::Name;
 use std::str::SplitWhitespace;
-use test_rows::Told;
 
 /// The next word.
 pub fn word<'a>(words: &mut SplitWhitespace<'a>) -> Result<&'a str, Refusal> {
@@ -25,50 +24,4 @@ pub fn name(words: &mut SplitWhitespace<'_>) -> Result<Name, Refusal> {
 /// The name that a text is.
 pub fn name_of(text: &str) -> Result<Name, Refusal> {
     Name::read(text.as_bytes()).ok_or(Refusal::Form)
-}
-
-/// The word at a place of a text, counted from 0; none is empty.
-pub fn word_at(text: &str, place: usize) -> &str {
-    text.split_whitespace().nth(place).unwrap_or("")
-}
-
-/// The word there as a number that isn't negative; if it is none, that is said, and it counts as 0.
-pub fn number_at(said: &mut Told, text: &str, place: usize) -> u32 {
-    match word_at(text, place).parse::<u32>() {
-        Ok(number) => number,
-        Err(_) => {
-            said.malformed();
-            0
-        }
-    }
-}
-
-/// The word there as a signed number; if it is none, that is said, and it counts as 0.
-pub fn value_at(said: &mut Told, text: &str, place: usize) -> i32 {
-    match word_at(text, place).parse::<i32>() {
-        Ok(value) => value,
-        Err(_) => {
-            said.malformed();
-            0
-        }
-    }
-}
-
-/// The word there as a name.
-pub fn name_at(text: &str, place: usize) -> Option<Name> {
-    Name::read(word_at(text, place).as_bytes())
-}
-
-/// The word there as a kind; if it is none, that is said, and it counts as BOOL.
-pub fn kind_at(said: &mut Told, text: &str, place: usize) -> Kind {
-    match word_at(text, place) {
-        "BOOL" => Kind::Bool,
-        "SINT" => Kind::Sint,
-        "INT" => Kind::Int,
-        "DINT" => Kind::Dint,
-        _ => {
-            said.malformed();
-            Kind::Bool
-        }
-    }
 }

@@ -10,7 +10,7 @@ use test_rows::Told;
 /// `scan | PROGRAM / BEFORE | STEPS / AFTER`: what the steps of one scan of the program do, and the tags that aren't
 /// 0 after it.
 ///
-/// The tags that are set before are told as in `image_of`; `now=103` is the tick, 0 if it isn't told, `S:FS` the
+/// The tags that are set before are given as in `image_of`; `now=103` is the tick, 0 if it isn't given, `S:FS` the
 /// first scan, and `S:V`, `S:Z` and `S:N` the flags that are on.
 pub fn say_scan(alloc: Global, said: &mut Told, given: &str) -> Result<(), Refusal> {
     let (program, before) = given.split_once('/').ok_or(Refusal::Form)?;
@@ -59,7 +59,7 @@ pub fn say_prescan(alloc: Global, said: &mut Told, given: &str) -> Result<(), Re
     Ok(())
 }
 
-/// `scans | COUNT PROGRAM | STEPS`: how many steps so many scans of the program take, with every tag 0 at first.
+/// `scans | COUNT PROGRAM | STEPS`: how many steps COUNT scans of the program take, with every tag 0 at first.
 pub fn say_scans(alloc: Global, said: &mut Told, given: &str) -> Result<(), Refusal> {
     let (count, program) = given.split_once(' ').ok_or(Refusal::Form)?;
     let count = count.parse::<u32>().ok().ok_or(Refusal::Form)?;
@@ -68,7 +68,7 @@ pub fn say_scans(alloc: Global, said: &mut Told, given: &str) -> Result<(), Refu
     Ok(())
 }
 
-/// The steps of so many scans, each to its end.
+/// The steps of `scans` scans, each to its end.
 fn steps_of(bench: &mut Bench, scans: u32) -> u64 {
     let mut steps = 0u64;
     for _ in 0..scans {

@@ -19,7 +19,7 @@ struct Step {
 /// `ran`: an instruction was executed. `up`, `down`: a UID, a UIE. `trigger0`: an EVENT, with the number of its task.
 /// `minor`, `major84`: an instruction with a fault. `copy`, `cps`: a COP or FLL, a CPS that starts; `element`,
 /// `last`: an element is copied, the last one. `left`: a routine is left, `end`: the main one. A word with a number
-/// and `*` before it stands for so many steps.
+/// and `*` before it stands for as many steps.
 pub fn say_steps(
     alloc: Global,
     said: &mut Told,
@@ -52,7 +52,7 @@ fn is_same(left: Step, right: Step) -> bool {
     left.word == right.word && left.number == right.number
 }
 
-/// Says so many equal steps.
+/// Says `count` equal steps.
 fn say_equal(alloc: Global, said: &mut Told, step: Step, count: u32) -> Result<(), AllocError> {
     if count == 0 {
         return Ok(());

@@ -86,6 +86,6 @@ def files(draw, made=None):
     return [text, journal_text(maker.journal())]
 
 
-def begins(draw, program, made=None):
+def begins(draw, program, made=None, _=None):
     verb = draw.choice([verb for verb in ("replay", "replay", "trace") if verb in program.words])
     return judged(verb), files(draw, made)

@@ -1,5 +1,6 @@
 """Cases that the plain interpreter judges: what the program answers is what the rules say, byte for byte."""
 
+import functools
 import json
 import os
 
@@ -17,6 +18,7 @@ def contents_of(path):
         return file.read()
 
 
+@functools.cache
 def example_files():
     """The projects of the examples, each with its journal where it has one."""
     found = []
@@ -59,22 +61,29 @@ def journal_text(lines):
     return ("\n".join(lines) + "\n").encode("latin-1")
 
 
-WORDS = ("replay", "replay", "replay", "replay", "trace", "check", "text", "migrate", "xref")
+OF_JOURNAL, OF_PROJECT = ("replay", "replay", "replay", "replay", "trace"), ("check", "text", "migrate", "xref")
+EVERY = 3  # of the cases on one project every third, up to the last word, reads the project alone
 
 
-def whole_project(draw):
-    """A made project, some with slips: its maker, who makes its journals too, and its text."""
-    maker = Maker(draw, draw.choice((0.0, 0.0, 0.0, 0.002, 0.01)))
-    return maker, file_text(maker.project())
+def made_project(*slips):
+    """What makes a project, with one of these slips: its maker, who makes its journals too, and its text."""
+    def make(draw):
+        maker = Maker(draw, draw.choice(slips))
+        return maker, file_text(maker.project())
+    return make
 
 
-def whole(draw, program, made=None):
-    """A made project and journal, with some slips; the project perhaps one that was made before."""
+whole_project = made_project(0.0, 0.0, 0.0, 0.002, 0.01)
+
+
+def whole(draw, program, made=None, at=None):
+    """A made project and journal, with some slips; or the case of this number on a project that was made before, where no word reads the project alone twice."""
     maker, project = made or whole_project(draw)
     maker.draw = draw
     contents = [project, journal_text(maker.journal())]
-    verb = draw.choice([word for word in WORDS if word in program.words])
-    return judged(verb), contents if verb in ("replay", "trace") else contents[:1]
+    words = OF_JOURNAL + OF_PROJECT if at is None else OF_JOURNAL if at % EVERY else OF_PROJECT[at // EVERY:][:1] or OF_JOURNAL
+    verb = draw.choice([word for word in words if word in program.words] or ["replay"])
+    return judged(verb), contents if verb in OF_JOURNAL else contents[:1]
 
 
 def long_runs(draw, _):
@@ -126,15 +135,18 @@ def projects(draw, program):
     return judged(draw.choice(("check", "check", "text"))), [contents]
 
 
-def journals(draw, program):
+def journals_project(draw):
+    """A made project with its maker, or an example's with its journal."""
+    return (None, *draw.choice(example_files())) if draw.random() < 0.4 else (*made_project(0.0, 0.01)(draw), None)
+
+
+def journals(draw, program, made=None, _=None):
     """A made or an example's journal with mutations."""
-    if draw.random() < 0.4:
-        project, journal = draw.choice(example_files())
-    else:
-        maker = Maker(draw, draw.choice((0.0, 0.01)))
-        project, journal = file_text(maker.project()), journal_text(maker.journal())
-    journal = Bender(draw).text(journal)
-    return judged("replay"), [project, journal]
+    maker, project, journal = made or journals_project(draw)
+    if maker:
+        maker.draw = draw
+        journal = journal_text(maker.journal())
+    return judged("replay"), [project, Bender(draw).text(journal)]
 
 
 def cuts(draw, program):
@@ -145,18 +157,25 @@ def cuts(draw, program):
     return judged("replay"), [project, journal[:int(draw.random() * (len(journal) + 1))]]
 
 
-def traces(draw, _):
-    """A trace of a made run, or another project's, doctored: lines dropped, doubled and swapped, marks and numbers changed."""
-    maker = Maker(draw, 0.0)
-    project, journal = file_text(maker.project()), journal_text(maker.journal())
-    wanted = answer(["trace"], [project, journal])
-    trace = wanted[1].encode("latin-1") if wanted and wanted[0] == 0 else b"idle\nend\n"
+def traced(draw):
+    """A made project, and the trace of a run of it."""
+    maker, project = made_project(0.0)(draw)
+    wanted = answer(["trace"], [project, journal_text(maker.journal())])
+    return project, wanted[1].encode("latin-1") if wanted and wanted[0] == 0 else b"idle\nend\n"
+
+
+def doctored(draw, made, at, changes, bent):
+    """A trace of a made run with one of these numbers of changes, or sometimes bent; of several on one run the first alone has perhaps none."""
+    project, trace = made or traced(draw)
     bender = Bender(draw)
-    for _ in range(draw.choice((0, 1, 1, 2, 3, 8))):
+    for _ in range(draw.choice(changes if not at else [count for count in changes if count])):
         trace = bender.trace(trace)
-    if draw.random() < 0.15:
-        trace = bender.text(trace)
-    return judged("audit"), [project, trace]
+    return [project, bender.text(trace) if draw.random() < bent else trace]
+
+
+def traces(draw, _, made=None, at=None):
+    """A trace of a made run, or another project's, doctored: lines dropped, doubled and swapped, marks and numbers changed."""
+    return judged("audit"), doctored(draw, made, at, (0, 1, 1, 2, 3, 8), 0.15)
 
 
 TASKS = [
@@ -186,23 +205,26 @@ def walks(draw, _):
     return judged("audit"), [file_text(PROJECT), journal_text([*lines, "end"])]
 
 
+MARKS = ("-", "-", "-", "up", "down", "sync", "syncend", "copy", "trigger:1", "trigger:4", "trigger:3")
+# Lines of a trace: a text, and the words for its blanks; `at` is a task with a program, mostly one of its own.
+LINES = (
+    ("idle",), ("began {at} {}", (0, 0, 1, 2)), ("step {at} {} {}", MARKS, ("-", "-", "-", "minor", "major")), ("step {at} {} -", MARKS), ("step {at} - -",),
+    ("left {at} {}", ("ended", "on")), ("tick {} 0 -", range(32)), ("tick 0 0 -",), ("tick {} {} {}", (2, 4, 6), range(32), ("-", "-", "-", "1")),
+    ("act {} other - ok {}", range(32), (0, 2, 16)), ("act 0 accept {program} ok:{} 0", (1, 2)),
+    ("act 0 {} {program} {} 0", ("test", "untest", "assemble", "cancel"), ("ok", "ok", "no")), ("act 31 {} - {} {}", ("program", "run", "clear"), ("ok", "no"), (0, 1)),
+)
+WHERE = ("0 0",) * 3 + ("1 0", "1 1", "1 2") * 2 + ("2 3",) * 6 + ("3 4",) * 3 + ("4 5",) * 3
+
+
 def walked(draw):
     """Some line of a trace, of the five tasks."""
-    task = draw.choice((0, 1, 1, 2, 2, 3, 4))
-    program = draw.choice((0, 1, 2)) if task == 1 else (0, 1, 3, 4, 5)[task]
-    mark = draw.choice(("-", "-", "-", "up", "down", "sync", "syncend", "copy", "trigger:1", "trigger:4", "trigger:3"))
-    return draw.choice((
-        "idle", f"began {task} {program} {draw.choice((0, 0, 1, 2))}", f"step {task} {program} {mark} {draw.choice(('-', '-', '-', 'minor', 'major'))}",
-        f"step {task} {program} {mark} -", f"step {task} {program} - -", f"left {task} {program} {draw.choice(('ended', 'on'))}",
-        f"tick {draw.randrange(32)} 0 -", "tick 0 0 -", f"tick {draw.choice((2, 4, 6))} {draw.randrange(32)} {draw.choice(('-', '-', '-', '1'))}",
-        f"act {draw.randrange(32)} other - ok {draw.choice((0, 2, 16))}", f"act 0 accept {program} ok:{draw.randrange(1, 3)} 0",
-        f"act 0 {draw.choice(('test', 'untest', 'assemble', 'cancel'))} {program} {draw.choice(('ok', 'ok', 'no'))} 0",
-        f"act 31 {draw.choice(('program', 'run', 'clear'))} - {draw.choice(('ok', 'no'))} {draw.choice((0, 1))}",
-    ))
+    text, *words = draw.choice(LINES)
+    where = draw.choice(WHERE)
+    return text.format(*map(draw.choice, words), at=where, program=where[2:])
 
 
-def links(draw, _):
-    """Two made controllers with a connection each, and a link script that loses, repeats and reorders."""
+def links_projects(draw):
+    """Two made controllers with a connection each: their makers, and their texts."""
     made = []
     for direction in ("out", "in"):
         maker = Maker(draw, draw.choice((0.0, 0.0, 0.0, 0.001)))
@@ -220,9 +242,16 @@ def links(draw, _):
         made[1][1]["watch"][-1] = made[0][1]["watch"][-1]
         routine = made[1][1]["programs"][0]["routines"][0]
         routine["rungs"] = [one for one in routine["rungs"] if "Link" not in one]
-    script = link_script(draw, [maker for maker, _ in made])
-    text = journal_text(script)
-    return judged("link"), [*(file_text(project) for _, project in made), Bender(draw).text(text) if draw.random() < 0.2 else text]
+    return [maker for maker, _ in made], [file_text(project) for _, project in made]
+
+
+def links(draw, _, made=None, __=None):
+    """Two controllers, and a link script that loses, repeats and reorders."""
+    makers, projects = made or links_projects(draw)
+    for maker in makers:
+        maker.draw = draw
+    text = journal_text(link_script(draw, makers))
+    return judged("link"), [*projects, Bender(draw).text(text) if draw.random() < 0.2 else text]
 
 
 def link_script(draw, makers):

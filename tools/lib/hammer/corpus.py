@@ -3,7 +3,6 @@
 import functools
 import json
 import os
-import random
 import re
 import sys
 import time
@@ -12,6 +11,7 @@ from typing import NamedTuple
 from . import begins, cases, marks, shrink, texts
 from .bent import Bender
 from .coverage import Coverage, Watching
+from .draw import Draw
 from .laws import of_live, of_stations
 from .plain.judge import answer
 
@@ -192,7 +192,7 @@ class Finder:
     """Looks for cases that meet what few others did, from fresh ones and changes of those that are kept."""
 
     def __init__(self, seed, known):
-        self.draw, self.kept, self.counts, self.tried = random.Random(f"find {seed}"), list(known), Coverage().counts, 0
+        self.draw, self.kept, self.counts, self.tried = Draw(f"find {seed}"), list(known), Coverage().counts, 0
         for one in self.kept:
             self.counts.update(met_by(one.word, one.files))
 

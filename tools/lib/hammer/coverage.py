@@ -25,6 +25,9 @@ EFFECTS = (
     "step mark copyend", "step mark sync", "step mark syncend", "tick released", "tick overlapped", "tick watchdog", "tick", "act released",
     "open task", "turn",
 )
+STEPS = {what: f"effect step {what}" for what in ("idle", "began")}
+STEP_MARKS = {mark: f"effect step mark {mark}" for mark in ("-", "up", "down", "copy", "copyend", "sync", "syncend")}
+ROWS = {(op, on): f"instruction {op} {'true' if on else 'false'}" for op in INSTRUCTIONS for on in (True, False)}
 CODES = {
     "M": range(1, 4), "N": range(1, 4), "F": range(1, 4), "E": (1, 2, 3, 5, 6, 7, 8, 9, 10, 11, 12), "T": range(1, 6), "C": range(1, 18),
     "P": range(1, 12), "Y": range(1, 7), "G": (1, 2, 3, 4, 5, 6, 7, 8, 10), "J": range(1, 6), "K": (1, 2), "L": (1, 2, 3), "U": (1,), "V": range(1, 6),
@@ -55,10 +58,13 @@ def rows():
 
 
 class Coverage:
-    """Counts of cases by what they met. `watching` puts it behind the plain interpreter while one case is judged."""
+    """Counts of cases by what they met. `watching` puts it behind the plain interpreter while one case is judged.
 
-    def __init__(self, counts=()):
-        self.counts, self.met = collections.Counter(dict(counts)), set()
+    What showed of each instruction takes longer to tell than the rows of the table: it is told of every so many cases.
+    """
+
+    def __init__(self, counts=(), every=1):
+        self.counts, self.met, self.every, self.number = collections.Counter(dict(counts)), set(), every, 0
 
     def meet(self, what):
         self.met.add(what)
@@ -66,6 +72,7 @@ class Coverage:
     def case(self):
         """The case is over: what it met is counted, and answered."""
         met, self.met = self.met, set()
+        self.number += 1
         self.counts.update(met)
         return met
 
@@ -95,10 +102,10 @@ class Coverage:
     # ---- from the plain interpreter
 
     def said(self, said, verb):
-        if said.what in ("idle", "began", "left"):
-            self.meet(f"effect step {said.what}" + (f" {said.left}" if said.left else ""))
-        elif said.what == "step":
-            self.meet(f"effect step mark {said.mark.partition(':')[0]}")
+        if said.what == "step":
+            self.meet(STEP_MARKS.get(said.mark, "effect step mark trigger"))
+        elif said.what in ("idle", "began", "left"):
+            self.meet(f"effect step left {said.left}" if said.left else STEPS[said.what])
         elif said.what == "tick":
             self.meet("effect tick")
             self.masks("tick", said)
@@ -128,7 +135,6 @@ class Coverage:
     def executed(self, scan, one, on, outcome, before, flags):
         """One instruction: on which condition, and as much of what it did as shows."""
         row = f"{one.op} {'true' if on else 'false'}"
-        self.meet(f"instruction {row}")
         self.meet(f"shown {row}: {outcome}{', '.join(['', *self.shows(scan, one, before, flags)])}")
 
     def shows(self, scan, one, before, flags):
@@ -161,6 +167,10 @@ class Watching:
         instructions.execute, machine.Machine.event, machine.prescan = self.kept
 
     def execute(self, scan, frame, one, on):
+        self.coverage.meet(ROWS[one.op, bool(on)])
+        return self.shown(scan, frame, one, on) if self.coverage.number % self.coverage.every == 0 else self.kept[0](scan, frame, one, on)
+
+    def shown(self, scan, frame, one, on):
         before, flags = bytes(scan.image), dict(scan.machine.flags[scan.task])
         outcome = "over"
         try:
@@ -177,15 +187,14 @@ class Watching:
         real, coverage = self.kept[1], self.coverage
 
         def event(controller, verb, lane=None, action=None):
-            chosen, opened = controller.chosen(), controller.mode == "run"
+            chosen, runs = controller.chosen() if verb == "tick" else None, controller.mode == "run"
+            if verb == "cpu" and any(task.up and task.is_open() for task in controller.tasks):
+                coverage.meet("effect open task")
             said = real(controller, verb, lane, action)
             coverage.said(said, verb)
-            if verb == "tick" and opened and chosen and not chosen.is_open():
-                equals = [task for task in controller.tasks if task.up and task is not chosen and task.priority == chosen.priority]
-                if equals:
+            if runs and chosen and not chosen.is_open():
+                if any(task.up and task is not chosen and task.priority == chosen.priority for task in controller.tasks):
                     coverage.meet("effect turn")
-            elif verb == "cpu" and chosen and chosen.is_open():
-                coverage.meet("effect open task")
             return said
         return event
 

@@ -1,9 +1,8 @@
 """Scripts: `run` writes a journal that is complete for its script, counted here, and the report of that journal."""
 
 from .bent import Bender
-from .cases import file_text, first_difference, journal_text, told
+from .cases import first_difference, journal_text, made_project, told
 from .laws import Broken, got, law
-from .made import Maker
 from .plain.journal import Bad, Script, line_of, read_journal
 from .plain.judge import Reporter
 from .plain.project import Project
@@ -100,16 +99,20 @@ def take(rest, event, ticks):
         raise Broken(f"an action of tick {at} at tick {ticks}")
 
 
-def scripts(draw, _):
+scripts_project, lanes_project = made_project(0.0, 0.0, 0.003), made_project(0.0)
+
+
+def scripts(draw, _, made=None, __=None):
     """A few lanes, and mutations."""
-    maker = Maker(draw, draw.choice((0.0, 0.0, 0.003)))
-    project, script = file_text(maker.project()), journal_text(maker.script())
+    maker, project = made or scripts_project(draw)
+    maker.draw = draw
+    script = journal_text(maker.script())
     return of_script, [project, Bender(draw).text(script) if draw.random() < 0.4 else script]
 
 
-def many_lanes(draw, _):
+def many_lanes(draw, _, made=None, __=None):
     """1 to 31 lanes, with many actions."""
-    return of_script, on_lanes(draw, (200, 3_000), (1, 2, 5, 10, 50), 12)
+    return of_script, on_lanes(draw, made, (200, 3_000), (1, 2, 5, 10, 50), 12)
 
 
 @law
@@ -120,15 +123,15 @@ def of_threads(program, contents):
         return of_script(program, files, plain=False)
 
 
-def threads(draw, _):
+def threads(draw, _, made=None, __=None):
     """1 to 31 lanes that meet often, on 2 and on 4 processors."""
-    return of_threads, [*on_lanes(draw, (10, 250), (1, 2, 5, 20), 4), draw.choice((b"2", b"4"))]
+    return of_threads, [*on_lanes(draw, made, (10, 250), (1, 2, 5, 20), 4), draw.choice((b"2", b"4"))]
 
 
-def on_lanes(draw, steps, paces, most):
+def on_lanes(draw, made, steps, paces, most):
     """A project, and a script of 1 to 31 lanes with up to so many actions each."""
-    maker = Maker(draw, 0.0)
-    project = file_text(maker.project())
+    maker, project = made or lanes_project(draw)
+    maker.draw = draw
     lanes, steps, pace = maker.between(1, 31), maker.between(*steps), maker.pick(paces)
     lines = []
     for lane in range(lanes):

@@ -3,7 +3,7 @@
 import json
 
 from .bent import Bender
-from .cases import example_files, file_text, journal_text, links, told
+from .cases import example_files, file_text, journal_text, links, made_project, told
 from .made import Maker
 from .plain.journal import line_of, read_journal
 from .plain.judge import generated, live, story
@@ -171,24 +171,30 @@ def project_laws(draw, _):
     return of_project, [project]
 
 
-def journal_laws(draw, _):
-    maker = Maker(draw, 0.0)
-    return of_journal, [file_text(maker.project()), journal_text(maker.journal(maker.between(10, 60)))]
+sound_project, live_project, stations_project = made_project(0.0), made_project(0.0, 0.002), made_project(0.0, 0.0, 0.002)
 
 
-def live_laws(draw, _):
-    maker = Maker(draw, draw.choice((0.0, 0.002)))
-    project, journal = file_text(maker.project()), journal_text(maker.journal())
+def journal_laws(draw, _, made=None, __=None):
+    maker, project = made or sound_project(draw)
+    maker.draw = draw
+    return of_journal, [project, journal_text(maker.journal(maker.between(10, 60)))]
+
+
+def live_laws(draw, _, made=None, __=None):
+    maker, project = made or live_project(draw)
+    maker.draw = draw
+    journal = journal_text(maker.journal())
     return of_live, [project, Bender(draw).text(journal) if draw.random() < 0.2 else journal]
 
 
-def stations(draw, _):
-    maker = Maker(draw, draw.choice((0.0, 0.0, 0.002)))
-    return of_stations, [file_text(maker.project()), journal_text(maker.journal()), str(maker.between(1, 8)).encode()]
+def stations(draw, _, made=None, __=None):
+    maker, project = made or stations_project(draw)
+    maker.draw = draw
+    return of_stations, [project, journal_text(maker.journal()), str(maker.between(1, 8)).encode()]
 
 
-def link_laws(draw, program):
-    return of_link, links(draw, program)[1]
+def link_laws(draw, program, made=None, at=None):
+    return of_link, links(draw, program, made, at)[1]
 
 
 def of_number(program, contents):

@@ -9,9 +9,10 @@ import time
 
 from lib.paths import built
 
-from . import begins, cases, corpus, faults, lanes, laws, limits, marks, more, pieces, texts, turns
+from . import begins, cases, corpus, covers, faults, lanes, laws, limits, marks, more, pieces, texts, turns
 from . import coverage as met
 from .coverage import Coverage, stored, watching
+from .draw import Draw
 from .program import PAGE, Program
 from .shrink import Shrinker
 
@@ -40,8 +41,13 @@ IN_TURN = {
     "failed calls": lambda program: len(turns.turns_of(program).system), **more.IN_TURN,
 }
 # Those whose cases may run, some in a row, on one made project: what makes it. Making and reading a project is most of such a case.
-ON_ONE = {"whole": cases.whole_project, "marks": marks.project, "begins": begins.project}
-RUNS = 4  # journals of such a project
+ON_ONE = {
+    "whole": cases.whole_project, "marks": marks.project, "begins": begins.project, "journals": cases.journals_project, "traces": cases.traced,
+    "laws": cases.traced, "links": cases.links_projects, "link laws": cases.links_projects, "journal laws": laws.sound_project, "live": laws.live_project,
+    "stations": laws.stations_project, "scripts": lanes.scripts_project, "lanes": lanes.lanes_project, "threads": lanes.lanes_project, "cover": covers.project,
+}
+RUNS = 12  # cases on such a project
+SHOWN = 8  # of so many cases one tells what showed of each instruction
 WHOLE_ANYWAY = (*IN_TURN, "little memory")
 FEW = 1_000  # cases: what was met by fewer is told as rare
 
@@ -65,16 +71,16 @@ class Hammer:
 
     def case(self, kind, number):
         """The judge and the files of a case, by its number alone."""
-        draw = random.Random(f"{self.seed} {kind} {number}")
+        draw = Draw(f"{self.seed} {kind} {number}")
         make = KINDS[kind][0]
         if kind in ON_ONE and self.runs > 1:
-            return make(draw, self.program, self.project(kind, number // self.runs))
+            return make(draw, self.program, self.project(kind, number // self.runs), number % self.runs)
         return make(draw, self.program, number) if kind in IN_TURN else make(draw, self.program)
 
     def project(self, kind, number):
         """A kind's project of this number; the last one is kept."""
         if kind not in self.projects or self.projects[kind][0] != number:
-            self.projects[kind] = number, ON_ONE[kind](random.Random(f"{self.seed} {kind} project {number}"))
+            self.projects[kind] = number, ON_ONE[kind](Draw(f"{self.seed} {kind} project {number}"))
         return self.projects[kind][1]
 
     def try_case(self, kind, number):
@@ -108,7 +114,7 @@ class Hammer:
 
     def first(self, kind):
         """The number of a kind's first case: those that come in turn begin at a place of the seed's, so that short runs meet all of them."""
-        return random.Random(f"{self.seed} {kind}").randrange(1 << 20) if kind in IN_TURN else 0
+        return Draw(f"{self.seed} {kind}").randrange(1 << 20) if kind in IN_TURN else 0
 
     def run(self, seconds, kinds):
         """Rounds of all kinds, each as often as it is to be; a rare one in some rounds."""
@@ -117,9 +123,11 @@ class Hammer:
         while kinds and time.monotonic() < until:
             for kind in kinds:
                 due[kind] += KINDS[kind][1]
-                while due[kind] >= 1 and time.monotonic() < until:
-                    due[kind] -= 1
-                    self.try_case(kind, self.first(kind) + self.counts[kind])
+                batch = self.runs if kind in ON_ONE else 1  # (all cases on one project in a row, so that it is read once)
+                while due[kind] >= batch and time.monotonic() < until:
+                    due[kind] -= batch
+                    for _ in range(batch):
+                        self.try_case(kind, self.first(kind) + self.counts[kind])
 
     def run_cases(self, kinds, first, count):
         """So many cases of each kind, from the first; of one that comes in turn, all at most."""
@@ -166,11 +174,13 @@ def words_of_command(arguments):
     parser.add_argument("--again", default=None, metavar="KIND:NUMBER", help="one case of the seed again")
     parser.add_argument("--found", default=None, help="where differences are stored (hammer-SEED in the folder for temporary files)")
     parser.add_argument("--coverage", action="store_true", help="tell at the end how many cases met each instruction, cause, status and effect")
-    parser.add_argument("--counts", default=None, metavar="FILE", help="with --coverage: write the counts there too")
+    parser.add_argument("--counts", default=None, metavar="FILE", help="with --coverage, --in-all or --table: write the counts there too")
     parser.add_argument("--find", type=float, default=None, metavar="SECONDS",
                         help="look so long for cases that meet what few do, by the plain interpreter, and keep them (kept.txt)")
     parser.add_argument("--in-all", type=int, default=None, metavar="N", help="so many cases in pieces of SECONDS, each a process; goes on where it ended before")
-    parser.add_argument("--folder", default=None, help="with --in-all: what the pieces came to (hammer-pieces-SEED in the folder for temporary files)")
+    parser.add_argument("--processors", type=int, default=1, metavar="P", help="with --in-all: so many pieces at a time (1)")
+    parser.add_argument("--folder", default=None, help="with --in-all: pieces.jsonl, a line for each piece, with what they found (hammer-pieces-SEED in the folder for temporary files)")
+    parser.add_argument("--table", nargs="+", default=None, metavar="FILE", help="only tell the table of such lines; with --counts, write their sum as one line")
     words = parser.parse_args(arguments)
     words.kinds = list(IN_TURN) if words.in_turn else [kind.strip() for kind in words.kinds.split(",") if kind]
     unknown = [kind for kind in words.kinds if kind not in KINDS]
@@ -183,6 +193,8 @@ def main(arguments=None):
     """Status 0: nothing differs; 1: something does; 2: there is no program."""
     sys.setrecursionlimit(20_000)
     words = words_of_command(arguments)
+    if words.table:
+        return pieces.tell([line for path in words.table for line in pieces.lines_of(path)], FEW, words.counts)
     if words.find is not None:
         return corpus.main(words.find, words.seed or "find")
     if not os.access(words.program, os.X_OK):
@@ -192,7 +204,7 @@ def main(arguments=None):
     if words.in_all:
         return pieces.main(words, seed, FEW)
     program = Program(words.program)
-    coverage = Coverage() if words.coverage or words.counts else None
+    coverage = Coverage(every=SHOWN) if words.coverage or words.counts else None
     hammer = Hammer(program, seed, words.found or f"{os.environ.get('TMPDIR', '/tmp')}/hammer-{seed}", coverage, words.runs)
     print(f"seed {seed}", flush=True)
     kinds = hammer.known_kinds(words.kinds)

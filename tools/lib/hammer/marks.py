@@ -200,5 +200,5 @@ def files(draw, made=None):
     return [text, journal_text(maker.journal())]
 
 
-def marks(draw, program, made=None):
+def marks(draw, program, made=None, _=None):
     return of_live if program.beside("logix_live") and draw.random() < 0.2 else judged("replay"), files(draw, made)

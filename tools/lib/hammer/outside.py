@@ -8,6 +8,7 @@ from lib.paths import TOOLS
 
 HERE = os.path.dirname(os.path.abspath(__file__))
 TESTS = f"{TOOLS}/tests"
+PROGRAMS = ("logix", "logix_cover", "logix_explore", "logix_laws", "logix_live", "logix_timeline", "logix_wave")
 
 
 def scenario(words):

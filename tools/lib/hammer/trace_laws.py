@@ -1,13 +1,10 @@
 """Traces judged by the laws that the audit leaves out: the text of `logix_laws` is what the plain reading says."""
 
-from .bent import Bender
-from .cases import PROJECT, file_text, journal_text, told, walked
+from .cases import PROJECT, doctored, file_text, journal_text, told, walked
 from .laws import law
-from .made import Maker
 from .plain.audit import Table, event_of
-from .plain.judge import answer
+from .plain.judge import answer, kept_project
 from .plain.laws import LAWS, Lawful
-from .plain.project import Project
 from .sound import unsound
 
 OTHERS = (
@@ -28,25 +25,14 @@ def of_laws(program, contents):
     return unsound(ran, {0}) if status is None else told(ran, status, text.encode("latin-1"))
 
 
-def laws(draw, _):
+def laws(draw, _, made=None, at=None):
     """A trace of a made run, or another project's, doctored; or one that walks along the laws and breaks one now and then."""
-    return of_laws, doctored(draw) if draw.random() < 0.4 else walk(draw)
-
-
-def doctored(draw):
-    maker = Maker(draw, 0.0)
-    project, journal = file_text(maker.project()), journal_text(maker.journal())
-    wanted = answer(["trace"], [project, journal])
-    trace = wanted[1].encode("latin-1") if wanted and wanted[0] == 0 else b"idle\nend\n"
-    bender = Bender(draw)
-    for _ in range(draw.choice((0, 1, 1, 2, 3))):
-        trace = bender.trace(trace)
-    return [project, bender.text(trace) if draw.random() < 0.1 else trace]
+    return of_laws, doctored(draw, made, at, (0, 1, 1, 2, 3), 0.1) if draw.random() < 0.4 else walk(draw)
 
 
 def walk(draw):
     """Events one by one, each that keeps the laws and of the others a few."""
-    project = Project(file_text(PROJECT))
+    project = kept_project(file_text(PROJECT))
     table = Table(project)
     counting, lines = Lawful(table, project), ["act 31 run - ok 1"]
     counting.count(event_of(lines[0].split(" "), table))

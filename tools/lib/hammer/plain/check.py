@@ -60,6 +60,7 @@ class Scope(NamedTuple):
     program: int
     routines: tuple
     tasks: tuple
+    known: object = None  # what operands stand for that were read before, by kind and text
 
 
 def kinds_of(op, operands):
@@ -94,6 +95,7 @@ class Checker:
 
     def __init__(self, rungs, scope):
         self.rungs, self.scope = rungs, scope
+        self.known = {} if scope.known is None else scope.known
         self.labels = [self.label_of(one) for rung in rungs for one in instructions(rung)]
         self.places, self.count = {}, 0
         for at, rung in enumerate(rungs):
@@ -126,7 +128,7 @@ class Checker:
         if kinds is None:
             codes.append(1)
         for kind, text in zip(kinds or "", one.operands):
-            read = self.operand(kind, text)
+            read = self.named(kind, text) if kind in "lL" else self.known_operand(kind, text)
             (codes if isinstance(read, int) else args).append(read)
         if one.op == "LBL":
             if self.label_of(one) in self.labels[:self.count] and self.label_of(one) is not None:
@@ -141,6 +143,12 @@ class Checker:
             raise CheckFault(min(codes), self.rung, self.number)
         self.number, self.count = self.number + 1, self.count + 1
         return Checked(one.op, tuple(args))
+
+    def known_operand(self, kind, text):
+        """What an operand stands for; of a label the rungs say it, of all else the project."""
+        if (kind, text) not in self.known:
+            self.known[kind, text] = self.operand(kind, text)
+        return self.known[kind, text]
 
     def operand(self, kind, text):
         """What an operand stands for, or the least code of what is wrong with it."""

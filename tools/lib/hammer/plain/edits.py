@@ -18,7 +18,8 @@ class Book:
         self.base, self.base_number, self.last = [list(rungs) for rungs in project.texts[program]], 0, 0
         self.base_checked = project.checked[program]
         self.accepted, self.owner, self.testing = [], None, False
-        self.merged = self.merged_checked = None
+        self.base_counts = [project.count([rungs]) for rungs in self.base]
+        self.merged = self.merged_checked = self.merged_counts = None
 
     def selected(self):
         """The rungs that the next scan has, checked, and their number."""
@@ -36,15 +37,17 @@ class Book:
         routine = names.index(name.lower())
         self.judge_places(routine, edits)
         read = [(routine, edit, self.read(at, edit)) for at, edit in enumerate(edits)]
-        merged = [self.merge(number, self.accepted + read) for number in range(len(names))]
+        rungs = self.merge(routine, self.accepted + read)
         try:
-            checked = self.project.check(self.program, merged[routine])
+            checked = self.project.check(self.program, rungs)
         except CheckFault as fault:
             raise Refused(f"E8 {fault}") from None
-        if self.project.count(merged) > MOST_MERGED:
+        before = (self.merged, self.merged_checked, self.merged_counts) if self.accepted else (self.base, self.base_checked, self.base_counts)
+        now = (rungs, checked, self.project.count([rungs]))
+        merged, merged_checked, counts = ([*of[:routine], one, *of[routine + 1:]] for of, one in zip(before, now))
+        if sum(counts) > MOST_MERGED:
             raise Refused("E9")
-        before = self.merged_checked if self.accepted else self.base_checked
-        self.merged, self.merged_checked = merged, [*before[:routine], checked, *before[routine + 1:]]
+        self.merged, self.merged_checked, self.merged_counts = merged, merged_checked, counts
         self.accepted, self.owner, self.last = self.accepted + read, client, self.last + 1
         return self.last
 
@@ -71,16 +74,16 @@ class Book:
 
     def merge(self, routine, edits):
         """The rungs of a routine with these edits; base numbers count."""
-        mine = [(edit, rung) for number, edit, rung in edits if number == routine]
-        merged = []
-        for index in range(len(self.base[routine]) + 1):
-            merged += [rung for edit, rung in mine if edit.what == "i" and edit.index == index]
-            instead = [(edit.what, rung) for edit, rung in mine if edit.what != "i" and edit.index == index]
-            if instead:
-                merged += [rung for what, rung in instead if what == "r"]
-            elif index < len(self.base[routine]):
-                merged.append(self.base[routine][index])
-        return merged
+        inserted, instead, merged = {}, {}, []
+        for number, edit, rung in edits:
+            if number == routine and edit.what == "i":
+                inserted.setdefault(edit.index, []).append(rung)
+            elif number == routine:
+                instead.setdefault(edit.index, []).extend([rung] if edit.what == "r" else [])
+        for index, rung in enumerate(self.base[routine]):
+            merged += inserted.get(index, [])
+            merged += instead.get(index, [rung])
+        return merged + inserted.get(len(self.base[routine]), [])
 
     def change(self, client, verb):
         """test, untest, assemble, cancel."""
@@ -93,6 +96,6 @@ class Book:
             raise Refused("E12")
         self.testing = verb == "test"
         if verb == "assemble":
-            self.base, self.base_checked, self.base_number = self.merged, self.merged_checked, self.last
+            self.base, self.base_checked, self.base_counts, self.base_number = self.merged, self.merged_checked, self.merged_counts, self.last
         if verb in ("assemble", "cancel"):
             self.accepted, self.owner = [], None

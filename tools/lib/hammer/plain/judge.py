@@ -193,12 +193,18 @@ class Reporter:
         for severity, kind, code, task, program in said.faults:
             self.put(f"fault {severity} {kind}/{code} {self.tasks[task]} {'-' if program is None else self.programs[program]}")
         if self.machine.image != self.image:
-            self.image, now = bytes(self.machine.image), self.watched()
-            for (name, _, _), old, new in zip(self.project.watches, self.values, now):
-                if old != new:
-                    self.put(f"set {name} {new}")
-            self.values = now
+            self.sets()
         return said
+
+    def sets(self):
+        """Lines of the watched places that have another value than before the event."""
+        image, values = bytes(self.machine.image), list(self.values)
+        for number in self.project.watched_where(self.image, image):
+            name, kind, at = self.project.watches[number]
+            values[number] = read(image, kind, at)
+            if values[number] != self.values[number]:
+                self.put(f"set {name} {values[number]}")
+        self.image, self.values = image, values
 
     def end(self):
         return f"end {self.machine.now} {self.machine.steps} {self.machine.mode} lost {self.lost}"
@@ -224,8 +230,10 @@ def story(project, events):
 
 def run(reporter, events):
     for event in events:
-        for _ in range(event.count):
-            reporter.event(event.verb, event.lane, event.action)
+        for made in range(event.count):
+            if reporter.event(event.verb, event.lane, event.action).what == "idle":
+                reporter.machine.steps += event.count - made - 1  # so are the steps that follow: none of them changes a thing
+                break
     return reporter
 
 

@@ -6,9 +6,11 @@ from .check import CheckFault, Checker, Scope
 from .reader import Fault, described, value_of
 from .rungs import TextFault, instructions, read_rung
 from .tags import BITS, Refused, Tags, Types
-from .words import is_name, signed
+from .words import is_name
 
 MOST_ALL, MOST_WORDS = 131_072, 128
+WORD, SMALL = 32, 4_096  # bits of a word, in which a watched place lies; bytes of an image that is compared word by word
+MASKS = {kind: (1 << bits) - 1 for kind, bits in BITS.items()}
 FITS = {"BOOL": (0, 1), "SINT": (-128, 127), "INT": (-32_768, 32_767), "DINT": (-(1 << 31), (1 << 31) - 1)}
 
 
@@ -22,13 +24,20 @@ class Project:
             self.file.setdefault(key, [])
         self.programs = self.file["programs"]
         self.tasks = self.file["tasks"]
+        self.program_names = [program["name"].lower() for program in self.programs]
+        self.names_of_routines = [tuple(one["name"].lower() for one in program["routines"]) for program in self.programs]
         self.judge_names()
+        self.mains = [self.routine_names(at).index(program["main"].lower()) for at, program in enumerate(self.programs)]
         self.judge_tags()
         self.judge_tasks()
+        self.scopes = [self.scope(program) for program in range(len(self.programs))]
         self.image = bytearray(self.tags.bytes)
         self.connections = [self.connection(at, one) for at, one in enumerate(self.file["connections"])]
         self.put_initial()
         self.watches = [(text, *self.scoped(text, ("watch", at))) for at, text in enumerate(self.file["watch"])]
+        self.watches_of = {}
+        for number, (_, _, at) in enumerate(self.watches):
+            self.watches_of.setdefault(at // WORD, []).append(number)
         self.read_rungs()
 
     def judge_names(self):
@@ -50,7 +59,7 @@ class Project:
             earlier.add(name.lower())
 
     def routine_names(self, program):
-        return tuple(one["name"].lower() for one in self.programs[program]["routines"])
+        return self.names_of_routines[program]
 
     def judge_tags(self):
         try:
@@ -161,9 +170,22 @@ class Project:
         except TextFault as fault:
             raise Fault("P10", path, fault) from None
 
-    def check(self, program, rungs):
+    def scope(self, program):
         events = tuple((task["name"].lower(), task["kind"] == "event") for task in self.tasks)
-        return Checker(rungs, Scope(self.tags, program, self.routine_names(program), events)).checked()
+        return Scope(self.tags, program, self.routine_names(program), events, {})
+
+    def check(self, program, rungs):
+        return Checker(rungs, self.scopes[program]).checked()
+
+    def watched_where(self, before, after):
+        """The numbers, in order, of watched places that may differ between two images: those in the words from the first bit that does to the last."""
+        if len(after) > SMALL:
+            return range(len(self.watches))
+        bits = int.from_bytes(before, "little") ^ int.from_bytes(after, "little")
+        words = range(((bits & -bits).bit_length() - 1) // WORD, bits.bit_length() // WORD + 1)
+        if len(words) > len(self.watches):
+            return range(len(self.watches))
+        return sorted(number for word in words for number in self.watches_of.get(word, ()))
 
     def migrated(self):
         """The file in schema 2, on one line."""
@@ -186,4 +208,4 @@ def write(image, kind, at, value):
         image[at >> 3] = image[at >> 3] & ~(1 << (at & 7)) | (value & 1) << (at & 7)
     else:
         size, start = BITS[kind] // 8, at >> 3
-        image[start:start + size] = signed(value, size * 8).to_bytes(size, "little", signed=True)
+        image[start:start + size] = (value & MASKS[kind]).to_bytes(size, "little")

@@ -2,12 +2,14 @@
 
 import json
 import re
+from itertools import accumulate
 from typing import NamedTuple
 
 from .words import is_name
 
 DEEPEST, MOST_RUNG = 127, 4_096
-STRUCTURE = re.compile(r'"(?:[^"\\]|\\.)*"|[\[\]{}]', re.DOTALL)
+STRINGS = re.compile(r'"[^"\\]*(?:\\.[^"\\]*)*"', re.DOTALL)
+BRACKET = re.compile(r"[\[\]{}]")
 
 
 class Fault(Exception):
@@ -30,7 +32,8 @@ def value_of(text):
     """The value of a JSON text; P1 if it is none."""
     try:
         value = json.loads(text.decode("utf-8"), parse_int=whole, parse_float=broken, parse_constant=no_constant)
-        json.dumps(value, ensure_ascii=False, default=lambda _: 0).encode("utf-8")
+        if b"\\u" in text:  # (half of a pair may stand there, and is no character)
+            json.dumps(value, ensure_ascii=False, default=lambda _: 0).encode("utf-8")
     except (ValueError, RecursionError):
         raise Fault("P1") from None
     if depth_of(text.decode("utf-8")) > DEEPEST:
@@ -56,11 +59,8 @@ def no_constant(text):
 
 
 def depth_of(text):
-    depth = most = 0
-    for found in STRUCTURE.finditer(text):
-        depth += {"[": 1, "{": 1, "]": -1, "}": -1}.get(found.group(), 0)
-        most = max(most, depth)
-    return most
+    brackets = BRACKET.findall(STRINGS.sub("", text))
+    return max(accumulate(1 if bracket in "[{" else -1 for bracket in brackets), default=0)
 
 
 class Field(NamedTuple):
@@ -198,12 +198,12 @@ def described(contents):
     """What a file describes, if its text and its shape are right; its texts with one character a byte."""
     value = value_of(contents)
     FILE(value, ())
-    return bytewise(value)
+    return value if contents.isascii() and b"\\u" not in contents else bytewise(value)
 
 
 def bytewise(value):
     if isinstance(value, str):
-        return value.encode("utf-8").decode("latin-1")
+        return value if value.isascii() else value.encode("utf-8").decode("latin-1")
     if isinstance(value, list):
         return [bytewise(item) for item in value]
     if isinstance(value, dict):

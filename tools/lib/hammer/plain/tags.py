@@ -194,22 +194,21 @@ class Tags:
         one = None if found.dim else self.types.member(found.base, name)
         if not one:
             raise Refused("G4")
-        return found._replace(base=one[0], dim=one[1], at=found.at + one[2], whole=False)
+        return Found(one[0], one[1], found.at + one[2], found.steps, found.tag, found.stop, False)
 
     def bit(self, found, number):
         if found.dim or found.base not in INTEGERS or number >= BITS[found.base]:
             raise Refused("G5")
-        return found._replace(base="BOOL", at=found.at + number, whole=False)
+        return Found("BOOL", 0, found.at + number, found.steps, found.tag, found.stop, False)
 
     def element(self, scope, found, part, value, fixed):
         if not found.dim:
             raise Refused("G5")
         stride = 1 if found.base == "BOOL" else self.types.size(found.base, 0) * 8
-        one = found._replace(dim=0, whole=False)
         if part == "at":
             if int(value) >= found.dim:
                 raise Refused("G5")
-            return one._replace(at=found.at + int(value) * stride)
+            return Found(found.base, 0, found.at + int(value) * stride, found.steps, found.tag, found.stop, False)
         if fixed:
             raise Refused("G6")
         inner = self.follow(scope, value, False)
@@ -217,7 +216,8 @@ class Tags:
             raise Refused("G6")
         if len(found.steps) == MOST_STEPS:
             raise Refused("G9")
-        return one._replace(steps=(*found.steps, Step(inner.base, inner.at, stride, found.dim)))
+        steps = (*found.steps, Step(inner.base, inner.at, stride, found.dim))
+        return Found(found.base, 0, found.at, steps, found.tag, found.stop, False)
 
     def judge_aliases(self):
         """The first alias that names nothing, and why."""

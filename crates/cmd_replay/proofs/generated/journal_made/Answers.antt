@@ -4,7 +4,7 @@ use Rattle.lgx_answer.specs.declared.status.Verdict.TheVariants as verdict
 use Rattle.lgx_answer.specs.Plan.{Say, only}
 use Rattle.lgx_gen.specs.Generated.{generated}
 use Rattle.cmd_replay.specs.CountLines.{counted_report}
-use Rattle.cmd_replay.proofs.Judging.{says_no_journal}
+use Rattle.lgx_judge.proofs.Judging.{says_no_journal}
 use Rattle.cmd_replay.proofs.generated.journal_made.Goals as goal
 
 pub returns-in-Refused-clause-refused : goal.returns-in-Refused-clause-refused

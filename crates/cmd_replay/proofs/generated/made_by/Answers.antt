@@ -1,7 +1,7 @@
 use Rattle.std.proofs.Common.{◌∙◌, Ok, ap}
 use Rattle.lgx_gen.specs.Generated.{generated}
 use Rattle.cmd_replay.specs.GenPlan.{journal_made}
-use Rattle.cmd_replay.proofs.Judging.{says_no_project}
+use Rattle.lgx_judge.proofs.Judging.{says_no_project}
 use Rattle.cmd_replay.proofs.generated.made_by.Goals as goal
 
 pub returns-clause-refused : goal.returns-clause-refused

@@ -2,7 +2,7 @@ use Rattle.std.proofs.Common.{ℕ, ◌≡◌, ◌++◌, List, length, length-app
 use Rattle.std.proofs.lemmas.List.{length-replicate}
 use Rattle.spec_machine.specs.declared.event.Event.{Event}
 use Rattle.lgx_record.specs.Records.{Records}
-use Rattle.cmd_replay.proofs.Runs.{one_more}
+use Rattle.lgx_judge.proofs.Runs.{one_more}
 use Rattle.cmd_replay.proofs.recorded.apply_run.Goals as goal
 
 pub apply-requires : goal.apply-requires

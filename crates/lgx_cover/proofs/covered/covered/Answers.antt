@@ -4,7 +4,7 @@ use Rattle.spec_machine.specs.declared.event.Event.{Event}
 use Rattle.spec_text.specs.JournalText.{joined, events_of}
 use Rattle.spec_text.proofs.JoinedRuns.{runs_expand}
 use Rattle.lgx_cover.specs.Covers.{Covers}
-use Rattle.lgx_cover.proofs.Runs.{no_run, one_more_run, room_for_run}
+use Rattle.lgx_judge.proofs.Runs.{no_run, one_more_run, room_for_run}
 use Rattle.lgx_cover.proofs.covered.covered.Goals as goal
 
 pub apply_run-requires : goal.apply_run-requires

@@ -1,4 +1,4 @@
--- So many steps stand there.
+-- That many steps are there.
 use Rattle.std.proofs.Common.{◌≡◌}
 use Rattle.lgx_walker.specs.Trails.{with_steps}
 use Rattle.lgx_walker.proofs.witness.add_steps.Given as goal

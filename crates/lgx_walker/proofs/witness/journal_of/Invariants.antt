@@ -1,4 +1,4 @@
--- The actions before stand there, with their steps.
+-- The actions before are there, with their steps.
 use Rattle.std.proofs.Common.{◌≡◌, take}
 use Rattle.spec_machine.specs.Events.{steps_of}
 use Rattle.spec_lanes.specs.Laws.{opening}

@@ -2,7 +2,7 @@ use Rattle.std.proofs.Common.{Ok, ap, sym, subst}
 use Rattle.spec_machine.specs.Project.{Project}
 use Rattle.lgx_answer.specs.Plan.{Read, Says}
 use Rattle.lgx_laws.specs.Laws.{roster_of}
-use Rattle.cmd_trace.proofs.Judging.{says_no_project}
+use Rattle.lgx_judge.proofs.Judging.{says_no_project}
 use Rattle.cmd_laws.specs.declared.word.Laws.{Laws}
 use Rattle.cmd_laws.specs.LawsPlan.{on_trace}
 use Rattle.cmd_laws.specs.LawsState.{laws_next}

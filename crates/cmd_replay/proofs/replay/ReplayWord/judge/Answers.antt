@@ -7,7 +7,7 @@ use Rattle.lgx_answer.specs.Plan.{Read, Say, Says, only}
 use Rattle.cmd_replay.specs.declared.replay.Replay.{Replay}
 use Rattle.cmd_replay.specs.ReplayPlan.{journal_read}
 use Rattle.cmd_replay.specs.ReplayState.{replay_next}
-use Rattle.cmd_replay.proofs.Judging.{says_no_project, says_no_journal}
+use Rattle.lgx_judge.proofs.Judging.{says_no_project, says_no_journal}
 use Rattle.cmd_replay.proofs.replay.ReplayWord.judge.Goals as goal
 
 pub returns-in-Both-clause-say : goal.returns-in-Both-clause-say

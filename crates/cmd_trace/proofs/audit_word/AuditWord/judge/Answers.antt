@@ -5,7 +5,7 @@ use Rattle.lgx_answer.specs.Plan.{Read, Says}
 use Rattle.cmd_trace.specs.declared.audit_word.Audit.{Audit}
 use Rattle.cmd_trace.specs.AuditPlan.{on_trace}
 use Rattle.cmd_trace.specs.AuditState.{audit_next}
-use Rattle.cmd_trace.proofs.Judging.{says_no_project}
+use Rattle.lgx_judge.proofs.Judging.{says_no_project}
 use Rattle.cmd_trace.proofs.audit_word.AuditWord.judge.Goals as goal
 
 pub returns-in-Both-clause-say : goal.returns-in-Both-clause-say

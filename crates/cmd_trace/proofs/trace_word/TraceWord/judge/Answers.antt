@@ -6,7 +6,7 @@ use Rattle.lgx_answer.specs.Plan.{Read, Say, Says, only}
 use Rattle.cmd_trace.specs.declared.trace_word.Trace.{Trace}
 use Rattle.cmd_trace.specs.TracePlan.{trace_text, journal_read}
 use Rattle.cmd_trace.specs.TraceState.{trace_state}
-use Rattle.cmd_trace.proofs.Judging.{says_no_project, says_no_journal}
+use Rattle.lgx_judge.proofs.Judging.{says_no_project, says_no_journal}
 use Rattle.cmd_trace.proofs.trace_word.TraceWord.judge.Goals as goal
 
 pub returns-in-Both-clause-say : goal.returns-in-Both-clause-say

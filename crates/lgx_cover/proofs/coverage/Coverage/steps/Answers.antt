@@ -3,7 +3,7 @@ use Rattle.std.proofs.lemmas.List.{replicate-append-replicate}
 use Rattle.spec_machine.specs.declared.event.Event.{Event}
 use Rattle.spec_machine.specs.declared.event.Event.TheVariants.{Cpu}
 use Rattle.lgx_cover.specs.Covers.{Covers}
-use Rattle.lgx_cover.proofs.Runs.{one_more}
+use Rattle.lgx_judge.proofs.Runs.{one_more}
 use Rattle.lgx_cover.proofs.Idle.{none_up_still}
 use Rattle.lgx_cover.proofs.coverage.Coverage.steps.Goals as goal
 

@@ -7,7 +7,7 @@ use Rattle.lgx_answer.specs.Plan.{Read, Say, Says, only}
 use Rattle.lgx_cover.specs.declared.word.Cover.{Cover}
 use Rattle.lgx_cover.specs.CoverPlan.{journal_read}
 use Rattle.lgx_cover.specs.CoverState.{cover_next}
-use Rattle.lgx_cover.proofs.Judging.{says_no_project, says_no_journal}
+use Rattle.lgx_judge.proofs.Judging.{says_no_project, says_no_journal}
 use Rattle.lgx_cover.proofs.word.CoverWord.judge.Goals as goal
 
 pub returns-in-Both-clause-say : goal.returns-in-Both-clause-say

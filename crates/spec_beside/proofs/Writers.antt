@@ -35,12 +35,12 @@ use Rattle.spec_reach.proofs.Images.{advance_image, tick_image}
 use Rattle.spec_reach.proofs.Reached.{run_known, run_more}
 use Rattle.spec_uses.specs.Changes.{first_of, next_of, last_of, acting, puts_into, IsRunOf, IsWriter, IsByteOf, ChangesHaveWriters}
 use Rattle.spec_beside.proofs.Prescans.{prescan_writes_beside}
-use Rattle.spec_writers.proofs.Along.{scans_stand}
-use Rattle.spec_writers.proofs.Stands.{IsOwnScan}
-use Rattle.spec_writers.proofs.Steps.{doer, of_program, step_writes}
-use Rattle.spec_writers.proofs.Told.{acting_by, told_acting}
-use Rattle.spec_writers.proofs.Unedited.{ArePlain, is_unaccepted, plain_from, unaccepted_before}
-use Rattle.spec_writers.proofs.Words.{word_of, word_is_of}
+use Rattle.spec_beside.proofs.Along.{scans_stand}
+use Rattle.spec_beside.proofs.Stands.{IsOwnScan}
+use Rattle.spec_beside.proofs.WriterSteps.{doer, of_program, step_writes}
+use Rattle.spec_beside.proofs.Told.{acting_by, told_acting}
+use Rattle.spec_beside.proofs.Unedited.{ArePlain, is_unaccepted, plain_from, unaccepted_before}
+use Rattle.spec_beside.proofs.WriterWords.{word_of, word_is_of}
 
 selected_books : (ps : List ProgramText) → map selected (map book_of ps) ≡ map (λ q. selected (book_of q)) ps
 selected_books [] = refl

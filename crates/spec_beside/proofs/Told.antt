@@ -19,7 +19,7 @@ use Rattle.spec_schedule.specs.Stages.{Stage}
 use Rattle.spec_reach.proofs.Views.{dropped_view}
 use Rattle.spec_reach.proofs.Changes.{TaskView}
 use Rattle.spec_uses.specs.Changes.{next_of, executed_last}
-use Rattle.spec_writers.proofs.Steps.{doer, last_by, of_program}
+use Rattle.spec_beside.proofs.WriterSteps.{doer, last_by, of_program}
 
 -- ---- the instruction
 

@@ -27,10 +27,10 @@ use Rattle.spec_reach.proofs.Views.{IsChosen, chosen_known}
 use Rattle.spec_uses.specs.Changes.{first_of, next_of, executed_last, last_of}
 use Rattle.spec_beside.proofs.Routines.{frames_begin}
 use Rattle.spec_beside.proofs.Found.{found_below}
-use Rattle.spec_writers.proofs.Stands.{PositionStands, IsOwnScan}
-use Rattle.spec_writers.proofs.Steps.{last_by, step_stands}
-use Rattle.spec_writers.proofs.Told.{step_stage, told_own, told_other, own_scan}
-use Rattle.spec_writers.proofs.Unedited.{ArePlain, is_unaccepted, book_got, parts, plain_next}
+use Rattle.spec_beside.proofs.Stands.{PositionStands, IsOwnScan}
+use Rattle.spec_beside.proofs.WriterSteps.{last_by, step_stands}
+use Rattle.spec_beside.proofs.Told.{step_stage, told_own, told_other, own_scan}
+use Rattle.spec_beside.proofs.Unedited.{ArePlain, is_unaccepted, book_got, parts, plain_next}
 
 -- ---- the scan of a task that isn't the step's
 

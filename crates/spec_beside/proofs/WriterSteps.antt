@@ -32,7 +32,7 @@ use Rattle.spec_beside.proofs.Routines.{frames_stay}
 use Rattle.spec_beside.proofs.SiteTags.{sites_write_beside}
 use Rattle.spec_beside.proofs.Steps.{steps_write_beside}
 use Rattle.spec_beside.proofs.Found.{Found, found_passing, found_flat, numbered, each_mapped}
-use Rattle.spec_writers.proofs.Stands.{CopyStands, PositionStands}
+use Rattle.spec_beside.proofs.Stands.{CopyStands, PositionStands}
 
 -- ---- the instruction of a step, by its effect
 

@@ -1,6 +1,6 @@
 // The words of a text, by their places.
+use crate::told::Told;
 use lgx_num::{Kind, Name};
-pub use test_rows::Told;
 
 /// The word at a place of a text, counted from 0; none is empty.
 pub fn word_at(text: &str, place: usize) -> &str {
