@@ -1,5 +1,5 @@
 -- The copy of a task by what is kept.
-use Rattle.std.proofs.Common.{◌≡◌, ℕ, ◌<◌, Bool, List, length, Option, ap, ◌∙◌, arith}
+use Rattle.std.proofs.Common.{◌≡◌, ℕ, ◌<◌, List, length, ap, ◌∙◌, arith}
 use Rattle.std.specs.Prelude.{slice_index_or}
 use Rattle.spec_schedule.specs.Counting.{Counted, CountedEvent}
 use Rattle.lgx_laws.specs.declared.since.Since.{Since}

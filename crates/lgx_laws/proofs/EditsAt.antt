@@ -1,6 +1,6 @@
 -- The tests of the laws of edits and of numbers by what is kept.
-use Rattle.std.proofs.Common.{◌≡◌, ℕ, ◌+◌, ◌<◌, List, length, Option, None, Some, refl, sym, ◌∙◌, ap, arith}
-use Rattle.std.specs.Prelude.{not, ◌&&◌, slice_index_or}
+use Rattle.std.proofs.Common.{◌≡◌, ℕ, ◌<◌, List, length, refl, sym, ◌∙◌, ap, arith}
+use Rattle.std.specs.Prelude.{slice_index_or}
 use Rattle.spec_schedule.specs.declared.trace.Verb.{Verb}
 use Rattle.spec_schedule.specs.declared.trace.Verb.TheVariants as verb
 use Rattle.spec_schedule.specs.declared.trace.TraceAnswer.{TraceAnswer}

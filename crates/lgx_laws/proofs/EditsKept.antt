@@ -1,6 +1,6 @@
 -- What is seen of a run keeps the law of edits and the law of numbers.
 use Rattle.std.proofs.Common.{◌≡◌, ℕ, zero, suc, ◌+◌, ◌<◌, ◌⊎◌, inl, inr, Bool, true, false, cond, List, [], ◌∷◌, ◌++◌, length, length-append, map, Option, Some, None, refl, sym, ◌∙◌, ap, subst, arith, eq-eqb, get_or-set_same, get_or-set_other}
-use Rattle.std.specs.Prelude.{Result, Ok, Err, not, ◌&&◌, ◌||◌, nat_eq, nat_lt, nat_le, is_none, is_some, if◌then◌else◌, flat_map, slice_set, slice_index_or}
+use Rattle.std.specs.Prelude.{Result, Ok, Err, not, ◌&&◌, ◌||◌, nat_eq, nat_lt, nat_le, is_none, is_some, flat_map, slice_set, slice_index_or}
 use Rattle.std.specs.List.{position_from}
 use Rattle.std.proofs.lemmas.Bool.{and_from, or_right, cases_eq, ne_eqb, lt-ltb, ltb-true, false≢true}
 use Rattle.spec_base.proofs.Binds.{bind_ok, ok_inj, err_not_ok, some_or_ok, unless_ok}
@@ -23,7 +23,7 @@ use Rattle.spec_machine.specs.declared.event.Event.TheVariants as events
 use Rattle.spec_machine.specs.declared.event.Action.{Action}
 use Rattle.spec_machine.specs.declared.event.Action.TheVariants as action
 use Rattle.spec_machine.specs.declared.event.RungEdit.{RungEdit}
-use Rattle.spec_machine.specs.Edits.{Change, Book, AcceptedEdit, book_of, no_book, book_at, Edited, accept, accept_in, on_accepted, has_accepted, test, untest, assemble, cancel, edit, program_named, scope_of, other_owner, unless_same, none_or, ok_or_cause, routine_at, changes_in, changes_of, taken_by, first_again, is_misplaced, with_changes, instruction_count}
+use Rattle.spec_machine.specs.Edits.{Change, Book, book_of, no_book, book_at, Edited, accept, accept_in, on_accepted, has_accepted, test, untest, assemble, cancel, edit, program_named, scope_of, other_owner, unless_same, none_or, ok_or_cause, routine_at, changes_in, changes_of, taken_by, first_again, is_misplaced, with_changes, instruction_count}
 use Rattle.spec_machine.specs.Project.{Project, ProgramText}
 use Rattle.spec_machine.specs.State.{State, start}
 use Rattle.spec_machine.specs.Actions.{edit_replied, act}
@@ -42,7 +42,6 @@ use Rattle.spec_reach.proofs.EditNames.{names_of, accepted_parts, IsAccepted, is
 use Rattle.spec_reach.proofs.Books.{step_books, tick_books}
 use Rattle.spec_reach.proofs.BookActions.{kept_books}
 use Rattle.spec_reach.proofs.Reached.{known_at}
-use Rattle.spec_legal.specs.CountedRuns.{numbers_of}
 use Rattle.spec_legal.specs.LegalRuns.{counted_run}
 use Rattle.spec_legal.proofs.Along.{place, IsPlace, counts_next}
 use Rattle.spec_legal.proofs.Versions.{HasNumbers, numbers_next, first_numbers}

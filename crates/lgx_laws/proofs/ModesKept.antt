@@ -1,11 +1,10 @@
 -- What is seen of a run keeps the law of modes.
-use Rattle.std.proofs.Common.{◌≡◌, ℕ, zero, suc, ◌+◌, ◌<◌, Bool, true, false, cond, List, [], ◌∷◌, length, Option, Some, None, refl, sym, ◌∙◌, ap, subst, arith}
-use Rattle.std.specs.Prelude.{not, ◌&&◌, ◌||◌, nat_lt, is_some, slice_index_or}
-use Rattle.std.specs.List.{list_any}
+use Rattle.std.proofs.Common.{◌≡◌, ℕ, ◌+◌, Bool, true, false, cond, List, [], ◌∷◌, length, Option, Some, None, refl, sym, ◌∙◌, ap, arith}
+use Rattle.std.specs.Prelude.{not, ◌&&◌, nat_lt, is_some}
 use Rattle.std.proofs.lemmas.Bool.{cond_both}
 use Rattle.spec_tables.specs.declared.task.Release.{Release}
 use Rattle.spec_tables.specs.declared.task.Release.TheVariants.{Released, Overlap, Inhibited}
-use Rattle.spec_tables.specs.Tasks.{TaskState, chosen, held, has_open_cps, release_answer}
+use Rattle.spec_tables.specs.Tasks.{chosen, held, has_open_cps, release_answer}
 use Rattle.spec_scan.specs.declared.bound.Effect.{Effect}
 use Rattle.spec_scan.specs.declared.bound.Effect.TheVariants as effect
 use Rattle.spec_scan.specs.Scan.{Advanced, advance}
@@ -26,18 +25,17 @@ use Rattle.spec_machine.specs.Releases.{after_answer}
 use Rattle.spec_machine.specs.State.{State, Scan, Progress, progress_of, programs_of, start, Answered}
 use Rattle.spec_machine.specs.Ticks.{tick}
 use Rattle.spec_machine.specs.ValidProject.{IsValidProject}
-use Rattle.spec_schedule.specs.declared.trace.TraceEvent.{TraceEvent}
 use Rattle.spec_schedule.specs.declared.trace.TraceEvent.TheVariants as event
 use Rattle.spec_schedule.specs.declared.trace.Verb.TheVariants as verb
 use Rattle.spec_schedule.specs.Counting.{Counted, uncounted, Numbers, CountedEvent}
 use Rattle.spec_schedule.specs.TraceView.{step_seen, seen, answer_of}
-use Rattle.spec_reach.proofs.Reached.{IsReached, known_at}
+use Rattle.spec_reach.proofs.Reached.{known_at}
 use Rattle.spec_legal.specs.LegalRuns.{counted_run}
-use Rattle.spec_legal.proofs.Along.{place, IsPlace, counts_next}
+use Rattle.spec_legal.proofs.Along.{place, IsPlace}
 use Rattle.spec_duties.specs.CountedBack.{each_with_past}
 use Rattle.spec_duties.specs.Modes.{KeepsMode}
 use Rattle.spec_duties.proofs.Duties.{runs_keep_duties}
-use Rattle.lgx_laws.specs.Modes.{mode_shown, mode_after, holds, leads_from, is_answer, answers_mode, keeps_modes}
+use Rattle.lgx_laws.specs.Modes.{mode_shown, mode_after, holds, leads_from, is_answer, keeps_modes}
 use Rattle.lgx_laws.proofs.AtStages.{stage, at_stage}
 use Rattle.lgx_laws.proofs.ModesAt.{any_same}
 use Rattle.lgx_laws.proofs.RunsBack.{all_of_run, no_counts, no_edits}

@@ -1,10 +1,7 @@
 -- What is seen of a run keeps the laws.
-use Rattle.std.proofs.Common.{◌≡◌, true, List, []}
-use Rattle.spec_machine.specs.declared.event.Event.{Event}
-use Rattle.spec_machine.specs.Project.{Project}
-use Rattle.spec_machine.specs.ValidProject.{IsValidProject}
+use Rattle.std.proofs.Common.{◌≡◌, true, []}
 use Rattle.spec_schedule.specs.Legal.{keeps_region}
-use Rattle.spec_schedule.specs.TraceView.{table_of, view}
+use Rattle.spec_schedule.specs.TraceView.{view}
 use Rattle.spec_legal.specs.LegalRuns.{counted_run}
 use Rattle.spec_legal.proofs.Priority.{runs_keep_regions}
 use Rattle.spec_duties.specs.Triggers.{keeps_triggers}

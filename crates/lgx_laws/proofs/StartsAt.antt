@@ -1,14 +1,14 @@
 -- The masks of the law of starts by what is kept.
-use Rattle.std.proofs.Common.{◌≡◌, ℕ, zero, suc, ◌+◌, ◌^◌, ◌<◌, ◌≤◌, inl, inr, Bool, true, false, List, length, Option, refl, sym, ◌∙◌, ap, arith}
+use Rattle.std.proofs.Common.{◌≡◌, ℕ, zero, suc, ◌+◌, ◌^◌, ◌<◌, ◌≤◌, inl, inr, Bool, true, false, List, length, refl, sym, ◌∙◌, ap, arith}
 use Rattle.std.specs.Prelude.{not, ◌&&◌, nat_eq, slice_index_or}
 use Rattle.std.specs.List.{list_any, range_with_len}
 use Rattle.std.proofs.lemmas.Bool.{or_from, or_left, or_right, cases_eq}
 use Rattle.spec_tables.specs.declared.task.TaskDef.{TaskDef}
 use Rattle.spec_tables.specs.declared.task.TaskKind.{TaskKind}
-use Rattle.spec_tables.specs.Tasks.{no_task, is_continuous}
+use Rattle.spec_tables.specs.Tasks.{no_task}
 use Rattle.spec_machine.specs.ValidProject.{is_event}
 use Rattle.spec_schedule.specs.declared.trace.TraceEvent.{TraceEvent}
-use Rattle.spec_schedule.specs.Counting.{Counted, uncounted, CountedEvent, Numbers}
+use Rattle.spec_schedule.specs.Counting.{Counted, CountedEvent, Numbers}
 use Rattle.spec_duties.specs.TickReleases.{mask_below}
 use Rattle.lgx_audit.specs.declared.counts.Count.{Count}
 use Rattle.lgx_audit.specs.Along.{no_count, Shown}

@@ -1,9 +1,9 @@
 -- What is seen of a run keeps the law of starts.
 use Rattle.std.proofs.Common.{◌≡◌, ℕ, zero, suc, ◌+◌, ◌^◌, ◌<◌, ◌≤◌, inl, inr, Bool, true, false, cond, List, [], ◌∷◌, length, Option, Some, None, refl, sym, ◌∙◌, ap, subst, arith}
-use Rattle.std.specs.Prelude.{ℤ, not, ◌&&◌, ◌||◌, nat_eq, nat_le, nat_lt, unwrap_or, slice_index_or}
+use Rattle.std.specs.Prelude.{ℤ, not, ◌&&◌, nat_eq, nat_le, nat_lt, unwrap_or, slice_index_or}
 use Rattle.std.specs.Bool.{beq as agree}
-use Rattle.std.specs.List.{list_any, list_all, range_with_len}
-use Rattle.std.proofs.lemmas.Bool.{and_from, and_parts, or_left, or_right, cases_eq, cases_lt, eq-eqb, ne_eqb, false≢true, ltb-true}
+use Rattle.std.specs.List.{list_all}
+use Rattle.std.proofs.lemmas.Bool.{and_from, and_parts, or_right, cases_eq, cases_lt, eq-eqb, ne_eqb, ltb-true}
 use Rattle.std.proofs.lemmas.List.{get_or_past}
 use Rattle.spec_tables.specs.declared.conn.ConnDef.{ConnDef}
 use Rattle.spec_tables.specs.declared.conn.ConnFault.TheVariants.{N1, N2, N3}
@@ -25,7 +25,7 @@ use Rattle.spec_machine.specs.declared.reply.Reply.TheVariants as reply
 use Rattle.spec_machine.specs.Actions.{held_or, mode_run_from, act}
 use Rattle.spec_machine.specs.ProcessorStep.{processor_step}
 use Rattle.spec_machine.specs.Project.{Project}
-use Rattle.spec_machine.specs.State.{State, Plan, start}
+use Rattle.spec_machine.specs.State.{State, Plan}
 use Rattle.spec_machine.specs.ValidProject.{IsValidProject, has_known_trigger, is_event, is_event_task}
 use Rattle.spec_schedule.specs.declared.trace.TraceAnswer.{TraceAnswer}
 use Rattle.spec_schedule.specs.declared.trace.TraceAnswer.TheVariants as answer
@@ -35,7 +35,7 @@ use Rattle.spec_schedule.specs.declared.trace.Verb.{Verb}
 use Rattle.spec_schedule.specs.declared.trace.Verb.TheVariants as verb
 use Rattle.spec_schedule.specs.Counting.{Counted, uncounted, Numbers, CountedEvent, is_task}
 use Rattle.spec_schedule.specs.Refusals.{when, first_of, conn_of, is_no_conn, is_mode, first_cause}
-use Rattle.spec_schedule.specs.TraceView.{step_seen, seen, named, program_number, answer_of}
+use Rattle.spec_schedule.specs.TraceView.{step_seen, named, program_number, answer_of}
 use Rattle.spec_reach.proofs.Changes.{Known}
 use Rattle.spec_reach.proofs.Reached.{known_at}
 use Rattle.spec_legal.specs.LegalRuns.{counted_run}
@@ -46,7 +46,7 @@ use Rattle.spec_duties.specs.CountedBack.{each_with_past}
 use Rattle.spec_duties.specs.TickReleases.{mask_below}
 use Rattle.spec_duties.proofs.Duties.{runs_keep_duties}
 use Rattle.lgx_laws.specs.Modes.{mode_after, holds}
-use Rattle.lgx_laws.specs.Starts.{may_come_up, is_event_mask, may_trigger, keeps_starts}
+use Rattle.lgx_laws.specs.Starts.{may_come_up, may_trigger, keeps_starts}
 use Rattle.lgx_laws.proofs.AtStages.{at_stage}
 use Rattle.lgx_laws.proofs.Masks.{mask_same}
 use Rattle.lgx_laws.proofs.ModesKept.{HasMode, mode_next, first_mode, same_held}

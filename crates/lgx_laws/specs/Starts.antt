@@ -1,6 +1,6 @@
 -- The law of starts: whom an action releases. The change to Run releases the continuous task; an input word in Run may release one
 -- event task. No other action releases anybody, nor does one that is held or refused.
-use Rattle.std.specs.Prelude.{ℕ, ◌^◌, List, length, slice_index_or, Bool, true, false, not, ◌&&◌, ◌||◌, nat_eq}
+use Rattle.std.specs.Prelude.{ℕ, ◌^◌, List, length, slice_index_or, Bool, true, not, ◌&&◌, ◌||◌, nat_eq}
 use Rattle.std.specs.List.{list_any, range_with_len}
 use Rattle.spec_tables.specs.declared.task.TaskKind.{TaskKind}
 use Rattle.spec_tables.specs.declared.task.TaskDef.{TaskDef}

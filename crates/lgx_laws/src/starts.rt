@@ -153,12 +153,7 @@ fn may_have_released(
 }
 
 /// Whether the event keeps the law of starts.
-pub(crate) fn keeps_starts(
-    tasks: &[TaskDef],
-    counts: &[Count],
-    mode: Mode,
-    e: &TraceEvent,
-) -> bool
+pub(crate) fn keeps_starts(tasks: &[TaskDef], counts: &[Count], mode: Mode, e: &TraceEvent) -> bool
     requires few { length tasks.now ≤ 32 }
     requires many { length counts.now ≡ length tasks.now }
     ensures { (cs : List Counted) (ns : List Numbers) (past : List CountedEvent) → Shown counts.now cs → mode ≡ mode_after past

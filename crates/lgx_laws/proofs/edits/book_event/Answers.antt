@@ -1,5 +1,5 @@
 use Rattle.std.proofs.Common.{◌≡◌, ◌∙◌, sym, ap, subst}
-use Rattle.std.specs.Prelude.{Some, Option, ℕ, List, ◌∷◌, slice_set}
+use Rattle.std.specs.Prelude.{Some, Option, ℕ, ◌∷◌, slice_set}
 use Rattle.spec_schedule.specs.declared.trace.TraceEvent.{TraceEvent}
 use Rattle.spec_schedule.specs.declared.trace.TraceEvent.TheVariants.{Act}
 use Rattle.spec_schedule.specs.Counting.{edited_all}

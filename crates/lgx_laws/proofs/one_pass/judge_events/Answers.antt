@@ -5,7 +5,7 @@ use Rattle.spec_machine.specs.declared.reply.Mode.{Mode}
 use Rattle.spec_schedule.specs.declared.trace.AuditTask.{AuditTask}
 use Rattle.spec_schedule.specs.declared.trace.TraceEvent.{TraceEvent}
 use Rattle.spec_schedule.specs.declared.trace.TraceEvent.TheVariants.{Idle}
-use Rattle.spec_schedule.specs.Counting.{Counted, CountedEvent, Numbers, counted_all, edited_all, stops}
+use Rattle.spec_schedule.specs.Counting.{Counted, CountedEvent, Numbers, counted_all, stops}
 use Rattle.spec_duties.specs.CountedBack.{ticks_in, comes_to_run, ticks_in_run}
 use Rattle.lgx_audit.specs.Along.{IsWithin, IsOfPrograms, no_count, Shown, counts_after, numbers_after, place_after}
 use Rattle.lgx_audit.proofs.Listed.{fresh}
@@ -13,7 +13,7 @@ use Rattle.lgx_audit.proofs.MoreEvents.{counts_more, numbers_more}
 use Rattle.lgx_audit.proofs.TableBounds.{tasks_within, programs_within}
 use Rattle.lgx_laws.specs.Laws.{Roster, KeepsAll}
 use Rattle.lgx_laws.specs.Modes.{mode_shown, mode_after}
-use Rattle.lgx_laws.specs.Kept.{no_since, no_booked, Kept, Books, past_after, IsToldWithin, IsTriggeredWithin}
+use Rattle.lgx_laws.specs.Kept.{no_since, Kept, Books, past_after, IsToldWithin, IsTriggeredWithin}
 use Rattle.lgx_laws.proofs.Back.{past_more, still_kept, not_kept}
 use Rattle.lgx_laws.proofs.Events.{all_told, all_triggered}
 use Rattle.lgx_laws.proofs.Breaching.{least_there, all_there}
