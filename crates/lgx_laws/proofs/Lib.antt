@@ -19,5 +19,6 @@ pub mod Elements
 pub mod CopiesKept
 pub mod ModesKept
 pub mod StartsKept
+pub mod OwnersOn
 pub mod EditsKept
 pub mod OwnTraces
