@@ -44,7 +44,8 @@ pub(crate) fn broken_law(
     requires programs { IsOfPrograms (length books.now) e.now }
     requires ticks { (t : ℕ) → t < length kept.now → (slice_index_or kept.now t no_since).ticks < 18446744073709551615 }
     requires run { (n : ℕ) → control.run ≡ Some n → n < 18446744073709551615 }
-    ensures { (table : Table) (cs : List Counted) (ns : List Numbers) (past : List CountedEvent) → Shown counts.now cs → Kept kept.now cs past → Books books.now ns past → control.mode ≡ mode_after past → control.run ≡ ticks_in_run past
+    ensures { (table : Table) (cs : List Counted) (ns : List Numbers) (past : List CountedEvent) → Shown counts.now cs → Kept kept.now cs past → Books books.now ns past
+        → control.mode ≡ mode_after past → control.run ≡ ticks_in_run past
         → result ≡ broken_at (record { table = table; tasks = tasks.now; schedule = schedule.now }) past (record { tasks = cs; programs = ns; event = e.now }) }
 {
     if !keeps_region(counts, e) {

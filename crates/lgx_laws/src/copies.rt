@@ -88,7 +88,8 @@ fn has_none(since: Since) -> bool
 /// Whether the event keeps the law of copies.
 pub(crate) fn keeps_copies(kept: &[Since], e: &TraceEvent) -> bool
     requires within { IsWithin (length kept.now) e.now }
-    ensures { (cs : List Counted) (ns : List Numbers) (past : List CountedEvent) → Kept kept.now cs past → result ≡ keeps_copies past (record { tasks = cs; programs = ns; event = e.now }) }
+    ensures { (cs : List Counted) (ns : List Numbers) (past : List CountedEvent) → Kept kept.now cs past
+        → result ≡ keeps_copies past (record { tasks = cs; programs = ns; event = e.now }) }
 {
     match e {
         TraceEvent::Began { task, .. } => has_none(kept[*task as usize]),

@@ -72,7 +72,8 @@ fn booked_by(lane: u32, verb: Verb, answer: TraceAnswer, b: Booked) -> Booked
 /// What is kept of all programs after the event.
 pub(crate) fn book_event(books: &mut [Booked], e: &TraceEvent)
     requires { IsOfPrograms (length books.old) e.now }
-    ensures { (cs : List Counted) (ns : List Numbers) (past : List CountedEvent) → Books books.old ns past → Books books.new (edited_all e.now ns) (record { tasks = cs; programs = ns; event = e.now } ∷ past) }
+    ensures { (cs : List Counted) (ns : List Numbers) (past : List CountedEvent) → Books books.old ns past
+        → Books books.new (edited_all e.now ns) (record { tasks = cs; programs = ns; event = e.now } ∷ past) }
 {
     match e {
         TraceEvent::Act {
@@ -155,7 +156,8 @@ fn is_refused(answer: TraceAnswer) -> bool
 /// Whether an edit on program g may be answered so.
 fn answers_on(books: &[Booked], g: usize, lane: u32, verb: Verb, answer: TraceAnswer) -> bool
     requires { g < length books.now }
-    ensures { (ns : List Numbers) (past : List CountedEvent) → Books books.now ns past → result ≡ answers_edit verb lane (owned g past) (slice_index_or ns g unedited) answer }
+    ensures { (ns : List Numbers) (past : List CountedEvent) → Books books.now ns past
+        → result ≡ answers_edit verb lane (owned g past) (slice_index_or ns g unedited) answer }
 {
     answers_edit(verb, lane, books[g], answer)
 }
@@ -163,7 +165,8 @@ fn answers_on(books: &[Booked], g: usize, lane: u32, verb: Verb, answer: TraceAn
 /// Whether the event keeps the law of edits.
 pub(crate) fn keeps_edits(books: &[Booked], e: &TraceEvent) -> bool
     requires { IsOfPrograms (length books.now) e.now }
-    ensures { (cs : List Counted) (ns : List Numbers) (past : List CountedEvent) → Books books.now ns past → result ≡ keeps_edits past (record { tasks = cs; programs = ns; event = e.now }) }
+    ensures { (cs : List Counted) (ns : List Numbers) (past : List CountedEvent) → Books books.now ns past
+        → result ≡ keeps_edits past (record { tasks = cs; programs = ns; event = e.now }) }
 {
     match e {
         TraceEvent::Act {
@@ -211,7 +214,8 @@ fn counts_on(b: Booked, verb: Verb, answer: TraceAnswer) -> bool
 /// Whether the event keeps the law of numbers.
 pub(crate) fn keeps_numbers(books: &[Booked], e: &TraceEvent) -> bool
     requires { IsOfPrograms (length books.now) e.now }
-    ensures { (cs : List Counted) (ns : List Numbers) (past : List CountedEvent) → Books books.now ns past → result ≡ keeps_numbers (record { tasks = cs; programs = ns; event = e.now }) }
+    ensures { (cs : List Counted) (ns : List Numbers) (past : List CountedEvent) → Books books.now ns past
+        → result ≡ keeps_numbers (record { tasks = cs; programs = ns; event = e.now }) }
 {
     match e {
         TraceEvent::Act {
