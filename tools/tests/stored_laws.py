@@ -1,6 +1,7 @@
 """logix_laws as a process: what it writes and how it ends, with a yes and a no of each law. The gate runs this after `rt ci`.
 
 The answers are worked out by hand: Cont is continuous, Fast comes every second tick and may be up for three, Eye is an event task.
+Lanes 0 and 1 are engineers, lane 3 a module.
 """
 
 from __future__ import annotations
@@ -18,7 +19,7 @@ NAME = "logix_laws"
 DATA = f"{TOP}/crates/{NAME}/data"
 PROJECT, TRACE = (f"{DATA}/{name}" for name in ("project.json", "trace.txt"))
 USAGE = b"usage: logix_laws P T\n"
-RUN, COMES = ["act 31 run - ok 1"], ["tick 0 0 -", "tick 2 0 -"]
+RUN, COMES, OWNED = ["act 31 run - ok 1"], ["tick 0 0 -", "tick 2 0 -"], ["act 0 accept 0 ok:1 0"]
 is_built = unittest.skipUnless(os.access(built(NAME), os.X_OK), f"{NAME} isn't built")
 
 
@@ -117,6 +118,84 @@ class Laws(stored_runs.StoredRun):
         self.says(["began 0 1 0"], "scans")
         self.says(["began 0 0 0", "began 0 0 0"], "scans")
         self.says(["began 0 0 0", *COMES, "began 1 1 0", "step 0 0 - -"])
+
+    def test_a_copy_goes_on_to_its_end(self) -> None:
+        begun = ["began 0 0 0", "step 0 0 copy -"]
+        self.says([*begun, "step 0 0 - -", "step 0 0 copyend -", "step 0 0 - -", "left 0 0 ended"])
+        for event in ("step 0 0 up -", "step 0 0 copy -", "step 0 0 sync -", "step 0 0 syncend -", "step 0 0 trigger:2 -", "step 0 0 - minor",
+                      "step 0 0 - major", "step 0 0 copyend minor", "left 0 0 on", "left 0 0 ended", "began 0 0 0"):  # fmt: skip
+            self.says([*begun, event], "copies")
+
+    def test_a_copy_ends_as_it_was_started(self) -> None:
+        self.says(["began 0 0 0", "step 0 0 sync -", "step 0 0 - -", "step 0 0 syncend -"])
+        self.says(["began 0 0 0", "step 0 0 sync -", "step 0 0 copyend -"], "copies")
+        for event in ("step 0 0 copyend -", "step 0 0 syncend -", "step 0 0 copy minor", "step 0 0 sync major"):
+            self.says(["began 0 0 0", event], "copies")
+
+    def test_a_copy_waits_and_goes_down_with_its_task(self) -> None:
+        begun = ["began 0 0 0", "step 0 0 copy -"]
+        self.says([*begun, *COMES, "began 1 1 0", "step 1 1 - -", "left 1 1 ended", "step 0 0 copyend -"])
+        self.says([*begun, "act 31 program - ok 0", "act 31 run - ok 1", "began 0 0 0"])
+
+    def test_who_comes_up_by_an_action(self) -> None:
+        self.says(["act 3 other - ok 4"])
+        self.says(["act 31 program - ok 0", "act 31 run - ok 1"])
+        for event in ("act 3 other - ok 2", "act 3 other - ok 1", "act 3 other - ok 6", "act 3 other - no 4", "act 0 accept 0 ok:1 4", "act 31 program - ok 1"):
+            self.says([event], "starts")
+        self.says(["act 31 program - ok 0", "act 31 run - ok 0"], "starts")
+        self.says(["act 31 program - ok 0", "act 31 run - ok 5"], "starts")
+
+    def test_an_input_starts_nobody_that_it_may_not(self) -> None:
+        self.says(["act 3 other - ok 4", "act 3 other - ok 0"])
+        self.says(["act 3 other - ok 4", "act 3 other - ok 4"], "starts")
+        self.says(["act 3 other - ok 4"], "starts", Eye={"inhibited": True})
+        self.says(["act 31 program - ok 0", "act 3 other - ok 4"], "starts")
+        self.says(["began 0 0 0", "step 0 0 sync -", "act 3 other - ok 4"], "starts")
+
+    def test_modes_are_answered(self) -> None:
+        major = ["began 0 0 0", "step 0 0 - major"]
+        self.says(["act 31 run - no 0", "act 31 clear - no 0", "act 31 program - ok 0", "act 31 program - no 0", "act 31 clear - no 0", "act 31 run - ok 1"])
+        self.says([*major, "act 31 run - no 0", "act 31 program - no 0", "act 31 clear - ok 0", "act 31 clear - no 0", "act 31 run - ok 1"])
+        self.says([*COMES, "tick 0 0 -", "tick 0 2 -", "tick 0 0 1", "act 31 program - no 0", "act 31 clear - ok 0"])
+        for event in ("act 31 run - ok 0", "act 31 clear - ok 0", "act 31 program - no 0"):
+            self.says([event], "modes")
+        for event in ("act 31 run - no 0", "act 31 program - ok 0", "act 31 clear - ok 0"):
+            self.says(["act 31 program - ok 0", event], "modes")
+        for event in ("act 31 run - ok 1", "act 31 program - ok 0", "act 31 clear - no 0"):
+            self.says([*major, event], "modes")
+
+    def test_a_cps_holds_the_modes(self) -> None:
+        self.says(["began 0 0 0", "step 0 0 sync -", "act 31 program - no 0", "step 0 0 syncend -", "act 31 program - ok 0"])
+        self.says(["began 0 0 0", "step 0 0 sync -", "act 31 program - ok 0"], "modes")
+        self.says(["began 0 0 0", "step 0 0 copy -", "act 31 program - no 0"], "modes")
+
+    def test_the_owner_edits(self) -> None:
+        tested = [*OWNED, "act 0 test 0 ok 0"]
+        self.says([*tested, "act 0 untest 0 ok 0", "act 0 test 0 ok 0", "act 0 assemble 0 ok 0", "act 1 accept 0 ok:2 0", "act 1 cancel 0 ok 0"])
+        self.says([*OWNED, "act 0 accept 0 no 0", "act 0 accept 0 ok:2 0", "act 0 untest 0 no 0", "act 0 assemble 0 ok 0", "act 0 test 0 no 0"])
+        for event in ("act 0 test 0 ok 0", "act 0 untest 0 no 0", "act 0 assemble 0 no 0", "act 0 cancel 0 no 0"):
+            self.says([*tested, event], "edits")
+        self.says([*tested, "act 0 untest 0 ok 0", "act 0 test 0 no 0"], "edits")
+        self.says([*OWNED, "act 0 untest 0 ok 0"], "edits")
+
+    def test_an_accept_may_have_no_edits(self) -> None:
+        self.says([*OWNED, "act 0 test 0 no 0", "act 0 assemble 0 no 0", "act 1 accept 0 no 0"])
+
+    def test_nobody_else_edits(self) -> None:
+        for verb in ("test 0 ok", "assemble 0 ok", "cancel 0 ok", "accept 0 ok:2"):
+            self.says([*OWNED, f"act 1 {verb} 0"], "edits")
+        for verb in ("test", "untest", "assemble", "cancel"):
+            self.says([f"act 0 {verb} 0 no 0", f"act 0 {verb} - no 0"])
+            self.says([f"act 0 {verb} 0 ok 0"], "edits")
+            self.says([f"act 0 {verb} - ok 0"], "edits")
+        self.says([*OWNED, "act 1 test 0 no 0", "act 1 accept 1 ok:1 0", "act 0 accept 1 no 0"])
+        self.says(["act 0 accept - ok:1 0"], "edits")
+
+    def test_accepts_are_numbered(self) -> None:
+        self.says(["act 0 accept 0 no 0", *OWNED, "act 0 accept 0 ok:2 0", "act 1 accept 1 ok:1 0", "act 0 cancel 0 ok 0", "act 2 accept 0 ok:3 0"])
+        for event in ("act 0 accept 0 ok:1 0", "act 0 accept 0 ok:3 0", "act 1 accept 1 ok:2 0"):
+            self.says([*OWNED, event], "numbers")
+        self.says([*OWNED, "act 0 cancel 0 ok 0", "act 0 accept 0 ok:1 0"], "numbers")
 
     def test_an_earlier_event_is_told_and_of_one_event_the_first_law(self) -> None:
         self.says(["began 0 0 0", "step 0 0 up -", "step 1 1 - -"], "regions")

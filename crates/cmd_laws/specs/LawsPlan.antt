@@ -7,7 +7,7 @@ use Rattle.lgx_answer.specs.Plan.{Plan, Say, Read, only}
 use Rattle.lgx_judge.specs.Plans.{on_project}
 use Rattle.lgx_audit.specs.TraceReading.{trace_of}
 use Rattle.lgx_laws.specs.declared.error.Law.{Law}
-use Rattle.lgx_laws.specs.declared.error.Law.TheVariants.{Regions, Watchdogs, Releases, Triggers, Scans}
+use Rattle.lgx_laws.specs.declared.error.Law.TheVariants.{Regions, Copies, Watchdogs, Releases, Starts, Triggers, Scans, Modes, Edits, Numbers}
 use Rattle.lgx_laws.specs.Laws.{Roster, roster_of, KeepsAll, IsBreach, Breach, breach}
 use Rattle.cmd_trace.specs.AuditPlan.{yes_line, of_trace}
 
@@ -15,10 +15,15 @@ use Rattle.cmd_trace.specs.AuditPlan.{yes_line, of_trace}
 
 abbrev pub law_word : Law → List ℕ
 law_word Regions = codes "regions"
+law_word Copies = codes "copies"
 law_word Watchdogs = codes "watchdogs"
 law_word Releases = codes "releases"
+law_word Starts = codes "starts"
 law_word Triggers = codes "triggers"
 law_word Scans = codes "scans"
+law_word Modes = codes "modes"
+law_word Edits = codes "edits"
+law_word Numbers = codes "numbers"
 
 -- the law, and the event that breaks it
 abbrev pub no_line : Breach → List ℕ

@@ -13,10 +13,15 @@ fn law_word(law: Law) -> &'static [u8]
 {
     match law {
         Law::Regions => b"regions",
+        Law::Copies => b"copies",
         Law::Watchdogs => b"watchdogs",
         Law::Releases => b"releases",
+        Law::Starts => b"starts",
         Law::Triggers => b"triggers",
         Law::Scans => b"scans",
+        Law::Modes => b"modes",
+        Law::Edits => b"edits",
+        Law::Numbers => b"numbers",
     }
 }
 

@@ -7,7 +7,7 @@ use Rattle.spec_schedule.specs.declared.trace.TraceEvent.{TraceEvent}
 use Rattle.spec_schedule.specs.Counting.{CountedEvent, counted_events}
 use Rattle.spec_duties.specs.CountedBack.{each_with_past}
 use Rattle.lgx_laws.specs.declared.error.Law.{Law}
-use Rattle.lgx_laws.specs.declared.error.Law.TheVariants.{Regions, Watchdogs, Releases, Triggers, Scans}
+use Rattle.lgx_laws.specs.declared.error.Law.TheVariants.{Regions, Copies, Watchdogs, Releases, Starts, Triggers, Scans, Modes, Edits, Numbers}
 use Rattle.lgx_laws.specs.Laws.{Roster, laws, rank, keeps_at, keeps, KeepsAll, IsBreach, Breach, broken_at, breach_from, breach}
 use Rattle.lgx_laws.proofs.Back.{events_take, events_length, keeps_front}
 
@@ -15,17 +15,27 @@ use Rattle.lgx_laws.proofs.Back.{events_take, events_length, keeps_front}
 
 pub at_rank : (law : Law) → slice_index_or laws (rank law) Regions ≡ law
 at_rank Regions = refl
+at_rank Copies = refl
 at_rank Watchdogs = refl
 at_rank Releases = refl
+at_rank Starts = refl
 at_rank Triggers = refl
 at_rank Scans = refl
+at_rank Modes = refl
+at_rank Edits = refl
+at_rank Numbers = refl
 
 rank_within : (law : Law) → rank law < length laws
 rank_within Regions = omega arith
+rank_within Copies = omega arith
 rank_within Watchdogs = omega arith
 rank_within Releases = omega arith
+rank_within Starts = omega arith
 rank_within Triggers = omega arith
 rank_within Scans = omega arith
+rank_within Modes = omega arith
+rank_within Edits = omega arith
+rank_within Numbers = omega arith
 
 rank_at : (i : ℕ) → i < length laws → rank (slice_index_or laws i Regions) ≡ i
 rank_at zero l = refl
@@ -33,7 +43,12 @@ rank_at (suc zero) l = refl
 rank_at (suc (suc zero)) l = refl
 rank_at (suc (suc (suc zero))) l = refl
 rank_at (suc (suc (suc (suc zero)))) l = refl
-rank_at (suc (suc (suc (suc (suc i))))) l = absurd (omega arith)
+rank_at (suc (suc (suc (suc (suc zero))))) l = refl
+rank_at (suc (suc (suc (suc (suc (suc zero)))))) l = refl
+rank_at (suc (suc (suc (suc (suc (suc (suc zero))))))) l = refl
+rank_at (suc (suc (suc (suc (suc (suc (suc (suc zero)))))))) l = refl
+rank_at (suc (suc (suc (suc (suc (suc (suc (suc (suc zero))))))))) l = refl
+rank_at (suc (suc (suc (suc (suc (suc (suc (suc (suc (suc i)))))))))) l = absurd (omega arith)
 
 same_rank : (law other : Law) → rank law ≡ rank other → law ≡ other
 same_rank law other h = sym (at_rank law) ∙ (ap (λ i. slice_index_or laws i Regions) h ∙ at_rank other)

@@ -10,15 +10,16 @@ use Rattle.spec_legal.proofs.CountedLists.{counts_length, count_at}
 use Rattle.spec_duties.specs.CountedBack.{ticks_in, is_up_since}
 use Rattle.spec_duties.specs.Scans.{scanned_after}
 use Rattle.lgx_laws.specs.declared.since.Since.{Since}
+use Rattle.lgx_laws.specs.Copies.{copied_after}
 use Rattle.lgx_laws.specs.Kept.{no_since, since, Kept}
 
 -- what is kept of task t, by whether it stays up
 abbrev pub kept_if : ℕ → TraceEvent → Bool → Since → Since
-kept_if t e stays s = if stays then record { ticks = ticks_in e + s.ticks; scan = scanned_after t e s.scan } else no_since
+kept_if t e stays s = if stays then record { ticks = ticks_in e + s.ticks; scan = scanned_after t e s.scan; copy = copied_after t e s.copy } else no_since
 
-since_if : (t : ℕ) (e : TraceEvent) (b : Bool) (ticks : ℕ) (scan : Option ℕ) → kept_if t e b (record { ticks = ticks; scan = scan }) ≡ record { ticks = if b then ticks_in e + ticks else 0; scan = if b then scanned_after t e scan else None }
-since_if t e true ticks scan = refl
-since_if t e false ticks scan = refl
+since_if : (t : ℕ) (e : TraceEvent) (b : Bool) (ticks : ℕ) (scan : Option ℕ) (copy : Option Bool) → kept_if t e b (record { ticks = ticks; scan = scan; copy = copy }) ≡ record { ticks = if b then ticks_in e + ticks else 0; scan = if b then scanned_after t e scan else None; copy = if b then copied_after t e copy else None }
+since_if t e true ticks scan copy = refl
+since_if t e false ticks scan copy = refl
 
 pub kept_all : (ds : List AuditTask) (e : TraceEvent) (old new : List Since) (cs : List Counted) (ns : List Numbers) (past : List CountedEvent) → length cs ≡ length ds → length new ≡ length old → Kept old cs past → ((t : ℕ) → t < length ds → slice_index_or new t no_since ≡ kept_if t e ((slice_index_or cs t uncounted).up && nat_eq (slice_index_or cs t uncounted).downs (counted (slice_index_or ds t no_task) t e (slice_index_or cs t uncounted)).downs) (slice_index_or old t no_since)) → Kept new (counted_all ds e cs) (record { tasks = cs; programs = ns; event = e } ∷ past)
 kept_all ds e old new cs ns past many same h each =
@@ -35,7 +36,7 @@ kept_all ds e old new cs ns past many same h each =
           each t lt
           ∙ (ap (λ (c : Counted). kept_if t e (was.up && nat_eq was.downs c.downs) (slice_index_or old t no_since)) (sym is)
           ∙ (ap (λ (s : Since). kept_if t e (is_up_since t now x) s) (h.each t (omega arith))
-          ∙ since_if t e (is_up_since t now x) (since t cs past).ticks (since t cs past).scan)));
+          ∙ since_if t e (is_up_since t now x) (since t cs past).ticks (since t cs past).scan (since t cs past).copy)));
     }
 
 -- at the start nothing is

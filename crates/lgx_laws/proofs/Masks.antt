@@ -47,7 +47,7 @@ mask_fits test n l =
     let most = pow-le-pow_right {n = 2} (omega arith) {i = n + 1} {j = 32} (omega arith) in
     omega arith
 
-mask_same : (f g : ℕ → Bool) (n : ℕ) → ((k : ℕ) → k < n → f k ≡ g k) → mask_below f n ≡ mask_below g n
+pub mask_same : (f g : ℕ → Bool) (n : ℕ) → ((k : ℕ) → k < n → f k ≡ g k) → mask_below f n ≡ mask_below g n
 mask_same f g zero h = refl
 mask_same f g (suc n) h =
     ap (λ m. m + (if f n then 2 ^ n else 0)) (mask_same f g n (λ k l. h k (omega arith)))

@@ -13,9 +13,13 @@ use Rattle.spec_duties.specs.TickReleases.{keeps_releases}
 use Rattle.spec_duties.specs.Triggers.{keeps_triggers}
 use Rattle.spec_duties.specs.Scans.{keeps_scans}
 use Rattle.lgx_laws.specs.declared.error.Law.{Law}
-use Rattle.lgx_laws.specs.declared.error.Law.TheVariants.{Regions, Watchdogs, Releases, Triggers, Scans}
+use Rattle.lgx_laws.specs.declared.error.Law.TheVariants.{Regions, Copies, Watchdogs, Releases, Starts, Triggers, Scans, Modes, Edits, Numbers}
 use Rattle.lgx_laws.specs.declared.error.LawError.{LawError}
 use Rattle.lgx_laws.specs.declared.error.LawError.TheVariants as judging
+use Rattle.lgx_laws.specs.Copies.{keeps_copies}
+use Rattle.lgx_laws.specs.Starts.{keeps_starts}
+use Rattle.lgx_laws.specs.Modes.{keeps_modes}
+use Rattle.lgx_laws.specs.Edits.{keeps_edits, keeps_numbers}
 
 -- ---- a project
 
@@ -30,24 +34,35 @@ roster_of p = record { table = table_of p; tasks = p.tasks; schedule = p.schedul
 
 -- ---- the laws
 
--- all of them, from the one that is told first
+-- All of them, from the one that is told first: what goes on between steps, who comes up, what a step is of, and then how actions
+-- are answered.
 abbrev pub laws : List Law
-laws = Regions ∷ Watchdogs ∷ Releases ∷ Triggers ∷ Scans ∷ []
+laws = Regions ∷ Copies ∷ Watchdogs ∷ Releases ∷ Starts ∷ Triggers ∷ Scans ∷ Modes ∷ Edits ∷ Numbers ∷ []
 
 abbrev pub rank : Law → ℕ
 rank Regions = 0
-rank Watchdogs = 1
-rank Releases = 2
-rank Triggers = 3
-rank Scans = 4
+rank Copies = 1
+rank Watchdogs = 2
+rank Releases = 3
+rank Starts = 4
+rank Triggers = 5
+rank Scans = 6
+rank Modes = 7
+rank Edits = 8
+rank Numbers = 9
 
 -- whether a law is kept at a place, by the places before it, the latest of them first
 abbrev pub keeps_at : Law → Roster → List CountedEvent → CountedEvent → Bool
 keeps_at Regions r past x = keeps_region x
+keeps_at Copies r past x = keeps_copies past x
 keeps_at Watchdogs r past x = keeps_watchdogs r.tasks past x
 keeps_at Releases r past x = keeps_releases r.tasks past x
+keeps_at Starts r past x = keeps_starts r.tasks past x
 keeps_at Triggers r past x = keeps_triggers r.tasks x
 keeps_at Scans r past x = keeps_scans r.schedule past x
+keeps_at Modes r past x = keeps_modes past x
+keeps_at Edits r past x = keeps_edits past x
+keeps_at Numbers r past x = keeps_numbers x
 
 -- whether a trace keeps it at each of its places
 abbrev pub keeps : Law → Roster → List TraceEvent → Bool

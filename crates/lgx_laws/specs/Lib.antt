@@ -1,3 +1,7 @@
+pub mod Copies
+pub mod Modes
+pub mod Starts
+pub mod Edits
 pub mod Laws
 pub mod Kept
 pub mod OwnTraces

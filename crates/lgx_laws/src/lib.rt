@@ -2,12 +2,16 @@
 #![tactic(auto)]
 
 mod broken;
+mod copies;
+mod edits;
 mod error;
 mod laws;
+mod modes;
 mod one_pass;
 mod regions;
 mod scans;
 mod since;
+mod starts;
 mod ticks;
 mod triggers;
 

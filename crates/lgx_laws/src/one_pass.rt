@@ -5,10 +5,12 @@ ghost use Rattle.lgx_laws.specs.Laws.{KeepsAll, IsBreach, IfBreach};
 ghost use Rattle.lgx_laws.specs.Kept.{IsProper};
 
 use crate::broken::broken_law;
+use crate::edits::{book_event, nothing_booked};
 use crate::error::LawError;
-use crate::since::{keep_all, nothing_since, run_after};
+use crate::since::{Control, control_after, keep_all, nothing_since};
 use lgx_audit::{Trace, TraceEvent, count_event, no_counts};
 use lgx_num::Items;
+use spec_machine::Mode;
 use spec_schedule::Table;
 use spec_tables::TaskDef;
 use std::alloc::Global;
@@ -29,21 +31,28 @@ fn judge_events(
     let rows = table.tasks.as_slice();
     let mut count_list = no_counts(alloc, rows.len())?;
     let mut kept_list = nothing_since(alloc, rows.len())?;
+    let mut book_list = nothing_booked(alloc, table.programs as usize)?;
     let counts = count_list.as_mut_slice();
     let kept = kept_list.as_mut_slice();
-    let mut run = None;
+    let books = book_list.as_mut_slice();
+    let mut control = Control {
+        mode: Mode::Program,
+        run: None,
+    };
     for (i, e) in trace.iter().enumerate() {
-        if let Some(law) = broken_law(tasks, schedule, counts, kept, run, e) {
+        if let Some(law) = broken_law(tasks, schedule, counts, kept, books, control, e) {
             return Err(LawError::Breach { law, at: i as u64 });
         }
         keep_all(rows, counts, kept, e);
-        run = run_after(e, run);
+        control = control_after(e, control);
+        book_event(books, e);
         count_event(rows, counts, e);
     }
     Ok(())
 }
 
-/// Judges a trace by the laws that the audit leaves out. It goes once over the trace, with memory for the tasks alone.
+/// Judges a trace by the laws that the audit leaves out. It goes once over the trace, with memory for the tasks and the programs
+/// alone.
 pub fn judge(
     alloc: Global,
     trace: &Trace,

@@ -4,18 +4,25 @@ ghost use Rattle.spec_schedule.specs.Counting.{Counted, Numbers, counted, counte
 ghost use Rattle.spec_duties.specs.CountedBack.{ticks_in, comes_to_run};
 ghost use Rattle.spec_schedule.specs.Counting.{CountedEvent};
 ghost use Rattle.spec_duties.specs.Scans.{scanned_after};
+ghost use Rattle.lgx_laws.specs.Copies.{copied_after};
+ghost use Rattle.lgx_laws.specs.Modes.{mode_shown};
 ghost use Rattle.lgx_audit.specs.Along.{shown, no_count, Shown};
 ghost use Rattle.lgx_laws.specs.Kept.{no_since, Kept};
 
+use crate::copies::copied_after;
+use crate::modes::mode_after;
 use lgx_audit::{AuditTask, Count, TraceAnswer, TraceEvent, Verb, counted, stops};
 use lgx_num::Memory;
+use spec_machine::Mode;
 use std::alloc::Global;
 
-/// Of a task: the ticks since it came up, and the program that it has begun since and not ended.
+/// Of a task: the ticks since it came up, the program that it has begun since and not ended, and whether the copy that it has
+/// started since and not ended is a CPS's.
 #[derive(Clone, Copy)]
 pub struct Since {
     pub ticks: u64,
     pub scan: Option<u32>,
+    pub copy: Option<bool>,
 }
 
 /// What is kept of tasks before the first event.
@@ -25,6 +32,7 @@ pub(crate) fn nothing_since(alloc: Global, tasks: usize) -> Result<Vec<Since>, M
     let none = Since {
         ticks: 0,
         scan: None,
+        copy: None,
     };
     Ok(vec![in alloc; none; tasks]?)
 }
@@ -73,18 +81,20 @@ fn stays_up(task: AuditTask, t: usize, e: &TraceEvent, count: Count) -> bool
 /// What is kept of task t after the event.
 fn since_after(t: usize, e: &TraceEvent, stays: bool, since: Since) -> Since
     requires { since.ticks < 18446744073709551615 }
-    ensures since { result ≡ (if stays then record { ticks = ticks_in e.now + since.ticks; scan = scanned_after t e.now since.scan } else no_since) }
+    ensures since { result ≡ (if stays then record { ticks = ticks_in e.now + since.ticks; scan = scanned_after t e.now since.scan; copy = copied_after t e.now since.copy } else no_since) }
     ensures ticks { result.ticks ≤ since.ticks + 1 }
 {
     if stays {
         Since {
             ticks: ticks_in(e) + since.ticks,
             scan: scanned_after(t, e, since.scan),
+            copy: copied_after(t, e, since.copy),
         }
     } else {
         Since {
             ticks: 0,
             scan: None,
+            copy: None,
         }
     }
 }
@@ -121,7 +131,7 @@ fn comes_to_run(e: &TraceEvent) -> bool
 }
 
 /// The ticks since the change to Run after the event, none outside Run.
-pub(crate) fn run_after(e: &TraceEvent, run: Option<u64>) -> Option<u64>
+fn run_after(e: &TraceEvent, run: Option<u64>) -> Option<u64>
     requires { (n : ℕ) → run ≡ Some n → n < 18446744073709551615 }
     ensures run { result ≡ (if comes_to_run e.now then Some 0 else (if stops e.now then None else option_map (λ n. ticks_in e.now + n) run)) }
     ensures ticks { (most : ℕ) → ((n : ℕ) → run ≡ Some n → n ≤ most) → (n : ℕ) → result ≡ Some n → n ≤ most + 1 }
@@ -135,5 +145,25 @@ pub(crate) fn run_after(e: &TraceEvent, run: Option<u64>) -> Option<u64>
             Some(n) => Some(ticks_in(e) + n),
             None => None,
         }
+    }
+}
+
+/// Of the controller: its mode, and the ticks since the change to Run, none outside Run.
+#[derive(Clone, Copy)]
+pub struct Control {
+    pub mode: Mode,
+    pub run: Option<u64>,
+}
+
+/// What is kept of the controller after the event.
+pub(crate) fn control_after(e: &TraceEvent, control: Control) -> Control
+    requires { (n : ℕ) → control.run ≡ Some n → n < 18446744073709551615 }
+    ensures mode { result.mode ≡ mode_shown e.now control.mode }
+    ensures run { result.run ≡ (if comes_to_run e.now then Some 0 else (if stops e.now then None else option_map (λ n. ticks_in e.now + n) control.run)) }
+    ensures ticks { (most : ℕ) → ((n : ℕ) → control.run ≡ Some n → n ≤ most) → (n : ℕ) → result.run ≡ Some n → n ≤ most + 1 }
+{
+    Control {
+        mode: mode_after(e, control.mode),
+        run: run_after(e, control.run),
     }
 }

@@ -104,7 +104,7 @@ fn is_due_and(task: TaskDef, count: Count, run: Option<u64>, up: bool) -> bool
 }
 
 /// The bit of task t in a mask, if it is to be there.
-fn bit_if(test: bool, t: usize) -> u32
+pub(crate) fn bit_if(test: bool, t: usize) -> u32
     requires { t < 32 }
     ensures { result ≡ (if test then 2 ^ t else 0) }
 {

@@ -10,7 +10,10 @@ from .sound import unsound
 OTHERS = (
     "tick 0 0 -", "tick 0 0 -", "tick 0 0 1", "tick 4 0 -", "tick 0 4 -", "step 1 1 trigger:3 -", "step 1 1 trigger:1 minor", "step 0 0 trigger:4 -",
     "act 31 run - ok 1", "act 3 other - ok 2", "act 3 other - ok 18", "began 0 0 0", "step 0 0 up -", "step 0 0 sync -", "step 0 0 syncend -", "began 1 1 0",
-    "step 1 1 - -", "step 1 1 down -", "left 1 1 ended", "began 1 2 0", "left 0 0 ended",
+    "step 1 1 - -", "step 1 1 down -", "left 1 1 ended", "began 1 2 0", "left 0 0 ended", "step 0 0 copy -", "step 0 0 copyend -", "step 0 0 - minor",
+    "act 31 run - no 0", "act 31 program - no 0", "act 31 program - ok 0", "act 31 clear - ok 0", "act 31 clear - no 0", "act 0 accept 0 ok:1 0",
+    "act 0 accept 0 ok:2 0", "act 1 accept 0 ok:1 0", "act 0 test 0 ok 0", "act 1 test 0 ok 0", "act 0 test 0 no 0", "act 0 untest 0 ok 0",
+    "act 0 untest 0 no 0", "act 0 assemble 0 ok 0", "act 1 cancel 0 ok 0", "act 0 cancel 0 ok 0", "act 0 accept - ok:1 0", "act 0 accept 1 ok:1 0",
 )
 
 
