@@ -1,5 +1,6 @@
 // The board that publishes a story.
 ghost use Rattle.std.specs.Prelude.{◌≡◌, ◌≤◌, ◌<◌, ◌-◌, ◌⊎◌, ◌↔◌, List, [], ◌∷◌, ◌++◌, length, drop, fold, IsOk, vec_len, vec_capacity, slice_index_or, slice_get, All, IfOk, OnOk, OnErr, IsTrue, Some, true, false};
+ghost use Rattle.lgx_hmi.specs.Sights.{opening_sight};
 ghost use Rattle.spec_board.specs.Stories.{IsPrefix, longer, with_next};
 ghost use Rattle.spec_board.specs.declared.snapshot.TheConstants.{MAX_SNAPSHOTS};
 
@@ -43,7 +44,7 @@ fn seat<S: Story>(
     requires room { stations ≤ vec_capacity list.old }
     requires empty { list.old.items ≡ [] }
     ensures len { vec_len list.new ≡ stations }
-    ensures seen { All (λ s. s ≡ first.now ∷ []) list.new.items }
+    ensures seen { All (λ s. s ≡ opening_sight first.now) list.new.items }
 {
     for _ in 0..stations {
         let reader = writer.factory().reader().ok();
@@ -88,8 +89,8 @@ fn put<S: Story, R: Wait>(
 }
 
 impl<S: Story> Board<S> {
-    /// A board that has published the first snapshot, and 1 to 8 stations that have seen it. It takes the room for all snapshots,
-    /// in two copies: some 8 MB. Out of memory is the one fault.
+    /// A board that has published the first snapshot, and 1 to 8 stations that have seen it and have not read. It takes the room
+    /// for all snapshots, in two copies: some 8 MB. Out of memory is the one fault.
     pub fn open(
         alloc: Global,
         first: &Snapshot,
@@ -99,7 +100,7 @@ impl<S: Story> Board<S> {
         requires first { slice_get S.story 0 ≡ Some first.now }
         ensures published { IfOk result (λ r. r.0 ≡ first.now ∷ []) }
         ensures stations { IfOk result (λ r. vec_len r.1 ≡ stations) }
-        ensures seen { IfOk result (λ r. All (λ s. s ≡ first.now ∷ []) r.1.items) }
+        ensures seen { IfOk result (λ r. All (λ s. s ≡ opening_sight first.now) r.1.items) }
     {
         let mut list = Vec::with_capacity(alloc, stations as usize)?;
         let one = Published::new(alloc, first.copied())?;
@@ -126,7 +127,7 @@ impl<S: Story> Board<S> {
 
     /// The station has then seen the published list too. It takes no memory, and waits for nobody.
     pub fn tell(&self, station: &mut Station<S>)
-        ensures { station.new ≡ longer station.old self.now }
+        ensures { station.new ≡ record station.old { seen = longer station.old.seen self.now } }
     {
         station.look(self.writer.published());
     }
