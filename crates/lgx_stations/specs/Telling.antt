@@ -20,6 +20,11 @@ abbrev pub IsFirstOf : List Snapshot → Option Snapshot → Type 0
 IsFirstOf story None = ⊥
 IsFirstOf story (Some x) = (i : ℕ) × (slice_get story i ≡ Some x)
 
+-- what is kept as the first snapshot once another one is given
+abbrev pub first_kept : Option Snapshot → Option Snapshot → Option Snapshot
+first_kept None next = next
+first_kept (Some first) next = Some first
+
 -- The first snapshot that a station gave is one of the story, and the last one is the story's last.
 pub record AreReadingsOf (story : List Snapshot) (r : Readings) : Type 0 where
   pub first : (i : ℕ) × (slice_get story i ≡ Some r.first)

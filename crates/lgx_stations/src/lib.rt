@@ -12,4 +12,4 @@ pub use input::Input;
 pub use lgx_shared::Gate;
 pub use replay::Replay;
 pub use stations::{MAX_STATIONS, watch_journal};
-pub use watcher::Readings;
+pub use watcher::{READS, Readings};

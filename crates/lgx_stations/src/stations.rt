@@ -1,14 +1,16 @@
 // Stations on threads, beside the replay that they read.
-ghost use Rattle.std.specs.Prelude.{◌≡◌, ◌<◌, ◌≤◌, [], All, IfOk, OnOk, length, vec_len, vec_capacity};
+ghost use Rattle.std.specs.Prelude.{◌≡◌, ℕ, ◌<◌, ◌≤◌, [], All, IfOk, OnOk, None, length, slice_index_or, vec_len, vec_capacity};
 ghost use Rattle.spec_base.specs.declared.limits.TheConstants.{MAX_EVENTS};
 ghost use Rattle.spec_story.specs.Snapshots.{snapshots};
-ghost use Rattle.lgx_stations.specs.Telling.{IsAt, IsFirstOf, AreReadingsOf};
+ghost use Rattle.lgx_stations.specs.Asking.{ForReads, ForPublishes, ForAll};
+ghost use Rattle.lgx_stations.specs.Telling.{IsAt, AreReadingsOf};
+ghost use Rattle.lgx_stations.specs.Watching.{IsUnread, HasRead};
 ghost use Rattle.lgx_stations.specs.declared.stations.TheConstants.{MAX_STATIONS};
 
 use crate::input::{Input, Tells};
 use crate::replay::Replay;
 use crate::telling::tell_journal;
-use crate::watcher::{Readings, Watcher};
+use crate::watcher::{READS, Readings, Watcher};
 use lgx_hmi::{Board, Station, Story};
 use lgx_journal::Journal;
 use lgx_num::Memory;
@@ -25,15 +27,26 @@ fn number_all<S: Story>(stations: Vec<Station<S>>, watchers: &mut Vec<Watcher<S>
     requires many { vec_len stations ≤ MAX_STATIONS }
     requires room { vec_len stations ≤ vec_capacity watchers.old }
     requires empty { watchers.old.items ≡ [] }
-    ensures { vec_len watchers.new ≡ vec_len stations }
+    requires new { All (λ s. s.reads ≡ 0) stations.items }
+    ensures len { vec_len watchers.new ≡ vec_len stations }
+    ensures new { (i : ℕ) (d : _) → i < vec_len stations → let w = slice_index_or watchers.new.items i d in IsUnread (vec_len stations) i w.lane w.station w.first }
 {
     let mut stations = stations;
     while let Some(station) = stations.pop() {
-        watchers.push_reserved(Watcher {
-            station,
-            lane: stations.len() as u32,
-            first: None,
-        });
+        let lane = stations.len() as u32;
+        watchers.push_reserved(Watcher::new(station, lane));
+    }
+}
+
+/// One station reads while the journal is replayed.
+fn watch<S: Story, G: Gate>(gate: &G, watcher: &mut Watcher<S>)
+    requires { (watcher.old.station.reads ≡ 0) × (watcher.old.first ≡ None) }
+    ensures read { HasRead S.story watcher.new.station watcher.new.first }
+    ensures asked { (n : ℕ) → n < READS → G.asked gate.now watcher.old.lane n }
+{
+    for index in 0..READS {
+        gate.before(watcher.lane(), index);
+        watcher.read(gate);
     }
 }
 
@@ -43,12 +56,14 @@ fn watch_all<S: Story + Send, G: Gate + Sync, R: Threads + Sync>(
     gate: &G,
     watchers: &mut [Watcher<S>],
 )
-    requires { 0 < length watchers.old }
-    ensures first { All (λ w. IsFirstOf S.story w.first) watchers.new }
+    requires some { 0 < length watchers.old }
+    requires new { (i : ℕ) (d : _) → i < length watchers.old → let w = slice_index_or watchers.old i d in IsUnread (length watchers.old) i w.lane w.station w.first }
+    ensures read { All (λ w. HasRead S.story w.station w.first) watchers.new }
+    ensures asked { ForReads (λ lane n. G.asked gate.now lane n) (length watchers.old) }
     ensures len { length watchers.new ≡ length watchers.old }
 {
     let threads = watchers.len();
-    for_each_mut(rt, watchers, threads, &|_, watcher| watcher.watch(gate));
+    for_each_mut(rt, watchers, threads, &|_, watcher| watch(gate, watcher));
 }
 
 /// The journal is replayed and told, while the stations read, each on a thread of its own.
@@ -62,23 +77,29 @@ fn run_beside<I: Input + Send, V: Replay, G: Gate + Sync, R: Threads + Wait + Sy
 ) -> Result<(), Memory>
     requires so_far { IsAt V.records I.project I.journal replay.old board.old journal.now.events }
     requires some { (0 < length watchers.old) × (length watchers.old ≤ MAX_STATIONS) }
+    requires new { (i : ℕ) (d : _) → i < length watchers.old → let w = slice_index_or watchers.old i d in IsUnread (length watchers.old) i w.lane w.station w.first }
     ensures records { OnOk result (V.records replay.new I.project I.journal) }
     ensures told { OnOk result (board.new ≡ snapshots I.project I.journal) }
-    ensures first { All (λ w. IsFirstOf (snapshots I.project I.journal) w.first) watchers.new }
+    ensures read { All (λ w. HasRead (snapshots I.project I.journal) w.station w.first) watchers.new }
+    ensures reads { ForReads (λ lane n. G.asked gate.now lane n) (length watchers.old) }
+    ensures publishes { ForPublishes (λ k. G.asked gate.now (length watchers.old) k) (length board.old) (length board.new) }
     ensures len { length watchers.new ≡ length watchers.old }
 {
     let lane = watchers.len() as u32;
     let (_, told) = join_mut(
         rt,
         &mut || -> ()
-            requires { 0 < length watchers.now }
-            ensures first { All (λ w. IsFirstOf (snapshots I.project I.journal) w.first) watchers.exit.now }
+            requires some { 0 < length watchers.now }
+            requires new { (i : ℕ) (d : _) → i < length watchers.now → let w = slice_index_or watchers.now i d in IsUnread (length watchers.now) i w.lane w.station w.first }
+            ensures read { All (λ w. HasRead (snapshots I.project I.journal) w.station w.first) watchers.exit.now }
+            ensures reads { ForReads (λ lane n. G.asked gate.entry.now lane n) (length watchers.entry.now) }
             ensures len { length watchers.exit.now ≡ length watchers.entry.now }
         { watch_all(rt, gate, watchers) },
         &mut || -> Result<(), Memory>
             requires { IsAt V.records I.project I.journal replay.now board.now journal.now.events }
             ensures records { OnOk result (V.records replay.exit.now I.project I.journal) }
             ensures told { OnOk result (board.exit.now ≡ snapshots I.project I.journal) }
+            ensures publishes { ForPublishes (λ k. G.asked gate.entry.now lane k) (length board.entry.now) (length board.exit.now) }
         { tell_journal(rt, gate, lane, replay, board, journal) },
     );
     told
@@ -91,7 +112,7 @@ fn finish_all<S: Story>(
     watchers: Vec<Watcher<S>>,
 ) -> Result<Vec<Readings>, Memory>
     requires told { board.now ≡ S.story }
-    requires first { All (λ w. IsFirstOf S.story w.first) watchers.items }
+    requires read { All (λ w. HasRead S.story w.station w.first) watchers.items }
     ensures count { IfOk result (λ readings. vec_len readings ≡ vec_len watchers) }
     ensures each { IfOk result (λ readings. All (λ r. AreReadingsOf S.story r) readings.items) }
 {
@@ -115,9 +136,12 @@ fn watch_through<I: Input + Send, V: Replay, G: Gate + Sync, R: Threads + Wait +
 ) -> Result<Vec<Readings>, Memory>
     requires so_far { IsAt V.records I.project I.journal replay.old board.old journal.now.events }
     requires some { (0 < vec_len watchers) × (vec_len watchers ≤ MAX_STATIONS) }
+    requires new { (i : ℕ) (d : _) → i < vec_len watchers → let w = slice_index_or watchers.items i d in IsUnread (vec_len watchers) i w.lane w.station w.first }
     ensures records { OnOk result (V.records replay.new I.project I.journal) }
     ensures count { IfOk result (λ readings. vec_len readings ≡ vec_len watchers) }
     ensures readings { IfOk result (λ readings. All (λ r. AreReadingsOf (snapshots I.project I.journal) r) readings.items) }
+    ensures reads { IfOk result (λ _. ForReads (λ lane n. G.asked gate.now lane n) (vec_len watchers)) }
+    ensures publishes { IfOk result (λ _. ForPublishes (λ k. G.asked gate.now (vec_len watchers) k) (length board.old) (length (snapshots I.project I.journal))) }
 {
     let mut watchers = watchers;
     run_beside(rt, gate, replay, board, watchers.as_mut_slice(), journal)?;
@@ -143,6 +167,7 @@ pub fn watch_journal<I: Input + Send, V: Replay, G: Gate + Sync, R: Threads + Wa
     ensures records { OnOk result (V.records replay.new I.project I.journal) }
     ensures count { IfOk result (λ readings. vec_len readings ≡ stations) }
     ensures readings { IfOk result (λ readings. All (λ r. AreReadingsOf (snapshots I.project I.journal) r) readings.items) }
+    ensures asked { IfOk result (λ _. ForAll (λ lane n. G.asked gate.now lane n) stations (snapshots I.project I.journal)) }
 {
     let mut watchers = Vec::with_capacity(alloc, stations as usize)?;
     let (mut board, list) = Board::<Tells<I>>::open(alloc, &replay.snapshot(), stations)?;

@@ -1,7 +1,8 @@
 // A journal that is replayed, and told to a board.
-ghost use Rattle.std.specs.Prelude.{◌≡◌, List, [], ◌∷◌, ◌++◌, OnOk, replicate};
+ghost use Rattle.std.specs.Prelude.{◌≡◌, ℕ, List, [], ◌∷◌, ◌++◌, OnOk, length, replicate};
 ghost use Rattle.spec_machine.specs.declared.event.Event.{Event as Events};
 ghost use Rattle.spec_story.specs.Snapshots.{snapshots};
+ghost use Rattle.lgx_stations.specs.Asking.{ForPublishes};
 ghost use Rattle.lgx_stations.specs.Telling.{IsAt};
 
 use crate::input::{Input, Tells};
@@ -22,7 +23,8 @@ fn tell_event<I: Input, V: Replay, G: Gate, R: Wait>(
     event: &Event,
 ) -> Result<(), Memory>
     requires { (left : List Events) × IsAt V.records I.project I.journal replay.old board.old (event.now ∷ left) }
-    ensures { (left : List Events) → IsAt V.records I.project I.journal replay.old board.old (event.now ∷ left) → OnOk result (IsAt V.records I.project I.journal replay.new board.new left) }
+    ensures at { (left : List Events) → IsAt V.records I.project I.journal replay.old board.old (event.now ∷ left) → OnOk result (IsAt V.records I.project I.journal replay.new board.new left) }
+    ensures publishes { ForPublishes (λ k. G.asked gate.now lane k) (length board.old) (length board.new) }
 {
     replay.take(event)?;
     if let Event::Tick = event {
@@ -45,7 +47,8 @@ fn tell_run<I: Input, V: Replay, G: Gate, R: Wait>(
     count: u32,
 ) -> Result<(), Memory>
     requires { (left : List Events) × IsAt V.records I.project I.journal replay.old board.old (replicate count event.now ++ left) }
-    ensures { (left : List Events) → IsAt V.records I.project I.journal replay.old board.old (replicate count event.now ++ left) → OnOk result (IsAt V.records I.project I.journal replay.new board.new left) }
+    ensures at { (left : List Events) → IsAt V.records I.project I.journal replay.old board.old (replicate count event.now ++ left) → OnOk result (IsAt V.records I.project I.journal replay.new board.new left) }
+    ensures publishes { ForPublishes (λ k. G.asked gate.now lane k) (length board.old) (length board.new) }
 {
     for _ in 0..count {
         tell_event(rt, gate, lane, replay, board, event)?;
@@ -65,6 +68,7 @@ pub(crate) fn tell_journal<I: Input, V: Replay, G: Gate, R: Wait>(
     requires { IsAt V.records I.project I.journal replay.old board.old journal.now.events }
     ensures records { OnOk result (V.records replay.new I.project I.journal) }
     ensures told { OnOk result (board.new ≡ snapshots I.project I.journal) }
+    ensures publishes { ForPublishes (λ k. G.asked gate.now lane k) (length board.old) (length board.new) }
 {
     for i in 0..journal.runs() {
         let (event, count) = (journal.event_at(i), journal.count_at(i));

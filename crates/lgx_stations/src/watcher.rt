@@ -1,58 +1,92 @@
-// A station on a thread of its own, and what it gives.
-ghost use Rattle.std.specs.Prelude.{◌≡◌, ℕ, Some, slice_get};
+// A station at a gate, and what it gives.
+ghost use Rattle.std.specs.Prelude.{◌≡◌, ◌+◌, ◌<◌, ◌-◌, None, Some, length, slice_get};
 ghost use Rattle.spec_board.specs.Stories.{IsPrefix};
-ghost use Rattle.lgx_stations.specs.Telling.{IsFirstOf, AreReadingsOf};
+ghost use Rattle.lgx_stations.specs.Telling.{IsFirstOf, AreReadingsOf, first_kept};
 
 use lgx_hmi::{Board, Snapshot, Station, Story};
 use lgx_shared::Gate;
 
 /// How often a station reads while the journal is replayed.
-const READS: u32 = 1000;
+pub const READS: u32 = 1000;
 
-/// What a station gave.
+/// What a station gave. Only a watcher that has read 1,000 times makes one.
 #[derive(Drop)]
 pub struct Readings {
-    /// At its first read, while the journal was replayed.
-    pub first: Snapshot,
-    /// After the replay, when it had been told of all that was published.
-    pub last: Snapshot,
+    first: Snapshot,
+    last: Snapshot,
 }
 
-/// A station, and what it gave first.
+impl Readings {
+    /// At its first read, while the journal was replayed.
+    pub fn first(&self) -> &Snapshot
+        ensures { result.now ≡ self.now.first }
+    {
+        &self.first
+    }
+
+    /// After the replay, when it had been told of all that was published.
+    pub fn last(&self) -> &Snapshot
+        ensures { result.now ≡ self.now.last }
+    {
+        &self.last
+    }
+}
+
+/// A station that is read at a gate alone, and what it gave first.
 #[derive(Drop)]
 pub(crate) struct Watcher<S: Story> {
-    pub(crate) station: Station<S>,
+    station: Station<S>,
     /// The station's number, counted from 0.
-    pub(crate) lane: u32,
-    pub(crate) first: Option<Snapshot>,
-}
-
-/// Reads as often as a station does, and gives the first snapshot.
-fn watch<S: Story, G: Gate>(gate: &G, lane: u32, station: &mut Station<S>) -> Snapshot
-    ensures { (i : ℕ) × (slice_get S.story i ≡ Some result) }
-{
-    gate.before(lane, 0);
-    let first = station.read();
-    for index in 1..READS {
-        gate.before(lane, index);
-        station.read();
-    }
-    first
+    lane: u32,
+    first: Option<Snapshot>,
 }
 
 impl<S: Story> Watcher<S> {
-    /// Reads while the journal is replayed.
-    pub(crate) fn watch<G: Gate>(&mut self, gate: &G)
-        ensures { IsFirstOf S.story self.new.first }
+    /// A station that has not read.
+    pub(crate) fn new(station: Station<S>, lane: u32) -> Watcher<S>
+        requires { station.reads ≡ 0 }
+        ensures lane { result.lane ≡ lane }
+        ensures reads { result.station.reads ≡ 0 }
+        ensures first { result.first ≡ None }
     {
-        self.first = Some(watch(gate, self.lane, &mut self.station));
+        Watcher {
+            station,
+            lane,
+            first: None,
+        }
+    }
+
+    /// The station's number, counted from 0.
+    pub(crate) fn lane(&self) -> u32
+        ensures { result ≡ self.now.lane }
+    {
+        self.lane
+    }
+
+    /// One more read, for which the gate was asked before. What the first one gives is kept.
+    pub(crate) fn read<G: Gate>(&mut self, gate: &G)
+        requires asked { G.asked gate.now self.old.lane self.old.station.reads }
+        requires few { self.old.station.reads < READS }
+        ensures lane { self.new.lane ≡ self.old.lane }
+        ensures reads { self.new.station.reads ≡ self.old.station.reads + 1 }
+        ensures later { IsPrefix self.old.station.seen self.new.station.seen }
+        ensures told { IsFirstOf S.story (slice_get self.new.station.seen (length self.new.station.seen - 1)) }
+        ensures first { self.new.first ≡ first_kept self.old.first (slice_get self.new.station.seen (length self.new.station.seen - 1)) }
+    {
+        let _asked = gate;
+        let snapshot = self.station.read();
+        if self.first.is_none() {
+            self.first = Some(snapshot);
+        }
     }
 
     /// The first snapshot, and that which the station gives when it was told of the whole story.
     pub(crate) fn finish(self, board: &Board<S>) -> Readings
+        requires reads { self.station.reads ≡ READS }
         requires first { IsFirstOf S.story self.first }
         requires told { board.now ≡ S.story }
-        ensures { AreReadingsOf S.story result }
+        ensures first { self.first ≡ Some result.first }
+        ensures readings { AreReadingsOf S.story result }
     {
         let Watcher {
             mut station,

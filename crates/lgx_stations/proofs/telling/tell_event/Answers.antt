@@ -1,8 +1,10 @@
-use Rattle.std.proofs.Common.{rules, ◌≡◌, false, List, [], ◌∷◌, ◌++◌, refl, subst}
+use Rattle.std.proofs.Common.{rules, ◌≡◌, false, List, [], ◌∷◌, ◌++◌, length, refl, ap, subst, arith}
 use Rattle.spec_machine.specs.declared.event.Event.{Event as Events}
 use Rattle.spec_machine.specs.declared.event.Event.TheVariants.{Cpu, Tick, Act}
 use Rattle.spec_machine.specs.Events.{is_tick}
+use Rattle.spec_board.specs.declared.snapshot.Snapshot.{Snapshot}
 use Rattle.lgx_stations.specs.Telling.{IsAt}
+use Rattle.lgx_stations.proofs.Asked.{none_published, publish_asked}
 use Rattle.lgx_stations.proofs.Tells.{has_room, may_publish, after_tick, after_other}
 use Rattle.lgx_stations.proofs.telling.tell_event.Goals as goal
 
@@ -23,13 +25,27 @@ publish-requires g c =
     let r = subst (λ (e : Events). g.V.Replay.records c.take.new.self g.I.Input.project (h.made ++ e ∷ [])) c.in-Tick.is (c.in_ok-take.ensures g.I.Input.project h.made h.recorded) in
     may_publish g.V.Replay.records g.I.Input.project g.I.Input.journal c.args.replay.now c.take.new.self c.args.board.now some.0 h c.snapshot-snapshot.result (c.snapshot-snapshot.ensures g.I.Input.project (h.made ++ Tick ∷ []) r)
 
-pub returns-in_ok-publish : goal.returns-in_ok-publish
-returns-in_ok-publish g c = λ left now.
+pub returns-in_ok-publish-clause-at : goal.returns-in_ok-publish-clause-at
+returns-in_ok-publish-clause-at g c = λ left now.
     let h = subst (λ (e : Events). IsAt g.V.Replay.records g.I.Input.project g.I.Input.journal c.args.replay.now c.args.board.now (e ∷ left)) c.in-Tick.is now in
     let r = subst (λ (e : Events). g.V.Replay.records c.take.new.self g.I.Input.project (h.made ++ e ∷ [])) c.in-Tick.is (c.in_ok-take.ensures g.I.Input.project h.made h.recorded) in
     after_tick g.V.Replay.records g.I.Input.project g.I.Input.journal c.args.replay.now c.take.new.self c.args.board.now left h c.snapshot-snapshot.result c.publish.new.self (c.snapshot-snapshot.ensures g.I.Input.project (h.made ++ Tick ∷ []) r) c.in_ok-publish.ensures.added r
 
-pub returns-in_default : goal.returns-in_default
-returns-in_default g c = λ left now.
+pub returns-in_ok-publish-clause-publishes : goal.returns-in_ok-publish-clause-publishes
+returns-in_ok-publish-clause-publishes g c =
+    let some : (left : List Events) × IsAt g.V.Replay.records g.I.Input.project g.I.Input.journal c.args.replay.now c.args.board.now (c.args.event.now ∷ left) = search rules in
+    let h = subst (λ (e : Events). IsAt g.V.Replay.records g.I.Input.project g.I.Input.journal c.args.replay.now c.args.board.now (e ∷ some.0)) c.in-Tick.is some.1 in
+    let r = subst (λ (e : Events). g.V.Replay.records c.take.new.self g.I.Input.project (h.made ++ e ∷ [])) c.in-Tick.is (c.in_ok-take.ensures g.I.Input.project h.made h.recorded) in
+    let is = c.snapshot-snapshot.ensures g.I.Input.project (h.made ++ Tick ∷ []) r in
+    publish_asked g.V.Replay.records g.I.Input.project g.I.Input.journal c.args.replay.now c.args.board.now some.0 h c.snapshot-snapshot.result is c.publish.new.self c.in_ok-publish.ensures.added
+    (λ k. g.G.Gate.asked c.args.gate.now c.args.lane k) c.saturating_sub.result c.saturating_sub.ensures c.before-in-Tick.ensures
+
+pub returns-in_err-publish-clause-publishes : goal.returns-in_err-publish-clause-publishes
+returns-in_err-publish-clause-publishes g c =
+    let same = ap (λ (l : List Snapshot). length l) c.in_err-publish.ensures.unchanged in
+    none_published (λ k. g.G.Gate.asked c.args.gate.now c.args.lane k) (length c.args.board.now) (length c.publish.new.self) (omega (arith, same))
+
+pub returns-in_default-clause-at : goal.returns-in_default-clause-at
+returns-in_default-clause-at g c = λ left now.
     after_other g.V.Replay.records g.I.Input.project g.I.Input.journal c.args.replay.now c.take.new.self c.args.board.now left c.args.event.now now (no_tick c.args.event.now c.in_default.not-Tick)
     (c.in_ok-take.ensures g.I.Input.project now.made now.recorded)
