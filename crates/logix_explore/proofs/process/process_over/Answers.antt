@@ -5,5 +5,5 @@ pub returns-in-Ok : goal.returns-in-Ok
 returns-in-Ok g c =
     with_words _ _ _ _ _ _ _ c.in-Ok.ensures (rw c.deref.ensures.value at c.program.ensures.process, rw c.deref.ensures.value at c.program.ensures.explored)
 
-pub returns : goal.returns
-returns g c = without_words _ _ _ _ _ _ c.number.ensures
+pub returns-in-Err : goal.returns-in-Err
+returns-in-Err g c = without_words _ _ _ _ _ _ c.number.ensures
