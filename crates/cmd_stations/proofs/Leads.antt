@@ -1,14 +1,19 @@
 -- What the bytes of a file lead to, by what a reader tells of them.
 use Rattle.std.proofs.Common.{◌≡◌, ℕ, List, Option, Result, Ok, refl, sym, subst}
+use Rattle.lgx_io.specs.declared.files.FileFault.{FileFault}
+use Rattle.lgx_io.specs.declared.files.FileFault.TheVariants as file
 use Rattle.spec_machine.specs.declared.event.Event.{Event}
 use Rattle.spec_machine.specs.Project.{Project}
 use Rattle.spec_text.specs.declared.script.JournalFault.{JournalFault}
 use Rattle.spec_text.specs.JournalText.{journal_of}
 use Rattle.spec_project.specs.Projects.{project_of}
+use Rattle.lgx_answer.specs.declared.status.Status.{Status}
+use Rattle.lgx_answer.specs.declared.status.Status.TheVariants as status
+use Rattle.lgx_answer.specs.declared.status.Verdict.{Verdict}
 use Rattle.lgx_answer.specs.declared.status.Verdict.TheVariants as verdict
-use Rattle.lgx_answer.specs.Plan.{Plan, Say, only}
-use Rattle.lgx_answer.specs.Endings.{Ending}
-use Rattle.lgx_answer.specs.Answered.{Change, Told, Failures, Call, Answered, LeadsTo}
+use Rattle.lgx_answer.specs.Plan.{Texts, Plan, Say, only}
+use Rattle.lgx_answer.specs.Endings.{Ending, ending_of, after_read}
+use Rattle.lgx_answer.specs.Answered.{Change, Told, Failures, Call, Answered, Writes, LeadsTo}
 use Rattle.lgx_answer.proofs.Follow.{says_leads}
 use Rattle.lgx_judge.specs.Plans.{of_journal, on_project, on_journal}
 use Rattle.lgx_judge.specs.Judged.{IsNoProject, IsNoJournal}
@@ -46,3 +51,21 @@ pub watched_written : (project : Project) (journal : List Event) (count : ℕ) (
 watched_written project journal count text told failures held faults answer is a =
     let call : Call = record { told = told; failures = failures; held = held; faults = faults; answer = answer } in
     says_leads (journal_watched count project journal) verdict.Ok text call (refl, is) a
+
+-- ---- status 0
+
+-- it is the ending of a call that said so
+pub said_ok : (v : Verdict) (texts : Texts) (told : Told) (failures : Change Failures) (held : Change (Option (List ℕ))) (faults : Change ℕ) (s : Status)
+    → Answered (Say v texts) (record { told = told; failures = failures; held = held; faults = faults; answer = ending_of s }) → s ≡ status.Ok → verdict.Ok ≡ v
+said_ok v texts told failures held faults s a ok =
+    let P : Status → Type 0 = λ x. Writes v texts (record { told = told; failures = failures; held = held; faults = faults; answer = ending_of x }) in
+    (subst P ok a.0).0
+
+-- and of none whose file didn't come
+pub came_if_ok : (fault : FileFault) (s : Status) → ending_of s ≡ after_read fault → s ≡ status.Ok → ⊥
+came_if_ok fault s is ok = go fault (subst (λ x. ending_of x ≡ after_read fault) ok is)
+  where
+    go : (f : FileFault) → ending_of status.Ok ≡ after_read f → ⊥
+    go file.Failed h = cc h
+    go (file.TooLong taken) h = cc h
+    go file.Memory h = cc h

@@ -44,8 +44,8 @@ fn push_line(text: &mut Vec<u8>, station: u32, snapshot: &Snapshot) -> Result<()
 fn push_lines(text: &mut Vec<u8>, station: u32, readings: &Readings) -> Result<(), Memory>
     ensures { OnOk result (text.new.items ≡ text.old.items ++ station_lines station readings.now) }
 {
-    push_line(text, station, &readings.first)?;
-    push_line(text, station, &readings.last)
+    push_line(text, station, readings.first())?;
+    push_line(text, station, readings.last())
 }
 
 /// The lines of all stations.

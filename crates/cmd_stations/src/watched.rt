@@ -1,6 +1,8 @@
 // A journal, replayed while stations watch.
 ghost use Rattle.std.specs.Prelude.{◌≡◌, ◌<◌, ◌≤◌, length, IfOk};
 ghost use Rattle.spec_base.specs.declared.limits.TheConstants.{MAX_EVENTS};
+ghost use Rattle.spec_story.specs.Snapshots.{snapshots};
+ghost use Rattle.lgx_stations.specs.Asking.{ForAll};
 ghost use Rattle.lgx_stations.specs.declared.stations.TheConstants.{MAX_STATIONS};
 ghost use Rattle.cmd_stations.specs.Rest.{rest_of};
 ghost use Rattle.cmd_stations.specs.StationsText.{IsStationsText};
@@ -32,7 +34,8 @@ fn watched_as<I: Input + Send, G: Gate + Sync, R: Threads + Wait + Sync>(
     requires input { (project ≡ I.project) × (journal.now.events ≡ I.journal) }
     requires stations { (0 < stations) × (stations ≤ MAX_STATIONS) }
     requires few { length journal.now.events ≤ MAX_EVENTS }
-    ensures { IfOk result (λ lines. IsStationsText project journal.now.events stations (rest_of lines.recording lines.end lines.stations.items lines.place)) }
+    ensures text { IfOk result (λ lines. IsStationsText project journal.now.events stations (rest_of lines.recording lines.end lines.stations.items lines.place)) }
+    ensures asked { IfOk result (λ _. ForAll (λ station n. G.asked gate.now station n) stations (snapshots project journal.now.events)) }
 {
     let mut recording = Recording::of_journal(alloc, project)?;
     let readings = watch_journal::<I, Recording, G, R>(
@@ -64,7 +67,8 @@ pub(crate) fn watched<G: Gate + Sync, R: Threads + Wait + Sync>(
 ) -> Result<StationsLines, Memory>
     requires stations { (0 < stations) × (stations ≤ MAX_STATIONS) }
     requires few { length journal.now.events ≤ MAX_EVENTS }
-    ensures { IfOk result (λ lines. IsStationsText project journal.now.events stations (rest_of lines.recording lines.end lines.stations.items lines.place)) }
+    ensures text { IfOk result (λ lines. IsStationsText project journal.now.events stations (rest_of lines.recording lines.end lines.stations.items lines.place)) }
+    ensures asked { IfOk result (λ _. ForAll (λ station n. G.asked gate.now station n) stations (snapshots project journal.now.events)) }
 {
     watched_as::<Brand, G, R>(rt, alloc, project, journal, stations, gate)
 }

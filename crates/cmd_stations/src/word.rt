@@ -1,7 +1,9 @@
 // The word.
-ghost use Rattle.std.specs.Prelude.{◌<◌, ◌≤◌};
+ghost use Rattle.std.specs.Prelude.{◌≡◌, ◌<◌, ◌≤◌};
 ghost use Rattle.lgx_answer.specs.Endings.{ending_of};
 ghost use Rattle.lgx_answer.specs.Answered.{Answered, call_of};
+ghost use Rattle.spec_story.specs.Snapshots.{snapshots};
+ghost use Rattle.lgx_stations.specs.Asking.{ForReads, ForAll};
 ghost use Rattle.lgx_stations.specs.declared.stations.TheConstants.{MAX_STATIONS};
 ghost use Rattle.cmd_stations.specs.StationsPlan.{journal_watched, journal_read, stations_plan};
 
@@ -29,8 +31,9 @@ fn watch_and_write<F: Files, K: Sink, G: Gate + Sync, R: Threads + Wait + Sync>(
     gate: &G,
 ) -> Status
     requires { (0 < stations) × (stations ≤ MAX_STATIONS) }
-    ensures { Answered (journal_watched stations project journal.events)
+    ensures follows { Answered (journal_watched stations project journal.events)
         (call_of F.told F.failures files.now files.now K.held K.faults sink.old sink.new (ending_of result)) }
+    ensures asked { result ≡ Status.Ok → ForAll (λ station n. G.asked gate.now station n) stations (snapshots project journal.events) }
 {
     match watched(rt, alloc, project, &journal, stations, gate) {
         Ok(lines) => write(alloc, Verdict::Ok, lines, files, sink),
@@ -50,8 +53,9 @@ fn watch_on<F: Files, K: Sink, G: Gate + Sync, R: Threads + Wait + Sync>(
     gate: &G,
 ) -> Status
     requires { (0 < stations) × (stations ≤ MAX_STATIONS) }
-    ensures { Answered (journal_read journal.now stations project)
+    ensures follows { Answered (journal_read journal.now stations project)
         (call_of F.told F.failures files.old files.new K.held K.faults sink.old sink.new (ending_of result)) }
+    ensures asked { result ≡ Status.Ok → ForReads (λ station n. G.asked gate.now station n) stations }
 {
     let bytes = match files.read(journal) {
         Ok(bytes) => bytes,
@@ -85,8 +89,9 @@ pub fn stations<F: Files, K: Sink, G: Gate + Sync, R: Threads + Wait + Sync>(
     gate: &G,
 ) -> Status
     requires { (0 < stations) × (stations ≤ MAX_STATIONS) }
-    ensures { Answered (stations_plan project.now journal.now stations)
+    ensures follows { Answered (stations_plan project.now journal.now stations)
         (call_of F.told F.failures files.old files.new K.held K.faults sink.old sink.new (ending_of result)) }
+    ensures asked { result ≡ Status.Ok → ForReads (λ station n. G.asked gate.now station n) stations }
 {
     let bytes = match files.read(project) {
         Ok(bytes) => bytes,

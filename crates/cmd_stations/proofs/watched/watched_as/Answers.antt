@@ -1,10 +1,12 @@
-use Rattle.std.proofs.Common.{rules, ◌≤◌, List, [], length, sym, ◌∙◌, subst}
+use Rattle.std.proofs.Common.{rules, ◌≤◌, ℕ, List, [], length, sym, ◌∙◌, subst}
 use Rattle.spec_base.specs.declared.limits.TheConstants.{MAX_EVENTS}
 use Rattle.spec_machine.specs.declared.event.Event.{Event}
 use Rattle.spec_machine.specs.Project.{Project}
 use Rattle.lgx_core.specs.Represents.{StandsFor}
 use Rattle.lgx_record.specs.Records.{Records}
 use Rattle.cmd_stations.specs.declared.lines.Place.TheVariants.{Report}
+use Rattle.spec_story.specs.Snapshots.{snapshots}
+use Rattle.lgx_stations.specs.Asking.{ForAll}
 use Rattle.cmd_stations.specs.Rest.{rest_of}
 use Rattle.cmd_stations.specs.StationsText.{IsStationsText}
 use Rattle.cmd_stations.proofs.StationTexts.{is_stations_text}
@@ -16,8 +18,8 @@ watch_journal-requires-clause-new g c = λ κs bounds. subst (λ (p : Project). 
 pub watch_journal-requires-clause-few : goal.watch_journal-requires-clause-few
 watch_journal-requires-clause-few g c = λ κs bounds. subst (λ (es : List Event). length es ≤ MAX_EVENTS) c.requires.input.1 c.requires.few
 
-pub returns : goal.returns
-returns g c =
+pub returns-clause-text : goal.returns-clause-text
+returns-clause-text g c =
     let h = c.in_ok-readings.ensures.records in
     let project = g.I.Input.project in
     let events = g.I.Input.journal in
@@ -30,3 +32,10 @@ returns g c =
     let P : Project → Type 0 = λ p. IsStationsText p c.args.journal.now.events c.args.stations text in
     let Q : List Event → Type 0 = λ es. IsStationsText project es c.args.stations text in
     subst P (sym c.requires.input.0) (subst Q (sym c.requires.input.1) is)
+
+pub returns-clause-asked : goal.returns-clause-asked
+returns-clause-asked g c =
+    let Asked : ℕ → ℕ → Type 0 = λ station n. g.G.Gate.asked c.args.gate.now station n in
+    let P : Project → Type 0 = λ p. ForAll Asked c.args.stations (snapshots p c.args.journal.now.events) in
+    let Q : List Event → Type 0 = λ es. ForAll Asked c.args.stations (snapshots g.I.Input.project es) in
+    subst P (sym c.requires.input.0) (subst Q (sym c.requires.input.1) c.in_ok-readings.ensures.asked)
