@@ -1,3 +1,4 @@
 mod Numbers
 mod Rows
 pub mod Laws
+mod Asking

@@ -31,6 +31,11 @@ pub data Command : Type 0 where
   Stations : List ℕ → List ℕ → ℕ → Command
   Usage : Command
 
+-- how many stations it asks for, if it asks for any
+abbrev pub stations_of : Command → Option ℕ
+stations_of (Stations p j c) = Some c
+stations_of _ = None
+
 -- ---- words
 
 -- one digit from 1 to 8

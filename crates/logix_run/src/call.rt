@@ -1,8 +1,9 @@
 // The program, over any files, any sink and any gate.
-ghost use Rattle.std.specs.Prelude.{◌≡◌, map, string_bytes};
+ghost use Rattle.std.specs.Prelude.{◌≡◌, ℕ, Some, map, string_bytes};
 ghost use Rattle.lgx_answer.specs.Endings.{ending_of};
 ghost use Rattle.lgx_answer.specs.Answered.{Answered, call_of};
-ghost use Rattle.logix_run.specs.Words.{command_plan, plan_of};
+ghost use Rattle.lgx_stations.specs.Asking.{ForReads};
+ghost use Rattle.logix_run.specs.Words.{command_of as asked_for, command_plan, plan_of, stations_of};
 ghost use Rattle.logix_run.specs.Commands.{said, HasStations};
 ghost use Rattle.lgx_answer.specs.Process.{IsProcess};
 ghost use Rattle.logix_run.specs.Answers.{IsAnswered};
@@ -29,8 +30,9 @@ fn follow<F: Files, K: Sink, G: Gate + Sync, R: Threads + Wait + Sync>(
     gate: &G,
 ) -> Status
     requires { HasStations command }
-    ensures { Answered (command_plan (said command.entry))
+    ensures follows { Answered (command_plan (said command.entry))
         (call_of F.told F.failures files.old files.new K.held K.faults sink.old sink.new (ending_of result)) }
+    ensures asked { (count : ℕ) → stations_of (said command.entry) ≡ Some count → result ≡ Status.Ok → ForReads (λ station n. G.asked gate.now station n) count }
 {
     match command {
         Command::Run(project, script) => run(rt, alloc, project, script, files, sink, gate),
@@ -53,7 +55,7 @@ fn follow<F: Files, K: Sink, G: Gate + Sync, R: Threads + Wait + Sync>(
 ///
 /// `stations P J C` replays the journal of the file `J` on the project of the file `P`, while C operator stations on threads of
 /// their own read the watched values, and then writes what each gave first and last. They take no lock, and the gate is called
-/// before each of their reads and before each tick is published.
+/// before each of their 1,000 reads and before each tick is published.
 ///
 /// [`Status`] says when each answer comes. At `WriteFault` and `Memory` a first part of the output was put, at `ReadFault` and
 /// `TooLong` nothing.
@@ -66,8 +68,9 @@ pub fn logix<F: Files, K: Sink, G: Gate + Sync, R: Threads + Wait + Sync>(
     sink: &mut K,
     gate: &G,
 ) -> Status
-    ensures { IsAnswered (plan_of (map string_bytes words.now))
+    ensures follows { IsAnswered (plan_of (map string_bytes words.now))
         (call_of F.told F.failures files.old files.new K.held K.faults sink.old sink.new (ending_of result)) }
+    ensures asked { (count : ℕ) → stations_of (asked_for (map string_bytes words.now)) ≡ Some count → result ≡ Status.Ok → ForReads (λ station n. G.asked gate.now station n) count }
 {
     follow(rt, alloc, command_of(words), files, sink, gate)
 }
