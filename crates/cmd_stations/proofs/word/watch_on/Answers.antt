@@ -30,7 +30,9 @@ returns-in-Ok-Refused-clause-follows g c =
     read_on _ _ _ _ _ _ (Say verdict.Script (only line)) _ _ _ _ _ _ refl came.ok came.whole came.failures came.same leads c.say.ensures
 
 pub returns-in-Ok-Refused-clause-asked : goal.returns-in-Ok-Refused-clause-asked
-returns-in-Ok-Refused-clause-asked g c = λ ok. absurd (cc (said_ok verdict.Script (only c.as_slice.result.now) _ _ _ _ c.say.result c.say.ensures ok))
+returns-in-Ok-Refused-clause-asked g c = λ ok.
+    let so : verdict.Ok ≡ verdict.Script = said_ok verdict.Script (only c.as_slice.result.now) (g.F.Files.told c.args.files.now) _ _ _ c.say.result c.say.ensures ok in
+    absurd (cc so)
 
 pub returns-in-Err-clause-asked : goal.returns-in-Err-clause-asked
 returns-in-Err-clause-asked g c = λ ok. absurd (came_if_ok c.in-Err.fault c.after_read.result c.after_read.ensures ok)
