@@ -3,5 +3,4 @@ pub mod Stretched
 mod Opened
 mod Replies
 mod Marks
-pub mod Lawful
 mod Copied

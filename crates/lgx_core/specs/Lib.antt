@@ -2,4 +2,3 @@ pub mod ControllerView
 pub mod Codes
 pub mod Represents
 pub mod Gives
-pub mod Lawful

@@ -52,7 +52,7 @@ impl Controller {
     ghost use Rattle.lgx_steps.specs.Stretches.{IsRefused, is_plain, is_told};
     ghost use Rattle.lgx_core.specs.Represents.{Represents, StandsFor, IsController, GoesOn, GoesOnBy};
     ghost use Rattle.lgx_core.specs.Gives.{Gives, StretchGives};
-    ghost use Rattle.lgx_core.specs.Lawful.{IsLawful};
+    ghost use Rattle.spec_laws.specs.Lawful.{IsLawful};
 
     /// A controller in Program at tick 0, with no task up. It takes all room but that of accepts.
     ///

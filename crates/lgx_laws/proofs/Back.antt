@@ -8,7 +8,7 @@ use Rattle.spec_schedule.specs.declared.trace.AuditTask.{AuditTask}
 use Rattle.spec_schedule.specs.declared.trace.Table.{Table}
 use Rattle.spec_schedule.specs.declared.trace.TraceEvent.{TraceEvent}
 use Rattle.spec_schedule.specs.Counting.{Counted, uncounted, counted_all, Numbers, unedited, edited_all, CountedEvent, counted_events, counted_events_from}
-use Rattle.spec_duties.specs.CountedBack.{each_with_past}
+use Rattle.spec_laws.specs.CountedBack.{each_with_past}
 use Rattle.lgx_audit.specs.Along.{place_after}
 use Rattle.lgx_audit.proofs.MoreEvents.{events_more}
 use Rattle.lgx_laws.specs.declared.error.Law.{Law}

@@ -5,7 +5,7 @@ use Rattle.std.proofs.lemmas.Bool.{and_from, and_parts, and_left, and_right, not
 use Rattle.std.proofs.lemmas.List.{take_all}
 use Rattle.spec_schedule.specs.declared.trace.TraceEvent.{TraceEvent}
 use Rattle.spec_schedule.specs.Counting.{CountedEvent, counted_events}
-use Rattle.spec_duties.specs.CountedBack.{each_with_past}
+use Rattle.spec_laws.specs.CountedBack.{each_with_past}
 use Rattle.lgx_laws.specs.declared.error.Law.{Law}
 use Rattle.lgx_laws.specs.declared.error.Law.TheVariants.{Regions, Copies, Watchdogs, Releases, Starts, Triggers, Scans, Modes, Edits, Numbers}
 use Rattle.lgx_laws.specs.Laws.{Roster, laws, rank, keeps_at, keeps, KeepsAll, IsBreach, Breach, broken_at, breach_from, breach}

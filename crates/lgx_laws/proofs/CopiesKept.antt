@@ -39,7 +39,7 @@ use Rattle.spec_legal.proofs.Along.{place, IsPlace, counts_next}
 use Rattle.spec_legal.proofs.CountedLists.{count_at}
 use Rattle.spec_legal.proofs.Mirrors.{counted_next, same_task, table_length}
 use Rattle.spec_legal.proofs.Priority.{step_of_chosen, within_tasks, up_counted}
-use Rattle.spec_duties.specs.CountedBack.{is_up_since, each_with_past}
+use Rattle.spec_laws.specs.CountedBack.{is_up_since, each_with_past}
 use Rattle.lgx_laws.specs.Copies.{copies_on, copied_after, copied, goes_on, keeps_copies}
 use Rattle.lgx_laws.proofs.Elements.{kind_of, EffectKinds, step_kinds}
 use Rattle.lgx_laws.proofs.RunsBack.{all_of_run, no_counts, no_edits}

@@ -35,7 +35,7 @@ use Rattle.spec_reach.proofs.Reached.{known_at}
 use Rattle.spec_legal.specs.LegalRuns.{counted_run}
 use Rattle.spec_legal.proofs.Along.{place, IsPlace, counts_next}
 use Rattle.spec_legal.proofs.Versions.{HasNumbers, numbers_next, first_numbers}
-use Rattle.spec_duties.specs.CountedBack.{each_with_past}
+use Rattle.spec_laws.specs.CountedBack.{each_with_past}
 use Rattle.lgx_audit.specs.TraceText.{is_edit}
 use Rattle.lgx_laws.specs.Edits.{Owned, owned, owns, may_be_done, may_be_refused, answers_edit, keeps_edits, keeps_numbers}
 use Rattle.lgx_laws.proofs.RunsBack.{all_of_run, no_edits}

@@ -7,8 +7,8 @@ use Rattle.spec_schedule.specs.declared.trace.TraceEvent.{TraceEvent}
 use Rattle.spec_schedule.specs.Counting.{Counted, uncounted, counted, counted_all, CountedEvent, Numbers}
 use Rattle.spec_schedule.specs.Legal.{no_task}
 use Rattle.spec_legal.proofs.CountedLists.{counts_length, count_at}
-use Rattle.spec_duties.specs.CountedBack.{ticks_in, is_up_since}
-use Rattle.spec_duties.specs.Scans.{scanned_after}
+use Rattle.spec_laws.specs.CountedBack.{ticks_in, is_up_since}
+use Rattle.spec_laws.specs.Scans.{scanned_after}
 use Rattle.lgx_laws.specs.declared.since.Since.{Since}
 use Rattle.lgx_laws.specs.Copies.{copied_after}
 use Rattle.lgx_laws.specs.Kept.{no_since, since, Kept}

@@ -8,8 +8,8 @@ use Rattle.spec_tables.specs.Tasks.{no_task}
 use Rattle.spec_schedule.specs.declared.trace.TraceEvent.{TraceEvent}
 use Rattle.spec_schedule.specs.declared.trace.TraceEvent.TheVariants.{Tick}
 use Rattle.spec_schedule.specs.Counting.{Counted, uncounted, CountedEvent, Numbers}
-use Rattle.spec_duties.specs.CountedBack.{ticks_in_run}
-use Rattle.spec_duties.specs.TickReleases.{is_due, mask_below, comes_up, overlaps, keeps_releases}
+use Rattle.spec_laws.specs.CountedBack.{ticks_in_run}
+use Rattle.spec_laws.specs.TickReleases.{is_due, mask_below, comes_up, overlaps, keeps_releases}
 use Rattle.lgx_audit.specs.declared.counts.Count.{Count}
 use Rattle.lgx_audit.specs.Along.{no_count, Shown}
 use Rattle.lgx_laws.proofs.ScansAt.{any_default}

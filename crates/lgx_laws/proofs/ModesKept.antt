@@ -32,9 +32,9 @@ use Rattle.spec_schedule.specs.TraceView.{step_seen, seen, answer_of}
 use Rattle.spec_reach.proofs.Reached.{known_at}
 use Rattle.spec_legal.specs.LegalRuns.{counted_run}
 use Rattle.spec_legal.proofs.Along.{place, IsPlace}
-use Rattle.spec_duties.specs.CountedBack.{each_with_past}
-use Rattle.spec_duties.specs.Modes.{KeepsMode}
-use Rattle.spec_duties.proofs.Duties.{runs_keep_duties}
+use Rattle.spec_laws.specs.CountedBack.{each_with_past}
+use Rattle.spec_laws.specs.Modes.{KeepsMode}
+use Rattle.spec_laws.proofs.Lawful.{runs_are_lawful}
 use Rattle.lgx_laws.specs.Modes.{mode_shown, mode_after, holds, leads_from, is_answer, keeps_modes}
 use Rattle.lgx_laws.proofs.AtStages.{stage, at_stage}
 use Rattle.lgx_laws.proofs.ModesAt.{any_same}
@@ -136,7 +136,7 @@ module _ (p : Project) (valid : IsValidProject p) where
   HasMode s cs ns past = mode_after past ≡ s.mode
 
   pub mode_next : (s : State) (e : Event) (cs : List Counted) (ns : List Numbers) (past : List CountedEvent) → IsPlace p s cs → HasMode s cs ns past → mode_after (place p s cs ns e ∷ past) ≡ (step s e).state.mode
-  mode_next s e cs ns past h k = ap (mode_shown (seen p (step s e).answer)) k ∙ sym (by_event p s e (at_stage KeepsMode p (runs_keep_duties p valid).modes s e h.reached))
+  mode_next s e cs ns past h k = ap (mode_shown (seen p (step s e).answer)) k ∙ sym (by_event p s e (at_stage KeepsMode p (runs_are_lawful p valid).modes s e h.reached))
 
   pub first_mode : (cs : List Counted) (ns : List Numbers) → HasMode (start p) cs ns []
   first_mode cs ns = refl

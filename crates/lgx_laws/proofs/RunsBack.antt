@@ -12,7 +12,7 @@ use Rattle.spec_schedule.specs.Counting.{Counted, uncounted, Numbers, unedited, 
 use Rattle.spec_schedule.specs.TraceView.{audit_tasks, seen}
 use Rattle.spec_legal.specs.LegalRuns.{counted_run}
 use Rattle.spec_legal.proofs.Along.{places_from, place, IsPlace, counts_next, place_next, first_place}
-use Rattle.spec_duties.specs.CountedBack.{each_with_past}
+use Rattle.spec_laws.specs.CountedBack.{each_with_past}
 
 abbrev pub AtPlaces : Type 1
 AtPlaces = State → List Counted → List Numbers → List CountedEvent → Type 0

@@ -4,7 +4,7 @@ use Rattle.std.specs.Prelude.{◌&&◌, is_none, nat_eq, slice_index, slice_inde
 use Rattle.spec_schedule.specs.declared.trace.TraceEvent.{TraceEvent}
 use Rattle.spec_schedule.specs.declared.trace.TraceEvent.TheVariants.{Began}
 use Rattle.spec_schedule.specs.Counting.{Counted, CountedEvent, Numbers}
-use Rattle.spec_duties.specs.Scans.{scanned, keeps_scans}
+use Rattle.spec_laws.specs.Scans.{scanned, keeps_scans}
 use Rattle.lgx_audit.specs.declared.counts.Count.{Count}
 use Rattle.lgx_audit.specs.Along.{no_count, Shown}
 use Rattle.lgx_laws.specs.declared.since.Since.{Since}

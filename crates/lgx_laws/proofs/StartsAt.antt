@@ -9,7 +9,7 @@ use Rattle.spec_tables.specs.Tasks.{no_task}
 use Rattle.spec_machine.specs.ValidProject.{is_event}
 use Rattle.spec_schedule.specs.declared.trace.TraceEvent.{TraceEvent}
 use Rattle.spec_schedule.specs.Counting.{Counted, CountedEvent, Numbers}
-use Rattle.spec_duties.specs.TickReleases.{mask_below}
+use Rattle.spec_laws.specs.TickReleases.{mask_below}
 use Rattle.lgx_audit.specs.declared.counts.Count.{Count}
 use Rattle.lgx_audit.specs.Along.{no_count, Shown}
 use Rattle.lgx_laws.specs.Starts.{may_come_up, is_event_mask}

@@ -40,11 +40,11 @@ use Rattle.spec_reach.proofs.Changes.{Known}
 use Rattle.spec_reach.proofs.Reached.{known_at}
 use Rattle.spec_legal.specs.LegalRuns.{counted_run}
 use Rattle.spec_legal.proofs.Along.{place, IsPlace}
-use Rattle.spec_duties.specs.ActionReleases.{calls_for, comes_up_by, mask_where, KeepsActionReleases}
-use Rattle.spec_duties.specs.Answers.{refusal_in, IsAnsweredRightly}
-use Rattle.spec_duties.specs.CountedBack.{each_with_past}
-use Rattle.spec_duties.specs.TickReleases.{mask_below}
-use Rattle.spec_duties.proofs.Duties.{runs_keep_duties}
+use Rattle.spec_laws.specs.ActionReleases.{calls_for, comes_up_by, mask_where, KeepsActionReleases}
+use Rattle.spec_laws.specs.Answers.{refusal_in, IsAnsweredRightly}
+use Rattle.spec_laws.specs.CountedBack.{each_with_past}
+use Rattle.spec_laws.specs.TickReleases.{mask_below}
+use Rattle.spec_laws.proofs.Lawful.{runs_are_lawful}
 use Rattle.lgx_laws.specs.Modes.{mode_after, holds}
 use Rattle.lgx_laws.specs.Starts.{may_come_up, may_trigger, keeps_starts}
 use Rattle.lgx_laws.proofs.AtStages.{at_stage}
@@ -120,7 +120,7 @@ module _ (p : Project) (valid : IsValidProject p) (s : State) (cs : List Counted
 
   -- the mask of an action is that of those who come up by it
   released : (a : Action) → (act s lane a).answer.released ≡ mask_where s (comes_up_by s a (act s lane a).answer.reply)
-  released a = (at_stage KeepsActionReleases p (runs_keep_duties p valid).actions s (events.Act lane a) h.reached).released
+  released a = (at_stage KeepsActionReleases p (runs_are_lawful p valid).actions s (events.Act lane a) h.reached).released
 
   -- ---- an action that calls for nobody
 
@@ -247,7 +247,7 @@ module _ (p : Project) (valid : IsValidProject p) (s : State) (cs : List Counted
   action_keeps : (a : Action) → keeps_starts p.tasks past (place p s cs ns (events.Act lane a)) ≡ true
   action_keeps (WordIn name word v) =
       let o : Outcome = (act s lane (WordIn name word v)).answer in
-      word_keeps name word v o.reply o.released (released (WordIn name word v)) (at_stage IsAnsweredRightly p (runs_keep_duties p valid).answers s (events.Act lane (WordIn name word v)) h.reached)
+      word_keeps name word v o.reply o.released (released (WordIn name word v)) (at_stage IsAnsweredRightly p (runs_are_lawful p valid).answers s (events.Act lane (WordIn name word v)) h.reached)
   action_keeps (WordOut name word) = calmly (WordOut name word) verb.Other (λ t. refl) (λ q. absurd (cc q))
   action_keeps (Accept c) = calmly (Accept c) verb.Accept (λ t. refl) (λ q. absurd (cc q))
   action_keeps (Test n) = calmly (Test n) verb.Test (λ t. refl) (λ q. absurd (cc q))

@@ -7,7 +7,7 @@ use Rattle.spec_tables.specs.declared.task.TaskDef.{TaskDef}
 use Rattle.spec_tables.specs.Tasks.{no_task}
 use Rattle.spec_schedule.specs.declared.trace.TraceEvent.{TraceEvent}
 use Rattle.spec_schedule.specs.Counting.{Counted, uncounted, CountedEvent, Numbers}
-use Rattle.spec_duties.specs.Watchdogs.{runs_out, none_below}
+use Rattle.spec_laws.specs.Watchdogs.{runs_out, none_below}
 use Rattle.lgx_audit.specs.declared.counts.Count.{Count}
 use Rattle.lgx_audit.specs.Along.{no_count, Shown}
 use Rattle.lgx_laws.specs.declared.since.Since.{Since}

@@ -8,7 +8,7 @@ use Rattle.spec_schedule.specs.declared.trace.StepFault.TheVariants as fault
 use Rattle.spec_schedule.specs.declared.trace.TraceEvent.{TraceEvent}
 use Rattle.spec_schedule.specs.declared.trace.TraceEvent.TheVariants.{Began, Step, Left}
 use Rattle.spec_schedule.specs.Counting.{Counted, CountedEvent}
-use Rattle.spec_duties.specs.CountedBack.{is_up_since}
+use Rattle.spec_laws.specs.CountedBack.{is_up_since}
 
 -- A copy in progress, by whether it is a CPS's. A start begins one, an end leaves none.
 abbrev pub copies_on : TraceMark → Option Bool → Option Bool

@@ -10,8 +10,8 @@ use Rattle.spec_schedule.specs.declared.trace.TraceEvent.TheVariants.{Step, Tick
 use Rattle.spec_schedule.specs.declared.trace.TraceMark.TheVariants.{Trigger}
 use Rattle.spec_schedule.specs.declared.trace.Table.{Table}
 use Rattle.spec_schedule.specs.Counting.{Counted, Numbers, unedited, CountedEvent, counted_events}
-use Rattle.spec_duties.specs.CountedBack.{ticks_up}
-use Rattle.spec_duties.specs.Scans.{scanned}
+use Rattle.spec_laws.specs.CountedBack.{ticks_up}
+use Rattle.spec_laws.specs.Scans.{scanned}
 use Rattle.lgx_laws.specs.declared.since.Since.{Since}
 use Rattle.lgx_laws.specs.declared.edits.Booked.{Booked}
 use Rattle.lgx_laws.specs.Copies.{copied}

@@ -7,11 +7,11 @@ use Rattle.spec_schedule.specs.declared.trace.Table.{Table}
 use Rattle.spec_schedule.specs.Counting.{CountedEvent, counted_events}
 use Rattle.spec_schedule.specs.Legal.{keeps_region}
 use Rattle.spec_schedule.specs.TraceView.{table_of}
-use Rattle.spec_duties.specs.CountedBack.{each_with_past}
-use Rattle.spec_duties.specs.Watchdogs.{keeps_watchdogs}
-use Rattle.spec_duties.specs.TickReleases.{keeps_releases}
-use Rattle.spec_duties.specs.Triggers.{keeps_triggers}
-use Rattle.spec_duties.specs.Scans.{keeps_scans}
+use Rattle.spec_laws.specs.CountedBack.{each_with_past}
+use Rattle.spec_laws.specs.Watchdogs.{keeps_watchdogs}
+use Rattle.spec_laws.specs.TickReleases.{keeps_releases}
+use Rattle.spec_laws.specs.Triggers.{keeps_triggers}
+use Rattle.spec_laws.specs.Scans.{keeps_scans}
 use Rattle.lgx_laws.specs.declared.error.Law.{Law}
 use Rattle.lgx_laws.specs.declared.error.Law.TheVariants.{Regions, Copies, Watchdogs, Releases, Starts, Triggers, Scans, Modes, Edits, Numbers}
 use Rattle.lgx_laws.specs.declared.error.LawError.{LawError}

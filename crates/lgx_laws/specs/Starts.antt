@@ -14,7 +14,7 @@ use Rattle.spec_schedule.specs.declared.trace.TraceEvent.TheVariants.{Act}
 use Rattle.spec_schedule.specs.Counting.{CountedEvent}
 use Rattle.spec_schedule.specs.Legal.{at}
 use Rattle.spec_schedule.specs.Refusals.{is_mode}
-use Rattle.spec_duties.specs.TickReleases.{mask_below}
+use Rattle.spec_laws.specs.TickReleases.{mask_below}
 use Rattle.lgx_laws.specs.Modes.{mode_after, holds}
 
 -- a task of this kind comes up if it is down and isn't inhibited

@@ -3,7 +3,7 @@ ghost use Rattle.std.specs.Prelude.{◌≡◌, ◌<◌, ◌≤◌, ℕ, List, Op
 ghost use Rattle.spec_base.specs.declared.limits.TheConstants.{MAX_TASKS};
 ghost use Rattle.spec_schedule.specs.declared.trace.Table.{Table};
 ghost use Rattle.spec_schedule.specs.Counting.{Counted, CountedEvent, Numbers};
-ghost use Rattle.spec_duties.specs.CountedBack.{ticks_in_run};
+ghost use Rattle.spec_laws.specs.CountedBack.{ticks_in_run};
 ghost use Rattle.lgx_audit.specs.Along.{Shown, IsWithin, IsOfPrograms};
 ghost use Rattle.lgx_laws.specs.Laws.{broken_at};
 ghost use Rattle.lgx_laws.specs.Modes.{mode_after};

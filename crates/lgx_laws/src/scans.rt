@@ -1,7 +1,7 @@
 // The law of scans at one event.
 ghost use Rattle.std.specs.Prelude.{◌≡◌, ◌&&◌, ◌<◌, ℕ, List, [], Option, Some, length, is_none, nat_eq, slice_index, slice_index_or};
 ghost use Rattle.spec_schedule.specs.Counting.{Counted, CountedEvent, Numbers, is_task};
-ghost use Rattle.spec_duties.specs.Scans.{keeps_scans};
+ghost use Rattle.spec_laws.specs.Scans.{keeps_scans};
 ghost use Rattle.lgx_audit.specs.Along.{Shown, IsWithin};
 ghost use Rattle.lgx_laws.specs.Kept.{Kept};
 

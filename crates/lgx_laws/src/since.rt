@@ -1,9 +1,9 @@
 // What is kept of each task since it came up, and of the controller since the change to Run.
 ghost use Rattle.std.specs.Prelude.{◌≡◌, ◌+◌, ◌<◌, ◌≤◌, ◌&&◌, ◌∷◌, if◌then◌else◌, ℕ, List, Option, None, Some, length, nat_eq, option_map, replicate, slice_index_or, IfOk};
 ghost use Rattle.spec_schedule.specs.Counting.{Counted, Numbers, counted, counted_all, stops};
-ghost use Rattle.spec_duties.specs.CountedBack.{ticks_in, comes_to_run};
+ghost use Rattle.spec_laws.specs.CountedBack.{ticks_in, comes_to_run};
 ghost use Rattle.spec_schedule.specs.Counting.{CountedEvent};
-ghost use Rattle.spec_duties.specs.Scans.{scanned_after};
+ghost use Rattle.spec_laws.specs.Scans.{scanned_after};
 ghost use Rattle.lgx_laws.specs.Copies.{copied_after};
 ghost use Rattle.lgx_laws.specs.Modes.{mode_shown};
 ghost use Rattle.lgx_audit.specs.Along.{shown, no_count, Shown};

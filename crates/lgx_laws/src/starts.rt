@@ -7,7 +7,7 @@ ghost use Rattle.spec_schedule.specs.Counting.{Counted, CountedEvent, Numbers};
 ghost use Rattle.spec_schedule.specs.declared.trace.TraceEvent.{TraceEvent};
 ghost use Rattle.spec_schedule.specs.declared.trace.TraceEvent.TheVariants.{Act};
 ghost use Rattle.spec_schedule.specs.Refusals.{is_mode};
-ghost use Rattle.spec_duties.specs.TickReleases.{mask_below};
+ghost use Rattle.spec_laws.specs.TickReleases.{mask_below};
 ghost use Rattle.lgx_audit.specs.Along.{no_count, Shown};
 ghost use Rattle.lgx_laws.specs.Modes.{mode_after};
 ghost use Rattle.lgx_laws.specs.Starts.{may_come_up, is_event_mask, may_trigger, keeps_starts};

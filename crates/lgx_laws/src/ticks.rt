@@ -5,9 +5,9 @@ ghost use Rattle.spec_tables.specs.Tasks.{no_task};
 ghost use Rattle.spec_schedule.specs.Counting.{Counted, CountedEvent, Numbers};
 ghost use Rattle.spec_schedule.specs.declared.trace.TraceEvent.{TraceEvent};
 ghost use Rattle.spec_schedule.specs.declared.trace.TraceEvent.TheVariants.{Tick};
-ghost use Rattle.spec_duties.specs.CountedBack.{ticks_in_run};
-ghost use Rattle.spec_duties.specs.Watchdogs.{none_below, is_first_out, keeps_watchdogs};
-ghost use Rattle.spec_duties.specs.TickReleases.{is_due, mask_below, keeps_releases};
+ghost use Rattle.spec_laws.specs.CountedBack.{ticks_in_run};
+ghost use Rattle.spec_laws.specs.Watchdogs.{none_below, is_first_out, keeps_watchdogs};
+ghost use Rattle.spec_laws.specs.TickReleases.{is_due, mask_below, keeps_releases};
 ghost use Rattle.lgx_audit.specs.Along.{no_count, Shown};
 ghost use Rattle.lgx_laws.specs.Kept.{no_since, Kept, HavePeriods, IsPeriod, IsToldWithin};
 

@@ -1,7 +1,7 @@
 // The law of triggers at one event.
 ghost use Rattle.std.specs.Prelude.{◌≡◌, ◌<◌, ℕ, List, Some, length};
 ghost use Rattle.spec_schedule.specs.Counting.{Counted, Numbers};
-ghost use Rattle.spec_duties.specs.Triggers.{tells_overlap, keeps_triggers};
+ghost use Rattle.spec_laws.specs.Triggers.{tells_overlap, keeps_triggers};
 ghost use Rattle.lgx_audit.specs.Along.{Shown};
 ghost use Rattle.lgx_laws.specs.Kept.{IsTriggeredWithin};
 

@@ -4,9 +4,7 @@ use Rattle.spec_machine.specs.Project.{Project}
 use Rattle.spec_project.specs.declared.fault.ProjectFault.{ProjectFault}
 use Rattle.spec_project.specs.Projects.{project_of}
 use Rattle.spec_valid.proofs.Given.{given_is_valid}
-use Rattle.lgx_core.proofs.Lawful.{valid-is-lawful}
-use Rattle.spec_duties.proofs.Duties.{runs_keep_duties}
-use Rattle.spec_beside.proofs.Writers.{changes_have_writers}
+use Rattle.spec_laws.proofs.Lawful.{runs_are_lawful}
 use Rattle.lgx_answer.specs.Plan.{Plan}
 use Rattle.lgx_answer.specs.Answered.{Call, Answered}
 use Rattle.lgx_answer.proofs.Follows.{follows_plan}
@@ -19,7 +17,7 @@ given_lawful bytes = go (project_of bytes) refl
     go (Err fault) is = tt
     go (Ok p) is =
         let valid = given_is_valid bytes p is in
-        record { valid = valid; lawful = valid-is-lawful p valid; duties = runs_keep_duties p valid; changes = changes_have_writers p valid }
+        record { valid = valid; lawful = runs_are_lawful p valid }
 
 pub answered : (plan : Plan) (call : Call) → Answered plan call → IsAnswered plan call
 answered plan call a = record { follows = follows_plan plan call a; laws = given_lawful }

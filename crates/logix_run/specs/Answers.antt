@@ -3,20 +3,16 @@ use Rattle.std.specs.Prelude.{ℕ, List, IfOk}
 use Rattle.spec_machine.specs.Project.{Project}
 use Rattle.spec_machine.specs.ValidProject.{IsValidProject}
 use Rattle.spec_project.specs.Projects.{project_of}
-use Rattle.lgx_core.specs.Lawful.{IsLawful}
-use Rattle.spec_uses.specs.Changes.{ChangesHaveWritersOf}
-use Rattle.spec_duties.specs.Duties.{KeepsDuties}
+use Rattle.spec_laws.specs.Lawful.{IsLawful}
 use Rattle.lgx_answer.specs.Plan.{Plan}
 use Rattle.lgx_answer.specs.Answered.{Call}
 use Rattle.lgx_answer.specs.Laws.{FollowsPlan}
 
--- A valid project. Every run of it keeps the laws of the schedule, and does what a controller owes to its tasks; and as long as no
--- edit is accepted, nothing but a word in on its connections, a change to Run and the instructions among its writers changes a tag.
+-- A valid project, and so one that is lawful in every run: it keeps the laws of the schedule and does what a controller owes to its
+-- tasks.
 pub record KeepsLaws (p : Project) : Type 0 where
   pub valid : IsValidProject p
   pub lawful : IsLawful p
-  pub duties : KeepsDuties p
-  pub changes : ChangesHaveWritersOf p
 
 -- these bytes are no project, or one that keeps the laws
 abbrev pub MakeLawful : List ℕ → Type 0

@@ -13,11 +13,11 @@ use Rattle.spec_schedule.specs.declared.trace.Table.{Table}
 use Rattle.spec_schedule.specs.declared.trace.Verb.TheVariants.{Program}
 use Rattle.spec_schedule.specs.Counting.{counted_events}
 use Rattle.spec_schedule.specs.TraceView.{audit_tasks}
-use Rattle.spec_duties.specs.CountedBack.{each_with_past}
-use Rattle.spec_duties.specs.Scans.{keeps_scans}
-use Rattle.spec_duties.specs.TickReleases.{keeps_releases}
-use Rattle.spec_duties.specs.Triggers.{keeps_triggers}
-use Rattle.spec_duties.specs.Watchdogs.{keeps_watchdogs}
+use Rattle.spec_laws.specs.CountedBack.{each_with_past}
+use Rattle.spec_laws.specs.Scans.{keeps_scans}
+use Rattle.spec_laws.specs.TickReleases.{keeps_releases}
+use Rattle.spec_laws.specs.Triggers.{keeps_triggers}
+use Rattle.spec_laws.specs.Watchdogs.{keeps_watchdogs}
 use Rattle.test_cases.specs.LegalCases.{mode_run, quiet}
 
 -- a continuous task, a periodic one of 2 ticks, and an event task; watchdogs of 5, 3 and 3 ticks

@@ -15,10 +15,10 @@ use Rattle.spec_machine.specs.Machine.{TraceEntry, OfAction, step, run}
 use Rattle.spec_machine.specs.Project.{Project}
 use Rattle.spec_machine.specs.State.{State, start}
 use Rattle.spec_schedule.specs.Stages.{Stage}
-use Rattle.spec_duties.specs.ActionReleases.{KeepsActionReleases}
-use Rattle.spec_duties.specs.Answers.{IsAnsweredRightly}
-use Rattle.spec_duties.specs.Modes.{KeepsMode}
-use Rattle.spec_duties.specs.RunStarts.{KeepsRunStart}
+use Rattle.spec_laws.specs.ActionReleases.{KeepsActionReleases}
+use Rattle.spec_laws.specs.Answers.{IsAnsweredRightly}
+use Rattle.spec_laws.specs.Modes.{KeepsMode}
+use Rattle.spec_laws.specs.RunStarts.{KeepsRunStart}
 use Rattle.test_cases.specs.JournalCases.{accept}
 use Rattle.test_cases.specs.LawRuns.{one_nop, run_mode}
 use Rattle.test_cases.specs.Samples.{array, bool, continuous, program, task, with_watchdog, with_words, with_trigger, input}

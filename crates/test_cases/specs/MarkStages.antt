@@ -7,8 +7,8 @@ use Rattle.spec_machine.specs.declared.event.Event.TheVariants.{Cpu}
 use Rattle.spec_machine.specs.Machine.{TraceEntry, OfStep, run}
 use Rattle.spec_machine.specs.Project.{Project}
 use Rattle.spec_schedule.specs.Stages.{Stage, stages}
-use Rattle.spec_duties.specs.Marks.{KeepsMarks}
-use Rattle.spec_duties.specs.Orders.{begun_at, ends_at, executed_at, goes_aside, RunsInOrder}
+use Rattle.spec_laws.specs.Marks.{KeepsMarks}
+use Rattle.spec_laws.specs.Orders.{begun_at, ends_at, executed_at, goes_aside, RunsInOrder}
 use Rattle.test_cases.specs.DutyStages.{KeepsStageDuties, stage_at}
 use Rattle.test_cases.specs.JournalCases.{cpu}
 use Rattle.test_cases.specs.LawRuns.{one_nop, run_mode}

@@ -5,8 +5,8 @@ ghost use Rattle.spec_machine.specs.declared.event.RungEdit.TheVariants.{Delete}
 ghost use Rattle.spec_machine.specs.declared.reply.Reply.TheVariants.{Done};
 ghost use Rattle.spec_machine.specs.Edits.{Deleted};
 ghost use Rattle.spec_schedule.specs.Stages.{KeepsState};
-ghost use Rattle.spec_duties.specs.CheckedBooks.{IsCheckedBook};
-ghost use Rattle.spec_duties.specs.TakenRungs.{IsFirstAgain};
+ghost use Rattle.spec_laws.specs.CheckedBooks.{IsCheckedBook};
+ghost use Rattle.spec_laws.specs.TakenRungs.{IsFirstAgain};
 ghost use Rattle.test_cases.specs.LawRuns.{cleared, one_nop};
 ghost use Rattle.test_cases.specs.DutyStages.{KeepsStageDuties, BreaksAnswers, BreaksReleases, BreaksModes, BreaksRunStart, comes_to_run, triggers, overlaps, in_program, of_inhibited, barks, ignores_trigger, only_tells, hides_overlap, releases_inhibited, runs_without_release, runs_without_prescan, goes_on, stays_up, takes_any_word, tests_nothing, takes_any_client, book, unmerged, taken_twice};
 

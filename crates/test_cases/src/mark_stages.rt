@@ -3,7 +3,7 @@
 ghost use Rattle.std.specs.Prelude.{◌≡◌};
 ghost use Rattle.spec_machine.specs.declared.answer.Mark.TheVariants.{Plain, Down};
 ghost use Rattle.spec_legal.specs.EditByEdit.{with_edits};
-ghost use Rattle.spec_duties.specs.Marks.{KeepsMarks};
+ghost use Rattle.spec_laws.specs.Marks.{KeepsMarks};
 ghost use Rattle.test_cases.specs.MergeCases.{three_rungs, six_edits, six_edited, late_edits, late_edited};
 ghost use Rattle.test_cases.specs.MarkStages.{opens, stays_open, copies, marked, BreaksMarks, IsInOrder, leaves_at_once, executes_twice, BreaksOrder};
 

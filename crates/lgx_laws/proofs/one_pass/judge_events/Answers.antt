@@ -6,7 +6,7 @@ use Rattle.spec_schedule.specs.declared.trace.AuditTask.{AuditTask}
 use Rattle.spec_schedule.specs.declared.trace.TraceEvent.{TraceEvent}
 use Rattle.spec_schedule.specs.declared.trace.TraceEvent.TheVariants.{Idle}
 use Rattle.spec_schedule.specs.Counting.{Counted, CountedEvent, Numbers, counted_all, stops}
-use Rattle.spec_duties.specs.CountedBack.{ticks_in, comes_to_run, ticks_in_run}
+use Rattle.spec_laws.specs.CountedBack.{ticks_in, comes_to_run, ticks_in_run}
 use Rattle.lgx_audit.specs.Along.{IsWithin, IsOfPrograms, no_count, Shown, counts_after, numbers_after, place_after}
 use Rattle.lgx_audit.proofs.Listed.{fresh}
 use Rattle.lgx_audit.proofs.MoreEvents.{counts_more, numbers_more}

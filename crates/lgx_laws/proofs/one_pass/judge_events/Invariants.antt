@@ -1,6 +1,6 @@
 use Rattle.std.proofs.Common.{◌≡◌, ◌<◌, ◌≤◌, ℕ, length, take}
 use Rattle.std.specs.Prelude.{slice_index_or, Some}
-use Rattle.spec_duties.specs.CountedBack.{ticks_in_run}
+use Rattle.spec_laws.specs.CountedBack.{ticks_in_run}
 use Rattle.lgx_audit.specs.Along.{no_count, Shown, counts_after, numbers_after}
 use Rattle.lgx_laws.specs.Laws.{KeepsAll}
 use Rattle.lgx_laws.specs.Modes.{mode_after}

@@ -1,6 +1,6 @@
 use Rattle.std.proofs.Common.{◌≡◌}
 use Rattle.spec_tables.specs.Tasks.{is_continuous}
-use Rattle.spec_duties.specs.TickReleases.{mask_below}
+use Rattle.spec_laws.specs.TickReleases.{mask_below}
 use Rattle.lgx_laws.proofs.StartsAt.{comes}
 use Rattle.lgx_laws.proofs.starts.run_mask.Given as goal
 

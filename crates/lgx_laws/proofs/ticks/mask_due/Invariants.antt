@@ -2,7 +2,7 @@ use Rattle.std.proofs.Common.{◌≡◌, ◌&&◌}
 use Rattle.std.specs.Prelude.{slice_index_or}
 use Rattle.std.specs.Bool.{beq as agree}
 use Rattle.spec_tables.specs.Tasks.{no_task}
-use Rattle.spec_duties.specs.TickReleases.{is_due, mask_below}
+use Rattle.spec_laws.specs.TickReleases.{is_due, mask_below}
 use Rattle.lgx_audit.specs.Along.{no_count}
 use Rattle.lgx_laws.proofs.ticks.mask_due.Given as goal
 

@@ -7,7 +7,7 @@ use Rattle.lgx_rung.specs.Tree.{end}
 use Rattle.spec_language.specs.Checked.{checked}
 use Rattle.spec_machine.specs.Edits.{Change, Replaced, routine_at, changes_in, scope_of}
 use Rattle.spec_legal.specs.EditByEdit.{with_edits}
-use Rattle.spec_duties.specs.TakenRungs.{took_rung}
+use Rattle.spec_laws.specs.TakenRungs.{took_rung}
 use Rattle.test_cases.specs.DutyStages.{book}
 use Rattle.test_cases.specs.LawRuns.{one_nop}
 use Rattle.test_cases.proofs.duty_stages.books_are_broken.Goals as goal

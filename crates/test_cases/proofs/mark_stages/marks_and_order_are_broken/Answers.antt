@@ -6,7 +6,7 @@ use Rattle.lgx_rung.specs.declared.op.Op.TheVariants.{Nop, Uid, Uie}
 use Rattle.spec_machine.specs.declared.answer.Mark.{Mark}
 use Rattle.spec_machine.specs.State.{State}
 use Rattle.spec_uses.specs.Changes.{next_of}
-use Rattle.spec_duties.specs.Marks.{condition_at, shown_if, ShowsMark}
+use Rattle.spec_laws.specs.Marks.{condition_at, shown_if, ShowsMark}
 use Rattle.test_cases.specs.MarkStages.{opens, stays_open, copies, begins, executes, leaves}
 use Rattle.test_cases.proofs.mark_stages.marks_and_order_are_broken.Goals as goal
 

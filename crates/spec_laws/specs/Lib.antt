@@ -1,0 +1,14 @@
+pub mod Answers
+pub mod CheckedBooks
+pub mod TakenRungs
+pub mod CountedBack
+pub mod Watchdogs
+pub mod TickReleases
+pub mod Triggers
+pub mod ActionReleases
+pub mod Modes
+pub mod RunStarts
+pub mod Scans
+pub mod Marks
+pub mod Orders
+pub mod Lawful
