@@ -25,6 +25,21 @@ impl Lines for LinkLines {
     ghost left = { λ l. length l.text.items - l.at };
 
     fn line(&mut self, line: &mut Vec<u8>) -> Result<bool, Memory> {
+        self.next_line(line)
+    }
+}
+
+impl LinkLines {
+    ghost use Rattle.std.specs.Prelude.{◌≡◌, ◌<◌, ◌++◌, ◌-◌, [], Ok, true, false, length};
+    ghost use Rattle.std.specs.Io.BufRead.{take_through};
+
+    /// Makes the next line, and no more than that, in place of what stands in `line`; `false` if there is none.
+    fn next_line(&mut self, line: &mut Vec<u8>) -> Result<bool, Memory>
+        ensures one { result ≡ Ok true → line.new.items ≡ take_through 10 (link_rest self.old) }
+        ensures more { result ≡ Ok true → link_rest self.old ≡ line.new.items ++ link_rest self.new }
+        ensures fewer { result ≡ Ok true → length self.new.text.items - self.new.at < length self.old.text.items - self.old.at }
+        ensures none { result ≡ Ok false → link_rest self.old ≡ [] }
+    {
         if self.at >= self.text.len() {
             return Ok(false);
         }

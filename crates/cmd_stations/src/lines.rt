@@ -51,11 +51,13 @@ impl Lines for StationsLines {
 
 impl StationsLines {
     ghost use Rattle.std.specs.Prelude.{◌≡◌, ◌<◌, ◌++◌, ◌-◌, [], Ok, true, false, drop, length};
+    ghost use Rattle.std.specs.Io.BufRead.{take_through};
     ghost use Rattle.cmd_stations.specs.declared.lines.Place.TheVariants.{Stations};
 
-    /// Makes the line of a station that begins at a byte of theirs, in place of what stands in `line`; `false` if none does.
+    /// Makes the line of a station that begins at a byte of theirs, and no more than that, in place of what stands in `line`; `false` if none does.
     fn station_line(&mut self, line: &mut Vec<u8>, at: usize) -> Result<bool, Memory>
         requires { self.old.place ≡ Stations at }
+        ensures one { result ≡ Ok true → line.new.items ≡ take_through 10 (drop at self.old.stations.items) }
         ensures more { result ≡ Ok true → drop at self.old.stations.items ≡ line.new.items ++ rest_of self.new.recording self.new.end self.new.stations.items self.new.place }
         ensures fewer { result ≡ Ok true → left_of self.new.recording self.new.stations.items self.new.place < length self.old.stations.items - at }
         ensures none { result ≡ Ok false → drop at self.old.stations.items ≡ [] }

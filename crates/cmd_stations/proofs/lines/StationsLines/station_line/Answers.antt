@@ -1,5 +1,9 @@
-use Rattle.cmd_stations.proofs.StationTexts.{next_line}
+use Rattle.cmd_stations.proofs.StationTexts.{next_line, one_line}
 use Rattle.cmd_stations.proofs.lines.StationsLines.station_line.Goals as goal
+
+pub returns-clause-one : goal.returns-clause-one
+returns-clause-one c = λ is.
+    one_line _ _ _ _ _ _ c.deref.ensures.value c.clear.ensures.items c.in_ok-extend_from_slice.ensures.items c.line_length.ensures.line
 
 pub returns-clause-more : goal.returns-clause-more
 returns-clause-more c = λ is.

@@ -1,6 +1,0 @@
-use Rattle.cmd_link.proofs.NextLine.{next_line}
-use Rattle.cmd_link.proofs.lines.LinkLinesLines.line.Goals as goal
-
-pub returns-clause-more : goal.returns-clause-more
-returns-clause-more c = λ is.
-    next_line _ _ _ _ _ _ c.deref.ensures.value c.clear.ensures.items c.in_ok-extend_from_slice.ensures.items
