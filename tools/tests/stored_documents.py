@@ -50,10 +50,10 @@ class Documents(RoomTest):
         self.assertGreaterEqual(self.judge("docs/CONTROLLER.md"), 2)
 
     def test_the_formats(self):
-        self.assertGreaterEqual(self.judge("docs/FORMATS.md"), 4)
+        self.assertGreaterEqual(self.judge("docs/FORMATS.md"), 3)
 
     def test_the_worked_runs(self):
-        self.assertEqual(self.judge("tools/tests/worked_runs.md"), 10)
+        self.assertEqual(self.judge("tools/tests/worked_runs.md"), 11)
 
     def test_the_readme_shows_the_example_that_it_runs(self):
         shown = dict(BLOCK.findall(read_text(f"{TOP}/README.md")))
