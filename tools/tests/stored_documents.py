@@ -1,7 +1,7 @@
-"""The examples of the documents, each run on the built program.
+"""The examples of the documents, and the worked runs beside these tests, each run on the built program.
 
 A block of a document that is marked `project`, `journal` or `script` is a file; `report` is what the last journal gives on the last
-project, and `refused` the one line that answers the file right above it. The gate runs this after `rt ci`.
+project, and `refused` the one line that answers the file right above it; any other project is accepted. The gate runs this after `rt ci`.
 """
 
 import json
@@ -25,12 +25,15 @@ class Documents(RoomTest):
     def judge(self, name):
         """Each answer of a document is the program's; how many there are."""
         last, answers, waiting = None, 0, None
-        for kind, text in BLOCK.findall(read_text(f"{TOP}/{name}")):
+        found = BLOCK.findall(read_text(f"{TOP}/{name}"))
+        for (kind, text), (after, _) in zip(found, [*found[1:], ("", "")]):
             with self.subTest(document=name, text=text):
                 if kind in WORDS:
                     self.assertIsNone(waiting, "a journal or script without an answer")
                     self.put(kind, text)
                     last, waiting = kind, kind if kind != "project" else None
+                    if kind == "project" and after != "refused":
+                        self.assertEqual(self.call(WORDS["project"])[0], 0)
                 elif kind == "report":
                     answers, waiting = answers + 1, None
                     self.assertEqual((last, self.call(WORDS["journal"])), ("journal", (0, text)))
@@ -44,10 +47,13 @@ class Documents(RoomTest):
         self.assertEqual(self.judge("README.md"), 1)
 
     def test_the_rules(self):
-        self.assertGreaterEqual(self.judge("docs/CONTROLLER.md"), 6)
+        self.assertGreaterEqual(self.judge("docs/CONTROLLER.md"), 2)
 
     def test_the_formats(self):
-        self.assertGreaterEqual(self.judge("docs/FORMATS.md"), 10)
+        self.assertGreaterEqual(self.judge("docs/FORMATS.md"), 3)
+
+    def test_the_worked_runs(self):
+        self.assertEqual(self.judge("tools/tests/worked_runs.md"), 11)
 
     def test_the_readme_shows_the_example_that_it_runs(self):
         shown = dict(BLOCK.findall(read_text(f"{TOP}/README.md")))
