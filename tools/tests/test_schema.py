@@ -11,7 +11,7 @@ import unittest
 from common import TOP, read_bytes, read_text
 from json_schema import Schema
 from lib.hammer import corpus
-from lib.hammer.bent import Bender
+from lib.hammer.bent import Bender, spots_of
 from lib.hammer.cases import file_text, projects_of
 from lib.hammer.draw import Draw
 from lib.hammer.limits import LIMITS
@@ -29,6 +29,7 @@ REFUSED = (
     ("tags.2.type", "BOOL"), ("programs.0.routines.0.rungs", "NOP();"), ("programs.0.routines.0.rungs.0", "x" * 4_097), ("tasks", []),
     ("tasks.0.kind", "event"), ("tasks.0.kind", "Periodic"), ("tasks.1.priority", 16), ("tasks.1.period", 10), ("tasks.0.inhibited", 1),
     ("tasks.1", {"name": "T", "kind": "event", "programs": ["Eye"]}), ("initial.0.value", 1 << 31), ("watch", ["LineRun"] * 257),
+    ("initial", [{"tag": "LineRun", "value": 0}] * 10_001),
 )  # fmt: skip
 TAKEN = (
     ("controller", "a__b"), ("tags.0.name", ""), ("tags.0.type", "REAL"), ("tasks.0.period", 10.0), ("tasks.1.programs.0", "Line"),
@@ -41,6 +42,16 @@ def changed(where: str, value: object) -> object:
     made = json.loads(LINE)
     *path, last = (int(key) if key.isdigit() else key for key in where.split("."))
     at(made, path)[last] = value
+    return made
+
+
+def every_field() -> dict:
+    """A project that has each field."""
+    made = json.loads(LINE)
+    made["programs"][1]["tags"] = made["tags"][:4]
+    made["tasks"].append({"name": "Rest", "kind": "continuous", "programs": ["Line"]})
+    for task in made["tasks"]:
+        task |= {"watchdog": 500, "inhibited": False}
     return made
 
 
@@ -119,6 +130,22 @@ class Projects(unittest.TestCase):
             self.assertGreater(self.taken, seed)
             self.compare(bender.value(project) if seed % 4 else bender.text(file_text(project)))
         self.assertGreater(self.refused, 50)
+
+    def test_each_place(self) -> None:
+        """What stands at each place of a project is left out, or null instead."""
+        made = every_field()
+        self.compare(file_text(made))
+        for holder, key in list(spots_of(made)):
+            old = holder[key]
+            holder[key] = None
+            self.compare(file_text(made))
+            if isinstance(holder, dict):
+                kept = dict(holder)
+                del holder[key]
+                self.compare(file_text(made))
+                holder.update(kept)
+            holder[key] = old
+        self.assertGreater(self.refused, 150)
 
     def test_kept(self) -> None:
         for text in projects_of([one.files for one in corpus.read()]):
