@@ -7,12 +7,7 @@ import unittest
 
 from common import TOP, read_bytes
 from lib.hammer.plain.judge import answer
-
-FIELDS = {
-    "schema": "1", "controller": '"C"', "types": "[]", "tags": "[]",
-    "programs": '[{"name":"P","main":"M","routines":[{"name":"M","rungs":[]}]}]',
-    "tasks": '[{"name":"T","kind":"continuous","programs":["P"]}]', "connections": "[]", "initial": "[]", "watch": "[]",
-}
+from project_rows import file_of, rows
 
 
 class Documents(unittest.TestCase):
@@ -64,24 +59,15 @@ class Examples(unittest.TestCase):
 MOST_BYTES = 100_000
 
 
-def plain(text):
-    """What stands in a row for a text."""
-    escapes = {"n": "\n", "s": " ", "t": "\t", "\\": "\\"}
-    return re.sub(r"\\(.)", lambda found: escapes.get(found[1], found[0]), text)
-
-
 class Rows(unittest.TestCase):
     """The rows of test_program of project files, `KIND | GIVEN | WANTED`, but for the largest."""
 
     def test_project(self):
-        texts, judged = {}, 0
-        for line in read_bytes(f"{TOP}/crates/test_program/stdin").decode().splitlines():
-            kind, given, wanted = (part.strip() for part in (line.split("|", 2) + ["", ""])[:3])
-            if kind in ("text", "more"):
-                texts[given] = (texts[given] if kind == "more" else "") + plain(wanted)
-            elif kind in ("check", "cuts", "migrate"):
+        judged = 0
+        for kind, given, wanted, texts in rows("test_program"):
+            if kind in ("check", "cuts", "migrate"):
                 judged += 1
-                self.assertEqual(self.answered(kind, given, wanted, texts), wanted, line[:300])
+                self.assertEqual(self.answered(kind, given, wanted, texts), wanted, f"{kind} {given[:300]}")
         self.assertGreater(judged, 300)
 
     def answered(self, kind, given, wanted, texts):
@@ -90,15 +76,8 @@ class Rows(unittest.TestCase):
         if kind == "cuts":
             answers = {self.whole(given.encode()[:at]) for at in range(len(given.encode()))}
             return wanted if answers == {wanted} else str(answers)
-        keys, values = (part.strip() for part in given.split("=", 1))
-        values = re.sub(r"\{\{(\d+)\*(.*?)\}\}", lambda found: found[2] * int(found[1]), texts.get(values, values))
-        file = values.encode() if keys == "file" else self.file(keys, values)
+        file = file_of(given, texts)
         return self.whole(file) if len(file) < MOST_BYTES else wanted
-
-    @staticmethod
-    def file(keys, values):
-        fields = {**FIELDS, **dict(zip(keys.split(), values.split(" ~ ")))}
-        return ("{" + ",".join(f'"{key}":{value}' for key, value in fields.items() if value != "-") + "}").encode()
 
     @staticmethod
     def whole(text):
