@@ -12,7 +12,7 @@ from lib.texts import sentence
 
 
 DOCUMENTS = ("FORMATS.md", "CONTROLLER.md")
-CODE = re.compile(r"[A-Z]\d{1,2}|\d/\d{1,2}|\d{1,2}|held|regions|watchdogs|releases|triggers|scans")
+CODE = re.compile(r"[A-Z]\d{1,2}|\d/\d{1,2}|\d{1,2}|held|regions|copies|watchdogs|releases|starts|triggers|scans|modes|edits|numbers")
 CODED = {"status", "code", "answer", "fault", "law"}
 MEANING = ("what is wrong", "when", "cause")
 ADVICE = "what to do"
