@@ -132,7 +132,7 @@ class Projects(unittest.TestCase):
         self.assertGreater(self.refused, 50)
 
     def test_each_place(self) -> None:
-        """What stands at each place of a project is left out, or null instead."""
+        """What stands at each place of a project is left out, or has another key, or is null."""
         made = every_field()
         self.compare(file_text(made))
         for holder, key in list(spots_of(made)):
@@ -143,7 +143,9 @@ class Projects(unittest.TestCase):
                 kept = dict(holder)
                 del holder[key]
                 self.compare(file_text(made))
-                holder.update(kept)
+                holder.update({**kept, key: old, f"{key}s": old})
+                self.compare(file_text(made))
+                del holder[f"{key}s"]
             holder[key] = old
         self.assertGreater(self.refused, 150)
 
