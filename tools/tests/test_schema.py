@@ -108,7 +108,7 @@ class Projects(unittest.TestCase):
         self.assertEqual((self.taken > 50, self.refused), (True, 0))
 
     def test_documents(self) -> None:
-        for name in ("README.md", "docs/CONTROLLER.md", "docs/FORMATS.md"):
+        for name in ("README.md", "docs/CONTROLLER.md", "docs/FORMATS.md", "tools/tests/worked_runs.md"):
             for text in re.findall(r"^```project\n(.*?)^```", read_text(f"{TOP}/{name}"), re.DOTALL | re.MULTILINE):
                 self.compare(text.encode())
         self.assertGreater(self.taken, 4)
