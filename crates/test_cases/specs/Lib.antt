@@ -12,6 +12,7 @@ pub mod DutyCases
 pub mod DutyStages
 pub mod MergeCases
 pub mod MarkStages
+pub mod TraceLaws
 pub mod LadderRuns
 pub mod ParameterRuns
 pub mod TimerRuns
@@ -25,4 +26,5 @@ pub mod LawRuns
 pub mod ProjectCases
 pub mod LinkRuns
 pub mod ChangeCases
+pub mod ReadCases
 pub mod QuestionCases

@@ -5,6 +5,7 @@ ghost use Rattle.spec_machine.specs.declared.event.RungEdit.TheVariants.{Delete}
 ghost use Rattle.spec_machine.specs.declared.reply.Reply.TheVariants.{Done};
 ghost use Rattle.spec_machine.specs.Edits.{Deleted};
 ghost use Rattle.spec_schedule.specs.Stages.{KeepsState};
+ghost use Rattle.spec_legal.specs.Merged.{IsMerged};
 ghost use Rattle.spec_laws.specs.CheckedBooks.{IsCheckedBook};
 ghost use Rattle.spec_laws.specs.TakenRungs.{IsFirstAgain};
 ghost use Rattle.test_cases.specs.LawRuns.{cleared, one_nop};
@@ -40,7 +41,9 @@ pub fn duties_of_stages_are_broken()
 /// A book whose merged rungs are without the accepted edit, and one whose edits take a rung twice.
 pub fn books_are_broken()
     ensures checked { IsCheckedBook one_nop 0 book }
+    ensures merged { IsMerged book }
     ensures unmerged { IsCheckedBook one_nop 0 unmerged → ⊥ }
+    ensures unmerged_source { IsMerged unmerged → ⊥ }
     ensures taken_twice { IsCheckedBook one_nop 0 taken_twice → ⊥ }
 {}
 

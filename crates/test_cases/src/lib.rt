@@ -12,8 +12,10 @@ mod link_cases;
 mod mark_stages;
 mod project_cases;
 mod question_cases;
+mod read_cases;
 mod runs;
 mod text_cases;
+mod trace_laws;
 
 pub use change_cases::{
     others_change_none, packets_are_broken, packets_are_whole, writers_change_tags,
@@ -37,6 +39,7 @@ pub use project_cases::{project_is_valid, projects_are_invalid};
 pub use question_cases::{
     lines_are_shown, questions_are_read, questions_are_refused, windows_and_moments,
 };
+pub use read_cases::{readers_are_left_out, readers_are_listed};
 pub use runs::{
     arithmetic_runs, conveyor_run, copy_runs, edit_runs, inhibited_runs, ladder_runs,
     parameter_runs, routine_runs, task_runs, timer_runs, word_runs,
@@ -46,3 +49,4 @@ pub use text_cases::{
     declare_cases, layout_cases, operand_cases, parameter_cases, resolution_cases, routine_cases,
     type_fault_cases,
 };
+pub use trace_laws::{trace_laws_are_broken, trace_laws_are_kept};

@@ -32,8 +32,18 @@ taken_once r i = one_change (nat_eq 0 r) i
 pub returns-clause-checked : goal.returns-clause-checked
 returns-clause-checked c = record { base = (refl, tt); many = refl; merged_ones = merged_ones; taken_once = taken_once }
 
+merged_sources : (r : ℕ) → (routine_at book.merged r).source ≡ with_edits (routine_at book.base r).source (changes_in book r)
+merged_sources zero = refl
+merged_sources (suc r) = refl
+
+pub returns-clause-merged : goal.returns-clause-merged
+returns-clause-merged c = merged_sources
+
 pub returns-clause-unmerged : goal.returns-clause-unmerged
 returns-clause-unmerged c = λ h. cc (h.merged_ones 0 (omega arith))
+
+pub returns-clause-unmerged_source : goal.returns-clause-unmerged_source
+returns-clause-unmerged_source c = λ h. cc (h 0)
 
 pub returns-clause-taken_twice : goal.returns-clause-taken_twice
 returns-clause-taken_twice c = λ h. (let l = h.taken_once 0 0 in absurd (omega arith))
