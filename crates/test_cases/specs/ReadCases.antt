@@ -1,5 +1,5 @@
 -- Lists of the instructions that read a tag, and two images that differ in the tag alone.
-use Rattle.std.specs.Prelude.{◌≡◌, ℕ, Bool, List, [], ◌∷◌, slice_get, slice_set, Some}
+use Rattle.std.specs.Prelude.{◌≡◌, ℕ, Bool, List, slice_get, slice_set, Some}
 use Rattle.lgx_num.specs.declared.place.Flags.{Flags}
 use Rattle.lgx_rung.specs.declared.ins.Ins.{Ins}
 use Rattle.lgx_rung.specs.declared.op.Op.TheVariants.{Xic, Ote, Ons}

@@ -1,12 +1,12 @@
 -- Traces with the laws that they keep or break, beside those of the audit. Each of the broken ones is a legal one with one event
 -- changed.
-use Rattle.std.specs.Prelude.{ℕ, List, [], ◌∷◌, ◌++◌, filter, not, true, Some, None}
+use Rattle.std.specs.Prelude.{ℕ, List, [], ◌∷◌, filter, not, true, Some, None}
 use Rattle.spec_base.specs.declared.limits.TheConstants.{OWN_LANE}
 use Rattle.spec_schedule.specs.declared.trace.TraceMark.{TraceMark}
 use Rattle.spec_schedule.specs.declared.trace.TraceMark.TheVariants.{Plain as Unmarked, Copy, Sync, CopyEnd, SyncEnd}
 use Rattle.spec_schedule.specs.declared.trace.StepFault.TheVariants.{Plain as NoFault}
 use Rattle.spec_schedule.specs.declared.trace.Verb.{Verb}
-use Rattle.spec_schedule.specs.declared.trace.Verb.TheVariants.{Accept, Test, Assemble, Cancel, Run, Program, Clear, Other}
+use Rattle.spec_schedule.specs.declared.trace.Verb.TheVariants.{Accept, Test, Untest, Assemble, Cancel, Run, Program, Clear, Other}
 use Rattle.spec_schedule.specs.declared.trace.TraceAnswer.{TraceAnswer}
 use Rattle.spec_schedule.specs.declared.trace.TraceAnswer.TheVariants.{Done, Number, No}
 use Rattle.spec_schedule.specs.declared.trace.TraceEvent.{TraceEvent}
@@ -26,10 +26,11 @@ broken trace = filter (λ law. not (keeps law roster trace)) laws
 
 -- ---- copies
 
--- an element is copied in each step of the continuous task
+-- a step of the continuous task
 abbrev pub step : TraceMark → TraceEvent
 step mark = Step 0 0 mark NoFault
 
+-- a copy of three elements
 abbrev pub copies : List TraceEvent
 copies = mode_run 1 ∷ Began 0 0 0 ∷ step Copy ∷ step Unmarked ∷ step CopyEnd ∷ Left 0 0 true ∷ []
 
@@ -43,7 +44,7 @@ never_ends = mode_run 1 ∷ Began 0 0 0 ∷ step Copy ∷ step Unmarked ∷ step
 
 -- ---- starts
 
--- an input's word releases tasks
+-- an input's word that releases the tasks of this mask
 abbrev pub word : ℕ → TraceEvent
 word mask = Act 3 Other None Done mask
 
@@ -65,14 +66,14 @@ starts_nobody = mode_run 0 ∷ word 4 ∷ word 0 ∷ []
 
 -- ---- modes
 
--- a command on the mode that releases nobody
+-- a command on the mode, with its answer; it releases nobody
 abbrev pub command : Verb → TraceAnswer → TraceEvent
 command verb answer = Act OWN_LANE verb None answer 0
 
 abbrev pub commands : List TraceEvent
 commands = mode_run 1 ∷ command Run No ∷ command Program Done ∷ command Clear No ∷ mode_run 1 ∷ []
 
--- Clear without a fault
+-- `clear` is done in Program, where no fault is to be cleared
 abbrev pub clears : List TraceEvent
 clears = mode_run 1 ∷ command Run No ∷ command Program Done ∷ command Clear Done ∷ mode_run 1 ∷ []
 
@@ -89,24 +90,24 @@ not_held = mode_run 1 ∷ Began 0 0 0 ∷ step Sync ∷ command Program Done ∷
 
 -- ---- edits
 
--- an edit of the first program, of a lane
+-- a lane's edit of the first program, with its answer
 abbrev pub edit : ℕ → Verb → TraceAnswer → TraceEvent
 edit lane verb answer = Act lane verb (Some 0) answer 0
 
--- The lane that accepted them tests and assembles its edits. Then another lane may accept and cancel some.
+-- the lane that accepted the edits tests them, takes them back and assembles them; then another lane may accept some
 abbrev pub edits : List TraceEvent
 edits =
-    mode_run 1 ∷ edit 0 Accept (Number 1) ∷ edit 0 Test Done ∷ edit 0 Assemble Done ∷ edit 1 Accept (Number 2) ∷ edit 1 Cancel Done ∷ []
+    mode_run 1 ∷ edit 0 Accept (Number 1) ∷ edit 0 Test Done ∷ edit 0 Untest Done ∷ edit 0 Assemble Done ∷ edit 1 Accept (Number 2) ∷ []
 
 -- the other lane assembles them
 abbrev pub another_assembles : List TraceEvent
 another_assembles =
-    mode_run 1 ∷ edit 0 Accept (Number 1) ∷ edit 0 Test Done ∷ edit 1 Assemble Done ∷ edit 1 Accept (Number 2) ∷ edit 1 Cancel Done ∷ []
+    mode_run 1 ∷ edit 0 Accept (Number 1) ∷ edit 0 Test Done ∷ edit 0 Untest Done ∷ edit 1 Assemble Done ∷ edit 1 Accept (Number 2) ∷ []
 
--- the owner's tested edits aren't assembled, so that the other lane may accept none
+-- the owner may not take them back
 abbrev pub owner_is_refused : List TraceEvent
 owner_is_refused =
-    mode_run 1 ∷ edit 0 Accept (Number 1) ∷ edit 0 Test Done ∷ edit 0 Assemble No ∷ edit 1 Accept No ∷ []
+    mode_run 1 ∷ edit 0 Accept (Number 1) ∷ edit 0 Test Done ∷ edit 0 Untest No ∷ edit 0 Assemble Done ∷ edit 1 Accept (Number 2) ∷ []
 
 -- ---- numbers of accepts
 

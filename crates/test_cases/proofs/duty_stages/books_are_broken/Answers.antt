@@ -32,9 +32,16 @@ taken_once r i = one_change (nat_eq 0 r) i
 pub returns-clause-checked : goal.returns-clause-checked
 returns-clause-checked c = record { base = (refl, tt); many = refl; merged_ones = merged_ones; taken_once = taken_once }
 
+-- where no routine is, nothing is made of a change
+no_routine_merged : (here : Bool) → [] ≡ with_edits [] (changes_by here)
+unfolding changes_by
+no_routine_merged true = refl
+no_routine_merged false = refl
+
 merged_sources : (r : ℕ) → (routine_at book.merged r).source ≡ with_edits (routine_at book.base r).source (changes_in book r)
+unfolding changes_by
 merged_sources zero = refl
-merged_sources (suc r) = refl
+merged_sources (suc r) = no_routine_merged (nat_eq 0 (suc r))
 
 pub returns-clause-merged : goal.returns-clause-merged
 returns-clause-merged c = merged_sources

@@ -31,7 +31,7 @@ one_storage = record { lengths = refl; bytes = storage_bytes }
 
 -- the list of the writer alone hasn't the XIC
 is_writer : (i : ℕ) → slice_get (ote ∷ []) i ≡ Some xic → ⊥
-is_writer zero at = (let e : 1 ≡ 0 = ap (λ (u : Use). u.ins) (same_Some ote xic at) in absurd (omega arith))
+is_writer zero at = (let e : ote.op ≡ xic.op = ap (λ (u : Use). u.op) (same_Some ote xic at) in cc e)
 is_writer (suc i) at = cc at
 
 pub returns-clause-one_tag : goal.returns-clause-one_tag
