@@ -1,4 +1,4 @@
--- The word `link A B L` on its way.
+-- The command `link A B L` under way.
 use Rattle.std.specs.Prelude.{ℕ, List}
 use Rattle.lgx_answer.specs.Plan.{Plan}
 use Rattle.cmd_link.specs.declared.word.LinkWord.{LinkWord}

@@ -1,4 +1,4 @@
-//! The word `link A B L`: the controllers of two projects run as a link script says, with a produced and a consumed tag between
+//! The command `link A B L`: the controllers of two projects run as a link script says, with a produced and a consumed tag between
 //! them, and both reports are written with the answers of the link.
 #![tactic(auto)]
 

@@ -1,4 +1,4 @@
-// The word.
+// The command `link A B L`.
 ghost use Rattle.lgx_answer.specs.Endings.{ending_of};
 ghost use Rattle.lgx_answer.specs.Answered.{Answered, call_of};
 ghost use Rattle.cmd_link.specs.LinkPlan.{link_plan};

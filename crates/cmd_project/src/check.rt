@@ -1,4 +1,4 @@
-// The word `check`: how many there are of each part of a project.
+// The command `check`: how many there are of each part of a project.
 ghost use Rattle.std.specs.Prelude.{◌≡◌, ◌^◌, ◌<◌, [], ◌∷◌, ◌++◌, length, sum_by, IfOk, OnOk};
 ghost use Rattle.std.specs.Fmt.{decimal};
 ghost use Rattle.lgx_answer.specs.declared.status.Verdict.TheVariants as verdict;

@@ -1,4 +1,4 @@
-// The word `migrate`: a project's file in the newest schema.
+// The command `migrate`: a project's file in the newest schema.
 ghost use Rattle.std.specs.Prelude.{◌≡◌};
 ghost use Rattle.cmd_project.specs.MigratePlan.{migrate_judged};
 ghost use Rattle.lgx_answer.specs.Endings.{ending_of};

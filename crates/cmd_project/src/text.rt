@@ -1,4 +1,4 @@
-// The word `text`: the rungs of a project.
+// The command `text`: the rungs of a project.
 ghost use Rattle.std.specs.Prelude.{◌≡◌};
 ghost use Rattle.cmd_project.specs.TextPlan.{text_judged};
 ghost use Rattle.lgx_answer.specs.Endings.{ending_of};

@@ -1,4 +1,4 @@
--- The word `replay P J` on its way.
+-- The command `replay P J` under way.
 use Rattle.std.specs.Prelude.{ℕ, List}
 use Rattle.lgx_answer.specs.Plan.{Plan}
 use Rattle.cmd_replay.specs.declared.replay.Replay.{Replay}

@@ -1,4 +1,4 @@
-// The word `gen N`.
+// The command `gen N`.
 ghost use Rattle.std.specs.Prelude.{◌≡◌, List, ℕ, Ok};
 ghost use Rattle.lgx_answer.specs.Plan.{Says};
 ghost use Rattle.lgx_answer.specs.Endings.{ending_of};

@@ -1,4 +1,4 @@
-// The word `replay P J`.
+// The command `replay P J`.
 ghost use Rattle.cmd_replay.specs.ReplayState.{replay_file, replay_next, replay_left};
 ghost use Rattle.lgx_answer.specs.Endings.{ending_of};
 ghost use Rattle.lgx_answer.specs.Answered.{Answered, call_of};

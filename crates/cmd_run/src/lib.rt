@@ -1,4 +1,4 @@
-//! The word `run P S`: the script of one file runs on the project of another, each lane on a thread of its own; the journal of
+//! The command `run P S`: the script of one file runs on the project of another, each lane on a thread of its own; the journal of
 //! the run is written, and then its report.
 //!
 //! It is no [`lgx_answer::Word`]: what threads share must be known to be safe to share, and no method of a trait knows that of

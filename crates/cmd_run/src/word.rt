@@ -1,4 +1,4 @@
-// The word.
+// The command `run P S`.
 ghost use Rattle.lgx_answer.specs.Endings.{ending_of};
 ghost use Rattle.lgx_answer.specs.Answered.{Answered, call_of};
 ghost use Rattle.cmd_run.specs.RunPlan.{script_ran, script_read, run_plan};

@@ -1,4 +1,4 @@
-//! The word `stations P J C`: the journal of one file is replayed on the project of another, while as many stations as are asked
+//! The command `stations P J C`: the journal of one file is replayed on the project of another, while as many stations as are asked
 //! for watch it, each on a thread of its own; the report is written, and then what each station gave first and last.
 //!
 //! It is no [`lgx_answer::Word`]: what threads share must be known to be safe to share, and no method of a trait knows that of

@@ -1,4 +1,4 @@
--- The word `audit P T` on its way.
+-- The command `audit P T` under way.
 use Rattle.std.specs.Prelude.{ℕ, List}
 use Rattle.lgx_answer.specs.Plan.{Plan}
 use Rattle.cmd_trace.specs.declared.audit_word.Audit.{Audit}

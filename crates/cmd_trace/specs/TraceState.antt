@@ -1,4 +1,4 @@
--- The word `trace P J` on its way.
+-- The command `trace P J` under way.
 use Rattle.std.specs.Prelude.{ℕ, List}
 use Rattle.lgx_answer.specs.Plan.{Plan}
 use Rattle.cmd_trace.specs.declared.trace_word.Trace.{Trace}

@@ -1,4 +1,4 @@
-// The word `audit P T`.
+// The command `audit P T`.
 ghost use Rattle.std.specs.Prelude.{◌≡◌, ℕ, List, Ok, IfOk};
 ghost use Rattle.lgx_answer.specs.declared.status.Verdict.{Verdict as Said};
 ghost use Rattle.lgx_answer.specs.Plan.{Says};

@@ -1,4 +1,4 @@
-//! The words `trace P J`, which writes what is seen of a journal's run, and `audit P T`: whether a trace keeps the laws of the
+//! The commands `trace P J`, which writes what is seen of a journal's run, and `audit P T`: whether a trace keeps the laws of the
 //! schedule.
 #![tactic(auto)]
 

@@ -1,4 +1,4 @@
-// The word `trace P J`.
+// The command `trace P J`.
 ghost use Rattle.std.specs.Prelude.{◌≡◌};
 ghost use Rattle.lgx_answer.specs.Endings.{ending_of};
 ghost use Rattle.lgx_answer.specs.Answered.{Answered, call_of};

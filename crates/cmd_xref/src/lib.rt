@@ -1,4 +1,4 @@
-//! The word `xref P`: who writes and who reads each tag of a project.
+//! The command `xref P`: who writes and who reads each tag of a project.
 #![tactic(auto)]
 
 mod lines;

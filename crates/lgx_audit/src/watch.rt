@@ -280,7 +280,7 @@ fn candidate(e: &TraceEvent, last: Option<usize>) -> Option<usize>
     }
 }
 
-/// The same task if it stays up.
+/// The task of the last step, if it stays up.
 fn stays_last(table: &Table, counts: &[Count], e: &TraceEvent, last: Option<usize>) -> Option<usize>
     requires many { length counts.now ≡ length table.now.tasks }
     requires last { (u : ℕ) → last ≡ Some u → u < length table.now.tasks }

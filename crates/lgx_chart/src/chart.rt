@@ -1,4 +1,4 @@
-// Reads a report.
+// A report read line by line.
 ghost use Rattle.std.specs.Prelude.{◌≡◌, ◌+◌, ◌≤◌, ◌<◌, ◌^◌, ◌∷◌, [], IfOk, IfErr, IsTrue, OnOk, Some, Ok, Err};
 ghost use Rattle.std.specs.List.{list_any};
 ghost use Rattle.std.specs.Str.{bytes_eq};
@@ -17,7 +17,7 @@ use spec_machine::limits::MAX_WATCHES;
 use std::alloc::Global;
 use std::marker::Model;
 
-/// What is before a line.
+/// What the lines before a line have told.
 #[derive(Drop)]
 struct Seen {
     lines: u64,

@@ -87,7 +87,7 @@ fn lesser_of(code: Option<CheckCode>, other: Option<CheckCode>) -> Option<CheckC
     }
 }
 
-/// Whether it is an SBR.
+/// Whether an instruction is an SBR.
 fn is_entry(op: Op) -> bool
     ensures { result ≡ is_entry op }
 {

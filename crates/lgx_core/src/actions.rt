@@ -1,4 +1,4 @@
-// The actions by their own calls.
+// Actions by calls of their own, for callers without a journal: a recorder calls `act` alone.
 ghost use Rattle.std.specs.Prelude.{◌≡◌, ℕ, ◌+◌, ◌<◌, true, IfOk, IfErr, IsTrue};
 ghost use Rattle.spec_base.specs.declared.limits.TheConstants.{MAX_EVENTS};
 ghost use Rattle.spec_machine.specs.Events.{is_accept};

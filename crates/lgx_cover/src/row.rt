@@ -39,7 +39,7 @@ impl Counts {
     }
 }
 
-/// Never.
+/// The counts of an instruction that was never executed.
 const NO_COUNTS: Counts = Counts {
     with_true: 0,
     with_false: 0,

@@ -36,7 +36,7 @@ pub fn judge_each<T, J: Judge<T>>(
     Ok(())
 }
 
-/// The same of the list in a field.
+/// That no element of the list in a field is refused, or the first refusal.
 pub fn judge_in<T, J: Judge<T>>(
     alloc: Global,
     key: &str,

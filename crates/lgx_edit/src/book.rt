@@ -11,7 +11,7 @@ use spec_machine::{Accept, EditFault};
 use std::alloc::Global;
 use std::marker::Model;
 
-/// The edits of all programs of a project, in project order.
+/// The edits of all programs of a project, in project order: for each a [`ProgramEdits`], which is the machine's book.
 ///
 /// A program is found by a walk over their names: edit commands are rare, and a walk takes no memory.
 pub struct EditBook {

@@ -1,5 +1,5 @@
 //! The book of online edits (1756-PM008): the rungs of each program, base and merged, the accepted edits with their
-//! owner, and the flat programs that run them.
+//! owner, and the flat programs that run them; and [`Plant`], the project that a controller takes, whose rungs they begin with.
 #![tactic(auto)]
 
 mod book;

@@ -106,14 +106,14 @@ impl Plant {
         Ok(Plant { parts })
     }
 
-    /// Its parts.
+    /// The project's parts.
     pub fn parts(&self) -> &PlantParts
         ensures { result.now ≡ self.now }
     {
         &self.parts
     }
 
-    /// Its parts, out of the box.
+    /// The project's parts, out of the box.
     pub fn into_parts(self) -> PlantParts
         ensures { result ≡ self }
     {

@@ -32,7 +32,7 @@ pub(crate) struct RungState {
 impl RungState {
     ghost use Rattle.std.specs.Prelude.{◌≡◌};
 
-    /// The same once more.
+    /// The state once more.
     #[inline(always)]
     pub(crate) fn again(&self) -> RungState
         ensures { result ≡ self.now }
@@ -44,7 +44,7 @@ impl RungState {
         }
     }
 
-    /// It becomes the same as the other.
+    /// Becomes the same as the other.
     #[inline(always)]
     pub(crate) fn copy_from(&mut self, other: &RungState)
         ensures { self.new ≡ other.now }

@@ -34,7 +34,7 @@ impl Frames {
         self.depth
     }
 
-    /// The innermost one.
+    /// The innermost frame.
     #[inline(always)]
     pub(crate) fn top(&self) -> Option<&Frame>
         ensures some { IfSome result (λ frame. (outer : List FrameView) × (self.now ≡ frame.now ∷ outer)) }

@@ -50,7 +50,7 @@ impl<S: Story> Station<S> {
         }
     }
 
-    /// It has then seen this list too.
+    /// The station sees a published list: the last snapshot of it, if it is newer than what was seen.
     pub(crate) fn look(&mut self, list: &Published)
         requires { IsPrefix list.now S.story }
         ensures { self.new ≡ record self.old { seen = longer self.old.seen list.now } }
@@ -62,7 +62,7 @@ impl<S: Story> Station<S> {
         }
     }
 
-    /// It has then seen what is published too, if its reader can be entered.
+    /// The station sees what is published now, if its reader can be entered.
     fn enter(&mut self)
         ensures later { IsPrefix self.old.seen self.new.seen }
         ensures within { IsPrefix self.new.seen S.story }

@@ -59,6 +59,6 @@ pub fn read_to_end<R: Read>(alloc: Global, file: &mut R) -> Result<Vec<u8>, File
         }
         bytes.extend_from_slice(&piece[..count])?;
     }
-    // Not reached: each turn took a byte, and so many are too long long before.
+    // Not reached: each turn took a byte or more, and the file is too long long before the turns end.
     Err(FileFault::Failed)
 }

@@ -71,7 +71,7 @@ fn numbers_of(steps: &[u8], pace: &[u8], lanes: &[u8]) -> Option<(u32, u32, u32)
     Some((steps, pace, lanes))
 }
 
-/// The same of a verb, two words and a text that has one more.
+/// The steps, the pace and the number of lanes of a first line: a verb, two words, and a text that has one more.
 fn header_after(verb: &[u8], steps: &[u8], pace: &[u8], text: &[u8]) -> Option<(u32, u32, u32)>
     ensures { option_map (λ h. bare h.0 h.1 h.2) result ≡ header_of (verb.now ∷ steps.now ∷ pace.now ∷ words text.now) }
 {

@@ -168,7 +168,7 @@ fn push_word_in(
     push_value(text, alloc, value)
 }
 
-/// A force.
+/// Adds the words of a force.
 fn push_force(
     text: &mut Vec<u8>,
     alloc: Global,
@@ -187,7 +187,7 @@ fn push_force(
     push_value(text, alloc, value)
 }
 
-/// Some bytes.
+/// Adds bytes.
 fn push_bytes(text: &mut Vec<u8>, bytes: &[u8]) -> Result<(), Memory>
     ensures { OnOk result (text.new.items ≡ text.old.items ++ bytes.now) }
 {
@@ -195,7 +195,7 @@ fn push_bytes(text: &mut Vec<u8>, bytes: &[u8]) -> Result<(), Memory>
     Ok(())
 }
 
-/// An action.
+/// Adds the words of an action.
 fn push_action(text: &mut Vec<u8>, alloc: Global, action: &Action) -> Result<(), Memory>
     ensures text { OnOk result (text.new.items ≡ text.old.items ++ spaced (action_words action.now)) }
     ensures kept { OnOk result (IsTrue (is_kept_action action.now)) }

@@ -60,7 +60,7 @@ fn direction_of(alloc: Global, value: &Value) -> Result<bool, ProjectError>
     needed(alloc, &Direction, "direction", value)
 }
 
-/// A connection.
+/// How a connection is read.
 #[derive(Clone, Copy)]
 pub(crate) struct ConnectionObject;
 
@@ -93,7 +93,7 @@ impl Reader for ConnectionObject {
     }
 }
 
-/// An initial value.
+/// How an initial value is read.
 #[derive(Clone, Copy)]
 pub(crate) struct ValueObject;
 

@@ -29,7 +29,7 @@ const ROUTINES: ListOf<RoutineObject> = ListOf {
     of: RoutineObject,
 };
 
-/// A routine.
+/// How a routine is read.
 #[derive(Clone, Copy)]
 pub(crate) struct RoutineObject;
 
@@ -55,7 +55,7 @@ impl Reader for RoutineObject {
     }
 }
 
-/// A program.
+/// How a program is read.
 #[derive(Clone, Copy)]
 pub(crate) struct ProgramObject;
 

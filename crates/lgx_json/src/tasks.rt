@@ -45,7 +45,7 @@ const PROGRAM_NAMES: ListOf<NameText> = ListOf {
     of: NameText,
 };
 
-/// What `kind` says.
+/// How the field `kind` of a task is read.
 #[derive(Clone, Copy)]
 struct KindText;
 

@@ -7,7 +7,7 @@ use spec_project::ProjectCode;
 use spec_project::limits::MAX_RUNG_BYTES;
 use std::alloc::Global;
 
-/// A name.
+/// How a name is read.
 #[derive(Clone, Copy)]
 pub(crate) struct NameText;
 
@@ -35,7 +35,7 @@ impl Reader for NameText {
     }
 }
 
-/// Any text.
+/// How any text is read.
 #[derive(Clone, Copy)]
 pub(crate) struct AnyText;
 
@@ -61,7 +61,7 @@ impl Reader for AnyText {
     }
 }
 
-/// The text of a rung.
+/// How the text of a rung is read.
 #[derive(Clone, Copy)]
 pub(crate) struct RungText;
 
@@ -90,7 +90,7 @@ impl Reader for RungText {
     }
 }
 
-/// A truth value.
+/// How a truth value is read.
 #[derive(Clone, Copy)]
 pub(crate) struct Truth;
 

@@ -45,7 +45,7 @@ impl Reader for MemberObject {
     }
 }
 
-/// A structure.
+/// How a structure is read.
 #[derive(Clone, Copy)]
 pub(crate) struct TypeObject;
 

@@ -37,7 +37,7 @@ pub(crate) fn nothing_since(alloc: Global, tasks: usize) -> Result<Vec<Since>, M
     Ok(vec![in alloc; none; tasks]?)
 }
 
-/// One at a tick.
+/// How many ticks an event is: one at a tick, and else none.
 fn ticks_in(e: &TraceEvent) -> u64
     ensures { result ≡ ticks_in e.now }
 {

@@ -59,7 +59,7 @@ fn name_of(word: &[u8]) -> Option<Name>
     Name::read(word)
 }
 
-/// The names that two words are.
+/// The names of the output and the input, if two words are names.
 #[tactic(auto, using(crate::proofs::Headers::no_output, crate::proofs::Headers::no_input))]
 fn names_of(output: &[u8], input: &[u8]) -> Option<(Name, Name)>
     ensures { option_map (λ h. bare h.0 h.1) result ≡ header_of (codes "link" ∷ output.now ∷ input.now ∷ []) }
@@ -73,7 +73,7 @@ fn names_of(output: &[u8], input: &[u8]) -> Option<(Name, Name)>
     Some((output, input))
 }
 
-/// The same of a verb and two words.
+/// The names of the output and the input, if the words are `link` and two names.
 fn names_after(verb: &[u8], output: &[u8], input: &[u8]) -> Option<(Name, Name)>
     ensures { option_map (λ h. bare h.0 h.1) result ≡ header_of (verb.now ∷ output.now ∷ input.now ∷ []) }
 {

@@ -1,4 +1,4 @@
-// The console.
+// A console over a reader and a writer.
 ghost use Rattle.std.specs.Prelude.{◌≡◌, ◌+◌, ◌<◌, take};
 ghost use Rattle.spec_text.specs.TextLines.{without_return};
 ghost use Rattle.lgx_live.specs.Console.{ConsoleSeen, Asks, Says, Flushes};

@@ -1,4 +1,4 @@
-// A whole session.
+// A whole session: the lines that a console gives, each answered before the next is asked for.
 ghost use Rattle.std.specs.Prelude.{◌≡◌, [], ◌<◌};
 ghost use Rattle.spec_machine.specs.Project.{Project};
 ghost use Rattle.lgx_answer.specs.declared.status.Verdict.{Verdict};

@@ -37,8 +37,8 @@ pub fn run_math(op: Op, args: &Bound, flags: &mut Flags, image: &mut Image) -> b
     run_math_of(op, a, b, place, flags, image)
 }
 
-/// The same of the numbers of the first and second operand (any number for one that the instruction doesn't have) and of the
-/// destination's place.
+/// What [`run_math`] does, by the numbers of the first and second operand (any number for one that the instruction doesn't have)
+/// and by the destination's place.
 ///
 /// Each arm knows its instruction, so that it does what that one does and nothing else.
 pub fn run_math_of(

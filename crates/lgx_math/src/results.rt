@@ -87,7 +87,7 @@ fn is_exact(op: Op) -> bool
     )
 }
 
-/// DIV and MOD.
+/// Whether it is DIV or MOD.
 #[inline(always)]
 fn divides(op: Op) -> bool
     ensures { result ≡ divides op }

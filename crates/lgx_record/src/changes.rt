@@ -55,7 +55,7 @@ pub(crate) fn log_changes(
     log_hits(log, values, at, controller, watches);
 }
 
-/// The same where words are hit.
+/// Puts the lines of the watched places of hit words that changed into the log, and clears the hits.
 fn log_hits(
     log: &mut Log,
     values: &mut [i32],

@@ -18,7 +18,7 @@ use std::alloc::Global;
 /// The parts of a recording. They have no invariant of their own: each step is told what they record.
 #[derive(Drop)]
 pub(crate) struct Parts {
-    /// What the journal takes memory for an accept's texts from.
+    /// From here the journal takes memory for the texts of accepts.
     pub alloc: Global,
     pub follower: FollowerParts,
     pub journal: Journal,

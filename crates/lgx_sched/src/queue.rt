@@ -34,7 +34,7 @@ impl Queue {
         }
     }
 
-    /// Task number `i`.
+    /// The task at place `i` of the queue.
     fn get(&self, i: usize) -> Option<u32>
         ensures { result ≡ slice_get self.now i }
     {

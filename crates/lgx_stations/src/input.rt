@@ -1,4 +1,4 @@
-// What is replayed.
+// What a run that stations see is made of: its project and its journal.
 use lgx_hmi::Story;
 use std::marker::{Brand, PhantomData};
 

@@ -18,7 +18,7 @@ pub struct Begins {
 }
 
 impl Begins {
-    /// None.
+    /// No begin is noted.
     pub fn new() -> Begins
         ensures { result.steps.items ≡ [] }
     {
@@ -28,7 +28,7 @@ impl Begins {
         }
     }
 
-    /// None again.
+    /// Forgets what was noted.
     #[inline(always)]
     pub(crate) fn clear(&mut self)
         ensures { self.new.steps.items ≡ [] }

@@ -34,7 +34,7 @@ impl Parts {
         }
     }
 
-    /// The same, by a call of its own: most steps have the effect `Ran`, and it takes no call.
+    /// What any effect does, by a call of its own: most steps have the effect `Ran`, and need no call.
     fn after_any_effect(&mut self, t: u32, n: u32, effect: Effect) -> Moment
         requires live { IsLive self.old }
         requires chosen { next_task self.old.table ≡ Some t }
@@ -75,7 +75,7 @@ impl Parts {
         }
     }
 
-    /// It closes one.
+    /// The task closes a region.
     fn down(&mut self, t: u32, ran: What) -> Moment
         requires live { IsLive self.old }
         requires chosen { next_task self.old.table ≡ Some t }
@@ -90,7 +90,7 @@ impl Parts {
         }
     }
 
-    /// It triggers another task.
+    /// The task triggers another one.
     fn trigger(&mut self, ran: What, other: u32) -> Moment
         requires live { IsLive self.old }
         requires target { other < length self.old.progress.items }
@@ -105,7 +105,7 @@ impl Parts {
         }
     }
 
-    /// Its copy starts.
+    /// The task's copy starts.
     fn copy_start(&mut self, t: u32, ran: What, sync: bool) -> Moment
         requires live { IsLive self.old }
         requires chosen { next_task self.old.table ≡ Some t }
@@ -182,7 +182,7 @@ impl Parts {
         }
     }
 
-    /// A major one.
+    /// A major fault of an instruction.
     fn major(&mut self, t: u32, n: u32, code: u8) -> Moment
         requires live { IsLive self.old }
         ensures gives { (k : ℕ) (s : State) → Represents k self.old s → Gives (k + 1) self.new result (after_effect s t (progress_of s t) n (Effect.Major code)) }

@@ -190,7 +190,7 @@ impl TagTable {
         self.resolve_with(alloc, scope, text, Subscripts::Operands)
     }
 
-    /// The same if numbers alone may be subscripts: any other subscript is G6.
+    /// What an operand's text names if numbers alone may be subscripts: any other subscript is G6.
     pub fn resolve_fixed(&self, alloc: Global, scope: Scope, text: &[u8]) -> Result<Found, TagError>
         requires { self.now.sealed ≡ true }
         ensures answer { Answers (found_fixed self.now.declarations scope text.now) result }

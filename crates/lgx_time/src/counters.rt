@@ -60,7 +60,7 @@ fn ctd(at: u32, on: bool, image: &mut Image)
     update_done(at, image);
 }
 
-/// One more; after the greatest number comes the least, and the counter has overflowed.
+/// Counts one up; after the greatest number comes the least, and the counter has overflowed.
 #[inline(always)]
 fn one_up(at: u32, image: &mut Image)
     requires lies { at + COUNTER_BYTES ≤ length image.old.bytes }
@@ -76,7 +76,7 @@ fn one_up(at: u32, image: &mut Image)
     }
 }
 
-/// One less; after the least number comes the greatest, and the counter has underflowed.
+/// Counts one down; after the least number comes the greatest, and the counter has underflowed.
 #[inline(always)]
 fn one_down(at: u32, image: &mut Image)
     requires lies { at + COUNTER_BYTES ≤ length image.old.bytes }

@@ -1,4 +1,4 @@
-// Programs in slots.
+// The slots in which versions lie, and which of them hold the base, the merged and the held one.
 ghost use Rattle.std.specs.Prelude.{◌≡◌, ◌≢◌, ◌<◌, ℕ, true, Some, None, length, is_some, IfSome, IsSome, slice_index_or};
 ghost use Rattle.lgx_versions.specs.Slots.{version_at, selected_place, is_at, in_slot, uses, HasFreed};
 

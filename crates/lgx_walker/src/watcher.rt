@@ -53,7 +53,7 @@ fn ended_by(moment: Moment) -> Option<u32>
 }
 
 impl Watcher {
-    /// The same once more.
+    /// The watcher once more.
     pub(crate) fn copied(&self, alloc: Global) -> Result<Watcher, Memory>
         ensures controller { IfOk result (λ watcher. watcher.controller ≡ self.now.controller) }
         ensures places { IfOk result (λ watcher. watcher.places ≡ self.now.places) }

@@ -86,7 +86,7 @@ impl WatchIndex {
         self.of_row(word as usize)
     }
 
-    /// The same by the row of a word.
+    /// The watched places that have a byte in the word of a row.
     fn of_row(&self, word: usize) -> WatchSet
         ensures members { (w : ℕ) (p : Place) → slice_get self.now w ≡ Some p → LiesInWord p word → is_member result w ≡ true }
         ensures no_other { (w : ℕ) → is_member result w ≡ true → (p : Place) × (slice_get self.now w ≡ Some p) × LiesInWord p word }

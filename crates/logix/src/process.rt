@@ -1,4 +1,4 @@
-// The process.
+// The process of `logix`, whose runtime has threads.
 ghost use Rattle.lgx_io.specs.Gathered.{GatheredState};
 ghost use Rattle.lgx_answer.specs.Process.{IsProcess};
 ghost use Rattle.lgx_process.specs.Words.{WithWords};

@@ -1,4 +1,4 @@
-// The process.
+// The process of `logix_explore`.
 ghost use Rattle.std.specs.Prelude.{◌≡◌, ℕ, List, [], ◌∷◌, Some};
 ghost use Rattle.lgx_io.specs.Gathered.{GatheredState};
 ghost use Rattle.lgx_answer.specs.declared.status.Verdict.{Verdict as Verdicts};

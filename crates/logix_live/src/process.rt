@@ -1,4 +1,4 @@
-// The process.
+// The process of `logix_live`, over standard input and output.
 ghost use Rattle.std.specs.Prelude.{◌≡◌, []};
 ghost use Rattle.lgx_live.specs.Console.{ConsoleSeen};
 ghost use Rattle.lgx_process.specs.Words.{WithWords};

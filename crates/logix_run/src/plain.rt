@@ -1,4 +1,4 @@
-// The words that need no thread of their own, over any files and any sink.
+// The commands that need no thread of their own, over any files and any sink.
 ghost use Rattle.std.specs.Prelude.{◌≡◌, map, string_bytes};
 ghost use Rattle.lgx_answer.specs.Endings.{ending_of};
 ghost use Rattle.lgx_answer.specs.Answered.{Answered, call_of};
@@ -46,7 +46,7 @@ pub(crate) fn follow_plain<F: Files, K: Sink>(
     }
 }
 
-/// Does what the words of the command line say, and answers how the program ends: [`crate::logix`] without the words
+/// Does what the words of the command line say, and answers how the program ends: [`crate::logix`] without the commands
 /// `run P S` and `stations P J C`, which it answers with the usage line. It waits for nobody.
 ///
 /// `check P` counts the parts of the project of the file `P`, `text P` writes the rungs of its routines,
