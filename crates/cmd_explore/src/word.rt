@@ -6,7 +6,7 @@ ghost use Rattle.cmd_explore.specs.ExploreState.{explore_file, explore_next, exp
 
 use crate::explored::explored;
 use crate::judged::judge_question;
-use lgx_answer::{NoLines, Status, Step, Verdict, Word, answer};
+use lgx_answer::{FileCommand, NoLines, Status, Step, Verdict, answer};
 use lgx_explore::Progress;
 use lgx_io::{Files, Sink};
 use lgx_journal::Script;
@@ -41,7 +41,7 @@ pub(crate) enum Explore<'a, P: Drop> {
     },
 }
 
-impl<'a, P: Progress + Drop> Word for Explore<'a, P> {
+impl<'a, P: Progress + Drop> FileCommand for Explore<'a, P> {
     type Text = NoLines;
 
     ghost file = { explore_file };

@@ -11,7 +11,7 @@ ghost use Rattle.cmd_laws.specs.LawsState.{laws_file, laws_next, laws_left};
 
 use crate::lines::no_line;
 use cmd_trace::{table_of, trace_cause_line, yes_line};
-use lgx_answer::{NoLines, Status, Step, Verdict, Word, answer};
+use lgx_answer::{FileCommand, NoLines, Status, Step, Verdict, answer};
 use lgx_audit::{Table, Trace, TraceError, read_trace};
 use lgx_edit::PlantParts;
 use lgx_io::{Files, Sink};
@@ -103,7 +103,7 @@ fn on_trace(alloc: Global, project: &PlantParts, bytes: &[u8]) -> Result<Saying,
     }
 }
 
-impl<'a> Word for Laws<'a> {
+impl<'a> FileCommand for Laws<'a> {
     type Text = NoLines;
 
     ghost file = { laws_file };

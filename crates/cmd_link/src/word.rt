@@ -6,7 +6,7 @@ ghost use Rattle.cmd_link.specs.LinkState.{link_file, link_next, link_left};
 
 use crate::judged::{judge_controller, judge_link};
 use crate::lines::{LinkLines, linked};
-use lgx_answer::{Status, Step, Verdict, Word, answer};
+use lgx_answer::{FileCommand, Status, Step, Verdict, answer};
 use lgx_io::{Files, Sink};
 use lgx_judge::Judged;
 use lgx_num::Memory;
@@ -36,7 +36,7 @@ pub(crate) enum LinkWord<'a> {
     },
 }
 
-impl<'a> Word for LinkWord<'a> {
+impl<'a> FileCommand for LinkWord<'a> {
     type Text = LinkLines;
 
     ghost file = { link_file };

@@ -7,7 +7,7 @@ ghost use Rattle.cmd_project.specs.CheckPlan.{routine_count, rung_count, check_l
 ghost use Rattle.lgx_answer.specs.Endings.{ending_of};
 ghost use Rattle.lgx_answer.specs.Answered.{Answered, call_of};
 
-use lgx_answer::{NoLines, Status, Step, Verdict, Word, answer};
+use lgx_answer::{FileCommand, NoLines, Status, Step, Verdict, answer};
 use lgx_edit::{PlantParts, ProgramText, RoutineText};
 use lgx_io::{Files, Sink};
 use lgx_judge::{Judged, judge_project};
@@ -126,7 +126,7 @@ fn counts_said<'a>(alloc: Global, project: &Project) -> Result<Step<Check<'a>, N
     Ok(Step::Say(Verdict::Ok, Items::of(line)))
 }
 
-impl<'a> Word for Check<'a> {
+impl<'a> FileCommand for Check<'a> {
     type Text = NoLines;
 
     ghost file = { λ w. w.project.now };

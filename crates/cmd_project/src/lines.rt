@@ -15,7 +15,7 @@ use std::alloc::Global;
 
 /// Where the lines of a program go on: the routine, and the line of it, each counted from 0. A routine's line 0 tells its names.
 #[derive(Clone, Copy)]
-struct Place {
+struct RungLine {
     routine: usize,
     line: usize,
 }
@@ -29,7 +29,7 @@ pub struct TextLines {
     project: Project,
     /// The program of the next line, counted from 0, and where that goes on.
     program: usize,
-    place: Place,
+    place: RungLine,
 }
 
 /// A rung in its canonical spelling.
@@ -85,7 +85,7 @@ fn routine_line(
 fn program_line(
     alloc: Global,
     program: &ProgramText,
-    place: &mut Place,
+    place: &mut RungLine,
     line: &mut Vec<u8>,
 ) -> Result<bool, Memory>
     ensures more { result ≡ Ok true → program_left place.old (program_of program.now)
@@ -111,7 +111,7 @@ fn programs_line(
     alloc: Global,
     programs: &[ProgramText],
     at: &mut usize,
-    place: &mut Place,
+    place: &mut RungLine,
     line: &mut Vec<u8>,
 ) -> Result<bool, Memory>
     ensures more { result ≡ Ok true → programs_left (map program_of programs.now) at.old place.old
@@ -125,7 +125,7 @@ fn programs_line(
             return Ok(true);
         }
         *at += 1;
-        *place = Place {
+        *place = RungLine {
             routine: 0,
             line: 0,
         };
@@ -138,7 +138,7 @@ fn project_line(
     alloc: Global,
     project: &PlantParts,
     program: &mut usize,
-    place: &mut Place,
+    place: &mut RungLine,
     line: &mut Vec<u8>,
 ) -> Result<bool, Memory>
     ensures more { result ≡ Ok true → programs_left project.now.programs program.old place.old
@@ -159,7 +159,7 @@ impl TextLines {
             alloc,
             project,
             program: 0,
-            place: Place {
+            place: RungLine {
                 routine: 0,
                 line: 0,
             },

@@ -5,7 +5,7 @@ ghost use Rattle.lgx_answer.specs.Endings.{ending_of};
 ghost use Rattle.lgx_answer.specs.Answered.{Answered, call_of};
 ghost use Rattle.cmd_project.specs.MigratePlan.{migrate_plan};
 
-use lgx_answer::{NoLines, Status, Step, Verdict, Word, answer};
+use lgx_answer::{FileCommand, NoLines, Status, Step, Verdict, answer};
 use lgx_io::{Files, Sink};
 use lgx_judge::project_cause_line;
 use lgx_num::{Items, Memory};
@@ -19,7 +19,7 @@ pub(crate) struct Migrate<'a> {
     pub project: &'a str,
 }
 
-impl<'a> Word for Migrate<'a> {
+impl<'a> FileCommand for Migrate<'a> {
     type Text = NoLines;
 
     ghost file = { λ w. w.project.now };

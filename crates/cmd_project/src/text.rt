@@ -6,7 +6,7 @@ ghost use Rattle.lgx_answer.specs.Answered.{Answered, call_of};
 ghost use Rattle.cmd_project.specs.TextPlan.{text_plan};
 
 use crate::lines::TextLines;
-use lgx_answer::{Status, Step, Verdict, Word, answer};
+use lgx_answer::{FileCommand, Status, Step, Verdict, answer};
 use lgx_io::{Files, Sink};
 use lgx_judge::{Judged, judge_project};
 use lgx_num::Memory;
@@ -19,7 +19,7 @@ pub(crate) struct Text<'a> {
     pub project: &'a str,
 }
 
-impl<'a> Word for Text<'a> {
+impl<'a> FileCommand for Text<'a> {
     type Text = TextLines;
 
     ghost file = { λ w. w.project.now };

@@ -5,7 +5,7 @@ ghost use Rattle.lgx_answer.specs.Answered.{Answered, call_of};
 ghost use Rattle.cmd_replay.specs.ReplayPlan.{replay_plan};
 
 use crate::report_lines::{ReportLines, report_of};
-use lgx_answer::{Status, Step, Verdict, Word, answer};
+use lgx_answer::{FileCommand, Status, Step, Verdict, answer};
 use lgx_io::{Files, Sink};
 use lgx_judge::{Judged, judge_journal, judge_project};
 use lgx_num::Memory;
@@ -21,7 +21,7 @@ pub(crate) enum Replay<'a> {
     OnProject { project: Project, journal: &'a str },
 }
 
-impl<'a> Word for Replay<'a> {
+impl<'a> FileCommand for Replay<'a> {
     type Text = ReportLines;
 
     ghost file = { replay_file };

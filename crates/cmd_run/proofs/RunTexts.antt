@@ -15,7 +15,7 @@ use Rattle.lgx_judge.specs.ReportLines.{end_of}
 use Rattle.lgx_judge.proofs.Reports.{report_from_start}
 use Rattle.lgx_shared.specs.RecorderView.{RecorderView}
 use Rattle.lgx_shared.specs.Follows.{journal_of}
-use Rattle.cmd_run.specs.declared.lines.Place.TheVariants.{Journal}
+use Rattle.cmd_run.specs.declared.lines.NextLine.TheVariants.{Journal}
 use Rattle.cmd_run.specs.RunText.{run_text, BeginsWithOne, IsRunText}
 use Rattle.cmd_run.specs.RunLines.{rest_of}
 use Rattle.cmd_run.proofs.ReadBack.{journal_before}

@@ -9,8 +9,8 @@ use Rattle.lgx_judge.specs.declared.ends.End.{End}
 use Rattle.lgx_judge.specs.ReportLines.{report_from}
 use Rattle.lgx_shared.specs.RecorderView.{RecorderView}
 use Rattle.lgx_shared.specs.Follows.{journal_of}
-use Rattle.cmd_run.specs.declared.lines.Place.{Place}
-use Rattle.cmd_run.specs.declared.lines.Place.TheVariants.{Journal, Report}
+use Rattle.cmd_run.specs.declared.lines.NextLine.{NextLine}
+use Rattle.cmd_run.specs.declared.lines.NextLine.TheVariants.{Journal, Report}
 
 -- the line of a run of equal events
 abbrev pub run_line : EventRun → List ℕ
@@ -29,12 +29,12 @@ abbrev pub journal_from : List Event → ℕ → List ℕ
 journal_from journal i = flat_map run_line (drop i (joined journal)) ++ codes "end" ++ 10 ∷ []
 
 -- the lines from this place on
-abbrev pub rest_of : RecorderView → End → Place → List ℕ
+abbrev pub rest_of : RecorderView → End → NextLine → List ℕ
 rest_of v end (Journal next) =
     journal_from (journal_of v) next ++ report_from v.recording.names v.recording.log end 0
 rest_of v end (Report next) = report_from v.recording.names v.recording.log end next
 
 -- how many they are
-abbrev pub left_of : RecorderView → Place → ℕ
+abbrev pub left_of : RecorderView → NextLine → ℕ
 left_of v (Journal next) = (length (joined (journal_of v)) - next) + (length v.recording.log.lines + 2)
 left_of v (Report next) = (length v.recording.log.lines + 1) - next

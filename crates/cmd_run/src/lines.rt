@@ -16,7 +16,7 @@ use lgx_shared::Recorder;
 
 /// Which line comes next.
 #[derive(Clone, Copy)]
-pub(crate) enum Place {
+pub(crate) enum NextLine {
     /// The journal's run with this number; after the last the line `end`.
     Journal(u32),
     /// The report's line with this number.
@@ -29,7 +29,7 @@ pub(crate) enum Place {
 pub(crate) struct RunLines {
     recorder: Recorder,
     end: End,
-    place: Place,
+    place: NextLine,
 }
 
 impl RunLines {
@@ -43,7 +43,7 @@ impl RunLines {
         RunLines {
             recorder,
             end,
-            place: Place::Journal(0),
+            place: NextLine::Journal(0),
         }
     }
 }
@@ -77,20 +77,20 @@ impl Lines for RunLines {
     fn line(&mut self, line: &mut Vec<u8>) -> Result<bool, Memory> {
         let recorder = &self.recorder;
         match self.place {
-            Place::Journal(next) => {
+            NextLine::Journal(next) => {
                 if next < recorder.journal().runs() {
                     run_line(line, recorder.journal(), next)?;
-                    self.place = Place::Journal(next + 1);
+                    self.place = NextLine::Journal(next + 1);
                 } else {
                     journal_end(line)?;
-                    self.place = Place::Report(0);
+                    self.place = NextLine::Report(0);
                 }
                 Ok(true)
             }
-            Place::Report(next) => {
+            NextLine::Report(next) => {
                 let made = report_line(line, recorder.log(), recorder.names(), self.end, next)?;
                 if made {
-                    self.place = Place::Report(next + 1);
+                    self.place = NextLine::Report(next + 1);
                 }
                 Ok(made)
             }

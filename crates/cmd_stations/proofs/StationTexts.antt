@@ -16,7 +16,7 @@ use Rattle.lgx_judge.specs.ReportLines.{end_of}
 use Rattle.lgx_judge.proofs.Reports.{report_from_start}
 use Rattle.lgx_stations.specs.declared.watcher.Readings.{Readings}
 use Rattle.lgx_stations.specs.Telling.{AreReadingsOf}
-use Rattle.cmd_stations.specs.declared.lines.Place.TheVariants.{Report}
+use Rattle.cmd_stations.specs.declared.lines.NextLine.TheVariants.{Report}
 use Rattle.cmd_stations.specs.StationsText.{station_lines, lines_from, IsStationsText}
 use Rattle.cmd_stations.specs.Rest.{rest_of}
 

@@ -9,7 +9,7 @@ use lgx_record::Recording;
 
 /// Which line comes next.
 #[derive(Clone, Copy)]
-pub(crate) enum Place {
+pub(crate) enum NextLine {
     /// The report's line with this number; after the last come those of the stations.
     Report(u32),
     /// The line of a station that begins at this byte of theirs.
@@ -23,7 +23,7 @@ pub(crate) struct StationsLines {
     pub(crate) end: End,
     /// The lines of the stations.
     pub(crate) stations: Vec<u8>,
-    pub(crate) place: Place,
+    pub(crate) place: NextLine,
 }
 
 impl Lines for StationsLines {
@@ -35,16 +35,16 @@ impl Lines for StationsLines {
 
     fn line(&mut self, line: &mut Vec<u8>) -> Result<bool, Memory> {
         match self.place {
-            Place::Report(next) => {
+            NextLine::Report(next) => {
                 let (log, names) = (self.recording.log(), self.recording.names());
                 if report_line(line, log, names, self.end, next)? {
-                    self.place = Place::Report(next + 1);
+                    self.place = NextLine::Report(next + 1);
                     return Ok(true);
                 }
-                self.place = Place::Stations(0);
+                self.place = NextLine::Stations(0);
                 self.station_line(line, 0)
             }
-            Place::Stations(at) => self.station_line(line, at),
+            NextLine::Stations(at) => self.station_line(line, at),
         }
     }
 }
@@ -52,7 +52,7 @@ impl Lines for StationsLines {
 impl StationsLines {
     ghost use Rattle.std.specs.Prelude.{◌≡◌, ◌<◌, ◌++◌, ◌-◌, [], Ok, true, false, drop, length};
     ghost use Rattle.std.specs.Io.BufRead.{take_through};
-    ghost use Rattle.cmd_stations.specs.declared.lines.Place.TheVariants.{Stations};
+    ghost use Rattle.cmd_stations.specs.declared.lines.NextLine.TheVariants.{Stations};
 
     /// Makes the line of a station that begins at a byte of theirs, and no more than that, in place of what stands in `line`; `false` if none does.
     fn station_line(&mut self, line: &mut Vec<u8>, at: usize) -> Result<bool, Memory>
@@ -69,7 +69,7 @@ impl StationsLines {
         let count = line_length(lines);
         line.clear();
         line.extend_from_slice(&lines[..count])?;
-        self.place = Place::Stations(at + count);
+        self.place = NextLine::Stations(at + count);
         Ok(true)
     }
 }

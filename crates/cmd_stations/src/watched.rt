@@ -7,7 +7,7 @@ ghost use Rattle.lgx_stations.specs.declared.stations.TheConstants.{MAX_STATIONS
 ghost use Rattle.cmd_stations.specs.Rest.{rest_of};
 ghost use Rattle.cmd_stations.specs.StationsText.{IsStationsText};
 
-use crate::lines::{Place, StationsLines};
+use crate::lines::{NextLine, StationsLines};
 use crate::texts::stations_text;
 use lgx_journal::Journal;
 use lgx_judge::end_of;
@@ -52,7 +52,7 @@ fn watched_as<I: Input + Send, G: Gate + Sync, R: Threads + Wait + Sync>(
         recording,
         end,
         stations: text,
-        place: Place::Report(0),
+        place: NextLine::Report(0),
     })
 }
 

@@ -10,7 +10,7 @@ ghost use Rattle.cmd_trace.specs.AuditState.{audit_file, audit_next, audit_left}
 
 use crate::lines::{no_line, trace_cause_line, yes_line};
 use crate::table::table_of;
-use lgx_answer::{NoLines, Status, Step, Verdict, Word, answer};
+use lgx_answer::{FileCommand, NoLines, Status, Step, Verdict, answer};
 use lgx_audit::{AuditError, Table, Trace, TraceError, audit, read_trace};
 use lgx_io::{Files, Sink};
 use lgx_judge::{Judged, judge_project};
@@ -75,7 +75,7 @@ fn on_trace(alloc: Global, table: &Table, bytes: &[u8]) -> Result<Saying, Memory
     }
 }
 
-impl<'a> Word for Audit<'a> {
+impl<'a> FileCommand for Audit<'a> {
     type Text = NoLines;
 
     ghost file = { audit_file };

@@ -6,7 +6,7 @@ ghost use Rattle.cmd_trace.specs.TracePlan.{trace_plan};
 ghost use Rattle.cmd_trace.specs.TraceState.{trace_file, trace_state, trace_left};
 
 use crate::trace_lines::{ReadProject, TraceLines, lines_of};
-use lgx_answer::{Status, Step, Verdict, Word, answer};
+use lgx_answer::{FileCommand, Status, Step, Verdict, answer};
 use lgx_io::{Files, Sink};
 use lgx_judge::{Judged, judge_journal, judge_project};
 use lgx_num::Memory;
@@ -21,7 +21,7 @@ pub(crate) enum Trace<'a> {
     OnProject { read: ReadProject, journal: &'a str },
 }
 
-impl<'a> Word for Trace<'a> {
+impl<'a> FileCommand for Trace<'a> {
     type Text = TraceLines;
 
     ghost file = { trace_file };

@@ -5,7 +5,7 @@ ghost use Rattle.lgx_answer.specs.Answered.{Answered, call_of};
 ghost use Rattle.cmd_xref.specs.XrefPlan.{xref_judged, xref_plan};
 
 use crate::xref_lines::XrefLines;
-use lgx_answer::{Status, Step, Verdict, Word, answer};
+use lgx_answer::{FileCommand, Status, Step, Verdict, answer};
 use lgx_io::{Files, Sink};
 use lgx_judge::{Judged, judge_project};
 use lgx_num::Memory;
@@ -18,7 +18,7 @@ pub(crate) struct CrossReference<'a> {
     pub project: &'a str,
 }
 
-impl<'a> Word for CrossReference<'a> {
+impl<'a> FileCommand for CrossReference<'a> {
     type Text = XrefLines;
 
     ghost file = { λ w. w.project.now };

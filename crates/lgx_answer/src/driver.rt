@@ -7,7 +7,7 @@ ghost use Rattle.lgx_answer.specs.Answered.{Answered, call_of};
 use crate::lines::Lines;
 use crate::puts::{put_text, write_lines};
 use crate::status::{Status, Verdict};
-use crate::word::{Step, Word};
+use crate::word::{FileCommand, Step};
 use lgx_io::{FileFault, Files, Sink, SinkFault};
 use lgx_num::Memory;
 use std::alloc::Global;
@@ -59,7 +59,7 @@ pub fn write<L: Lines, F: Files, K: Sink>(
 }
 
 /// Reads the files of a word one after another, up to a verdict, and writes its text.
-pub fn answer<W: Word, F: Files, K: Sink>(
+pub fn answer<W: FileCommand, F: Files, K: Sink>(
     alloc: Global,
     word: W,
     files: &mut F,

@@ -20,7 +20,7 @@ pub enum Step<W: Drop, L: Drop> {
 }
 
 /// A command that is to read a file.
-pub trait Word: Drop + Sized {
+pub trait FileCommand: Drop + Sized {
     /// What it writes if it accepts its files.
     type Text: Lines;
 

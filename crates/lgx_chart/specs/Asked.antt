@@ -9,7 +9,7 @@ use Rattle.spec_machine.specs.declared.limits.TheConstants.{MAX_WATCHES}
 use Rattle.lgx_chart.specs.declared.clock.Clock.{Clock}
 use Rattle.lgx_chart.specs.declared.clock.Clock.TheVariants.{Step, Tick}
 use Rattle.lgx_chart.specs.declared.asked.View.{View}
-use Rattle.lgx_chart.specs.declared.asked.Place.{Place}
+use Rattle.lgx_chart.specs.declared.asked.WatchedPlace.{WatchedPlace}
 use Rattle.lgx_chart.specs.declared.asked.Asked.{Asked}
 use Rattle.lgx_chart.specs.declared.asked.TheConstants.{MIN_WIDTH, MAX_WIDTH}
 use Rattle.lgx_chart.specs.Words.{is_word}
@@ -41,11 +41,11 @@ with_number view word (Some n) =
 -- ---- watched places
 
 -- a BOOL or a number that starts with that value
-abbrev pub starting : Bool → List ℕ → ℤ → Place
+abbrev pub starting : Bool → List ℕ → ℤ → WatchedPlace
 starting is_bool name value = record { name = name; is_bool = is_bool; start = Some value }
 
 -- `NAME=VALUE`
-abbrev pub started : Bool → List (List ℕ) → Option Place
+abbrev pub started : Bool → List (List ℕ) → Option WatchedPlace
 started is_bool (name ∷ value ∷ []) = if is_word name then option_map (starting is_bool name) (signed_of value) else None
 started is_bool _ = None
 
@@ -53,18 +53,18 @@ abbrev pub is_place_word : List ℕ → Bool
 is_place_word word = bytes_eq word (codes "--bool") || bytes_eq word (codes "--number")
 
 -- `--bool NAME=VALUE`, `--number NAME=VALUE`
-abbrev pub place_of : List ℕ → List ℕ → Option Place
+abbrev pub place_of : List ℕ → List ℕ → Option WatchedPlace
 place_of word value =
     if is_place_word word then started (bytes_eq word (codes "--bool")) (pieces 61 value) else None
 
-abbrev pub is_told : List Place → List ℕ → Bool
+abbrev pub is_told : List WatchedPlace → List ℕ → Bool
 is_told places name = list_any (λ p. bytes_eq p.name name) places
 
 -- a place is given once, and there are no more than a project watches
-abbrev pub may_tell : List Place → List ℕ → Bool
+abbrev pub may_tell : List WatchedPlace → List ℕ → Bool
 may_tell places name = not (is_told places name) && nat_lt (length places) MAX_WATCHES
 
-abbrev pub with_place : Asked → Place → Option Asked
+abbrev pub with_place : Asked → WatchedPlace → Option Asked
 with_place a p = if may_tell a.places p.name then Some (record a { places = a.places ++ p ∷ [] }) else None
 
 -- ---- all words

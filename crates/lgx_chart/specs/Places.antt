@@ -8,7 +8,7 @@ use Rattle.lgx_chart.specs.declared.entry.Note.TheVariants.{Begin, Reply, Fault,
 use Rattle.lgx_chart.specs.declared.entry.Entry.{Entry}
 use Rattle.lgx_chart.specs.declared.entry.Chart.{Chart}
 use Rattle.lgx_chart.specs.declared.asked.View.{View}
-use Rattle.lgx_chart.specs.declared.asked.Place.{Place}
+use Rattle.lgx_chart.specs.declared.asked.WatchedPlace.{WatchedPlace}
 use Rattle.lgx_chart.specs.declared.asked.Asked.{Asked}
 use Rattle.lgx_chart.specs.Clocks.{time_of}
 use Rattle.lgx_chart.specs.Asked.{is_told}
@@ -41,22 +41,22 @@ value_at_start view es name value = fold (after_line view name) value es
 
 -- ---- places
 
-abbrev pub shown : View → List Entry → Place → Place
+abbrev pub shown : View → List Entry → WatchedPlace → WatchedPlace
 shown view es p = record p { start = value_at_start view es p.name p.start }
 
 -- of a place that isn't given, nothing is known before its first change
-abbrev pub unknown : List ℕ → Place
+abbrev pub unknown : List ℕ → WatchedPlace
 unknown name = record { name = name; is_bool = false; start = None }
 
-abbrev pub untold : List Place → List ℕ → Option Place
+abbrev pub untold : List WatchedPlace → List ℕ → Option WatchedPlace
 untold places name = if is_told places name then None else Some (unknown name)
 
 -- the places that are given, and then those that changed besides
-abbrev pub places_of : Asked → Chart → List Place
+abbrev pub places_of : Asked → Chart → List WatchedPlace
 places_of a chart = map (shown a.view chart.entries) (a.places ++ filter_map (untold a.places) chart.watches)
 
-abbrev pub is_bool_at : List ℕ → Place → Bool
+abbrev pub is_bool_at : List ℕ → WatchedPlace → Bool
 is_bool_at name p = p.is_bool && bytes_eq p.name name
 
-abbrev pub is_bool : List Place → List ℕ → Bool
+abbrev pub is_bool : List WatchedPlace → List ℕ → Bool
 is_bool places name = list_any (is_bool_at name) places

@@ -14,7 +14,7 @@ use Rattle.lgx_chart.specs.declared.entry.Chart.{Chart}
 use Rattle.lgx_chart.specs.declared.clock.Clock.{Clock}
 use Rattle.lgx_chart.specs.declared.clock.Clock.TheVariants.{Step, Tick}
 use Rattle.lgx_chart.specs.declared.asked.View.{View}
-use Rattle.lgx_chart.specs.declared.asked.Place.{Place}
+use Rattle.lgx_chart.specs.declared.asked.WatchedPlace.{WatchedPlace}
 use Rattle.lgx_chart.specs.declared.asked.Asked.{Asked}
 use Rattle.lgx_chart.specs.Clocks.{time_of}
 use Rattle.lgx_chart.specs.Places.{is_shown, is_bool, places_of}
@@ -48,7 +48,7 @@ abbrev pub valued : Bool → List ℕ → ℤ → List ℕ
 valued is_bool watch value = value_of is_bool value ++ codes "w:" ++ watch ++ codes "\n"
 
 -- What a line changes. A task's signal, `t:` and its name, has the program that began and its version. Strings have no spaces.
-abbrev pub change : List Place → Note → List ℕ
+abbrev pub change : List WatchedPlace → Note → List ℕ
 change places (Begin task program version) = begun program version ++ codes " t:" ++ task ++ codes "\n"
 change places (Reply words) = codes "s" ++ join_with_byte 95 words ++ codes " reply\n"
 change places (Fault words) = codes "s" ++ join_with_byte 95 words ++ codes " fault\n"
@@ -69,7 +69,7 @@ abbrev pub last_time : View → End → ℕ
 last_time view end = max view.from (min view.to (time_of view.clock end.tick end.step))
 
 -- the changes that are shown, each after its time, and the last time
-abbrev pub changes_from : View → List Place → Option ℕ → List Entry → End → List ℕ
+abbrev pub changes_from : View → List WatchedPlace → Option ℕ → List Entry → End → List ℕ
 changes_from view places last [] end = stamp last (last_time view end)
 changes_from view places last (e ∷ es) end =
     if is_shown view e then stamp last (time_of view.clock e.tick e.step) ++ change places e.note ++ changes_from view places (Some (time_of view.clock e.tick e.step)) es end else changes_from view places last es end
@@ -127,7 +127,7 @@ abbrev pub kind_text : Bool → List ℕ
 kind_text true = wire_text
 kind_text false = watch_text
 
-abbrev pub watch_signal : Place → List ℕ
+abbrev pub watch_signal : WatchedPlace → List ℕ
 watch_signal p = kind_text p.is_bool ++ p.name ++ codes " " ++ reference p.name ++ end_text
 
 -- A tick is a millisecond. A processor step has no length of its own; it is written as one nanosecond.
@@ -142,20 +142,20 @@ ending end = version_text ++ end.mode ++ lost_text ++ decimal end.lost
 abbrev pub opening : Clock → End → List ℕ
 opening clock end = ending end ++ timescale_text ++ unit_of clock ++ end_text
 
-abbrev pub signals : List (List ℕ) → List Place → List ℕ
+abbrev pub signals : List (List ℕ) → List WatchedPlace → List ℕ
 signals tasks places =
     tasks_scope ++ flat_map task_signal tasks ++ watches_scope ++ flat_map watch_signal places ++ other_signals
 
 -- ---- the values at the first time
 
-abbrev pub value_from : Place → Option ℤ → List ℕ
+abbrev pub value_from : WatchedPlace → Option ℤ → List ℕ
 value_from p None = []
 value_from p (Some value) = valued p.is_bool p.name value
 
-abbrev pub first_value : Place → List ℕ
+abbrev pub first_value : WatchedPlace → List ℕ
 first_value p = value_from p p.start
 
-abbrev pub first_values : List Place → List ℕ
+abbrev pub first_values : List WatchedPlace → List ℕ
 first_values places = flat_map first_value places
 
 -- no program of the task began
@@ -173,11 +173,11 @@ begun_at from values = if is_empty values then None else Some from
 
 -- ---- the whole text
 
-abbrev pub after_signals : View → List Place → Chart → List ℕ
+abbrev pub after_signals : View → List WatchedPlace → Chart → List ℕ
 after_signals view places chart =
     beginning view.from chart.tasks (first_values places) ++ changes_from view places (begun_at view.from (first_values places)) chart.entries chart.end
 
-abbrev pub wave_of : View → List Place → Chart → List ℕ
+abbrev pub wave_of : View → List WatchedPlace → Chart → List ℕ
 wave_of view places chart =
     opening view.clock chart.end ++ signals chart.tasks places ++ after_signals view places chart
 

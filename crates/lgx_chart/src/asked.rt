@@ -30,7 +30,7 @@ pub struct View {
 
 /// A watched place: its name, whether it is a BOOL, and its value at the first time that is shown, if that is known.
 #[derive(Drop)]
-pub struct Place {
+pub struct WatchedPlace {
     pub name: Items<u8>,
     pub is_bool: bool,
     pub start: Option<i32>,
@@ -40,7 +40,7 @@ pub struct Place {
 #[derive(Drop)]
 pub struct Asked {
     pub view: View,
-    pub places: Items<Place>,
+    pub places: Items<WatchedPlace>,
 }
 
 impl View {
@@ -92,7 +92,7 @@ fn is_width(number: u32) -> bool
 
 /// The place that `NAME=VALUE` tells.
 #[tactic(auto, using(crate::proofs::WordLists::three_parts))]
-fn started(alloc: Global, is_bool: bool, text: &[u8]) -> Result<Option<Place>, Memory>
+fn started(alloc: Global, is_bool: bool, text: &[u8]) -> Result<Option<WatchedPlace>, Memory>
     ensures { IfOk result (λ place. place ≡ started is_bool (pieces 61 text.now)) }
 {
     let Some((name, value)) = split_first(text, b'=') else {
@@ -107,7 +107,7 @@ fn started(alloc: Global, is_bool: bool, text: &[u8]) -> Result<Option<Place>, M
     let Some(value) = signed_of(value) else {
         return Ok(None);
     };
-    Ok(Some(Place {
+    Ok(Some(WatchedPlace {
         name: owned(alloc, name)?,
         is_bool,
         start: Some(value),
@@ -115,7 +115,7 @@ fn started(alloc: Global, is_bool: bool, text: &[u8]) -> Result<Option<Place>, M
 }
 
 /// The place that an option tells.
-fn place_of(alloc: Global, word: &[u8], value: &[u8]) -> Result<Option<Place>, Memory>
+fn place_of(alloc: Global, word: &[u8], value: &[u8]) -> Result<Option<WatchedPlace>, Memory>
     ensures { IfOk result (λ place. place ≡ place_of word.now value.now) }
 {
     let is_bool = word == b"--bool".as_slice();
@@ -126,14 +126,14 @@ fn place_of(alloc: Global, word: &[u8], value: &[u8]) -> Result<Option<Place>, M
 }
 
 /// Whether a place of that name is among these.
-pub(crate) fn is_told(places: &[Place], name: &[u8]) -> bool
+pub(crate) fn is_told(places: &[WatchedPlace], name: &[u8]) -> bool
     ensures { result ≡ is_told places.now name.now }
 {
     places.iter().any(|place| place.name.as_slice() == name)
 }
 
 /// Whether a place of that name may be given beside these.
-fn may_tell(places: &[Place], name: &[u8]) -> bool
+fn may_tell(places: &[WatchedPlace], name: &[u8]) -> bool
     ensures { result ≡ may_tell places.now name.now }
 {
     !is_told(places, name) && places.len() < MAX_WATCHES
@@ -156,7 +156,7 @@ fn first_two(words: &[String]) -> Option<(&[u8], &[u8], &[String])>
 #[derive(Drop)]
 struct Reading {
     view: View,
-    places: Vec<Place>,
+    places: Vec<WatchedPlace>,
 }
 
 impl Model for Reading {
@@ -179,7 +179,7 @@ impl Reading {
     }
 
     /// Adds a place, if it may be given. Answers whether it may.
-    fn add(&mut self, place: Place) -> Result<bool, Memory>
+    fn add(&mut self, place: WatchedPlace) -> Result<bool, Memory>
         ensures taken { IfOk result (λ ok. IsTrue ok → with_place self.old place ≡ Some self.new) }
         ensures refused { IfOk result (λ ok. IsFalse ok → with_place self.old place ≡ None) }
     {

@@ -20,7 +20,7 @@ mod wave_file;
 mod word;
 mod words;
 
-pub use asked::{Asked, MAX_WIDTH, MIN_WIDTH, Place, View, asked_of};
+pub use asked::{Asked, MAX_WIDTH, MIN_WIDTH, View, WatchedPlace, asked_of};
 pub use chart::read_chart;
 pub use clock::{Clock, time_of};
 pub use entry::{Chart, End, Entry, Note};

@@ -3,7 +3,7 @@ ghost use Rattle.std.specs.Prelude.{◌≡◌, ◌++◌, map, IfOk, OnOk};
 ghost use Rattle.std.specs.List.{filter_map};
 ghost use Rattle.lgx_chart.specs.Places.{is_before, is_shown, set_to, after_line, value_at_start, shown, unknown, untold, places_of, is_bool_at, is_bool};
 
-use crate::asked::{Asked, Place, View, is_told};
+use crate::asked::{Asked, View, WatchedPlace, is_told};
 use crate::clock::time_of;
 use crate::entry::{Chart, Entry, Note};
 use crate::words::owned;
@@ -67,10 +67,15 @@ fn value_at_start(view: View, entries: &[Entry], name: &[u8], start: Option<i32>
 }
 
 /// A place as it is shown.
-fn shown(alloc: Global, view: View, entries: &[Entry], place: &Place) -> Result<Place, Memory>
+fn shown(
+    alloc: Global,
+    view: View,
+    entries: &[Entry],
+    place: &WatchedPlace,
+) -> Result<WatchedPlace, Memory>
     ensures { IfOk result (λ p. p ≡ shown view entries.now place.now) }
 {
-    Ok(Place {
+    Ok(WatchedPlace {
         name: owned(alloc, place.name.as_slice())?,
         is_bool: place.is_bool,
         start: value_at_start(view, entries, place.name.as_slice(), place.start),
@@ -79,7 +84,7 @@ fn shown(alloc: Global, view: View, entries: &[Entry], place: &Place) -> Result<
 
 /// Adds the places that are given.
 fn push_told(
-    places: &mut Vec<Place>,
+    places: &mut Vec<WatchedPlace>,
     alloc: Global,
     asked: &Asked,
     entries: &[Entry],
@@ -93,10 +98,15 @@ fn push_told(
 }
 
 /// A place that isn't given, as it is shown.
-fn unknown(alloc: Global, view: View, entries: &[Entry], name: &[u8]) -> Result<Place, Memory>
+fn unknown(
+    alloc: Global,
+    view: View,
+    entries: &[Entry],
+    name: &[u8],
+) -> Result<WatchedPlace, Memory>
     ensures { IfOk result (λ p. p ≡ shown view entries.now (unknown name.now)) }
 {
-    Ok(Place {
+    Ok(WatchedPlace {
         name: owned(alloc, name)?,
         is_bool: false,
         start: value_at_start(view, entries, name, None),
@@ -105,7 +115,7 @@ fn unknown(alloc: Global, view: View, entries: &[Entry], name: &[u8]) -> Result<
 
 /// Adds the places that are named and not given.
 fn push_untold(
-    places: &mut Vec<Place>,
+    places: &mut Vec<WatchedPlace>,
     alloc: Global,
     asked: &Asked,
     entries: &[Entry],
@@ -123,7 +133,7 @@ fn push_untold(
 
 /// The watched places of a picture, each with its value when the first time that is shown begins, if that is known: those that
 /// are told, and then those that a report names besides.
-pub fn places_of(alloc: Global, asked: &Asked, chart: &Chart) -> Result<Vec<Place>, Memory>
+pub fn places_of(alloc: Global, asked: &Asked, chart: &Chart) -> Result<Vec<WatchedPlace>, Memory>
     ensures { IfOk result (λ places. places.items ≡ places_of asked.now chart.now) }
 {
     let mut places = Vec::new(alloc);
@@ -134,14 +144,14 @@ pub fn places_of(alloc: Global, asked: &Asked, chart: &Chart) -> Result<Vec<Plac
 }
 
 /// Whether a place is a BOOL of that name.
-fn is_bool_at(name: &[u8], place: &Place) -> bool
+fn is_bool_at(name: &[u8], place: &WatchedPlace) -> bool
     ensures { result ≡ is_bool_at name.now place.now }
 {
     place.is_bool && place.name.as_slice() == name
 }
 
 /// Whether a BOOL of that name is among these places.
-pub(crate) fn is_bool(places: &[Place], name: &[u8]) -> bool
+pub(crate) fn is_bool(places: &[WatchedPlace], name: &[u8]) -> bool
     ensures { result ≡ is_bool places.now name.now }
 {
     places.iter().any(|place| is_bool_at(name, place))

@@ -4,7 +4,7 @@ ghost use Rattle.std.specs.List.{flat_map, join_with_byte, list_all};
 ghost use Rattle.lgx_num.specs.Name.{is_name_byte};
 ghost use Rattle.lgx_chart.specs.Vcd.{binary, level_of, value_of, begun, valued, change, stamp, last_time, changes_from, reference, task_signal, kind_text, watch_signal, unit_of, ending, opening, signals, first_value, first_values, idle_task, beginning, begun_at, after_signals, wave_of, vcd_text};
 
-use crate::asked::{Asked, Place, View};
+use crate::asked::{Asked, View, WatchedPlace};
 use crate::clock::{Clock, time_of};
 use crate::entry::{Chart, End, Entry, Note};
 use crate::places::{is_bool, places_of};
@@ -106,7 +106,7 @@ fn push_value(text: &mut Vec<u8>, is_bool: bool, value: i32) -> Result<(), Memor
 fn push_change(
     text: &mut Vec<u8>,
     alloc: Global,
-    places: &[Place],
+    places: &[WatchedPlace],
     note: &Note,
 ) -> Result<(), Memory>
     ensures { OnOk result (text.new.items ≡ text.old.items ++ change places.now note.now) }
@@ -154,7 +154,7 @@ fn push_changes(
     text: &mut Vec<u8>,
     alloc: Global,
     view: View,
-    places: &[Place],
+    places: &[WatchedPlace],
     begun: Option<u32>,
     entries: &[Entry],
     end: &End,
@@ -219,7 +219,7 @@ fn kind_text(is_bool: bool) -> &'static [u8]
 }
 
 /// Adds the signal of a watched place.
-fn push_watch_signal(text: &mut Vec<u8>, place: &Place) -> Result<(), Memory>
+fn push_watch_signal(text: &mut Vec<u8>, place: &WatchedPlace) -> Result<(), Memory>
     ensures { OnOk result (text.new.items ≡ text.old.items ++ watch_signal place.now) }
 {
     let name = place.name.as_slice();
@@ -231,7 +231,7 @@ fn push_watch_signal(text: &mut Vec<u8>, place: &Place) -> Result<(), Memory>
 }
 
 /// Adds the signals of watched places.
-fn push_watch_signals(text: &mut Vec<u8>, places: &[Place]) -> Result<(), Memory>
+fn push_watch_signals(text: &mut Vec<u8>, places: &[WatchedPlace]) -> Result<(), Memory>
     ensures { OnOk result (text.new.items ≡ text.old.items ++ flat_map watch_signal places.now) }
 {
     for place in places {
@@ -270,7 +270,11 @@ fn push_opening(text: &mut Vec<u8>, alloc: Global, clock: Clock, end: &End) -> R
 }
 
 /// Adds the signals: the tasks in the order in which they first began, the watched places.
-fn push_signals(text: &mut Vec<u8>, tasks: &[Items<u8>], places: &[Place]) -> Result<(), Memory>
+fn push_signals(
+    text: &mut Vec<u8>,
+    tasks: &[Items<u8>],
+    places: &[WatchedPlace],
+) -> Result<(), Memory>
     ensures { OnOk result (text.new.items ≡ text.old.items ++ signals tasks.now places.now) }
 {
     push(text, tasks_scope())?;
@@ -281,7 +285,7 @@ fn push_signals(text: &mut Vec<u8>, tasks: &[Items<u8>], places: &[Place]) -> Re
 }
 
 /// Adds the value of a place at the first time, if it is known.
-fn push_first_value(text: &mut Vec<u8>, place: &Place) -> Result<(), Memory>
+fn push_first_value(text: &mut Vec<u8>, place: &WatchedPlace) -> Result<(), Memory>
     ensures { OnOk result (text.new.items ≡ text.old.items ++ first_value place.now) }
 {
     match place.start {
@@ -291,7 +295,7 @@ fn push_first_value(text: &mut Vec<u8>, place: &Place) -> Result<(), Memory>
 }
 
 /// The values that are known at the first time.
-fn first_values(alloc: Global, places: &[Place]) -> Result<Vec<u8>, Memory>
+fn first_values(alloc: Global, places: &[WatchedPlace]) -> Result<Vec<u8>, Memory>
     ensures { IfOk result (λ text. text.items ≡ first_values places.now) }
 {
     let mut text = Vec::new(alloc);
@@ -348,7 +352,7 @@ fn push_after_signals(
     text: &mut Vec<u8>,
     alloc: Global,
     view: View,
-    places: &[Place],
+    places: &[WatchedPlace],
     chart: &Chart,
 ) -> Result<(), Memory>
     ensures { OnOk result (text.new.items ≡ text.old.items ++ after_signals view places.now chart.now) }
@@ -371,7 +375,7 @@ fn push_wave(
     text: &mut Vec<u8>,
     alloc: Global,
     view: View,
-    places: &[Place],
+    places: &[WatchedPlace],
     chart: &Chart,
 ) -> Result<(), Memory>
     ensures { OnOk result (text.new.items ≡ text.old.items ++ wave_of view places.now chart.now) }

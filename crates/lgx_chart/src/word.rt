@@ -11,7 +11,7 @@ use crate::entry::Chart as Report;
 use crate::error::{ChartCode, ChartError, ChartFault};
 use crate::picture::Picture;
 use crate::text_out::{push, push_count};
-use lgx_answer::{NoLines, Status, Step, Verdict, Word, answer, say};
+use lgx_answer::{FileCommand, NoLines, Status, Step, Verdict, answer, say};
 use lgx_io::{Files, Sink};
 use lgx_num::{Items, Memory};
 use std::alloc::Global;
@@ -94,7 +94,7 @@ struct Drawn<P: Picture> {
     picture: P,
 }
 
-impl<P: Picture> Word for Drawn<P> {
+impl<P: Picture> FileCommand for Drawn<P> {
     type Text = NoLines;
 
     ghost file = { λ _. input_name };

@@ -20,7 +20,7 @@ use Rattle.lgx_check.proofs.Labels.{at_element as at_place, at_leg as leg_at_pla
 use Rattle.spec_language.proofs.Outlines.{tree_outline}
 use Rattle.lgx_check.specs.Spots.{place_after, spot_at}
 use Rattle.lgx_check.specs.Trees.{node_tree}
-use Rattle.lgx_check.specs.declared.spot.Place.{Place}
+use Rattle.lgx_check.specs.declared.spot.InstructionPlace.{InstructionPlace}
 
 -- what is made of an instruction where it stands
 abbrev pub InstructionCheck : Type 0
@@ -101,7 +101,7 @@ nodes_made check spot es i ns h = ap (λ x. after_nodes ns (checked_tree check s
 
 -- ---- a walk's steps
 
-pub node_step : (check : InstructionCheck) (es : List Element) (i : ℕ) (e : Element) (ns now : List Node) (n : Node) (leads : Bool) (before after : Place) (whole : Result (Tree Instruction) CheckFault)
+pub node_step : (check : InstructionCheck) (es : List Element) (i : ℕ) (e : Element) (ns now : List Node) (n : Node) (leads : Bool) (before after : InstructionPlace) (whole : Result (Tree Instruction) CheckFault)
     → i < length es → e ≡ get_or es i e → now ≡ ns ++ n ∷ [] → after ≡ place_after (element_length e) before
     → checked_tree check (spot_at leads before) (source_tree (e ∷ [])) ≡ Ok (node_tree n)
     → after_nodes ns (left_tree check (spot_at leads before) es i) ≡ whole
@@ -156,7 +156,7 @@ leg_more check spot ts i t made t' h is m =
 pub legs_made : (check : InstructionCheck) (spot : Spot) (ts : List Source) (i : ℕ) (made : List (Tree Instruction)) → length ts ≤ i → after_legs made (left_legs check spot ts i) ≡ Ok (legs_of made)
 legs_made check spot ts i made h = ap (λ x. after_legs made (checked_legs check spot (legs_of x))) (drop_all i ts h) ∙ ap Ok (legs_end made)
 
-pub leg_step : (check : InstructionCheck) (ts : List Source) (i : ℕ) (t : Source) (made now : List (Tree Instruction)) (t' : Tree Instruction) (before after : Place) (whole : Result (Legs Instruction) CheckFault)
+pub leg_step : (check : InstructionCheck) (ts : List Source) (i : ℕ) (t : Source) (made now : List (Tree Instruction)) (t' : Tree Instruction) (before after : InstructionPlace) (whole : Result (Legs Instruction) CheckFault)
     → i < length ts → t ≡ get_or ts i t → now ≡ made ++ t' ∷ [] → after ≡ place_after (length (instructions t)) before
     → checked_tree check (spot_at false before) t ≡ Ok t'
     → after_legs made (left_legs check (spot_at false before) ts i) ≡ whole
@@ -221,31 +221,31 @@ routine_made check rs i made before whole rungs h known e = sym known ∙ rungs_
 
 -- ---- places
 
-pub place_same : (p : Place) → place_after 0 p ≡ p
+pub place_same : (p : InstructionPlace) → place_after 0 p ≡ p
 place_same p =
     let a : p.ins + 0 ≡ p.ins = omega arith in
     let b : p.before + 0 ≡ p.before = omega arith in
     rw (a, b) refl
 
-pub place_sum : (a b : ℕ) (p : Place) → place_after (a + b) p ≡ place_after b (place_after a p)
+pub place_sum : (a b : ℕ) (p : InstructionPlace) → place_after (a + b) p ≡ place_after b (place_after a p)
 place_sum a b p =
     let i : p.ins + (a + b) ≡ p.ins + a + b = omega arith in
     let j : p.before + (a + b) ≡ p.before + a + b = omega arith in
     rw (i, j) refl
 
-place_step : (before after : Place) (is js : List SourceIns) → after ≡ place_after (length is) before → place_after (length js) after ≡ place_after (length (is ++ js)) before
+place_step : (before after : InstructionPlace) (is js : List SourceIns) → after ≡ place_after (length is) before → place_after (length js) after ≡ place_after (length (is ++ js)) before
 place_step before after is js p =
     ap (place_after (length js)) p
     ∙ sym (place_sum (length is) (length js) before)
     ∙ ap (λ n. place_after n before) (sym (length-append is js))
 
-pub element_place : (es : List Element) (i : ℕ) (e : Element) (before after : Place) → i < length es → e ≡ get_or es i e → after ≡ place_after (element_length e) before
+pub element_place : (es : List Element) (i : ℕ) (e : Element) (before after : InstructionPlace) → i < length es → e ≡ get_or es i e → after ≡ place_after (element_length e) before
     → place_after (length (instructions (source_tree (drop (i + 1) es)))) after ≡ place_after (length (instructions (source_tree (drop i es)))) before
 element_place es i e before after h is p =
     place_step before after (instructions (source_tree (e ∷ []))) (instructions (source_tree (drop (i + 1) es))) p
     ∙ ap (λ x. place_after (length x) before) (sym (at_place es i e h is))
 
-pub leg_place : (ts : List Source) (i : ℕ) (t : Source) (before after : Place) → i < length ts → t ≡ get_or ts i t → after ≡ place_after (length (instructions t)) before
+pub leg_place : (ts : List Source) (i : ℕ) (t : Source) (before after : InstructionPlace) → i < length ts → t ≡ get_or ts i t → after ≡ place_after (length (instructions t)) before
     → place_after (length (leg_instructions (legs_of (drop (i + 1) ts)))) after ≡ place_after (length (leg_instructions (legs_of (drop i ts)))) before
 leg_place ts i t before after h is p =
     place_step before after (instructions t) (leg_instructions (legs_of (drop (i + 1) ts))) p

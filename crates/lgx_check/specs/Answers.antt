@@ -14,8 +14,8 @@ AnswersAs seen meant (Ok x) = meant ≡ Ok (seen x)
 AnswersAs seen meant (Err (Check fault)) = meant ≡ Err fault
 AnswersAs seen meant (Err Memory) = ⊤
 
-abbrev pub Answers : {A : Type 0} → Result A CheckFault → Result A CheckError → Type 0
-Answers meant answer = AnswersAs (λ x. x) meant answer
+abbrev pub AnswersCheck : {A : Type 0} → Result A CheckFault → Result A CheckError → Type 0
+AnswersCheck meant answer = AnswersAs (λ x. x) meant answer
 
 -- the same of an operand
 abbrev pub AnswersOperand : Result Operand CheckCode → Result Operand OperandError → Type 0

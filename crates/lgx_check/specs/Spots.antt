@@ -2,20 +2,20 @@
 use Rattle.std.specs.Prelude.{ℕ, ◌+◌, ◌≤◌, Bool}
 use Rattle.spec_base.specs.declared.limits.TheConstants.{MAX_ROUTINE_INSTRUCTIONS}
 use Rattle.spec_language.specs.Checked as checking
-use Rattle.lgx_check.specs.declared.spot.Place.{Place}
+use Rattle.lgx_check.specs.declared.spot.InstructionPlace.{InstructionPlace}
 use Rattle.lgx_check.specs.declared.spot.Spot.{Spot}
 
-abbrev pub spot_at : Bool → Place → checking.Spot
+abbrev pub spot_at : Bool → InstructionPlace → checking.Spot
 spot_at leads p = record { rung = p.rung; ins = p.ins; before = p.before; leads = leads }
 
 abbrev pub spot_of : Spot → checking.Spot
 spot_of s = spot_at s.leads s.place
 
 -- the place so many instructions of the rung later
-abbrev pub place_after : ℕ → Place → Place
+abbrev pub place_after : ℕ → InstructionPlace → InstructionPlace
 place_after n p = record { rung = p.rung; ins = p.ins + n; before = p.before + n }
 
 -- no more instructions stand before it than a routine may have
-pub record IsWithin (p : Place) : Type 0 where
+pub record IsWithin (p : InstructionPlace) : Type 0 where
   pub room : p.before ≤ MAX_ROUTINE_INSTRUCTIONS
   pub order : p.ins ≤ p.before

@@ -8,7 +8,7 @@ ghost use Rattle.lgx_rung.specs.declared.fault.CheckCode.{CheckCode as AnyCode};
 ghost use Rattle.spec_base.specs.declared.limits.TheConstants.{MAX_ROUTINE_INSTRUCTIONS};
 ghost use Rattle.spec_language.specs.Checked.{code_number, instruction_of, is_entry, label_name, label_of, labels, least, lesser, operand_of, operands_of, other_faults, stands_elsewhere};
 ghost use Rattle.spec_language.specs.Operands.{paired};
-ghost use Rattle.lgx_check.specs.Answers.{Answers, AnswersOperand};
+ghost use Rattle.lgx_check.specs.Answers.{AnswersCheck, AnswersOperand};
 ghost use Rattle.lgx_check.specs.Checkers.{IsReady, check_of, checked_scope};
 ghost use Rattle.lgx_check.specs.Judging.{Judges, lesser_of};
 ghost use Rattle.lgx_check.specs.Labels.{elsewhere};
@@ -291,7 +291,7 @@ impl<'a> Checker<'a> {
     ) -> Result<Ins, CheckError>
         requires ready { IsReady self.now }
         requires room { spot.place.before ≤ MAX_ROUTINE_INSTRUCTIONS }
-        ensures answer { Answers (check_of self.now (spot_of spot) (record { op = op; texts = texts.now })) result }
+        ensures answer { AnswersCheck (check_of self.now (spot_of spot) (record { op = op; texts = texts.now })) result }
         ensures room { OnOk result (spot.place.before < MAX_ROUTINE_INSTRUCTIONS) }
     {
         let texts = texts.as_slice();

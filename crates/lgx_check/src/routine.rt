@@ -4,7 +4,7 @@ ghost use Rattle.spec_language.specs.Checked.{checked};
 ghost use Rattle.spec_language.specs.Declarations.{bytes};
 ghost use Rattle.spec_scan.specs.Executable.{AreExecutable};
 ghost use Rattle.spec_scan.specs.KnownTasks.{KnowsTasks};
-ghost use Rattle.lgx_check.specs.Answers.{Answers};
+ghost use Rattle.lgx_check.specs.Answers.{AnswersCheck};
 ghost use Rattle.lgx_check.specs.Scopes.{scope_of};
 
 use crate::checker::Checker;
@@ -27,7 +27,7 @@ pub fn check_routine(
     requires sealed { scope.now.tags.now.sealed ≡ true }
     requires few_routines { length scope.now.routines.now < 2 ^ 32 }
     requires few_tasks { length scope.now.tasks.now < 2 ^ 32 }
-    ensures answer { Answers (checked (scope_of scope.now) rungs.now) result }
+    ensures answer { AnswersCheck (checked (scope_of scope.now) rungs.now) result }
     ensures executable { IfOk result (λ made. AreExecutable (bytes scope.now.tags.now.declarations) made) }
     ensures tasks { IfOk result (λ made. KnowsTasks (length scope.now.tasks.now) made) }
 {

@@ -6,7 +6,7 @@ ghost use Rattle.lgx_check.specs.Spots.{place_after};
 /// The place of an instruction: its rung, its number in the rung, and how many instructions of the routine stand before
 /// it.
 #[derive(Clone, Copy, PartialEq, Eq, Debug)]
-pub(crate) struct Place {
+pub(crate) struct InstructionPlace {
     pub(crate) rung: u64,
     pub(crate) ins: u32,
     pub(crate) before: u32,
@@ -15,11 +15,11 @@ pub(crate) struct Place {
 /// The place of an instruction, and whether it is its rung's first element.
 #[derive(Clone, Copy, PartialEq, Eq, Debug)]
 pub(crate) struct Spot {
-    pub(crate) place: Place,
+    pub(crate) place: InstructionPlace,
     pub(crate) leads: bool,
 }
 
-impl Place {
+impl InstructionPlace {
     /// Goes on to the next instruction of the rung.
     pub(crate) fn advance(&mut self)
         requires room { self.old.before < MAX_ROUTINE_INSTRUCTIONS }

@@ -4,14 +4,14 @@ ghost use Rattle.lgx_rung.specs.Elements.{tree_of as source_tree};
 ghost use Rattle.lgx_rung.specs.Tree.{instructions, leg_instructions, legs_of};
 ghost use Rattle.lgx_prog.specs.Nodes.{tree_of};
 ghost use Rattle.spec_language.specs.Checked.{checked_from, checked_legs, checked_tree};
-ghost use Rattle.lgx_check.specs.Answers.{Answers, AnswersAs};
+ghost use Rattle.lgx_check.specs.Answers.{AnswersCheck, AnswersAs};
 ghost use Rattle.lgx_check.specs.Checkers.{IsReady, check_of};
 ghost use Rattle.lgx_check.specs.Spots.{IsWithin, place_after, spot_at};
 ghost use Rattle.lgx_check.specs.Trees.{node_tree};
 
 use crate::checker::Checker;
 use crate::error::CheckError;
-use crate::spot::{Place, Spot};
+use crate::spot::{InstructionPlace, Spot};
 use lgx_num::Items;
 use lgx_prog::{Legs, Node, Rung, Rungs};
 use lgx_rung::{Element, Legs as SourceLegs, SourceRung};
@@ -20,12 +20,12 @@ impl Checker<'_> {
     /// A routine's rungs with their operands checked.
     pub(crate) fn check_rungs(&self, rungs: &[SourceRung]) -> Result<Rungs, CheckError>
         requires { IsReady self.now }
-        ensures { Answers (checked_from (check_of self.now) 0 0 rungs.now) result }
+        ensures { AnswersCheck (checked_from (check_of self.now) 0 0 rungs.now) result }
     {
         let mut made = Vec::new(self.alloc);
         let mut before = 0;
         for (number, rung) in rungs.iter().enumerate() {
-            let mut place = Place {
+            let mut place = InstructionPlace {
                 rung: number as u64,
                 ins: 0,
                 before,
@@ -42,13 +42,13 @@ impl Checker<'_> {
     #[cycle(walk)]
     fn check_rung(
         &self,
-        place: &mut Place,
+        place: &mut InstructionPlace,
         leads: bool,
         rung: &SourceRung,
     ) -> Result<Rung, CheckError>
         requires ready { IsReady self.now }
         requires within { IsWithin place.old }
-        ensures answer { Answers (checked_tree (check_of self.now) (spot_at leads place.old) rung.now) result }
+        ensures answer { AnswersCheck (checked_tree (check_of self.now) (spot_at leads place.old) rung.now) result }
         ensures place { OnOk result (place.new ≡ place_after (length (instructions rung.now)) place.old) }
         ensures within { OnOk result (IsWithin place.new) }
     {
@@ -66,7 +66,7 @@ impl Checker<'_> {
     #[cycle(walk)]
     fn check_element(
         &self,
-        place: &mut Place,
+        place: &mut InstructionPlace,
         leads: bool,
         element: &Element,
     ) -> Result<Node, CheckError>
@@ -95,7 +95,11 @@ impl Checker<'_> {
 
     /// The legs of a fork with their operands checked.
     #[cycle(walk)]
-    fn check_legs(&self, place: &mut Place, legs: &SourceLegs) -> Result<Legs, CheckError>
+    fn check_legs(
+        &self,
+        place: &mut InstructionPlace,
+        legs: &SourceLegs,
+    ) -> Result<Legs, CheckError>
         requires ready { IsReady self.now }
         requires within { IsWithin place.old }
         ensures answer { AnswersAs legs_of (checked_legs (check_of self.now) (spot_at false place.old) (legs_of legs.now)) result }

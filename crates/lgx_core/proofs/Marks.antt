@@ -6,7 +6,7 @@ use Rattle.lgx_image.specs.Grains.{ImageView}
 use Rattle.lgx_steps.specs.PartsView.{PartsView}
 use Rattle.lgx_steps.specs.Represents.{RepresentsState}
 use Rattle.lgx_core.specs.ControllerView.{ControllerView}
-use Rattle.lgx_core.specs.Represents.{Represents, IsController}
+use Rattle.lgx_core.specs.Represents.{RepresentsController, IsController}
 
 with-image : (n : ℕ) (v : PartsView) (s : State) (i : ImageView) → i.bytes ≡ v.image.bytes → RepresentsState n v s → RepresentsState n (record v { image = i }) s
 with-image n v s i e h = record {
@@ -29,7 +29,7 @@ abbrev pub remarked : ControllerView → ImageView → ControllerView
 remarked v i = record v { parts = record v.parts { image = i } }
 
 module _ (v : ControllerView) (i : ImageView) (e : i.bytes ≡ v.parts.image.bytes) where
-  pub remarked-represents : (s : State) → Represents v s → Represents (remarked v i) s
+  pub remarked-represents : (s : State) → RepresentsController v s → RepresentsController (remarked v i) s
   remarked-represents s h = record { room = h.room; parts = with-image v.spent v.parts s i e h.parts }
 
   pub remarked-stands : IsController v → IsController (remarked v i)

@@ -15,7 +15,7 @@ use Rattle.spec_machine.specs.State.{State, Answered}
 use Rattle.spec_machine.specs.Actions.{act, edit_replied, force_replied, install_on}
 use Rattle.lgx_steps.specs.Gives.{replied_by}
 use Rattle.lgx_core.specs.ControllerView.{ControllerView}
-use Rattle.lgx_core.specs.Represents.{Represents, GoesOn}
+use Rattle.lgx_core.specs.Represents.{RepresentsController, GoesOn}
 use Rattle.lgx_core.specs.Gives.{Gives, is_edit, is_force}
 use Rattle.lgx_core.proofs.Runs.{goes-on}
 
@@ -98,8 +98,8 @@ force-no_accept Clear h k = cc h
 
 -- ---- the calls
 
-module _ (old now : ControllerView) (lane : ℕ) (a : Action) (o : Outcome) (gives : (s : State) → Represents old s → Gives now o (act s lane a)) where
-  pub edit-gives : is_edit a ≡ true → (s : State) → Represents old s → Gives now (replied_by o.reply) (act s lane a)
+module _ (old now : ControllerView) (lane : ℕ) (a : Action) (o : Outcome) (gives : (s : State) → RepresentsController old s → Gives now o (act s lane a)) where
+  pub edit-gives : is_edit a ≡ true → (s : State) → RepresentsController old s → Gives now (replied_by o.reply) (act s lane a)
   edit-gives is s h =
       let g : Gives now o (act s lane a) = gives s h in
       record { answers = ap (λ (x : Outcome). replied_by x.reply) g.answers ∙ sym (edit-replies s lane a is); represents = g.represents }
@@ -107,7 +107,7 @@ module _ (old now : ControllerView) (lane : ℕ) (a : Action) (o : Outcome) (giv
   pub edit-goes : is_edit a ≡ true → now.spent ≡ old.spent + 1 → GoesOn old now (OfAction lane a (replied_by o.reply))
   edit-goes is counted = goes-on old now (OfAction lane a (replied_by o.reply)) counted (λ s h. let g = edit-gives is s h in record { answers = ap (OfAction lane a) g.answers; represents = g.represents })
 
-  pub force-gives : is_force a ≡ true → (other : ℕ) (s : State) → Represents old s → Gives now (replied_by o.reply) (act s other a)
+  pub force-gives : is_force a ≡ true → (other : ℕ) (s : State) → RepresentsController old s → Gives now (replied_by o.reply) (act s other a)
   force-gives is other s h =
       let g : Gives now o (act s lane a) = gives s h in
       subst (λ (x : Answered Outcome). Gives now (replied_by o.reply) x) (force-lanes s lane other a is)

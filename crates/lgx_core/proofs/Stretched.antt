@@ -10,7 +10,7 @@ use Rattle.spec_machine.specs.Project.{Project}
 use Rattle.spec_machine.specs.ProcessorStep.{processor_step}
 use Rattle.spec_machine.specs.State.{State, start}
 use Rattle.spec_reach.proofs.Reached.{run_more}
-use Rattle.lgx_steps.specs.declared.parts.Parts.{Parts}
+use Rattle.lgx_steps.specs.declared.parts.ControllerParts.{ControllerParts}
 use Rattle.lgx_steps.specs.declared.begins.Begins.{Begins}
 use Rattle.lgx_steps.specs.declared.stretch.Stretch.{Stretch}
 use Rattle.lgx_steps.specs.PartsView.{view_of as parts_of}
@@ -18,7 +18,7 @@ use Rattle.lgx_steps.specs.Represents.{RepresentsState}
 use Rattle.lgx_steps.specs.Stretches.{StretchGives as PartsStretch, after_steps, moment_after}
 use Rattle.lgx_steps.proofs.PlainSteps.{one-more-step}
 use Rattle.lgx_core.specs.ControllerView.{ControllerView, view_of}
-use Rattle.lgx_core.specs.Represents.{Represents, IsController, GoesOnBy}
+use Rattle.lgx_core.specs.Represents.{RepresentsController, IsController, GoesOnBy}
 use Rattle.lgx_core.specs.Gives.{StretchGives}
 use Rattle.lgx_core.proofs.Runs.{trace-more}
 
@@ -47,7 +47,7 @@ module _ (p : Project) (events : List Event) where
 
 module _ (old now : ControllerView) (b : Begins) (x : Stretch) where
   -- whatever state was represented, so the runs go on
-  pub goes-on-by : 0 < x.steps → now.spent ≡ old.spent + x.steps → ((s : State) → Represents old s → StretchGives now b x s) → GoesOnBy old now x
+  pub goes-on-by : 0 < x.steps → now.spent ≡ old.spent + x.steps → ((s : State) → RepresentsController old s → StretchGives now b x s) → GoesOnBy old now x
   goes-on-by some counted gives p events h =
       let g : StretchGives now b x (run p events) = gives (run p events) h.represents in
       let longer : length (events ++ replicate x.steps Cpu) ≡ length events + x.steps = length-append events (replicate x.steps Cpu) ∙ ap (λ k. length events + k) (length-replicate x.steps Cpu) in
@@ -56,7 +56,7 @@ module _ (old now : ControllerView) (b : Begins) (x : Stretch) where
         stands = record {
           valid = h.valid;
           counted = counted ∙ (ap (λ k. k + x.steps) h.counted ∙ sym longer);
-          represents = subst (λ (s : State). Represents now s) (sym (run-steps p events x.steps)) g.represents;
+          represents = subst (λ (s : State). RepresentsController now s) (sym (run-steps p events x.steps)) g.represents;
         };
         answers =
             subst (λ n. trace p (events ++ replicate n Cpu) ≡ trace p (events ++ replicate (x.steps - 1) Cpu) ++ OfStep x.last ∷ []) many
@@ -70,15 +70,15 @@ module _ (old now : ControllerView) (x : Stretch) where
 
 -- ---- from the parts to the whole
 
-module _ (old now : Parts) (spent : ℕ) (b : Begins) (x : Stretch) (l : spent + x.steps ≤ MAX_EVENTS) (gives : (n : ℕ) (s : State) → RepresentsState n (parts_of old) s → PartsStretch n (parts_of now) b x s) where
-  pub stretch-gives : (s : State) → Represents (view_of old spent) s → StretchGives (view_of now (spent + x.steps)) b x s
+module _ (old now : ControllerParts) (spent : ℕ) (b : Begins) (x : Stretch) (l : spent + x.steps ≤ MAX_EVENTS) (gives : (n : ℕ) (s : State) → RepresentsState n (parts_of old) s → PartsStretch n (parts_of now) b x s) where
+  pub stretch-gives : (s : State) → RepresentsController (view_of old spent) s → StretchGives (view_of now (spent + x.steps)) b x s
   stretch-gives s h = let g = gives spent s h.parts in record { represents = record { room = l; parts = g.represents }; is_stretch = g.is_stretch }
 
   pub stretch-goes : 0 < x.steps → GoesOnBy (view_of old spent) (view_of now (spent + x.steps)) x
   stretch-goes some = goes-on-by (view_of old spent) (view_of now (spent + x.steps)) b x some refl stretch-gives
 
 -- one that is opened
-module _ (parts : Parts) (spent : ℕ) (now : ControllerView) (e : view_of parts spent ≡ now) where
+module _ (parts : ControllerParts) (spent : ℕ) (now : ControllerView) (e : view_of parts spent ≡ now) where
   pub has-room : (n most : ℕ) → n ≤ most → now.spent + most ≤ MAX_EVENTS → spent + n ≤ MAX_EVENTS
   has-room n most fewer room = let same : spent ≡ now.spent = ap (λ (v : ControllerView). v.spent) e in omega arith
 

@@ -8,15 +8,15 @@ use Rattle.lgx_steps.specs.declared.stretch.Stretch.{Stretch}
 use Rattle.lgx_steps.specs.Gives.{MatchesAnswer}
 use Rattle.lgx_steps.specs.Stretches.{IsStretch, after_steps}
 use Rattle.lgx_core.specs.ControllerView.{ControllerView}
-use Rattle.lgx_core.specs.Represents.{Represents}
+use Rattle.lgx_core.specs.Represents.{RepresentsController}
 
 -- afterwards the controller represents that state
 abbrev pub Gives : {A : Type 0} → ControllerView → A → Answered A → Type 0
-Gives v answer x = MatchesAnswer (Represents v) answer x
+Gives v answer x = MatchesAnswer (RepresentsController v) answer x
 
 -- after a stretch of processor steps from this state
 pub record StretchGives (v : ControllerView) (b : Begins) (x : Stretch) (s : State) : Type 0 where
-  pub represents : Represents v (after_steps x.steps s)
+  pub represents : RepresentsController v (after_steps x.steps s)
   pub is_stretch : IsStretch v.parts.image.watched b x s
 
 -- ---- kinds of actions

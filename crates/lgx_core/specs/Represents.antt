@@ -12,7 +12,7 @@ use Rattle.lgx_steps.specs.Represents.{RepresentsState}
 use Rattle.lgx_core.specs.ControllerView.{ControllerView}
 
 -- Its parts represent this state, which no more events led to than it counted.
-pub record Represents (v : ControllerView) (s : State) : Type 0 where
+pub record RepresentsController (v : ControllerView) (s : State) : Type 0 where
   pub room : v.spent ≤ MAX_EVENTS
   pub parts : RepresentsState v.spent v.parts s
 
@@ -20,7 +20,7 @@ pub record Represents (v : ControllerView) (s : State) : Type 0 where
 pub record StandsFor (p : Project) (events : List Event) (v : ControllerView) : Type 0 where
   pub valid : IsValidProject p
   pub counted : v.spent ≡ length events
-  pub represents : Represents v (run p events)
+  pub represents : RepresentsController v (run p events)
 
 -- it stands for some run of some valid project
 pub record IsController (v : ControllerView) : Type 0 where

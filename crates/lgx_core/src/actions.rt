@@ -7,7 +7,7 @@ ghost use Rattle.spec_machine.specs.State.{State};
 ghost use Rattle.spec_machine.specs.Actions.{act, word_in, word_out, mode_run, mode_program, clear};
 ghost use Rattle.lgx_image.specs.Grains.{ChangesOnlyMarked};
 ghost use Rattle.lgx_steps.specs.Gives.{replied_by};
-ghost use Rattle.lgx_core.specs.Represents.{Represents, GoesOn};
+ghost use Rattle.lgx_core.specs.Represents.{RepresentsController, GoesOn};
 ghost use Rattle.lgx_core.specs.Gives.{Gives, is_edit, is_force};
 
 use crate::controller::Controller;
@@ -19,7 +19,7 @@ impl Controller {
     /// N3 at an output.
     pub fn word_in(&mut self, conn: &Name, word: u32, value: i32) -> Outcome
         requires room { self.old.spent < MAX_EVENTS }
-        ensures step { (s : State) → Represents self.old s → Gives self.new result (word_in s conn.now word value) }
+        ensures step { (s : State) → RepresentsController self.old s → Gives self.new result (word_in s conn.now word value) }
         ensures runs { (lane : ℕ) → GoesOn self.old self.new (OfAction lane (Action.WordIn conn.now word value) result) }
         ensures spent { self.new.spent ≡ self.old.spent + 1 }
         ensures only_marked { ChangesOnlyMarked self.old.parts.image self.new.parts.image }
@@ -31,7 +31,7 @@ impl Controller {
     /// An I/O word goes out. It is no event. `Held` comes while a CPS is in progress; else N1 at an unknown connection, N2 at a word
     /// out of range, N3 at an input.
     pub fn word_out(&self, conn: &Name, word: u32) -> Reply
-        ensures { (s : State) → Represents self.now s → result ≡ (word_out s conn.now word).answer.reply }
+        ensures { (s : State) → RepresentsController self.now s → result ≡ (word_out s conn.now word).answer.reply }
     {
         self.parts.word_out(conn, word)
     }
@@ -39,7 +39,7 @@ impl Controller {
     /// The change to Run. `Held` comes while a CPS is in progress, then M2 if the controller is Faulted, and M1 if it is in Run.
     pub fn mode_run(&mut self) -> Outcome
         requires room { self.old.spent < MAX_EVENTS }
-        ensures step { (s : State) → Represents self.old s → Gives self.new result (mode_run s) }
+        ensures step { (s : State) → RepresentsController self.old s → Gives self.new result (mode_run s) }
         ensures runs { (lane : ℕ) → GoesOn self.old self.new (OfAction lane Action.ModeRun result) }
         ensures spent { self.new.spent ≡ self.old.spent + 1 }
         ensures only_marked { ChangesOnlyMarked self.old.parts.image self.new.parts.image }
@@ -52,7 +52,7 @@ impl Controller {
     /// Program.
     pub fn mode_program(&mut self) -> Outcome
         requires room { self.old.spent < MAX_EVENTS }
-        ensures step { (s : State) → Represents self.old s → Gives self.new result (mode_program s) }
+        ensures step { (s : State) → RepresentsController self.old s → Gives self.new result (mode_program s) }
         ensures runs { (lane : ℕ) → GoesOn self.old self.new (OfAction lane Action.ModeProgram result) }
         ensures spent { self.new.spent ≡ self.old.spent + 1 }
         ensures only_marked { ChangesOnlyMarked self.old.parts.image self.new.parts.image }
@@ -64,7 +64,7 @@ impl Controller {
     /// From Faulted to Program. `Held` comes while a CPS is in progress, then M3 if the controller isn't Faulted.
     pub fn clear(&mut self) -> Outcome
         requires room { self.old.spent < MAX_EVENTS }
-        ensures step { (s : State) → Represents self.old s → Gives self.new result (clear s) }
+        ensures step { (s : State) → RepresentsController self.old s → Gives self.new result (clear s) }
         ensures runs { (lane : ℕ) → GoesOn self.old self.new (OfAction lane Action.Clear result) }
         ensures spent { self.new.spent ≡ self.old.spent + 1 }
         ensures only_marked { ChangesOnlyMarked self.old.parts.image self.new.parts.image }
@@ -77,7 +77,7 @@ impl Controller {
     pub fn edit(&mut self, client: u32, action: &Action) -> Result<Reply, Memory>
         requires room { self.old.spent < MAX_EVENTS }
         requires edit { is_edit action.now ≡ true }
-        ensures step { (s : State) → Represents self.old s → IfOk result (λ reply. Gives self.new (replied_by reply) (act s client action.now)) }
+        ensures step { (s : State) → RepresentsController self.old s → IfOk result (λ reply. Gives self.new (replied_by reply) (act s client action.now)) }
         ensures runs { IfOk result (λ reply. GoesOn self.old self.new (OfAction client action.now (replied_by reply))) }
         ensures spent { IfOk result (λ _. self.new.spent ≡ self.old.spent + 1) }
         ensures memory { IfErr result (λ _. IsTrue (is_accept action.now)) }
@@ -94,7 +94,7 @@ impl Controller {
     pub fn force(&mut self, action: &Action) -> Reply
         requires room { self.old.spent < MAX_EVENTS }
         requires force { is_force action.now ≡ true }
-        ensures step { (lane : ℕ) (s : State) → Represents self.old s → Gives self.new (replied_by result) (act s lane action.now) }
+        ensures step { (lane : ℕ) (s : State) → RepresentsController self.old s → Gives self.new (replied_by result) (act s lane action.now) }
         ensures runs { (lane : ℕ) → GoesOn self.old self.new (OfAction lane action.now (replied_by result)) }
         ensures spent { self.new.spent ≡ self.old.spent + 1 }
         ensures only_marked { ChangesOnlyMarked self.old.parts.image self.new.parts.image }

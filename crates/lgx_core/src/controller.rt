@@ -1,7 +1,7 @@
 // The controller, with its processor step, its tick and its actions.
 use lgx_edit::Plant;
 use lgx_num::Memory;
-use lgx_steps::{Begins, Parts, Stretch};
+use lgx_steps::{Begins, ControllerParts, Stretch};
 use spec_machine::{Action, Moment, Outcome, TickReport};
 use std::alloc::Global;
 use std::marker::Model;
@@ -11,7 +11,7 @@ use std::marker::Model;
 /// It counts its events: the processor steps, the ticks and the actions, refused and held ones too. It can count
 /// `MAX_EVENTS`. Only an accept takes memory, once the controller is made.
 pub struct Controller {
-    pub(crate) parts: Box<Parts>,
+    pub(crate) parts: Box<ControllerParts>,
     pub(crate) spent: u32,
 }
 
@@ -50,18 +50,18 @@ impl Controller {
     ghost use Rattle.spec_machine.specs.Actions.{act};
     ghost use Rattle.lgx_image.specs.Grains.{ChangesOnlyMarked, SomeIsHit};
     ghost use Rattle.lgx_steps.specs.Stretches.{IsRefused, is_plain, is_told};
-    ghost use Rattle.lgx_core.specs.Represents.{Represents, StandsFor, IsController, GoesOn, GoesOnBy};
+    ghost use Rattle.lgx_core.specs.Represents.{RepresentsController, StandsFor, IsController, GoesOn, GoesOnBy};
     ghost use Rattle.lgx_core.specs.Gives.{Gives, StretchGives};
     ghost use Rattle.spec_laws.specs.Lawful.{IsLawful};
 
     /// A controller in Program at tick 0, with no task up. It takes all room but that of accepts.
     ///
-    /// Whatever its events will be, they keep the laws of the schedule.
+    /// Whatever its events will be, they keep every law of `IsLawful`: of the schedule, of scans, of what is shown and of edits.
     pub fn new(alloc: Global, project: Plant) -> Result<Controller, Memory>
         ensures stands { IfOk result (λ controller. StandsFor project [] controller) }
         ensures laws { IfOk result (λ _. IsLawful project) }
     {
-        let parts = Parts::new(alloc, project)?;
+        let parts = ControllerParts::new(alloc, project)?;
         let boxed = Box::new(alloc, parts)?;
         Ok(Controller {
             parts: boxed,
@@ -73,7 +73,7 @@ impl Controller {
     #[inline(always)]
     pub fn cpu(&mut self) -> Moment
         requires room { self.old.spent < MAX_EVENTS }
-        ensures step { (s : State) → Represents self.old s → Gives self.new result (processor_step s) }
+        ensures step { (s : State) → RepresentsController self.old s → Gives self.new result (processor_step s) }
         ensures runs { GoesOn self.old self.new (OfStep result) }
         ensures spent { self.new.spent ≡ self.old.spent + 1 }
         ensures only_marked { ChangesOnlyMarked self.old.parts.image self.new.parts.image }
@@ -92,7 +92,7 @@ impl Controller {
     pub fn stretch(&mut self, most: u32, begins: &mut Begins) -> Stretch
         requires some { 0 < most }
         requires room { self.old.spent + most ≤ MAX_EVENTS }
-        ensures step { (s : State) → Represents self.old s → StretchGives self.new begins.new result s }
+        ensures step { (s : State) → RepresentsController self.old s → StretchGives self.new begins.new result s }
         ensures runs { GoesOnBy self.old self.new result }
         ensures some { 0 < result.steps }
         ensures most { result.steps ≤ most }
@@ -110,7 +110,7 @@ impl Controller {
     #[inline(always)]
     pub fn tick(&mut self) -> TickReport
         requires room { self.old.spent < MAX_EVENTS }
-        ensures step { (s : State) → Represents self.old s → Gives self.new result (tick s) }
+        ensures step { (s : State) → RepresentsController self.old s → Gives self.new result (tick s) }
         ensures runs { GoesOn self.old self.new (OfTick result) }
         ensures spent { self.new.spent ≡ self.old.spent + 1 }
         ensures only_marked { ChangesOnlyMarked self.old.parts.image self.new.parts.image }
@@ -123,7 +123,7 @@ impl Controller {
     /// and nothing changes.
     pub fn act(&mut self, lane: u32, action: &Action) -> Result<Outcome, Memory>
         requires room { self.old.spent < MAX_EVENTS }
-        ensures step { (s : State) → Represents self.old s → IfOk result (λ outcome. Gives self.new outcome (act s lane action.now)) }
+        ensures step { (s : State) → RepresentsController self.old s → IfOk result (λ outcome. Gives self.new outcome (act s lane action.now)) }
         ensures runs { IfOk result (λ outcome. GoesOn self.old self.new (OfAction lane action.now outcome)) }
         ensures spent { IfOk result (λ _. self.new.spent ≡ self.old.spent + 1) }
         ensures memory { IfErr result (λ _. IsTrue (is_accept action.now)) }

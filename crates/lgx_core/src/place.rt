@@ -2,7 +2,7 @@
 ghost use Rattle.std.specs.Prelude.{◌≡◌, option_map};
 ghost use Rattle.spec_machine.specs.State.{State, progress_of};
 ghost use Rattle.lgx_steps.specs.Executing.{executed, IsCodeOf};
-ghost use Rattle.lgx_core.specs.Represents.{Represents};
+ghost use Rattle.lgx_core.specs.Represents.{RepresentsController};
 
 use crate::controller::Controller;
 use lgx_prog::FlatProgram;
@@ -13,7 +13,7 @@ impl Controller {
     /// leaves a routine.
     #[inline(always)]
     pub fn executing(&self) -> Option<Executed>
-        ensures { (s : State) → Represents self.now s → result ≡ executed s }
+        ensures { (s : State) → RepresentsController self.now s → result ≡ executed s }
     {
         self.parts.executing()
     }
@@ -21,7 +21,7 @@ impl Controller {
     /// The flat code of the rungs that the scan in progress of this task took; None if it has no scan, or if there is no such
     /// task.
     pub fn scanned(&self, task: u32) -> Option<&FlatProgram>
-        ensures { (s : State) → Represents self.now s → IsCodeOf (option_map (λ f. f.now) result) (progress_of s task).scan }
+        ensures { (s : State) → RepresentsController self.now s → IsCodeOf (option_map (λ f. f.now) result) (progress_of s task).scan }
     {
         self.parts.scanned(task)
     }

@@ -7,7 +7,7 @@ ghost use Rattle.spec_machine.specs.State.{State};
 ghost use Rattle.lgx_fault.specs.Kept.{last_faults};
 ghost use Rattle.lgx_image.specs.Grains.{NextMarked, NextHit, SomeIsHit, NoneIsHit, watch_range};
 ghost use Rattle.lgx_image.specs.Laws.{AllWatched};
-ghost use Rattle.lgx_core.specs.Represents.{Represents};
+ghost use Rattle.lgx_core.specs.Represents.{RepresentsController};
 
 use crate::controller::Controller;
 use lgx_fault::FaultLog;
@@ -19,7 +19,7 @@ impl Controller {
     #[inline(always)]
     pub fn read(&self, place: Place) -> i32
         requires { InBounds place (length self.now.parts.image.bytes) }
-        ensures { (s : State) → Represents self.now s → result ≡ number s.image place }
+        ensures { (s : State) → RepresentsController self.now s → result ≡ number s.image place }
     {
         self.parts.image.get(place)
     }
@@ -35,27 +35,27 @@ impl Controller {
     /// The present tick.
     #[inline(always)]
     pub fn now(&self) -> u32
-        ensures { (s : State) → Represents self.now s → result ≡ s.tick }
+        ensures { (s : State) → RepresentsController self.now s → result ≡ s.tick }
     {
         self.parts.tick
     }
 
     pub fn mode(&self) -> Mode
-        ensures { (s : State) → Represents self.now s → result ≡ s.mode }
+        ensures { (s : State) → RepresentsController self.now s → result ≡ s.mode }
     {
         self.parts.mode
     }
 
     /// Whether a CPS is in progress.
     pub fn copy_open(&self) -> bool
-        ensures { (s : State) → Represents self.now s → result ≡ held s.table }
+        ensures { (s : State) → RepresentsController self.now s → result ≡ held s.table }
     {
         self.parts.table.held()
     }
 
     /// The last faults.
     pub fn fault_log(&self) -> &FaultLog
-        ensures { (s : State) → Represents self.now s → result.now ≡ last_faults s.faults }
+        ensures { (s : State) → RepresentsController self.now s → result.now ≡ last_faults s.faults }
     {
         &self.parts.faults
     }
@@ -71,7 +71,7 @@ impl Controller {
     /// is as before.
     pub fn watch(&mut self, place: Place)
         requires { InBounds place (length self.old.parts.image.bytes) }
-        ensures represents { (s : State) → Represents self.old s → Represents self.new s }
+        ensures represents { (s : State) → RepresentsController self.old s → RepresentsController self.new s }
         ensures spent { self.new.spent ≡ self.old.spent }
         ensures image { self.new.parts.image ≡ record self.old.parts.image { watched = watch_range self.old.parts.image.watched (place.at / 8) (bytes_in place.kind) } }
         ensures watched { AllWatched self.new.parts.image.watched place }
@@ -97,7 +97,7 @@ impl Controller {
 
     /// No word of the image is hit from now on. It is no event, and what the controller represents is as before.
     pub fn clear_hits(&mut self)
-        ensures represents { (s : State) → Represents self.old s → Represents self.new s }
+        ensures represents { (s : State) → RepresentsController self.old s → RepresentsController self.new s }
         ensures none_hit { NoneIsHit self.new.parts.image }
         ensures bytes { self.new.parts.image.bytes ≡ self.old.parts.image.bytes }
         ensures marks { self.new.parts.image.marks ≡ self.old.parts.image.marks }
@@ -116,7 +116,7 @@ impl Controller {
 
     /// Takes every mark of the image. It is no event, and what the controller represents is as before.
     pub fn clear_marks(&mut self)
-        ensures represents { (s : State) → Represents self.old s → Represents self.new s }
+        ensures represents { (s : State) → RepresentsController self.old s → RepresentsController self.new s }
         ensures image { self.new.parts.image ≡ record self.old.parts.image { marks = replicate (length self.old.parts.image.marks) false } }
         ensures spent { self.new.spent ≡ self.old.spent }
     {

@@ -9,7 +9,7 @@ ghost use Rattle.lgx_cover.specs.Texts.{cover_text};
 
 use crate::covered::covered;
 use crate::text_out::text_of;
-use lgx_answer::{NoLines, Status, Step, Verdict, Word, answer};
+use lgx_answer::{FileCommand, NoLines, Status, Step, Verdict, answer};
 use lgx_io::{Files, Sink};
 use lgx_journal::Journal;
 use lgx_judge::{Judged, judge_journal, judge_project};
@@ -36,7 +36,7 @@ pub(crate) enum Cover<'a> {
     OnProject { project: Project, journal: &'a str },
 }
 
-impl<'a> Word for Cover<'a> {
+impl<'a> FileCommand for Cover<'a> {
     type Text = NoLines;
 
     ghost file = { cover_file };

@@ -4,7 +4,7 @@ use Rattle.spec_base.specs.FirstCause.{◌>>=◌, unless}
 use Rattle.spec_machine.specs.declared.reply.EditFault.{EditFault}
 use Rattle.spec_machine.specs.declared.reply.EditFault.TheVariants.{E3, E10, E11, E12}
 use Rattle.spec_machine.specs.Edits.{Book, none_or, other_owner, has_accepted, test, untest}
-use Rattle.lgx_edit.specs.EditsView.{EditsView, may_edit, on_book, Answers}
+use Rattle.lgx_edit.specs.EditsView.{EditsView, may_edit, on_book, AnswersBook}
 
 edits_on : (change : Book → Result Book EditFault) (client : ℕ) (b : Book) → Ok (tt {0}) ≡ may_edit client b → on_book change client b ≡ change b
 edits_on change client b h = by_cause (none_or (other_owner b client) E3) (unless (has_accepted b) E10) h
@@ -25,9 +25,9 @@ accepted_there client b h = by_cause (none_or (other_owner b client) E3) (has_ac
 
 pub commanded : (change : Book → Result Book EditFault) (client : ℕ) (now old new : EditsView) (book : Book) → now ≡ old
     → Ok (tt {0}) ≡ may_edit client old.book → change now.book ≡ Ok book → new.book ≡ book
-    → new.versions.roles.held ≡ now.versions.roles.held → Answers (on_book change client old.book) old new (Ok (tt {0}))
+    → new.versions.roles.held ≡ now.versions.roles.held → AnswersBook (on_book change client old.book) old new (Ok (tt {0}))
 commanded change client now old new book is may changed same held =
-    subst (λ (r : Result Book EditFault). Answers r old new (Ok (tt {0}))) (sym (edits_on change client old.book may ∙ (ap (λ (e : EditsView). change e.book) (sym is) ∙ changed)))
+    subst (λ (r : Result Book EditFault). AnswersBook r old new (Ok (tt {0}))) (sym (edits_on change client old.book may ∙ (ap (λ (e : EditsView). change e.book) (sym is) ∙ changed)))
     (refl, same, held ∙ ap (λ (e : EditsView). e.versions.roles.held) is)
 
 pub test-ok : (b : Book) → b.testing ≡ false → test b ≡ Ok (record b { testing = true })

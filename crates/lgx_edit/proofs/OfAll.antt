@@ -12,7 +12,7 @@ use Rattle.spec_machine.specs.declared.reply.Reply.TheVariants.{Done, Version}
 use Rattle.spec_machine.specs.Edits.{Book, Edited, no_book, book_at, program_named, routine_named, none_or, other_owner, has_accepted, scope_of, accept_in, accept, on_accepted, selected_number}
 use Rattle.lgx_versions.specs.declared.slots.Version.{Version as version}
 use Rattle.lgx_versions.specs.Roles.{Roles, selected}
-use Rattle.lgx_edit.specs.EditsView.{EditsView, RunsSelected, on_book, Answers, IsHeldNow, books, holds, HoldsNow, Leaves}
+use Rattle.lgx_edit.specs.EditsView.{EditsView, RunsSelected, on_book, AnswersBook, IsHeldNow, books, holds, HoldsNow, Leaves}
 use Rattle.lgx_edit.specs.declared.error.EditError.{EditError}
 use Rattle.lgx_edit.specs.declared.error.EditError.TheVariants.{Edit, Memory}
 use Rattle.lgx_edit.specs.Accepting.{accept_at, Accepts, LeavesAccepted, has_numbers_left}
@@ -48,7 +48,7 @@ book-there all now n old is within there =
 
 -- the other programs are as before
 leaves-others : (all : List EditsView) (n : ℕ) (old new : EditsView) (answer : Result (Unit {0}) EditFault) (r : Result Book EditFault)
-    → old ≡ get_or all n old → Answers r old new answer → Leaves (r >>= edited (books all) n) all (set all n new) answer
+    → old ≡ get_or all n old → AnswersBook r old new answer → Leaves (r >>= edited (books all) n) all (set all n new) answer
 leaves-others all n old new answer (Ok b) there a = (
   a.0,
   map-set (λ (e : EditsView). e.book) all n new ∙ ap (λ (x : Book). set (books all) n x) a.1,
@@ -59,7 +59,7 @@ leaves-others all n old new answer (Err f) there a =
 
 pub command-leaves : (change : Book → Result Book EditFault) (client n : ℕ) (name : List ℕ) (all now : List EditsView) (old new : EditsView)
     (answer : Result (Unit {0}) EditFault) → all ≡ now → Ok n ≡ program_named (books now) name → n < length now → old ≡ get_or all n old
-    → Answers (on_book change client old.book) old new answer
+    → AnswersBook (on_book change client old.book) old new answer
     → Leaves (on_accepted change (books now) client name) now (set all n new) answer
 command-leaves change client n name all now old new answer is named within there a =
     subst (λ (w : List EditsView). Leaves (on_accepted change (books w) client name) w (set all n new) answer) is

@@ -10,5 +10,5 @@ AnswersAs seen meant (Ok x) = meant ≡ Ok (seen x)
 AnswersAs seen meant (Err (Edit fault)) = meant ≡ Err fault
 AnswersAs seen meant (Err Memory) = ⊤
 
-abbrev pub Answers : {A : Type 0} → Result A EditFault → Result A EditError → Type 0
-Answers meant answer = AnswersAs (λ x. x) meant answer
+abbrev pub AnswersDraft : {A : Type 0} → Result A EditFault → Result A EditError → Type 0
+AnswersDraft meant answer = AnswersAs (λ x. x) meant answer

@@ -63,9 +63,9 @@ on_book change client b = do
   change b
 
 -- What a command answers and leaves. After a refusal all is as before; the held program is the same after each.
-abbrev pub Answers : Result Book EditFault → EditsView → EditsView → Result (Unit {0}) EditFault → Type 0
-Answers (Ok book) old new answer = (answer ≡ Ok tt) × (new.book ≡ book) × (new.versions.roles.held ≡ old.versions.roles.held)
-Answers (Err fault) old new answer = (answer ≡ Err fault) × (new ≡ old)
+abbrev pub AnswersBook : Result Book EditFault → EditsView → EditsView → Result (Unit {0}) EditFault → Type 0
+AnswersBook (Ok book) old new answer = (answer ≡ Ok tt) × (new.book ≡ book) × (new.versions.roles.held ≡ old.versions.roles.held)
+AnswersBook (Err fault) old new answer = (answer ≡ Err fault) × (new ≡ old)
 
 -- The selected program is held from now on; it is flat code of the selected rungs.
 pub record IsHeldNow (old new : EditsView) : Type 0 where

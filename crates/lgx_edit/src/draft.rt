@@ -8,7 +8,7 @@ ghost use Rattle.lgx_prog.specs.Search.{AreFlat};
 ghost use Rattle.lgx_prog.specs.FlatProgram.{IsFlatProgram};
 ghost use Rattle.lgx_edit.specs.Texts.{base_of, merged_of, routine_of, accepted_of};
 ghost use Rattle.lgx_edit.specs.EditsView.{rungs_of};
-ghost use Rattle.lgx_edit.specs.Answering.{Answers, AnswersAs};
+ghost use Rattle.lgx_edit.specs.Answering.{AnswersDraft, AnswersAs};
 ghost use Rattle.lgx_edit.specs.Drafts.{change_kept, routines_with, scope_against, changes_so_far, IsBookOf, IsDraft, with_draft};
 
 use crate::changes::{EditedRoutine, KeptEdit};
@@ -65,7 +65,7 @@ fn check(
     requires sealed { against.now.tags.now.sealed ≡ true }
     requires few_routines { length routines.now < 2 ^ 32 }
     requires few_tasks { length against.now.tasks.now < 2 ^ 32 }
-    ensures { Answers (ok_or_cause (checked (scope_against against.now routines.now) rungs.now) E8) result }
+    ensures { AnswersDraft (ok_or_cause (checked (scope_against against.now routines.now) rungs.now) E8) result }
 {
     let names = names(alloc, routines)?;
     let scope = CheckScope {

@@ -46,7 +46,7 @@ impl ProgramEdits {
     ghost use Rattle.lgx_versions.specs.Roles.{selected};
     ghost use Rattle.lgx_edit.specs.Texts.{program_of};
     ghost use Rattle.lgx_versions.specs.View.{AreSlotsOf, number_of};
-    ghost use Rattle.lgx_edit.specs.EditsView.{Answers, on_book, may_edit, RunsSelected, IsHeldNow};
+    ghost use Rattle.lgx_edit.specs.EditsView.{AnswersBook, on_book, may_edit, RunsSelected, IsHeldNow};
     ghost use Rattle.lgx_edit.specs.HeldAgain.{IsHeldAgain};
     ghost use Rattle.lgx_edit.specs.Accepting.{accept_at, Accepts};
 
@@ -125,7 +125,7 @@ impl ProgramEdits {
     ///
     /// E3 comes if another client owns the edits, E10 if nothing is accepted, E11 if they are tested already.
     pub fn test(&mut self, client: u32) -> Result<(), EditFault>
-        ensures { Answers (on_book test client self.old.book) self.old self.new result }
+        ensures { AnswersBook (on_book test client self.old.book) self.old self.new result }
     {
         self.may_edit(client)?;
         if self.versions.is_testing() {
@@ -139,7 +139,7 @@ impl ProgramEdits {
     ///
     /// E3 comes if another client owns the edits, E10 if nothing is accepted, E12 if they aren't tested.
     pub fn untest(&mut self, client: u32) -> Result<(), EditFault>
-        ensures { Answers (on_book untest client self.old.book) self.old self.new result }
+        ensures { AnswersBook (on_book untest client self.old.book) self.old self.new result }
     {
         self.may_edit(client)?;
         if !self.versions.is_testing() {
@@ -153,7 +153,7 @@ impl ProgramEdits {
     ///
     /// E3 comes if another client owns the edits, E10 if nothing is accepted.
     pub fn assemble(&mut self, client: u32) -> Result<(), EditFault>
-        ensures { Answers (on_book assemble client self.old.book) self.old self.new result }
+        ensures { AnswersBook (on_book assemble client self.old.book) self.old self.new result }
     {
         self.may_edit(client)?;
         assemble_all(&mut self.routines);
@@ -167,7 +167,7 @@ impl ProgramEdits {
     ///
     /// E3 comes if another client owns the edits, E10 if nothing is accepted.
     pub fn cancel(&mut self, client: u32) -> Result<(), EditFault>
-        ensures { Answers (on_book cancel client self.old.book) self.old self.new result }
+        ensures { AnswersBook (on_book cancel client self.old.book) self.old self.new result }
     {
         self.may_edit(client)?;
         cancel_all(&mut self.routines);

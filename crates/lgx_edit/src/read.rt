@@ -4,7 +4,7 @@ ghost use Rattle.spec_base.specs.declared.limits.TheConstants.{MAX_EDITS};
 ghost use Rattle.spec_machine.specs.EditText.{is_edit_text};
 ghost use Rattle.spec_machine.specs.Edits.{read_or_cause, change_of, changes_of};
 ghost use Rattle.lgx_edit.specs.Texts.{change_of as seen_change};
-ghost use Rattle.lgx_edit.specs.Answering.{Answers, AnswersAs};
+ghost use Rattle.lgx_edit.specs.Answering.{AnswersDraft, AnswersAs};
 ghost use Rattle.lgx_edit.specs.Drafts.{change_kept, AreInRoutine};
 
 use crate::changes::{KeptEdit, RungChange};
@@ -16,7 +16,7 @@ use std::alloc::Global;
 
 /// The rung that the text of edit `k` spells. E7 comes if it spells none.
 fn read_text(alloc: Global, k: u32, text: &Text) -> Result<SourceRung, EditError>
-    ensures { Answers (read_or_cause k text.now) result }
+    ensures { AnswersDraft (read_or_cause k text.now) result }
 {
     match read_rung(alloc, text.bytes()) {
         Ok(rung) => Ok(rung),

@@ -14,7 +14,7 @@ use Rattle.spec_tables.specs.declared.force.ForceFault.{ForceFault}
 use Rattle.spec_tables.specs.declared.force.ForceFault.TheVariants.{F1, F2, F3}
 use Rattle.spec_tables.specs.Forces.{Force, Forces, no_forces, installed, masked, forced, install, remove_all}
 use Rattle.lgx_force.specs.declared.table.StoredForce.{StoredForce}
-use Rattle.lgx_force.specs.Seen.{force_of, forces_of, Answers}
+use Rattle.lgx_force.specs.Seen.{force_of, forces_of, AnswersForce}
 
 -- as many forces are seen as are kept
 pub installed_is : (ws : List (Option StoredForce)) → installed (forces_of ws) ≡ count_by (λ (w : Option StoredForce). is_some w) ws
@@ -66,29 +66,29 @@ chosen_install ws e word mask value full l f =
     ∙ (ap (λ b. if b then Err F2 else Ok (record s { words = set (forces_of ws) word (Some (record { mask = mask; value = value })) })) full'
     ∙ ap (λ (x : List (Option Force)). if full then Err F2 else Ok (record s { words = x })) (sym (map-set (option_map force_of) ws word (Some (record { mask = mask; value = value })))))
 
-pub install-full : (ws : List (Option StoredForce)) (e : Bool) (word : ℕ) (mask value : ℤ) (now : Forces) → word < length ws → MAX_FORCES ≤ count_of ws - one_if (get_or ws word None) → record { words = forces_of ws; enabled = e } ≡ now → Answers (install now word mask value) now now (Err F2)
+pub install-full : (ws : List (Option StoredForce)) (e : Bool) (word : ℕ) (mask value : ℤ) (now : Forces) → word < length ws → MAX_FORCES ≤ count_of ws - one_if (get_or ws word None) → record { words = forces_of ws; enabled = e } ≡ now → AnswersForce (install now word mask value) now now (Err F2)
 install-full ws e word mask value now l full is =
     let s : Forces = record { words = forces_of ws; enabled = e } in
-    subst (λ (x : Forces). Answers (install x word mask value) x x (Err F2)) is
-    (subst (λ (r : Result Forces ForceFault). Answers r s s (Err F2)) (sym (chosen_install ws e word mask value true l (le-leb MAX_FORCES _ full))) (refl, refl))
+    subst (λ (x : Forces). AnswersForce (install x word mask value) x x (Err F2)) is
+    (subst (λ (r : Result Forces ForceFault). AnswersForce r s s (Err F2)) (sym (chosen_install ws e word mask value true l (le-leb MAX_FORCES _ full))) (refl, refl))
 
-pub install-ok : (ws : List (Option StoredForce)) (e : Bool) (word : ℕ) (mask value : ℤ) (now : Forces) → word < length ws → count_of ws - one_if (get_or ws word None) < MAX_FORCES → record { words = forces_of ws; enabled = e } ≡ now → Answers (install now word mask value) now (record { words = forces_of (set ws word (Some (record { mask = mask; value = value }))); enabled = e }) (Ok tt)
+pub install-ok : (ws : List (Option StoredForce)) (e : Bool) (word : ℕ) (mask value : ℤ) (now : Forces) → word < length ws → count_of ws - one_if (get_or ws word None) < MAX_FORCES → record { words = forces_of ws; enabled = e } ≡ now → AnswersForce (install now word mask value) now (record { words = forces_of (set ws word (Some (record { mask = mask; value = value }))); enabled = e }) (Ok tt)
 install-ok ws e word mask value now l room is =
     let new : Forces = record { words = forces_of (set ws word (Some (record { mask = mask; value = value }))); enabled = e } in
-    subst (λ (x : Forces). Answers (install x word mask value) x new (Ok tt)) is
-    (subst (λ (r : Result Forces ForceFault). Answers r (record { words = forces_of ws; enabled = e }) new (Ok tt)) (sym (chosen_install ws e word mask value false l (lt-leb MAX_FORCES _ room))) (refl, refl))
+    subst (λ (x : Forces). AnswersForce (install x word mask value) x new (Ok tt)) is
+    (subst (λ (r : Result Forces ForceFault). AnswersForce r (record { words = forces_of ws; enabled = e }) new (Ok tt)) (sym (chosen_install ws e word mask value false l (lt-leb MAX_FORCES _ room))) (refl, refl))
 
 pub new_seen : (ws : List (Option StoredForce)) (n m : ℕ) → ws ≡ replicate n None → n ≡ m → record { words = forces_of ws; enabled = false } ≡ no_forces m
 new_seen ws n m e n_m =
     ap (λ (x : List (Option Force)). record { words = x; enabled = false }) (ap forces_of e ∙ (none_seen n ∙ ap (λ k. replicate k None) n_m))
 
-pub remove-ok : (ws us : List (Option StoredForce)) (n : ℕ) (e : Bool) (now : Forces) → (count_of ws ≡ 0 → ⊥) → us ≡ replicate n None → n ≡ length ws → record { words = forces_of ws; enabled = e } ≡ now → Answers (remove_all now) now (record { words = forces_of us; enabled = false }) (Ok tt)
+pub remove-ok : (ws us : List (Option StoredForce)) (n : ℕ) (e : Bool) (now : Forces) → (count_of ws ≡ 0 → ⊥) → us ≡ replicate n None → n ≡ length ws → record { words = forces_of ws; enabled = e } ≡ now → AnswersForce (remove_all now) now (record { words = forces_of us; enabled = false }) (Ok tt)
 remove-ok ws us n e now some cleared many is =
     let s : Forces = record { words = forces_of ws; enabled = e } in
     let removed : remove_all s ≡ Ok (no_forces (length (forces_of ws))) = ap (λ b. if b then Err F3 else Ok (no_forces (length (forces_of ws)))) (ne_eqb (installed (forces_of ws)) 0 (λ z. some (sym (installed_is ws) ∙ z))) in
     let seen : record { words = forces_of us; enabled = false } ≡ no_forces (length (forces_of ws)) = new_seen us n (length (forces_of ws)) cleared (many ∙ sym (length-map ws (option_map force_of))) in
-    subst (λ (x : Forces). Answers (remove_all x) x (record { words = forces_of us; enabled = false }) (Ok tt)) is
-    (subst (λ (r : Result Forces ForceFault). Answers r s (record { words = forces_of us; enabled = false }) (Ok tt)) (sym removed) (refl, seen))
+    subst (λ (x : Forces). AnswersForce (remove_all x) x (record { words = forces_of us; enabled = false }) (Ok tt)) is
+    (subst (λ (r : Result Forces ForceFault). AnswersForce r s (record { words = forces_of us; enabled = false }) (Ok tt)) (sym removed) (refl, seen))
 
 -- ---- bits
 

@@ -12,6 +12,6 @@ abbrev pub forces_of : List (Option StoredForce) → List (Option Force)
 forces_of kept = map (option_map force_of) kept
 
 -- What a call answers and leaves is what the definition gives. After a refusal the table is as before.
-abbrev pub Answers : Result Forces ForceFault → Forces → Forces → Result (Unit {0}) ForceFault → Type 0
-Answers (Ok after) before new answer = (answer ≡ Ok tt) × (new ≡ after)
-Answers (Err fault) before new answer = (answer ≡ Err fault) × (new ≡ before)
+abbrev pub AnswersForce : Result Forces ForceFault → Forces → Forces → Result (Unit {0}) ForceFault → Type 0
+AnswersForce (Ok after) before new answer = (answer ≡ Ok tt) × (new ≡ after)
+AnswersForce (Err fault) before new answer = (answer ≡ Err fault) × (new ≡ before)

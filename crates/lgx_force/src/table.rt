@@ -1,7 +1,7 @@
 // The table of forces.
 ghost use Rattle.std.specs.Prelude.{◌≡◌, ◌<◌, length, option_map, IfOk, Some, None};
 ghost use Rattle.spec_tables.specs.Forces.{no_forces, install, enable, disable, remove_all, forced, masked};
-ghost use Rattle.lgx_force.specs.Seen.{Answers, force_of};
+ghost use Rattle.lgx_force.specs.Seen.{AnswersForce, force_of};
 
 use lgx_num::Memory;
 use spec_base::limits::MAX_FORCES;
@@ -66,7 +66,7 @@ impl ForceTable {
     ///
     /// F1 comes if there is no such word, and F2 if [`MAX_FORCES`] other words have a force.
     pub fn install(&mut self, word: u32, mask: i32, value: i32) -> Result<(), ForceFault>
-        ensures exact { Answers (install self.old word mask value) self.old self.new result }
+        ensures exact { AnswersForce (install self.old word mask value) self.old self.new result }
         ensures words { length self.new.words ≡ length self.old.words }
     {
         if word as usize >= self.words.len() {
@@ -83,7 +83,7 @@ impl ForceTable {
 
     /// Enables the forces. F3 comes if none is installed (profile).
     pub fn enable(&mut self) -> Result<(), ForceFault>
-        ensures exact { Answers (enable self.old) self.old self.new result }
+        ensures exact { AnswersForce (enable self.old) self.old self.new result }
         ensures words { length self.new.words ≡ length self.old.words }
     {
         if self.installed == 0 {
@@ -103,7 +103,7 @@ impl ForceTable {
 
     /// Removes all forces, and disables (profile). F3 comes if none is installed.
     pub fn remove_all(&mut self) -> Result<(), ForceFault>
-        ensures exact { Answers (remove_all self.old) self.old self.new result }
+        ensures exact { AnswersForce (remove_all self.old) self.old self.new result }
         ensures words { length self.new.words ≡ length self.old.words }
     {
         if self.installed == 0 {

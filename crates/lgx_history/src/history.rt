@@ -13,11 +13,11 @@ use std::mem;
 
 /// What one thread has seen of a history. It has no bytes.
 #[derive(Drop)]
-pub struct Sight {
+pub struct SeenToken {
     seat: Seat<(), Known>,
 }
 
-impl Model for Sight {
+impl Model for SeenToken {
     ghost use Rattle.std.specs.Prelude.{◌≡◌, []};
     ghost use Rattle.std.specs.Coded.{codes};
     ghost use Rattle.lgx_history.specs.Histories.{HistoryView, history_view, history_code};
@@ -71,23 +71,23 @@ impl History {
     }
 
     /// A sight of all events so far.
-    pub fn sight(&mut self) -> Sight
+    pub fn sight(&mut self) -> SeenToken
         ensures same { self.new ≡ self.old }
         ensures seen { result ≡ self.old }
     {
         let table = &self.table;
         let seat = table.shared.split_seat::<Shows>(&mut self.keeper);
-        Sight { seat }
+        SeenToken { seat }
     }
 
     /// The history goes on to what is named. It began with what the sight saw.
-    fn go_on<X: Ahead>(&mut self, sight: Sight)
+    fn go_on<X: Ahead>(&mut self, sight: SeenToken)
         requires name { sight.name ≡ self.old.name }
         requires ahead { IsPrefix self.old.events X.events }
         ensures events { self.new ≡ history_view self.old.name X.events }
         ensures seen { IsPrefix sight.events self.old.events }
     {
-        let Sight { seat } = sight;
+        let SeenToken { seat } = sight;
         let table = &self.table;
         table.shared.join_seat::<Shows>(&mut self.keeper, seat);
         table.shared.load::<GoesOn<X>>(&mut self.keeper, 0);
@@ -103,7 +103,7 @@ impl History {
     }
 
     /// The history, which began with what the sight saw, goes on to the journal's events. Then the sight has seen all of them.
-    pub fn show(&mut self, sight: &mut Sight, journal: &Journal)
+    pub fn show(&mut self, sight: &mut SeenToken, journal: &Journal)
         requires name { sight.old.name ≡ self.old.name }
         requires ahead { IsPrefix self.old.events journal.now.events }
         ensures events { self.new ≡ history_view self.old.name journal.now.events }
@@ -116,7 +116,7 @@ impl History {
     }
 
     /// The history, which began with what the sight saw, goes on to the journal's events.
-    pub fn take_in(&mut self, sight: Sight, journal: &Journal)
+    pub fn take_in(&mut self, sight: SeenToken, journal: &Journal)
         requires name { sight.name ≡ self.old.name }
         requires ahead { IsPrefix self.old.events journal.now.events }
         ensures events { self.new ≡ history_view self.old.name journal.now.events }
@@ -127,7 +127,7 @@ impl History {
 }
 
 /// The same, by a name for the journal's events.
-fn go_on_to<X: Ahead>(history: &mut History, sight: Sight, journal: &Journal)
+fn go_on_to<X: Ahead>(history: &mut History, sight: SeenToken, journal: &Journal)
     requires named { journal.now.events ≡ X.events }
     requires name { sight.name ≡ history.old.name }
     requires ahead { IsPrefix history.old.events X.events }

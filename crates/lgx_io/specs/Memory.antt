@@ -39,11 +39,11 @@ whole_or_failed None = Err Failed
 whole_or_failed (Some contents) = whole_or_too_long contents
 
 -- the result is this answer, or out of memory
-abbrev pub Answers : Result (Vec ℕ Global) FileFault → Result (List ℕ) FileFault → Type 0
-Answers (Ok bytes) answer = answer ≡ Ok bytes.items
-Answers (Err Failed) answer = answer ≡ Err Failed
-Answers (Err (TooLong taken)) answer = answer ≡ Err (TooLong taken)
-Answers (Err Memory) answer = Unit {0}
+abbrev pub AnswersBytes : Result (Vec ℕ Global) FileFault → Result (List ℕ) FileFault → Type 0
+AnswersBytes (Ok bytes) answer = answer ≡ Ok bytes.items
+AnswersBytes (Err Failed) answer = answer ≡ Err Failed
+AnswersBytes (Err (TooLong taken)) answer = answer ≡ Err (TooLong taken)
+AnswersBytes (Err Memory) answer = Unit {0}
 
 -- `MemFiles`: the files, the numbers of the calls that fail, the number of calls so far and the failures
 pub record MemFilesState : Type 0 where

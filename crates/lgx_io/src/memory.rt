@@ -5,7 +5,7 @@ ghost use Rattle.std.specs.Io.KnownBytes.{Appends};
 ghost use Rattle.lgx_io.specs.declared.files.ReadCause.TheVariants as cause;
 ghost use Rattle.lgx_io.specs.Files.{added, IsCause};
 ghost use Rattle.lgx_io.specs.Sink.{next_count, FaultsRose, AppendsPart};
-ghost use Rattle.lgx_io.specs.Memory.{stored, failed_reads, contents_at, Answers, whole_or_too_long, fails_next, read_answer, calls_after, kept_next};
+ghost use Rattle.lgx_io.specs.Memory.{stored, failed_reads, contents_at, AnswersBytes, whole_or_too_long, fails_next, read_answer, calls_after, kept_next};
 ghost use Rattle.spec_base.specs.declared.limits.TheConstants.{MAX_FILE_BYTES};
 
 use crate::files::{FailedRead, FileFault, Files, ReadCause};
@@ -33,7 +33,7 @@ pub(crate) fn find_contents<'a>(files: &'a [(String, Vec<u8>)], name: &str) -> O
 
 /// All of the contents, unless they are too long.
 pub(crate) fn whole_or_too_long(alloc: Global, contents: &[u8]) -> Result<Vec<u8>, FileFault>
-    ensures { Answers result (whole_or_too_long contents.now) }
+    ensures { AnswersBytes result (whole_or_too_long contents.now) }
 {
     let taken = contents.len();
     if taken > MAX_FILE_BYTES {
@@ -109,7 +109,7 @@ impl MemFiles {
     }
 
     fn answer(&self, name: &str) -> Result<Vec<u8>, FileFault>
-        ensures { Answers result (read_answer self.now name.now) }
+        ensures { AnswersBytes result (read_answer self.now name.now) }
     {
         if self.fails_next() {
             return Err(FileFault::Failed);
@@ -135,7 +135,7 @@ impl Files for MemFiles {
         ensures same { (other : List ℕ) → contents_at self.new.files other ≡ contents_at self.old.files other }
 
         // Beside what each `Files` says: which answer it is, and what the object then is.
-        ensures answer { Answers result (read_answer self.old name.now) }
+        ensures answer { AnswersBytes result (read_answer self.old name.now) }
         ensures after { self.new ≡ record self.old {
           calls = calls_after self.old.calls result;
           failures = self.old.failures ++ added name.now result;

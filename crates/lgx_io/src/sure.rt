@@ -3,7 +3,7 @@ ghost use Rattle.std.specs.Prelude.{◌≡◌, ◌≤◌, ◌++◌, [], List, �
 ghost use Rattle.std.specs.Io.KnownBytes.{Appends};
 ghost use Rattle.lgx_io.specs.Files.{added, IsCause};
 ghost use Rattle.lgx_io.specs.Sink.{FaultsRose, AppendsPart};
-ghost use Rattle.lgx_io.specs.Memory.{stored, contents_or_empty, whole_or_too_long, too_long_reads, Answers};
+ghost use Rattle.lgx_io.specs.Memory.{stored, contents_or_empty, whole_or_too_long, too_long_reads, AnswersBytes};
 ghost use Rattle.spec_base.specs.declared.limits.TheConstants.{MAX_FILE_BYTES};
 
 use crate::files::{FileFault, Files};
@@ -57,7 +57,7 @@ impl Files for SureFiles {
             Some (contents_or_empty self.new.files other) ≡ Some (contents_or_empty self.old.files other) }
 
         // Beside what each `Files` says: which answer it is, that it is never `Failed`, and that the files stay.
-        ensures answer { Answers result (whole_or_too_long (contents_or_empty self.old.files name.now)) }
+        ensures answer { AnswersBytes result (whole_or_too_long (contents_or_empty self.old.files name.now)) }
         ensures sure { ¬ IsErrOf result FileFault.Failed }
         ensures files { self.new.files ≡ self.old.files }
     {

@@ -33,9 +33,9 @@ IsRefusedWith wanted None = ⊤
 IsRefusedWith wanted (Some fault) = wanted ≡ Err fault
 
 -- the value that is wanted, the refusal that is due, or out of memory
-abbrev pub Answers : {A : Type 0} → Result A ProjectFault → Result A ProjectError → Type 0
-Answers wanted (Ok x) = wanted ≡ Ok x
-Answers wanted (Err error) = IsRefusedWith wanted (fault_of error)
+abbrev pub AnswersJson : {A : Type 0} → Result A ProjectFault → Result A ProjectError → Type 0
+AnswersJson wanted (Ok x) = wanted ≡ Ok x
+AnswersJson wanted (Err error) = IsRefusedWith wanted (fault_of error)
 
 -- P1: there is no value
 abbrev pub if_missing : Option Data → Option ProjectFault

@@ -10,7 +10,7 @@ ghost use Rattle.spec_project.specs.Judges.{field, fields_of, keys_of, only_keys
 ghost use Rattle.spec_project.specs.Values.{list_at};
 ghost use Rattle.spec_project.specs.Shape.{connections_field, controller_field, is_newest, later_fields, shape, top_fields};
 ghost use Rattle.spec_project.specs.Reading.{described, described_connection, value_of};
-ghost use Rattle.lgx_json.specs.Answers.{Answers, Passes, Reads, fault_of, if_missing};
+ghost use Rattle.lgx_json.specs.Answers.{AnswersJson, Passes, Reads, fault_of, if_missing};
 
 use crate::connections::{ConnectionObject, ValueObject};
 use crate::error::ProjectError;
@@ -176,7 +176,7 @@ pub fn read_value(alloc: Global, bytes: &[u8]) -> Result<Value, ProjectError>
 /// file, and nests no deeper than `serde_json` does, 127 deep.
 #[tactic(auto, unfolding(spec_project::specs::Projects::described_in))]
 pub fn read_described(alloc: Global, bytes: &[u8]) -> Result<Described, ProjectError>
-    ensures answer { Answers (described_in bytes.now) result }
+    ensures answer { AnswersJson (described_in bytes.now) result }
     ensures kept { IfOk result (λ p. IsWithinLimits p) }
 {
     let value = read_value(alloc, bytes)?;

@@ -6,10 +6,10 @@ use Rattle.lgx_neutral.specs.declared.fault.RungError.{RungError}
 use Rattle.lgx_neutral.specs.declared.fault.RungError.TheVariants.{Text, Memory}
 
 -- the answer is what is said, or memory ran out
-abbrev pub Answers : (said : Result Source TextFault) → Result Source RungError → Type 0
-Answers said (Ok r) = said ≡ Ok r
-Answers said (Err (Text f)) = said ≡ Err f
-Answers said (Err Memory) = Unit {0}
+abbrev pub AnswersRung : (said : Result Source TextFault) → Result Source RungError → Type 0
+AnswersRung said (Ok r) = said ≡ Ok r
+AnswersRung said (Err (Text f)) = said ≡ Err f
+AnswersRung said (Err Memory) = Unit {0}
 
 -- what holds of the fault, if the answer is one
 abbrev pub IfFault : Result Source RungError → (TextFault → Type 0) → Type 0

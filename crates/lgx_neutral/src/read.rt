@@ -5,7 +5,7 @@ ghost use Rattle.lgx_rung.specs.declared.fault.TextFault.{TextFault as Fault};
 ghost use Rattle.lgx_rung.specs.Tree.{Source};
 ghost use Rattle.lgx_rung.specs.Tokens.{read_rung as reading};
 ghost use Rattle.lgx_rung.specs.Text.{Spells, IsTextCause};
-ghost use Rattle.lgx_neutral.specs.Answer.{Answers, IfFault};
+ghost use Rattle.lgx_neutral.specs.Answer.{AnswersRung, IfFault};
 
 use crate::fault::RungError;
 use crate::lexer::Lexer;
@@ -18,11 +18,11 @@ use std::alloc::Global;
 /// Which fault is the first, and its place in bytes, is our own profile. Time grows with the number of bytes.
 pub fn read_rung(alloc: Global, text: &[u8]) -> Result<SourceRung, RungError>
     requires { length text.now ≤ MAX_FILE_BYTES }
-    ensures answer { Answers (reading text.now) result }
+    ensures answer { AnswersRung (reading text.now) result }
     ensures rung { IfOk result (λ r. Spells text.now r) }
     ensures fault { IfFault result (λ f. IsTextCause text.now f) }
-    ensures every_rung { (r : Source) → Spells text.now r → Answers (Ok r) result }
-    ensures every_fault { (f : Fault) → IsTextCause text.now f → Answers (Err f) result }
+    ensures every_rung { (r : Source) → Spells text.now r → AnswersRung (Ok r) result }
+    ensures every_fault { (f : Fault) → IsTextCause text.now f → AnswersRung (Err f) result }
 {
     let mut lexer = Lexer::new(text);
     let mut reader = Reader::new(alloc);

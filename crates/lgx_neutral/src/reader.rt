@@ -11,7 +11,7 @@ use std::mem;
 
 /// What may stand next.
 #[derive(Clone, Copy)]
-pub(crate) enum Place {
+pub(crate) enum Expected {
     /// An element, or the end of the leg or of the rung.
     Element,
     /// The parenthesis after a mnemonic.
@@ -30,7 +30,7 @@ pub(crate) enum Place {
 /// forks, and the leg.
 #[derive(Drop)]
 pub(crate) struct Reader {
-    place: Place,
+    place: Expected,
     texts: Texts,
     forks: Forks,
     leg: SourceRung,
@@ -50,7 +50,7 @@ impl Reader {
         ensures held { IsHeld result.place result.texts }
     {
         Reader {
-            place: Place::Element,
+            place: Expected::Element,
             texts: Texts::new(alloc),
             forks: Forks::new(alloc),
             leg: SourceRung::new(alloc),
@@ -67,19 +67,19 @@ impl Reader {
         ensures held { OnOk result (IsHeld self.new.place self.new.texts) }
     {
         match self.place {
-            Place::Element => self.take_element(alloc, token),
-            Place::Named(op) => self.take_open(op, token),
-            Place::First(op) => self.take_first(alloc, op, token),
-            Place::After(op) => self.take_after(alloc, op, token),
-            Place::Next(op) => self.take_next(alloc, op, token),
-            Place::End => Err(Refusal::Text(TextCode::T1)),
+            Expected::Element => self.take_element(alloc, token),
+            Expected::Named(op) => self.take_open(op, token),
+            Expected::First(op) => self.take_first(alloc, op, token),
+            Expected::After(op) => self.take_after(alloc, op, token),
+            Expected::Next(op) => self.take_next(alloc, op, token),
+            Expected::End => Err(Refusal::Text(TextCode::T1)),
         }
     }
 
     /// A token in an element's place.
     #[inline(always)]
     fn take_element(&mut self, alloc: Global, token: Token) -> Result<(), Refusal>
-        requires place { self.old.place ≡ Place.Element }
+        requires place { self.old.place ≡ Expected.Element }
         requires none { self.old.texts ≡ [] }
         requires fit { length self.old.forks + depth self.old.leg ≤ MAX_FORKS }
         requires forks_fit { AreFit self.old.forks }
@@ -88,7 +88,7 @@ impl Reader {
     {
         match token {
             Token::Mnemonic(op) => {
-                self.place = Place::Named(op);
+                self.place = Expected::Named(op);
                 Ok(())
             }
             Token::Letters => Err(Refusal::Text(TextCode::T2)),
@@ -102,9 +102,9 @@ impl Reader {
 
     /// A bracket that opens a fork after the leg's elements.
     fn open_fork(&mut self, alloc: Global) -> Result<(), Refusal>
-        requires { self.old.place ≡ Place.Element }
+        requires { self.old.place ≡ Expected.Element }
         ensures takes { Takes (text.read_element text.OpenFork self.old.forks self.old.leg) (reading self.new) result }
-        ensures place { self.new.place ≡ Place.Element }
+        ensures place { self.new.place ≡ Expected.Element }
         ensures texts { self.new.texts ≡ self.old.texts }
     {
         if !self.forks.has_room() {
@@ -117,9 +117,9 @@ impl Reader {
 
     /// A comma after a leg of the innermost fork.
     fn next_leg(&mut self, alloc: Global) -> Result<(), Refusal>
-        requires { self.old.place ≡ Place.Element }
+        requires { self.old.place ≡ Expected.Element }
         ensures takes { Takes (text.next_leg self.old.forks self.old.leg) (reading self.new) result }
-        ensures place { self.new.place ≡ Place.Element }
+        ensures place { self.new.place ≡ Expected.Element }
         ensures texts { self.new.texts ≡ self.old.texts }
     {
         let Some(mut fork) = self.forks.pop() else {
@@ -132,11 +132,11 @@ impl Reader {
 
     /// A bracket that closes the innermost fork.
     fn close_fork(&mut self, alloc: Global) -> Result<(), Refusal>
-        requires place { self.old.place ≡ Place.Element }
+        requires place { self.old.place ≡ Expected.Element }
         requires fit { length self.old.forks + depth self.old.leg ≤ MAX_FORKS }
         requires forks_fit { AreFit self.old.forks }
         ensures takes { Takes (text.close_fork self.old.forks self.old.leg) (reading self.new) result }
-        ensures place { self.new.place ≡ Place.Element }
+        ensures place { self.new.place ≡ Expected.Element }
         ensures texts { self.new.texts ≡ self.old.texts }
     {
         let Some(fork) = self.forks.pop() else {
@@ -150,13 +150,13 @@ impl Reader {
     /// The semicolon.
     fn end_rung(&mut self) -> Result<(), Refusal>
         ensures takes { Takes (text.end_rung self.old.forks self.old.leg) (reading self.new) result }
-        ensures place { OnOk result (self.new.place ≡ Place.End) }
+        ensures place { OnOk result (self.new.place ≡ Expected.End) }
         ensures texts { self.new.texts ≡ self.old.texts }
     {
         if !self.forks.is_empty() {
             return Err(Refusal::Text(TextCode::T1));
         }
-        self.place = Place::End;
+        self.place = Expected::End;
         Ok(())
     }
 
@@ -169,7 +169,7 @@ impl Reader {
     {
         match token {
             Token::OpenParen => {
-                self.place = Place::First(op);
+                self.place = Expected::First(op);
                 Ok(())
             }
             _ => Err(Refusal::Text(TextCode::T1)),
@@ -187,12 +187,12 @@ impl Reader {
         match token {
             Token::Operand(operand) => {
                 self.texts.push(alloc, operand)?;
-                self.place = Place::After(op);
+                self.place = Expected::After(op);
                 Ok(())
             }
             Token::CloseParen => {
                 self.leg.push(op, Texts::new(alloc))?;
-                self.place = Place::Element;
+                self.place = Expected::Element;
                 Ok(())
             }
             _ => Err(Refusal::Text(TextCode::T1)),
@@ -208,13 +208,13 @@ impl Reader {
     {
         match token {
             Token::Comma => {
-                self.place = Place::Next(op);
+                self.place = Expected::Next(op);
                 Ok(())
             }
             Token::CloseParen => {
                 let texts = mem::replace(&mut self.texts, Texts::new(alloc));
                 self.leg.push(op, texts)?;
-                self.place = Place::Element;
+                self.place = Expected::Element;
                 Ok(())
             }
             _ => Err(Refusal::Text(TextCode::T1)),
@@ -233,7 +233,7 @@ impl Reader {
             return Err(Refusal::Text(TextCode::T1));
         };
         self.texts.push(alloc, operand)?;
-        self.place = Place::After(op);
+        self.place = Expected::After(op);
         Ok(())
     }
 
@@ -248,8 +248,8 @@ impl Reader {
             ..
         } = self;
         let code = match place {
-            Place::End => return Ok(leg),
-            Place::Element if forks.is_empty() => TextCode::T4,
+            Expected::End => return Ok(leg),
+            Expected::Element if forks.is_empty() => TextCode::T4,
             _ => TextCode::T3,
         };
         Err(TextFault { code, at: len })

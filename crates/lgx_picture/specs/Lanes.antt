@@ -5,13 +5,13 @@ use Rattle.std.specs.List.{join_with_byte}
 use Rattle.std.specs.Str.{bytes_eq}
 use Rattle.lgx_chart.specs.declared.entry.Note.{Note}
 use Rattle.lgx_chart.specs.declared.entry.Note.TheVariants.{Begin, Reply, Fault, Set}
-use Rattle.lgx_chart.specs.declared.asked.Place.{Place}
+use Rattle.lgx_chart.specs.declared.asked.WatchedPlace.{WatchedPlace}
 use Rattle.lgx_picture.specs.declared.lanes.Lane.{Lane}
 use Rattle.lgx_picture.specs.declared.lanes.Lane.TheVariants.{Task, Faults, Replies, Watch}
 use Rattle.lgx_picture.specs.declared.sizes.TheConstants.{MAX_LANES, NAME_LETTERS, CUT_LETTERS}
 
 -- From the top: the tasks, the faults, the replies, the watched places. A report that was read has no more.
-abbrev pub lanes_of : List (List ℕ) → List Place → List Lane
+abbrev pub lanes_of : List (List ℕ) → List WatchedPlace → List Lane
 lanes_of tasks places = take MAX_LANES (map Task tasks ++ (Faults ∷ Replies ∷ []) ++ map Watch places)
 
 abbrev pub name_of : Lane → List ℕ

@@ -6,7 +6,7 @@ ghost use Rattle.lgx_picture.specs.declared.lanes.Lane.TheVariants.{Task as Task
 ghost use Rattle.lgx_picture.specs.Lanes.{lanes_of, name_of, class_of, short, begun_in, fault_in, reply_in, set_in, said_in};
 
 use crate::sizes::{CUT_LETTERS, MAX_LANES, NAME_LETTERS};
-use lgx_chart::{Note, Place, owned, push, push_count, push_joined};
+use lgx_chart::{Note, WatchedPlace, owned, push, push_count, push_joined};
 use lgx_num::{Items, Memory};
 use std::alloc::Global;
 
@@ -20,7 +20,7 @@ pub(crate) enum Lane {
     /// All replies.
     Replies,
     /// The values of a watched place.
-    Watch(Place),
+    Watch(WatchedPlace),
 }
 
 /// Adds the lanes of tasks.
@@ -34,10 +34,10 @@ fn push_task_lanes(lanes: &mut Vec<Lane>, alloc: Global, tasks: &[Items<u8>]) ->
 }
 
 /// A place of its own.
-fn copied(alloc: Global, place: &Place) -> Result<Place, Memory>
+fn copied(alloc: Global, place: &WatchedPlace) -> Result<WatchedPlace, Memory>
     ensures { IfOk result (λ copy. copy ≡ place.now) }
 {
-    Ok(Place {
+    Ok(WatchedPlace {
         name: owned(alloc, place.name.as_slice())?,
         is_bool: place.is_bool,
         start: place.start,
@@ -45,7 +45,11 @@ fn copied(alloc: Global, place: &Place) -> Result<Place, Memory>
 }
 
 /// Adds the lanes of watched places.
-fn push_watch_lanes(lanes: &mut Vec<Lane>, alloc: Global, places: &[Place]) -> Result<(), Memory>
+fn push_watch_lanes(
+    lanes: &mut Vec<Lane>,
+    alloc: Global,
+    places: &[WatchedPlace],
+) -> Result<(), Memory>
     ensures { OnOk result (lanes.new.items ≡ lanes.old.items ++ map WatchLane places.now) }
 {
     for place in places {
@@ -58,7 +62,7 @@ fn push_watch_lanes(lanes: &mut Vec<Lane>, alloc: Global, places: &[Place]) -> R
 pub(crate) fn lanes_of(
     alloc: Global,
     tasks: &[Items<u8>],
-    places: &[Place],
+    places: &[WatchedPlace],
 ) -> Result<Vec<Lane>, Memory>
     ensures lanes { IfOk result (λ lanes. lanes.items ≡ lanes_of tasks.now places.now) }
     ensures few { IfOk result (λ lanes. length lanes.items ≤ MAX_LANES) }

@@ -8,7 +8,7 @@ use Rattle.spec_project.specs.Routines.{program_texts}
 use Rattle.spec_project.specs.Tags.{declarations}
 use Rattle.lgx_project.specs.TaskParts.{AreTasksOf}
 use Rattle.lgx_project.specs.declared.plant.LookedUp.{LookedUp}
-use Rattle.lgx_project.specs.declared.plant.Parts.{Parts}
+use Rattle.lgx_project.specs.declared.plant.FileParts.{FileParts}
 
 -- the sealed tags, and what connections, initial values and watched texts name by them
 pub record IsLookedUp (p : Described) (l : LookedUp) : Type 0 where
@@ -18,7 +18,7 @@ pub record IsLookedUp (p : Described) (l : LookedUp) : Type 0 where
   pub watches : map watch_of l.places.watches ≡ filter_map (places.watch_of p) p.watch
 
 -- these, the tasks, and the programs with their rungs
-pub record ArePartsOf (p : Described) (parts : Parts) : Type 0 where
+pub record ArePartsOf (p : Described) (parts : FileParts) : Type 0 where
   pub found : IsLookedUp p parts.found
   pub tasks : AreTasksOf p parts.tasks
   pub texts : map program_of parts.texts ≡ program_texts p

@@ -9,7 +9,7 @@ ghost use Rattle.lgx_project.specs.Parts.{ArePartsOf, IsLookedUp};
 ghost use Rattle.lgx_project.specs.Passes.{places_refusal};
 ghost use Rattle.lgx_project.specs.Programs.{programs_from};
 ghost use Rattle.lgx_project.specs.TaskParts.{AreTasksOf};
-ghost use Rattle.lgx_json.specs.Answers.{Answers, Passes, Reads};
+ghost use Rattle.lgx_json.specs.Answers.{AnswersJson, Passes, Reads};
 
 use crate::count::refuse_count;
 use crate::programs::read_programs;
@@ -36,7 +36,7 @@ struct LookedUp {
 
 /// What is read of a file before its project is made.
 #[derive(Drop)]
-struct Parts {
+struct FileParts {
     found: LookedUp,
     tasks: TaskParts,
     texts: ProgramTexts,
@@ -100,7 +100,7 @@ fn with_texts(
     tasks: TaskParts,
     found: LookedUp,
     file: &Described,
-) -> Result<Parts, ProjectError>
+) -> Result<FileParts, ProjectError>
     requires limits { IsWithinLimits file.now }
     requires tasks { AreTasksOf file.now tasks }
     requires found { IsLookedUp file.now found }
@@ -108,7 +108,7 @@ fn with_texts(
     ensures parts { IfOk result (λ parts. ArePartsOf file.now parts) }
 {
     let texts = read_texts(alloc, &found.tags, tasks.names.as_slice(), file)?;
-    Ok(Parts {
+    Ok(FileParts {
         found,
         tasks,
         texts,
@@ -117,7 +117,7 @@ fn with_texts(
 
 /// What is read of a file, or its first refusal.
 #[tactic(auto, using(crate::proofs::Passes::rungs_last))]
-fn read_parts(alloc: Global, file: &Described) -> Result<Parts, ProjectError>
+fn read_parts(alloc: Global, file: &Described) -> Result<FileParts, ProjectError>
     requires { IsWithinLimits file.now }
     ensures fault { Passes (refusal file.now) result }
     ensures parts { IfOk result (λ parts. ArePartsOf file.now parts) }
@@ -128,13 +128,13 @@ fn read_parts(alloc: Global, file: &Described) -> Result<Parts, ProjectError>
 }
 
 /// The parts of the project of a file that isn't refused.
-fn plant_of(file: &Described, parts: Parts) -> PlantParts
+fn plant_of(file: &Described, parts: FileParts) -> PlantParts
     requires limits { IsWithinLimits file.now }
     requires accepted { refusal file.now ≡ None }
     requires parts { ArePartsOf file.now parts }
     ensures { result ≡ project_made file.now }
 {
-    let Parts {
+    let FileParts {
         found,
         tasks,
         texts,
@@ -180,7 +180,7 @@ fn read_plant(alloc: Global, file: &Described) -> Result<Plant, ProjectError>
 /// routines, and last P11 of all instructions.
 #[tactic(auto, unfolding(spec_project::specs::Projects::project_of))]
 pub fn read_project(alloc: Global, bytes: &[u8]) -> Result<Project, ProjectError>
-    ensures { Answers (project_of bytes.now) result }
+    ensures { AnswersJson (project_of bytes.now) result }
 {
     let file = read_described(alloc, bytes)?;
     read_plant(alloc, &file)

@@ -20,7 +20,7 @@ use Rattle.spec_machine.specs.Machine.{run}
 use Rattle.spec_machine.proofs.TickFaults.{masks_of_tasks, ticks_keep_tasks}
 use Rattle.lgx_watch.specs.Kept.{Kept}
 use Rattle.lgx_core.specs.ControllerView.{ControllerView}
-use Rattle.lgx_core.specs.Represents.{Represents}
+use Rattle.lgx_core.specs.Represents.{RepresentsController}
 use Rattle.lgx_core.specs.Gives.{Gives}
 use Rattle.lgx_record.specs.declared.lines.Stamp.{Stamp}
 use Rattle.lgx_record.specs.FollowerView.{FollowerView}
@@ -35,10 +35,10 @@ use Rattle.lgx_record.proofs.Taking.{has-taken, follows-more}
 -- What the last part of an event does, of whatever kind it is: c is the controller before, and log is the log, which end is
 -- after it. The stamp is that of the controller and of the steps.
 pub record Closes (old new : FollowerView) (c : ControllerView) (log end : Kept) (at : Stamp) : Type 0 where
-  pub tick : (s : State) → Represents c s → at.tick ≡ s.tick
+  pub tick : (s : State) → RepresentsController c s → at.tick ≡ s.tick
   pub step_is : at.step ≡ new.steps
-  pub compared : (s : State) → Represents c s → Compared log end at old.values new.values (numbers_at s.image old.places)
-  pub represents : (s : State) → Represents c s → Represents new.controller s
+  pub compared : (s : State) → RepresentsController c s → Compared log end at old.values new.values (numbers_at s.image old.places)
+  pub represents : (s : State) → RepresentsController c s → RepresentsController new.controller s
   pub spent : new.controller.spent ≡ c.spent
   pub watched : new.controller.parts.image.watched ≡ c.parts.image.watched
   pub none_hit : NoneIsHit new.controller.parts.image
@@ -50,7 +50,7 @@ pub changes-kept : (log next : Kept) (at : Stamp) (before after now : List ℤ) 
 changes-kept log next at before after now h = h.log ∙ ap (λ (ns : List ℤ). with_event_lines log at (change_lines 0 before ns)) (sym h.values)
 
 -- the numbers that are kept are those of the image
-pub kept-values : (old new : FollowerView) (c : ControllerView) (log end : Kept) (at : Stamp) → Closes old new c log end at → (s : State) → Represents c s → new.values ≡ numbers_at s.image new.places
+pub kept-values : (old new : FollowerView) (c : ControllerView) (log end : Kept) (at : Stamp) → Closes old new c log end at → (s : State) → RepresentsController c s → new.values ≡ numbers_at s.image new.places
 kept-values old new c log end at k s h = (k.compared s h).values ∙ ap (numbers_at s.image) (sym k.places)
 
 module _ (old new : FollowerView) (c : ControllerView) (start first second end : Kept) (at : Stamp) (project : Project) (events : List Event) (r : FollowsRun old project events) (k : Closes old new c second end at) (spent : c.spent ≡ old.controller.spent + 1) (same_watched : c.parts.image.watched ≡ old.controller.parts.image.watched) where

@@ -13,7 +13,7 @@ use Rattle.lgx_edit.specs.Plants.{project_of, watch_of}
 use Rattle.lgx_watch.specs.Kept.{no_lines}
 use Rattle.lgx_watch.proofs.Pushes.{keeps_the_first}
 use Rattle.lgx_core.specs.ControllerView.{ControllerView}
-use Rattle.lgx_core.specs.Represents.{Represents, StandsFor}
+use Rattle.lgx_core.specs.Represents.{RepresentsController, StandsFor}
 use Rattle.lgx_record.specs.FollowerView.{FollowerView}
 use Rattle.lgx_record.specs.RecordingView.{RecordingView, follower_of}
 use Rattle.lgx_record.specs.Changes.{numbers_at, AreWatched}
@@ -41,7 +41,7 @@ pub same_places : (p : Inside) → map (λ w. w.place) p.watches ≡ map (λ w. 
 same_places p = sym (map-map (λ (w : MachineWatch). w.place) watch_of p.watches)
 
 -- a controller without its hits
-pub still-stands : (project : Project) (events : List Event) (old new : ControllerView) → StandsFor project events old → ((s : State) → Represents old s → Represents new s) → new.spent ≡ old.spent → StandsFor project events new
+pub still-stands : (project : Project) (events : List Event) (old new : ControllerView) → StandsFor project events old → ((s : State) → RepresentsController old s → RepresentsController new s) → new.spent ≡ old.spent → StandsFor project events new
 still-stands project events old new h represents spent = record {
   valid = h.valid;
   counted = spent ∙ h.counted;

@@ -17,7 +17,7 @@ use Rattle.lgx_steps.specs.declared.begins.Begins.{Begins}
 use Rattle.lgx_steps.specs.declared.stretch.Stretch.{Stretch}
 use Rattle.lgx_steps.specs.Stretches.{IsStretch, after_steps, moment_after, told_steps}
 use Rattle.lgx_core.specs.ControllerView.{ControllerView}
-use Rattle.lgx_core.specs.Represents.{Represents}
+use Rattle.lgx_core.specs.Represents.{RepresentsController}
 use Rattle.lgx_core.specs.Gives.{StretchGives}
 use Rattle.lgx_record.specs.declared.lines.Stamp.{Stamp}
 use Rattle.lgx_record.specs.FollowerView.{FollowerView}
@@ -96,8 +96,8 @@ module _ (old new : FollowerView) (c : ControllerView) (base start first second 
       ∙ ap (λ n. moment_after n s) (let one : x.steps - 1 ≡ m = omega (arith, many) in one)
       ∙ ap (λ (t : State). (processor_step t).answer) (sym (run-steps project events m))
 
-  represents : Represents c (processor_step (run project before)).state
-  represents = subst (λ (t : State). Represents c t) last g.represents
+  represents : RepresentsController c (processor_step (run project before)).state
+  represents = subst (λ (t : State). RepresentsController c t) last g.represents
 
   pub stretch-taken : from.tick ≡ s.tick → from.step ≡ old.steps → start ≡ with_lines base (begins_lines from.tick from.step b.began b.steps.items) → c.spent ≡ old.controller.spent + x.steps → new.steps ≡ old.steps + x.steps → first ≡ with_event_lines start at (begin_lines x.last.what) → second ≡ with_event_lines first at (map FaultLine (faults_in x.last.fault)) → TakesSteps new base end project events x.steps
   stretch-taken tick_is step_is started spent steps begun faulted =
@@ -139,9 +139,9 @@ module _ (old new : FollowerView) (c : ControllerView) (base start first second 
       }
 
 -- before the watched places are compared
-pub stretch-inside : (v : FollowerView) (i : IsFollower v) (n : ℕ) (c : ControllerView) → Represents c (after_steps n (run i.project i.events)) → AreInside v.places c.parts.image.bytes
+pub stretch-inside : (v : FollowerView) (i : IsFollower v) (n : ℕ) (c : ControllerView) → RepresentsController c (after_steps n (run i.project i.events)) → AreInside v.places c.parts.image.bytes
 stretch-inside v i n c r =
-    are_inside i.project i.follows.controller.valid v.places (i.events ++ replicate n Cpu) c i.follows.places (subst (λ (t : State). Represents c t) (sym (run-steps i.project i.events n)) r)
+    are_inside i.project i.follows.controller.valid v.places (i.events ++ replicate n Cpu) c i.follows.places (subst (λ (t : State). RepresentsController c t) (sym (run-steps i.project i.events n)) r)
 
 -- ---- stretch by stretch
 

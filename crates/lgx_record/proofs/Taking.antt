@@ -27,7 +27,7 @@ use Rattle.lgx_watch.specs.Kept.{Kept, kept_of, with_lines}
 use Rattle.lgx_watch.proofs.EventLines.{one_more_event}
 use Rattle.lgx_watch.proofs.Spanned.{unhit_watches_stay}
 use Rattle.lgx_core.specs.ControllerView.{ControllerView}
-use Rattle.lgx_core.specs.Represents.{Represents}
+use Rattle.lgx_core.specs.Represents.{RepresentsController}
 use Rattle.lgx_record.specs.declared.lines.TheConstants.{MAX_EVENT_LINES}
 use Rattle.lgx_record.specs.declared.lines.Stamp.{Stamp}
 use Rattle.lgx_record.specs.FollowerView.{FollowerView}
@@ -83,7 +83,7 @@ watched_inside len (w ∷ ws) h = (h.0.inside, watched_inside len ws h.1)
 
 module _ (project : Project) (valid : IsValidProject project) where
   -- the watched places lie in the image of each state
-  pub are_inside : (places : List Place) (events : List Event) (c : ControllerView) → places ≡ map (λ w. w.place) project.watches → Represents c (run project events) → AreInside places c.parts.image.bytes
+  pub are_inside : (places : List Place) (events : List Event) (c : ControllerView) → places ≡ map (λ w. w.place) project.watches → RepresentsController c (run project events) → AreInside places c.parts.image.bytes
   are_inside places events c is r =
       let many : length c.parts.image.bytes ≡ length project.image = ap length r.parts.image ∙ images_keep_length project events in
       record {
@@ -107,9 +107,9 @@ as_compared v project events now r changes = record {
 }
 
 -- before the watched places are compared
-pub next_inside : (v : FollowerView) (i : IsFollower v) (e : Event) (c : ControllerView) → Represents c (step (run i.project i.events) e).state → AreInside v.places c.parts.image.bytes
+pub next_inside : (v : FollowerView) (i : IsFollower v) (e : Event) (c : ControllerView) → RepresentsController c (step (run i.project i.events) e).state → AreInside v.places c.parts.image.bytes
 next_inside v i e c r =
-    are_inside i.project i.follows.controller.valid v.places (i.events ++ e ∷ []) c i.follows.places (subst (λ (y : State). Represents c y) (sym (run_more i.project i.events e)) r)
+    are_inside i.project i.follows.controller.valid v.places (i.events ++ e ∷ []) c i.follows.places (subst (λ (y : State). RepresentsController c y) (sym (run_more i.project i.events e)) r)
 
 pub next_compared : (v : FollowerView) (i : IsFollower v) (now : ImageView) → ChangesOnlyMarked v.controller.parts.image now → AreAsCompared v.places v.values now
 next_compared v i now changes = as_compared v i.project i.events now i.follows changes
@@ -141,7 +141,7 @@ next_watched v i now changes = subst (AreWatched v.places) (sym changes.same_wat
 
 -- what was done when an event of state s was taken
 pub record Takes (old new : FollowerView) (before after : Kept) (s : State) (e : Event) (at : Stamp) : Type 0 where
-  pub represents : Represents new.controller (step s e).state
+  pub represents : RepresentsController new.controller (step s e).state
   pub spent : new.controller.spent ≡ old.controller.spent + 1
   pub names : new.names ≡ old.names
   pub places : new.places ≡ old.places
@@ -192,7 +192,7 @@ follows-more old new start end project events e at r t =
         controller = record {
           valid = r.valid;
           counted = t.spent ∙ ap (λ n. n + 1) r.counted ∙ sym (length-append events (e ∷ []));
-          represents = subst (λ (y : State). Represents new.controller y) (sym (run_more project events e)) t.represents;
+          represents = subst (λ (y : State). RepresentsController new.controller y) (sym (run_more project events e)) t.represents;
         };
         names = t.names ∙ r.names;
         steps = steps;

@@ -3,7 +3,7 @@ ghost use Rattle.std.specs.Prelude.{◌≡◌, ◌+◌, ◌≤◌, ◌<◌, ◌^
 ghost use Rattle.spec_machine.specs.State.{State};
 ghost use Rattle.lgx_image.specs.Grains.{NoneIsHit};
 ghost use Rattle.lgx_watch.specs.declared.bits.TheConstants.{MAX_WATCHES};
-ghost use Rattle.lgx_core.specs.Represents.{Represents};
+ghost use Rattle.lgx_core.specs.Represents.{RepresentsController};
 ghost use Rattle.lgx_record.specs.Changes.{numbers_at, change_line, AreInside, AreWatched, AreAsCompared, HasWritten};
 ghost use Rattle.lgx_record.specs.EventLines.{with_event_lines, Compared};
 
@@ -20,7 +20,7 @@ pub(crate) fn numbers_at(
     places: &[Place],
 ) -> Result<Vec<i32>, Memory>
     requires { AreInside places.now controller.now.parts.image.bytes }
-    ensures { (s : State) → Represents controller.now s → IfOk result (λ numbers. numbers.items ≡ numbers_at s.image places.now) }
+    ensures { (s : State) → RepresentsController controller.now s → IfOk result (λ numbers. numbers.items ≡ numbers_at s.image places.now) }
 {
     let mut numbers = Vec::with_capacity(alloc, places.len())?;
     for place in places {
@@ -43,8 +43,8 @@ pub(crate) fn log_changes(
     requires are_watched { AreWatched watches.now controller.old.parts.image.watched }
     requires compared { AreAsCompared watches.now values.old controller.old.parts.image }
     requires room { log.old.lost + MAX_WATCHES < 2 ^ 63 }
-    ensures compared { (s : State) → Represents controller.old s → Compared log.old log.new at values.old values.new (numbers_at s.image watches.now) }
-    ensures represents { (s : State) → Represents controller.old s → Represents controller.new s }
+    ensures compared { (s : State) → RepresentsController controller.old s → Compared log.old log.new at values.old values.new (numbers_at s.image watches.now) }
+    ensures represents { (s : State) → RepresentsController controller.old s → RepresentsController controller.new s }
     ensures spent { controller.new.spent ≡ controller.old.spent }
     ensures none_hit { NoneIsHit controller.new.parts.image }
     ensures watched { controller.new.parts.image.watched ≡ controller.old.parts.image.watched }
@@ -66,8 +66,8 @@ fn log_hits(
     requires inside { AreInside watches.now controller.old.parts.image.bytes }
     requires compared { AreAsCompared watches.now values.old controller.old.parts.image }
     requires room { log.old.lost + MAX_WATCHES < 2 ^ 63 }
-    ensures compared { (s : State) → Represents controller.old s → Compared log.old log.new at values.old values.new (numbers_at s.image watches.now) }
-    ensures represents { (s : State) → Represents controller.old s → Represents controller.new s }
+    ensures compared { (s : State) → RepresentsController controller.old s → Compared log.old log.new at values.old values.new (numbers_at s.image watches.now) }
+    ensures represents { (s : State) → RepresentsController controller.old s → RepresentsController controller.new s }
     ensures spent { controller.new.spent ≡ controller.old.spent }
     ensures none_hit { NoneIsHit controller.new.parts.image }
     ensures watched { controller.new.parts.image.watched ≡ controller.old.parts.image.watched }
@@ -108,7 +108,7 @@ fn compare_all(
     requires compared { AreAsCompared places.now values.old controller.now.parts.image }
     requires written { HasWritten places.now controller.now.parts.image.hits written.now }
     requires room { log.old.lost + MAX_WATCHES < 2 ^ 63 }
-    ensures { (s : State) → Represents controller.now s → Compared log.old log.new at values.old values.new (numbers_at s.image places.now) }
+    ensures { (s : State) → RepresentsController controller.now s → Compared log.old log.new at values.old values.new (numbers_at s.image places.now) }
 {
     let mut from = 0;
     while let Some(watch) = written.next(from) {
@@ -141,7 +141,7 @@ fn compare(log: &mut Log, value: &mut i32, at: Stamp, watch: u32, number: i32)
 /// Watches the words of places, which lie in the image. What the controller represents is as before.
 pub(crate) fn watch_all(controller: &mut Controller, places: &[Place])
     requires { AreInside places.now controller.old.parts.image.bytes }
-    ensures represents { (s : State) → Represents controller.old s → Represents controller.new s }
+    ensures represents { (s : State) → RepresentsController controller.old s → RepresentsController controller.new s }
     ensures spent { controller.new.spent ≡ controller.old.spent }
     ensures bytes { controller.new.parts.image.bytes ≡ controller.old.parts.image.bytes }
     ensures watched { AreWatched places.now controller.new.parts.image.watched }

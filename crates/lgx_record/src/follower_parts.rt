@@ -9,7 +9,7 @@ ghost use Rattle.spec_machine.specs.State.{State};
 ghost use Rattle.spec_text.specs.ReportText.{names_of};
 ghost use Rattle.lgx_image.specs.Grains.{NoneIsHit};
 ghost use Rattle.lgx_watch.specs.declared.bits.TheConstants.{MAX_WATCHES};
-ghost use Rattle.lgx_core.specs.Represents.{Represents, StandsFor};
+ghost use Rattle.lgx_core.specs.Represents.{RepresentsController, StandsFor};
 ghost use Rattle.lgx_record.specs.declared.lines.TheConstants.{MAX_EVENT_LINES};
 ghost use Rattle.lgx_record.specs.Changes.{numbers_at, AreInside, AreWatched, AreAsCompared};
 ghost use Rattle.lgx_record.specs.EventLines.{Compared};
@@ -172,7 +172,7 @@ impl FollowerParts {
     #[inline(always)]
     fn stamp(&self) -> Stamp
         ensures step { result.step ≡ self.now.steps }
-        ensures tick { (s : State) → Represents self.now.controller s → result.tick ≡ s.tick }
+        ensures tick { (s : State) → RepresentsController self.now.controller s → result.tick ≡ s.tick }
     {
         Stamp {
             tick: self.controller.now(),
@@ -187,8 +187,8 @@ impl FollowerParts {
         requires are_watched { AreWatched self.old.watches self.old.controller.parts.image.watched }
         requires compared { AreAsCompared self.old.watches self.old.values.items self.old.controller.parts.image }
         requires room { log.old.lost + MAX_WATCHES < 2 ^ 63 }
-        ensures compared { (s : State) → Represents self.old.controller s → Compared log.old log.new at self.old.values.items self.new.values.items (numbers_at s.image self.old.watches) }
-        ensures represents { (s : State) → Represents self.old.controller s → Represents self.new.controller s }
+        ensures compared { (s : State) → RepresentsController self.old.controller s → Compared log.old log.new at self.old.values.items self.new.values.items (numbers_at s.image self.old.watches) }
+        ensures represents { (s : State) → RepresentsController self.old.controller s → RepresentsController self.new.controller s }
         ensures spent { self.new.controller.spent ≡ self.old.controller.spent }
         ensures none_hit { NoneIsHit self.new.controller.parts.image }
         ensures watched { self.new.controller.parts.image.watched ≡ self.old.controller.parts.image.watched }

@@ -17,7 +17,7 @@ use std::alloc::Global;
 
 /// The parts of a recording. They have no invariant of their own: each step is told what they record.
 #[derive(Drop)]
-pub(crate) struct Parts {
+pub(crate) struct RecordingParts {
     /// From here the journal takes memory for the texts of accepts.
     pub alloc: Global,
     pub follower: FollowerParts,
@@ -25,15 +25,15 @@ pub(crate) struct Parts {
     pub log: Log,
 }
 
-impl Parts {
+impl RecordingParts {
     /// The parts of a recording without an event. It takes all room but that of the journal and of accepts.
-    pub(crate) fn of_project(alloc: Global, project: Plant) -> Result<Parts, Memory>
+    pub(crate) fn of_project(alloc: Global, project: Plant) -> Result<RecordingParts, Memory>
         ensures { IfOk result (λ parts. Records (view_of parts) project []) }
     {
         let log = Log::new(alloc)?;
         let follower = FollowerParts::of_project(alloc, project)?;
         let journal = Journal::new(alloc);
-        Ok(Parts {
+        Ok(RecordingParts {
             alloc,
             follower,
             journal,

@@ -1,5 +1,5 @@
 // The recording of a run.
-use crate::parts::Parts;
+use crate::parts::RecordingParts;
 use lgx_core::Controller;
 use lgx_edit::Plant;
 use lgx_journal::{Action, Event, Journal};
@@ -10,7 +10,7 @@ use std::marker::Model;
 
 /// A controller with the journal of its events, the log of their report and what the report's lines are written with.
 pub struct Recording {
-    parts: Box<Parts>,
+    parts: Box<RecordingParts>,
 }
 
 impl Drop for Recording {
@@ -52,7 +52,7 @@ impl Recording {
     pub fn of_journal(alloc: Global, project: Plant) -> Result<Recording, Memory>
         ensures { IfOk result (λ recording. Records recording project []) }
     {
-        let parts = Parts::of_project(alloc, project)?;
+        let parts = RecordingParts::of_project(alloc, project)?;
         let boxed = Box::new(alloc, parts)?;
         Ok(Recording { parts: boxed })
     }

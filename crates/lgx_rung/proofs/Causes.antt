@@ -7,7 +7,7 @@ use Rattle.lgx_rung.specs.declared.fault.TextFault.{TextFault}
 use Rattle.lgx_rung.specs.declared.fault.TextCode.{TextCode}
 use Rattle.lgx_rung.specs.declared.fault.TextCode.TheVariants.{T1, T2, T3, T4, T5}
 use Rattle.lgx_rung.specs.Text.{rung_tokens, IsNested, MayFollow, InElementPlace, unplaced, IsWrong, StopsAt, IsOpen, IsCause, IsTextCause}
-use Rattle.lgx_rung.specs.Tokens.{Token, Mnemonic, Letters, Operand, OpenFork, CloseFork, OpenParen, CloseParen, Comma, Semicolon, Stray, Placed, tokens, Place, Element, Named, First, After, Next, Fork, Reader, At, Done, open_fork, read_at, read_token, read_end, read_on, read_tokens, read_rung}
+use Rattle.lgx_rung.specs.Tokens.{Token, Mnemonic, Letters, Operand, OpenFork, CloseFork, OpenParen, CloseParen, Comma, Semicolon, Stray, Placed, tokens, Expected, Element, Named, First, After, Next, Fork, Reader, At, Done, open_fork, read_at, read_token, read_end, read_on, read_tokens, read_rung}
 use Rattle.lgx_rung.specs.Tree.{depth, Source}
 use Rattle.lgx_rung.proofs.Reading.{and_then, run, start, fit_by_run, continues}
 use Rattle.lgx_rung.proofs.Runs.{Runs, run_on, shorter, runs_before, ends_rung, rung_ends, cut_short, begins, runs_of_begins, one_more}
@@ -136,7 +136,7 @@ outcome (t ∷ ts) r = first t ts r (read_token r t.token) refl (outcome ts)
 -- ---- causes
 
 -- the text ends while something is open
-ends_open : (text : List ℕ) (p : Place) (forks : List Fork) (leg : Source) (f : TextFault) → Runs (unplaced (tokens text)) (At p forks leg)
+ends_open : (text : List ℕ) (p : Expected) (forks : List Fork) (leg : Source) (f : TextFault) → Runs (unplaced (tokens text)) (At p forks leg)
     → IsOpenAt p forks → fault T3 (length text) ≡ f → IsTextCause text f
 ends_open text p forks leg f e h same =
     subst (IsTextCause text) same (refl, cut_short (unplaced (tokens text)) (At p forks leg) e (continues p forks leg), open_of_run (unplaced (tokens text)) p forks leg e h)

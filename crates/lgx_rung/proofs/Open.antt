@@ -3,7 +3,7 @@ use Rattle.std.proofs.Common.{◌≡◌, ℕ, suc, ◌+◌, ◌-◌, Bool, true,
 use Rattle.std.proofs.lemmas.List.{append-nil}
 use Rattle.lgx_rung.specs.declared.op.Op.{Op}
 use Rattle.lgx_rung.specs.Text.{IsOpen, open_forks, in_parentheses, list_tokens, leg_tokens, operands, more_operands}
-use Rattle.lgx_rung.specs.Tokens.{Token, Mnemonic, OpenFork, CloseFork, CloseParen, Comma, Place, Element, Named, First, After, Next, Fork, Reader, At, Done, read_token}
+use Rattle.lgx_rung.specs.Tokens.{Token, Mnemonic, OpenFork, CloseFork, CloseParen, Comma, Expected, Element, Named, First, After, Next, Fork, Reader, At, Done, read_token}
 use Rattle.lgx_rung.specs.Tree.{end, one, fork, Legs, last, leg, SourceIns, Source}
 use Rattle.lgx_rung.proofs.Reading.{and_then, run, taken_by_run, finished, fork_tokens, place_tokens}
 use Rattle.lgx_rung.proofs.Runs.{Runs, runs_before}
@@ -58,14 +58,14 @@ forks_open (f ∷ fs) n ts =
     ∙ forks_finished f.legs (n + length fs + 1) ts
     ∙ ap (λ m. open_forks m ts) (one_more_fork n (length fs))
 
-forks_place : (p : Place) (n : ℕ) → open_forks n (place_tokens p) ≡ n
+forks_place : (p : Expected) (n : ℕ) → open_forks n (place_tokens p) ≡ n
 forks_place Element n = refl
 forks_place (Named op) n = refl
 forks_place (First op) n = refl
 forks_place (After op x xs) n = ap (open_forks n) (sym (append-nil (more_operands xs))) ∙ forks_more xs n []
 forks_place (Next op x xs) n = forks_more xs n (Comma ∷ [])
 
-pub forks_of_run : (ts : List Token) (p : Place) (forks : List Fork) (current : Source) → Runs ts (At p forks current) → open_forks 0 ts ≡ length forks
+pub forks_of_run : (ts : List Token) (p : Expected) (forks : List Fork) (current : Source) → Runs ts (At p forks current) → open_forks 0 ts ≡ length forks
 forks_of_run ts p forks current e =
     ap (open_forks 0) (sym (taken_by_run ts (At p forks current) e))
     ∙ forks_open forks 0 (list_tokens current ++ place_tokens p)
@@ -111,18 +111,18 @@ parens_open (f ∷ fs) ts =
     ∙ parens_list f.before (OpenFork ∷ (finished f.legs ++ ts))
     ∙ parens_finished f.legs ts
 
-parens_of_run : (ts : List Token) (p : Place) (forks : List Fork) (current : Source) → Runs ts (At p forks current) → in_parentheses false ts ≡ in_parentheses false (place_tokens p)
+parens_of_run : (ts : List Token) (p : Expected) (forks : List Fork) (current : Source) → Runs ts (At p forks current) → in_parentheses false ts ≡ in_parentheses false (place_tokens p)
 parens_of_run ts p forks current e =
     ap (in_parentheses false) (sym (taken_by_run ts (At p forks current) e))
     ∙ parens_open forks (list_tokens current ++ place_tokens p)
     ∙ parens_list current (place_tokens p)
 
 -- a place at which the text may not end, nor by a semicolon
-abbrev pub IsOpenAt : Place → List Fork → Type 0
+abbrev pub IsOpenAt : Expected → List Fork → Type 0
 IsOpenAt Element [] = ⊥
 IsOpenAt _ _ = Unit {0}
 
-pub open_of_run : (ts : List Token) (p : Place) (forks : List Fork) (current : Source) → Runs ts (At p forks current) → IsOpenAt p forks → IsOpen ts
+pub open_of_run : (ts : List Token) (p : Expected) (forks : List Fork) (current : Source) → Runs ts (At p forks current) → IsOpenAt p forks → IsOpen ts
 open_of_run ts Element [] current e h = absurd h
 open_of_run ts Element (f ∷ fs) current e h = inl (omega (arith, forks_of_run ts Element (f ∷ fs) current e))
 open_of_run ts (Named op) forks current e h = inr (inr (fork_tokens forks ++ list_tokens current, op, sym (taken_by_run ts (At (Named op) forks current) e) ∙ sym (append_assoc (fork_tokens forks) (list_tokens current) (Mnemonic op ∷ []))))

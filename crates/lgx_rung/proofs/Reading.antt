@@ -7,7 +7,7 @@ use Rattle.spec_base.specs.declared.limits.TheConstants.{MAX_FORKS}
 use Rattle.lgx_rung.specs.declared.op.Op.{Op}
 use Rattle.lgx_rung.specs.declared.fault.TextCode.{TextCode}
 use Rattle.lgx_rung.specs.Text.{list_tokens, leg_tokens, rung_tokens, operands, more_operands, IsNested}
-use Rattle.lgx_rung.specs.Tokens.{Token, Mnemonic, Operand, OpenFork, CloseFork, OpenParen, CloseParen, Comma, Semicolon, Place, Element, Named, First, After, Next, Fork, Reader, At, Done, instruction, open_fork, read_at, read_token}
+use Rattle.lgx_rung.specs.Tokens.{Token, Mnemonic, Operand, OpenFork, CloseFork, OpenParen, CloseParen, Comma, Semicolon, Expected, Element, Named, First, After, Next, Fork, Reader, At, Done, instruction, open_fork, read_at, read_token}
 use Rattle.lgx_rung.specs.Tree.{end, one, fork, Legs, last, leg, append, depth, leg_depth, legs_of, fork_of, SourceIns, Source}
 use Rattle.lgx_rung.proofs.Trees.{append-end, append-append, depth-append}
 
@@ -48,7 +48,7 @@ abbrev pub fork_tokens : List Fork → List Token
 fork_tokens [] = []
 fork_tokens (f ∷ fs) = fork_tokens fs ++ (list_tokens f.before ++ OpenFork ∷ finished f.legs)
 
-abbrev pub place_tokens : Place → List Token
+abbrev pub place_tokens : Expected → List Token
 place_tokens Element = []
 place_tokens (Named op) = Mnemonic op ∷ []
 place_tokens (First op) = Mnemonic op ∷ OpenParen ∷ []
@@ -100,7 +100,7 @@ open_fork_taken : (b : Bool) (forks : List Fork) (t : Source) → IfOk (open_for
 open_fork_taken true forks t = simp (append_assoc, append-nil)
 open_fork_taken false forks t = tt
 
-read_at_taken : (p : Place) (x : Token) (forks : List Fork) (t : Source) → IfOk (read_at p x forks t) (λ r. taken r ≡ taken (At p forks t) ++ x ∷ [])
+read_at_taken : (p : Expected) (x : Token) (forks : List Fork) (t : Source) → IfOk (read_at p x forks t) (λ r. taken r ≡ taken (At p forks t) ++ x ∷ [])
 read_at_taken Element (Mnemonic op) forks t = one_after (fork_tokens forks) (list_tokens t) [] (Mnemonic op)
 read_at_taken Element OpenFork forks t = open_fork_taken (nat_lt (length forks) MAX_FORKS) forks t
 read_at_taken Element CloseFork [] t = tt
@@ -170,7 +170,7 @@ open_fork_fit false forks t e h hs = tt
 element_fit : (forks : List Fork) (t : Source) (op : Op) (texts : List (List ℕ)) → length forks + depth t ≤ MAX_FORKS → length forks + depth (append t (instruction op texts)) ≤ MAX_FORKS
 element_fit forks t op texts h = omega (arith, depth-append t (instruction op texts))
 
-read_at_fit : (p : Place) (x : Token) (forks : List Fork) (t : Source) → length forks + depth t ≤ MAX_FORKS → AreFit forks → IfOk (read_at p x forks t) IsFit
+read_at_fit : (p : Expected) (x : Token) (forks : List Fork) (t : Source) → length forks + depth t ≤ MAX_FORKS → AreFit forks → IfOk (read_at p x forks t) IsFit
 read_at_fit Element (Mnemonic op) forks t h hs = (h, hs)
 read_at_fit Element OpenFork forks t h hs = open_fork_fit (nat_lt (length forks) MAX_FORKS) forks t refl h hs
 read_at_fit Element CloseFork [] t h hs = tt
@@ -283,7 +283,7 @@ element_continues : (forks : List Fork) (t : Source) → Continues (At Element f
 element_continues [] t = (Semicolon, [], closes [] t)
 element_continues (f ∷ fs) t = (CloseFork, closing fs, closes (f ∷ fs) t)
 
-pub continues : (p : Place) (forks : List Fork) (t : Source) → Continues (At p forks t)
+pub continues : (p : Expected) (forks : List Fork) (t : Source) → Continues (At p forks t)
 continues Element forks t = element_continues forks t
 continues (Named op) forks t = (OpenParen, CloseParen ∷ closing forks, closes forks (append t (instruction op [])))
 continues (First op) forks t = (CloseParen, closing forks, closes forks (append t (instruction op [])))

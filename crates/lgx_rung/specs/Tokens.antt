@@ -93,17 +93,17 @@ tokens text = tokens_from text false 0 []
 -- ---- the reading
 
 -- what may stand next
-pub data Place : Type 0 where
+pub data Expected : Type 0 where
   -- an element, or the end of the leg or of the rung
-  Element : Place
+  Element : Expected
   -- the parenthesis after a mnemonic
-  Named : Op → Place
+  Named : Op → Expected
   -- the first operand, or the closing parenthesis
-  First : Op → Place
+  First : Op → Expected
   -- a comma or the closing parenthesis, after the first operand and others
-  After : Op → (first : List ℕ) → (others : List (List ℕ)) → Place
+  After : Op → (first : List ℕ) → (others : List (List ℕ)) → Expected
   -- the operand after a comma
-  Next : Op → (first : List ℕ) → (others : List (List ℕ)) → Place
+  Next : Op → (first : List ℕ) → (others : List (List ℕ)) → Expected
 
 -- a fork that is open: the leg before it, and its finished legs
 pub record Fork : Type 0 where
@@ -112,7 +112,7 @@ pub record Fork : Type 0 where
 
 pub data Reader : Type 0 where
   -- in a rung: the open forks, the innermost first, and the leg as far as it is read
-  At : Place → List Fork → (leg : Source) → Reader
+  At : Expected → List Fork → (leg : Source) → Reader
   -- after the semicolon
   Done : Source → Reader
 
@@ -148,7 +148,7 @@ read_element Comma forks leg = next_leg forks leg
 read_element Semicolon forks leg = end_rung forks leg
 read_element _ forks leg = Err T1
 
-abbrev pub read_at : Place → Token → List Fork → (leg : Source) → Result Reader TextCode
+abbrev pub read_at : Expected → Token → List Fork → (leg : Source) → Result Reader TextCode
 read_at Element t forks leg = read_element t forks leg
 read_at (Named op) OpenParen forks leg = Ok (At (First op) forks leg)
 read_at (First op) (Operand text) forks leg = Ok (At (After op text []) forks leg)

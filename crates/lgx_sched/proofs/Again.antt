@@ -10,7 +10,7 @@ use Rattle.spec_tables.specs.declared.task.Release.TheVariants.{Released, Inhibi
 use Rattle.spec_tables.specs.Tasks.{Table, chosen, is_continuous, rotate, release, finish}
 use Rattle.lgx_sched.specs.declared.active.ActiveTask.{ActiveTask}
 use Rattle.lgx_sched.specs.TableView.{TableView, up_of, def_of, queue_at, place_of, front_of, next_task, answer_of, pushed, popped, enqueued, dequeued, with_active, restarted, is_alone, runs_again}
-use Rattle.lgx_sched.specs.Represents.{Represents, IsSound, IsTable}
+use Rattle.lgx_sched.specs.Represents.{RepresentsTable, IsSound, IsTable}
 use Rattle.lgx_sched.proofs.Chosen.{next_task-chosen}
 use Rattle.lgx_sched.proofs.Steps.{place_fits}
 use Rattle.lgx_sched.proofs.Sound.{head-next, sound-down, sound-with}
@@ -35,9 +35,9 @@ pub alone_turned : (v : TableView) (t : ℕ) → IsTable v → next_task v ≡ S
 alone_turned v t is next alone =
     turned v.queues (place_of v t) t (place_fits v is.0 t (known_task v t is next)) (head-next v is.1.0 t is.0 is.1.1 next) (eqb-true (length (queue_at v (place_of v t))) 1 alone)
 
-pub represents-rotate_alone : (v : TableView) (s : Table) (t : ℕ) → IsTable v → Represents v s → v.open_task ≡ None → front_of v.queues ≡ Some t → is_alone v t ≡ true → Represents v (rotate s)
+pub represents-rotate_alone : (v : TableView) (s : Table) (t : ℕ) → IsTable v → RepresentsTable v s → v.open_task ≡ None → front_of v.queues ≡ Some t → is_alone v t ≡ true → RepresentsTable v (rotate s)
 represents-rotate_alone v s t is h none front alone =
-    subst (λ (qs : List (List ℕ)). Represents (record v { queues = qs }) (rotate s)) (alone_turned v t is (next-front v t none front) alone)
+    subst (λ (qs : List (List ℕ)). RepresentsTable (record v { queues = qs }) (rotate s)) (alone_turned v t is (next-front v t none front) alone)
     (represents-rotate v s t is.0 h none front)
 
 -- ---- the continuous task starts once more
@@ -81,17 +81,17 @@ restarted-last v t now is next again =
 released : (d : TaskDef) → d.inhibited ≡ false → Released ≡ answer_of d None
 released d e = ap (λ b. if b then Inhibited else Released) (sym e)
 
-pub represents-finish_again : (v : TableView) (s : Table) (t now : ℕ) → IsTable v → Represents v s → next_task v ≡ Some t → runs_again v t ≡ true → Represents (restarted t now v) (finish t now s)
+pub represents-finish_again : (v : TableView) (s : Table) (t now : ℕ) → IsTable v → RepresentsTable v s → next_task v ≡ Some t → runs_again v t ≡ true → RepresentsTable (restarted t now v) (finish t now s)
 represents-finish_again v s t now is h next again =
     let w = runs_again-parts v t again in
     let l = known_task v t is next in
     let l' : t < length v.ups = subst (λ n. t < n) (sym is.0.as_many) l in
     represents-finish v (restarted t now v) s t now is h next w.continuous (λ x k.
-    subst (λ (y : TableView). Represents y (release t now x)) (restarted-last v t now is next again)
+    subst (λ (y : TableView). RepresentsTable y (release t now x)) (restarted-last v t now is next again)
     (represents-release (dequeued t v) x t now Released (sound-down v s t is.0 h next) k l
     (released (def_of v t) w.allowed ∙ ap (λ (o : Option ActiveTask). answer_of (def_of v t) o) (sym (get_or-set_same v.ups t None None l')))))
 
-pub chosen-finish_again : (v : TableView) (s : Table) (t now : ℕ) → IsTable v → Represents v s → next_task v ≡ Some t → runs_again v t ≡ true → chosen (finish t now s) ≡ Some t
+pub chosen-finish_again : (v : TableView) (s : Table) (t now : ℕ) → IsTable v → RepresentsTable v s → next_task v ≡ Some t → runs_again v t ≡ true → chosen (finish t now s) ≡ Some t
 chosen-finish_again v s t now is h next again =
     sym (next_task-chosen (restarted t now v) (finish t now s)
     (subst (λ (y : TableView). IsSound y) (restarted-with v t now again) (sound-with v s t (started now) is.0 h next))

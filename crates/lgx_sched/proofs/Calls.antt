@@ -10,7 +10,7 @@ use Rattle.spec_tables.specs.declared.task.Release.TheVariants.{Released, Overla
 use Rattle.spec_tables.specs.Tasks.{TaskState, Table, state_of, no_task, is_open, has_open_cps, held, region_count, with_region_count, set_region, region_up, region_down, region_clear, with_cps_open, set_copy, is_continuous, expired, has_expired, task, release_answer, release, release_some, if_released, released_at_run, start, stop}
 use Rattle.lgx_sched.specs.declared.active.ActiveTask.{ActiveTask}
 use Rattle.lgx_sched.specs.TableView.{TableView, up_of, def_of, answer_of, has_cps, task_if_open, has_run_out, next_task, with_active, all_down}
-use Rattle.lgx_sched.specs.Represents.{without_rank, Represents, IsSound, IsTable, is_it}
+use Rattle.lgx_sched.specs.Represents.{without_rank, RepresentsTable, IsSound, IsTable, is_it}
 use Rattle.spec_base.proofs.Lists.{value_of_some}
 use Rattle.spec_tables.proofs.StateLists.{found}
 use Rattle.lgx_sched.proofs.Chosen.{state_as_up}
@@ -26,7 +26,7 @@ chosen_up v t is next =
     let x = value_of_some (state_of s t) (up-head v s t is.1.1 (head-next v s t is.0 is.1.1 next)) in
     (without_rank x.0, state_as_up v s is.1.1 t ∙ ap (option_map without_rank) x.1)
 
-pub state_from : (v : TableView) (s : Table) (t : ℕ) (u : ActiveTask) → Represents v s → up_of v t ≡ Some u → (y : TaskState) × (state_of s t ≡ Some y) × (u ≡ without_rank y)
+pub state_from : (v : TableView) (s : Table) (t : ℕ) (u : ActiveTask) → RepresentsTable v s → up_of v t ≡ Some u → (y : TaskState) × (state_of s t ≡ Some y) × (u ≡ without_rank y)
 state_from v s t u h e = go (state_of s t) (sym (state_as_up v s h t) ∙ e)
   where
     go : (o : Option TaskState) → option_map without_rank o ≡ Some u → (y : TaskState) × (o ≡ Some y) × (u ≡ without_rank y)
@@ -46,40 +46,40 @@ pub with_from : (v : TableView) (t : ℕ) (u : ActiveTask) (o : Option ℕ) → 
 with_from v t u o is next e =
     subst (λ (p : Option ℕ). IsTable (record { defs = v.defs; ups = set v.ups t (Some u); queues = v.queues; open_task = p; run_since = v.run_since })) (sym e) (table-with v t u is next)
 
-represents-set_region : (v : TableView) (s : Table) (t n : ℕ) (u : ActiveTask) → IsTable v → Represents v s → next_task v ≡ Some t → up_of v t ≡ Some u → Represents (with_active t (record u { region_count = n }) v) (set_region t n s)
+represents-set_region : (v : TableView) (s : Table) (t n : ℕ) (u : ActiveTask) → IsTable v → RepresentsTable v s → next_task v ≡ Some t → up_of v t ≡ Some u → RepresentsTable (with_active t (record u { region_count = n }) v) (set_region t n s)
 represents-set_region v s t n u is h next e =
     let y = state_from v s t u h e in
     let l = known_task v t is next in
-    subst (λ (o : Option TaskState). Represents (with_active t (record u { region_count = n }) v) (record s { states = set s.states t (with_region_count n o) })) (sym y.1)
-    (subst (λ (w : ActiveTask). Represents (with_active t (record w { region_count = n }) v) (record s { states = set s.states t (Some (record y.0 { region_count = n })) })) (sym y.2)
+    subst (λ (o : Option TaskState). RepresentsTable (with_active t (record u { region_count = n }) v) (record s { states = set s.states t (with_region_count n o) })) (sym y.1)
+    (subst (λ (w : ActiveTask). RepresentsTable (with_active t (record w { region_count = n }) v) (record s { states = set s.states t (Some (record y.0 { region_count = n })) })) (sym y.2)
     (represents-changed v s (task_if_open t (record (without_rank y.0) { region_count = n })) t y.0 (record y.0 { region_count = n }) is.0 h l y.1 refl))
 
-region_is : (v : TableView) (s : Table) (t : ℕ) (u : ActiveTask) → Represents v s → up_of v t ≡ Some u → region_count (state_of s t) ≡ u.region_count
+region_is : (v : TableView) (s : Table) (t : ℕ) (u : ActiveTask) → RepresentsTable v s → up_of v t ≡ Some u → region_count (state_of s t) ≡ u.region_count
 region_is v s t u h e =
     let y = state_from v s t u h e in
     ap region_count y.1 ∙ ap (λ (w : ActiveTask). w.region_count) (sym y.2)
 
-pub represents-region_up : (v w : TableView) (s : Table) (t : ℕ) (u : ActiveTask) → IsTable v → Represents v s → next_task v ≡ Some t → up_of v t ≡ Some u → w ≡ with_active t (record u { region_count = u.region_count + 1 }) v → Represents w (region_up t s)
+pub represents-region_up : (v w : TableView) (s : Table) (t : ℕ) (u : ActiveTask) → IsTable v → RepresentsTable v s → next_task v ≡ Some t → up_of v t ≡ Some u → w ≡ with_active t (record u { region_count = u.region_count + 1 }) v → RepresentsTable w (region_up t s)
 represents-region_up v w s t u is h next e is_w =
-    subst (λ (x : TableView). Represents x (region_up t s)) (sym is_w)
-    (subst (λ n. Represents (with_active t (record u { region_count = u.region_count + 1 }) v) (set_region t (n + 1) s)) (sym (region_is v s t u h e)) (represents-set_region v s t (u.region_count + 1) u is h next e))
+    subst (λ (x : TableView). RepresentsTable x (region_up t s)) (sym is_w)
+    (subst (λ n. RepresentsTable (with_active t (record u { region_count = u.region_count + 1 }) v) (set_region t (n + 1) s)) (sym (region_is v s t u h e)) (represents-set_region v s t (u.region_count + 1) u is h next e))
 
-pub represents-region_down : (v w : TableView) (s : Table) (t : ℕ) (u : ActiveTask) → IsTable v → Represents v s → next_task v ≡ Some t → up_of v t ≡ Some u → w ≡ with_active t (record u { region_count = u.region_count - 1 }) v → Represents w (region_down t s)
+pub represents-region_down : (v w : TableView) (s : Table) (t : ℕ) (u : ActiveTask) → IsTable v → RepresentsTable v s → next_task v ≡ Some t → up_of v t ≡ Some u → w ≡ with_active t (record u { region_count = u.region_count - 1 }) v → RepresentsTable w (region_down t s)
 represents-region_down v w s t u is h next e is_w =
-    subst (λ (x : TableView). Represents x (region_down t s)) (sym is_w)
-    (subst (λ n. Represents (with_active t (record u { region_count = u.region_count - 1 }) v) (set_region t (n - 1) s)) (sym (region_is v s t u h e)) (represents-set_region v s t (u.region_count - 1) u is h next e))
+    subst (λ (x : TableView). RepresentsTable x (region_down t s)) (sym is_w)
+    (subst (λ n. RepresentsTable (with_active t (record u { region_count = u.region_count - 1 }) v) (set_region t (n - 1) s)) (sym (region_is v s t u h e)) (represents-set_region v s t (u.region_count - 1) u is h next e))
 
-pub represents-region_clear : (v w : TableView) (s : Table) (t : ℕ) (u : ActiveTask) → IsTable v → Represents v s → next_task v ≡ Some t → up_of v t ≡ Some u → w ≡ with_active t (record u { region_count = 0 }) v → Represents w (region_clear t s)
+pub represents-region_clear : (v w : TableView) (s : Table) (t : ℕ) (u : ActiveTask) → IsTable v → RepresentsTable v s → next_task v ≡ Some t → up_of v t ≡ Some u → w ≡ with_active t (record u { region_count = 0 }) v → RepresentsTable w (region_clear t s)
 represents-region_clear v w s t u is h next e is_w =
-    subst (λ (x : TableView). Represents x (region_clear t s)) (sym is_w) (represents-set_region v s t 0 u is h next e)
+    subst (λ (x : TableView). RepresentsTable x (region_clear t s)) (sym is_w) (represents-set_region v s t 0 u is h next e)
 
-pub represents-set_copy : (v w : TableView) (s : Table) (t : ℕ) (b : Bool) (u : ActiveTask) → IsTable v → Represents v s → next_task v ≡ Some t → up_of v t ≡ Some u → w ≡ with_active t (record u { cps_open = b }) v → Represents w (set_copy t b s)
+pub represents-set_copy : (v w : TableView) (s : Table) (t : ℕ) (b : Bool) (u : ActiveTask) → IsTable v → RepresentsTable v s → next_task v ≡ Some t → up_of v t ≡ Some u → w ≡ with_active t (record u { cps_open = b }) v → RepresentsTable w (set_copy t b s)
 represents-set_copy v w s t b u is h next e is_w =
     let y = state_from v s t u h e in
     let l = known_task v t is next in
-    subst (λ (x : TableView). Represents x (set_copy t b s)) (sym is_w)
-    (subst (λ (o : Option TaskState). Represents (with_active t (record u { cps_open = b }) v) (record s { states = set s.states t (with_cps_open b o) })) (sym y.1)
-    (subst (λ (x : ActiveTask). Represents (with_active t (record x { cps_open = b }) v) (record s { states = set s.states t (Some (record y.0 { cps_open = b })) })) (sym y.2)
+    subst (λ (x : TableView). RepresentsTable x (set_copy t b s)) (sym is_w)
+    (subst (λ (o : Option TaskState). RepresentsTable (with_active t (record u { cps_open = b }) v) (record s { states = set s.states t (with_cps_open b o) })) (sym y.1)
+    (subst (λ (x : ActiveTask). RepresentsTable (with_active t (record x { cps_open = b }) v) (record s { states = set s.states t (Some (record y.0 { cps_open = b })) })) (sym y.2)
     (represents-changed v s (task_if_open t (record (without_rank y.0) { cps_open = b })) t y.0 (record y.0 { cps_open = b }) is.0 h l y.1 refl)))
 
 -- ---- held
@@ -118,10 +118,10 @@ cps_as_up : (o : Option TaskState) → has_open_cps o ≡ has_cps (option_map wi
 cps_as_up None = refl
 cps_as_up (Some u) = refl
 
-pub held-none : (v : TableView) (s : Table) → IsSound v → Represents v s → v.open_task ≡ None → held s ≡ false
+pub held-none : (v : TableView) (s : Table) → IsSound v → RepresentsTable v s → v.open_task ≡ None → held s ≡ false
 held-none v s sound h none = none_has s.states (λ k. no_cps (state_of s k) (open_is v s k sound h ∙ ap (λ o. is_it o k) none))
 
-pub held-some : (v : TableView) (s : Table) (t : ℕ) → IsSound v → Represents v s → v.open_task ≡ Some t → held s ≡ has_cps (up_of v t)
+pub held-some : (v : TableView) (s : Table) (t : ℕ) → IsSound v → RepresentsTable v s → v.open_task ≡ Some t → held s ≡ has_cps (up_of v t)
 held-some v s t sound h one =
     only_one s.states t (λ k ne. no_cps (state_of s k) (open_is v s k sound h ∙ (ap (λ o. is_it o k) one ∙ ne_eqb t k (λ e. ne (sym e)))))
     ∙ (cps_as_up (state_of s t) ∙ ap has_cps (sym (state_as_up v s h t)))
@@ -141,7 +141,7 @@ expired_as now n (d ∷ ds) (Some u ∷ us) = ap (λ o. cond (has_expired now d 
 abbrev pub first_run_out : ℕ → List TaskDef → List (Option ActiveTask) → Option ℕ
 first_run_out now ds us = position_from (λ t. has_run_out now t.0 t.1) 0 (zip ds us)
 
-pub represents-expired : (v : TableView) (s : Table) (now : ℕ) → Represents v s → first_run_out now v.defs v.ups ≡ expired now s
+pub represents-expired : (v : TableView) (s : Table) (now : ℕ) → RepresentsTable v s → first_run_out now v.defs v.ups ≡ expired now s
 represents-expired v s now h =
     ap (λ (xs : List TaskDef). first_run_out now xs v.ups) h.defs ∙ (ap (first_run_out now s.defs) h.ups ∙ expired_as now 0 s.defs s.states)
 
@@ -155,10 +155,10 @@ none_from v ran us qs is ups queues =
     subst (λ (x : List (Option ActiveTask)). IsTable (record { defs = v.defs; ups = x; queues = qs; open_task = None; run_since = ran })) (sym ups)
     (subst (λ (x : List (List ℕ)). IsTable (record (all_down v) { queues = x; run_since = ran })) (sym queues) (table-none v ran is))
 
-pub represents-stop : (v w : TableView) (s : Table) → Represents v s → w ≡ record (all_down v) { run_since = v.run_since } → Represents w (stop s)
+pub represents-stop : (v w : TableView) (s : Table) → RepresentsTable v s → w ≡ record (all_down v) { run_since = v.run_since } → RepresentsTable w (stop s)
 represents-stop v w s h is_w =
-    subst (λ (x : TableView). Represents x (stop s)) (sym is_w)
-    (subst (λ n. Represents (record (all_down v) { run_since = v.run_since }) (record (stop s) { run_since = n })) h.run_since (represents-none v s v.run_since h))
+    subst (λ (x : TableView). RepresentsTable x (stop s)) (sym is_w)
+    (subst (λ n. RepresentsTable (record (all_down v) { run_since = v.run_since }) (record (stop s) { run_since = n })) h.run_since (represents-none v s v.run_since h))
 
 abbrev pub first_continuous : List TaskDef → Option ℕ
 first_continuous ds = position_from (λ d. is_continuous d.kind) 0 ds
@@ -167,27 +167,27 @@ pub continuous_bound : (ds : List TaskDef) (t : ℕ) → first_continuous ds ≡
 continuous_bound ds t e = (found (λ (d : TaskDef). is_continuous d.kind) no_task ds t e).0
 
 -- all are down, and then the continuous task is released
-pub represents-start_some : (v w : TableView) (s : Table) (now t : ℕ) → Represents v s → first_continuous v.defs ≡ Some t → ((x : Table) → Represents (record (all_down v) { run_since = now }) x → Represents w (release t now x)) → Represents w (start now s)
+pub represents-start_some : (v w : TableView) (s : Table) (now t : ℕ) → RepresentsTable v s → first_continuous v.defs ≡ Some t → ((x : Table) → RepresentsTable (record (all_down v) { run_since = now }) x → RepresentsTable w (release t now x)) → RepresentsTable w (start now s)
 represents-start_some v w s now t h first released =
-    subst (λ (o : Option ℕ). Represents w (release_some o now (record (stop s) { run_since = now }))) (sym (ap first_continuous (sym h.defs) ∙ first))
+    subst (λ (o : Option ℕ). RepresentsTable w (release_some o now (record (stop s) { run_since = now }))) (sym (ap first_continuous (sym h.defs) ∙ first))
     (released (record (stop s) { run_since = now }) (represents-none v s now h))
 
 -- the answer that a release has once all are down
-answer_at_run : (v : TableView) (s : Table) (t : ℕ) → Represents v s → answer_of (def_of v t) None ≡ release_answer (stop s) t
+answer_at_run : (v : TableView) (s : Table) (t : ℕ) → RepresentsTable v s → answer_of (def_of v t) None ≡ release_answer (stop s) t
 answer_at_run v s t h =
     ap (λ (ds : List TaskDef). answer_of (get_or ds t no_task) None) h.defs
     ∙ ap (λ o. if (task s t).inhibited then Inhibited else (if is_some o then Overlap else Released)) (sym (nothing s.states t))
 
-pub represents-released_at_run : (v : TableView) (s : Table) (t : ℕ) (o : Option ℕ) → Represents v s → first_continuous v.defs ≡ Some t → o ≡ if_released (answer_of (def_of v t) None) t → o ≡ released_at_run s
+pub represents-released_at_run : (v : TableView) (s : Table) (t : ℕ) (o : Option ℕ) → RepresentsTable v s → first_continuous v.defs ≡ Some t → o ≡ if_released (answer_of (def_of v t) None) t → o ≡ released_at_run s
 represents-released_at_run v s t o h first e =
     e
     ∙ (ap (λ a. if_released a t) (answer_at_run v s t h)
     ∙ ap (λ (p : Option ℕ). option_and_then (λ k. if_released (release_answer (stop s) k) k) p) (sym (ap first_continuous (sym h.defs) ∙ first)))
 
-pub represents-start_none : (v w : TableView) (s : Table) (now : ℕ) → Represents v s → first_continuous v.defs ≡ None → w ≡ record (all_down v) { run_since = now } → Represents w (start now s)
+pub represents-start_none : (v w : TableView) (s : Table) (now : ℕ) → RepresentsTable v s → first_continuous v.defs ≡ None → w ≡ record (all_down v) { run_since = now } → RepresentsTable w (start now s)
 represents-start_none v w s now h first is_w =
-    subst (λ (x : TableView). Represents x (start now s)) (sym is_w)
-    (subst (λ (o : Option ℕ). Represents (record (all_down v) { run_since = now }) (release_some o now (record (stop s) { run_since = now }))) (sym (ap first_continuous (sym h.defs) ∙ first))
+    subst (λ (x : TableView). RepresentsTable x (start now s)) (sym is_w)
+    (subst (λ (o : Option ℕ). RepresentsTable (record (all_down v) { run_since = now }) (release_some o now (record (stop s) { run_since = now }))) (sym (ap first_continuous (sym h.defs) ∙ first))
     (represents-none v s now h))
 
 -- ---- the walk for the first that has run out

@@ -11,7 +11,7 @@ use Rattle.spec_tables.specs.declared.task.TaskDef.{TaskDef}
 use Rattle.spec_tables.specs.Tasks.{TaskState, Table, Candidate, candidates, before, least_of, least, or_else, chosen, is_open, state_of, task, no_task}
 use Rattle.lgx_sched.specs.declared.active.ActiveTask.{ActiveTask}
 use Rattle.lgx_sched.specs.TableView.{TableView, up_of, queue_at, has_open, front_of, next_task}
-use Rattle.lgx_sched.specs.Represents.{Ascends, rank_of, without_rank, IsUpAt, Represents, IsSound, is_it}
+use Rattle.lgx_sched.specs.Represents.{Ascends, rank_of, without_rank, IsUpAt, RepresentsTable, IsSound, is_it}
 use Rattle.lgx_sched.proofs.Queues.{in_cons}
 use Rattle.spec_base.proofs.Numbers.{one_on, one_more}
 
@@ -163,37 +163,37 @@ from_zero (Some k) = ap (λ (i : ℕ). Some i) (add_zero k)
 
 -- ---- what a table that represents a list knows of it
 
-pub same_length : (v : TableView) (s : Table) → IsSound v → Represents v s → length s.states ≡ length s.defs
+pub same_length : (v : TableView) (s : Table) → IsSound v → RepresentsTable v s → length s.states ≡ length s.defs
 same_length v s sound h = sym (length-map s.states (option_map without_rank)) ∙ (sym (ap (λ (xs : List (Option ActiveTask)). length xs) h.ups) ∙ (sound.as_many ∙ ap (λ (xs : List TaskDef). length xs) h.defs))
 
 pub within : (us : List (Option TaskState)) (k : ℕ) → IsTrue (is_some (get_or us k None)) → k < length us
 within us k w = elim (cases_lt k (length us)) [ inl l ↦ l | inr past ↦ absurd (false≢true (subst (λ x. IsTrue (is_some x)) (get_or_past us k None past) w)) ]
 
 -- the priority of an up task is one more than the place of its queue
-pub placed : (v : TableView) (s : Table) → IsSound v → Represents v s → (k : ℕ) → IsTrue (is_some (state_of s k)) → (task s k).priority ≡ (task s k).priority - 1 + 1
+pub placed : (v : TableView) (s : Table) → IsSound v → RepresentsTable v s → (k : ℕ) → IsTrue (is_some (state_of s k)) → (task s k).priority ≡ (task s k).priority - 1 + 1
 placed v s sound h k w =
     let l : k < length v.defs = subst (λ n. k < n) (same_length v s sound h ∙ sym (ap (λ (xs : List TaskDef). length xs) h.defs)) (within s.states k w) in
     let positive : 0 < (task s k).priority = subst (λ (xs : List TaskDef). 0 < (get_or xs k no_task).priority) h.defs ((sound.priorities k l).0) in
     one_more ((task s k).priority) positive
 
-pub in_queue : (v : TableView) (s : Table) → IsSound v → Represents v s → (k : ℕ) → IsTrue (is_some (state_of s k)) → Contains (queue_at v ((task s k).priority - 1)) k
+pub in_queue : (v : TableView) (s : Table) → IsSound v → RepresentsTable v s → (k : ℕ) → IsTrue (is_some (state_of s k)) → Contains (queue_at v ((task s k).priority - 1)) k
 in_queue v s sound h k w = (h.queues ((task s k).priority - 1)).all k (w, placed v s sound h k w)
 
 not_in : (k : ℕ) → Contains [] k → ⊥
 not_in k c = let l = c.1 in omega arith
 
-all_down_if_none : (v : TableView) (s : Table) → IsSound v → Represents v s → ((p : ℕ) → queue_at v p ≡ []) → (k : ℕ) (o : Option TaskState) → state_of s k ≡ o → o ≡ None
+all_down_if_none : (v : TableView) (s : Table) → IsSound v → RepresentsTable v s → ((p : ℕ) → queue_at v p ≡ []) → (k : ℕ) (o : Option TaskState) → state_of s k ≡ o → o ≡ None
 all_down_if_none v s sound h empty k None e = refl
 all_down_if_none v s sound h empty k (Some u) e =
     absurd (not_in k (subst (λ q. Contains q k) (empty ((task s k).priority - 1)) (in_queue v s sound h k (subst (λ x. IsTrue (is_some x)) (sym e) refl))))
 
-pub up_at_front : (v : TableView) (s : Table) → Represents v s → (t p : ℕ) → FrontAt v.queues t p → IsUpAt (state_of s) (λ k. (task s k).priority) (p + 1) t
+pub up_at_front : (v : TableView) (s : Table) → RepresentsTable v s → (t p : ℕ) → FrontAt v.queues t p → IsUpAt (state_of s) (λ k. (task s k).priority) (p + 1) t
 up_at_front v s h t p f =
     let up : ℕ → Type 0 = IsUpAt (state_of s) (λ k. (task s k).priority) (p + 1) in
     All-head up t f.rest (subst (λ q. All up q) f.starts ((h.queues p).each))
 
 -- the front of the queues is ahead of every other task
-front_wins : (v : TableView) (s : Table) → IsSound v → Represents v s → (t p : ℕ) → FrontAt v.queues t p → (x : TaskState) → state_of s t ≡ Some x → (task s t).priority ≡ p + 1 → (k : ℕ) (u : TaskState) → state_of s k ≡ Some u → Wins (up_candidate t (task s t) x) (up_candidate k (task s k) u)
+front_wins : (v : TableView) (s : Table) → IsSound v → RepresentsTable v s → (t p : ℕ) → FrontAt v.queues t p → (x : TaskState) → state_of s t ≡ Some x → (task s t).priority ≡ p + 1 → (k : ℕ) (u : TaskState) → state_of s k ≡ Some u → Wins (up_candidate t (task s t) x) (up_candidate k (task s k) u)
 front_wins v s sound h t p f x tx pr k u ku =
     let w : IsTrue (is_some (state_of s k)) = subst (λ y. IsTrue (is_some y)) (sym ku) refl in
     let place = (task s k).priority - 1 in
@@ -223,7 +223,7 @@ front_wins v s sound h t p f x tx pr k u ku =
         let yz : y ≡ z = cc in
         ap (λ i. up_candidate i (task s i) y) e ∙ ap (λ w'. up_candidate b (task s b) w') yz
 
-pub least-front : (v : TableView) (s : Table) → IsSound v → Represents v s → (o : Option ℕ) → front_of v.queues ≡ o → least (candidates 0 s.defs s.states) ≡ o
+pub least-front : (v : TableView) (s : Table) → IsSound v → RepresentsTable v s → (o : Option ℕ) → front_of v.queues ≡ o → least (candidates 0 s.defs s.states) ≡ o
 least-front v s sound h None e =
     ap least (candidates-none 0 s.defs s.states (λ k. all_down_if_none v s sound h (front-none v.queues e) k (state_of s k) refl))
 least-front v s sound h (Some t) e =
@@ -246,18 +246,18 @@ pub open_as_up : (o : Option TaskState) → is_open o ≡ has_open (option_map w
 open_as_up None = refl
 open_as_up (Some u) = refl
 
-pub state_as_up : (v : TableView) (s : Table) → Represents v s → (t : ℕ) → up_of v t ≡ option_map without_rank (state_of s t)
+pub state_as_up : (v : TableView) (s : Table) → RepresentsTable v s → (t : ℕ) → up_of v t ≡ option_map without_rank (state_of s t)
 state_as_up v s h t =
     ap (λ (xs : List (Option ActiveTask)). get_or xs t None) h.ups ∙ elim (cases_lt t (length s.states)) [
       | inl l ↦ get_or-map (option_map without_rank) s.states t None None l
       | inr past ↦ get_or_past (map (option_map without_rank) s.states) t None (subst (λ n. n ≤ t) (sym (length-map s.states (option_map without_rank))) past) ∙ ap (option_map without_rank) (sym (get_or_past s.states t None past))
     ]
 
-pub first_open : (v : TableView) (s : Table) → IsSound v → Represents v s → position_from is_open 0 s.states ≡ v.open_task
+pub first_open : (v : TableView) (s : Table) → IsSound v → RepresentsTable v s → position_from is_open 0 s.states ≡ v.open_task
 first_open v s sound h =
     position-is_it is_open None s.states 0 v.open_task refl (λ k. open_as_up (state_of s k) ∙ (ap has_open (sym (state_as_up v s h k)) ∙ sound.alone k)) ∙ from_zero v.open_task
 
 -- the table's answer is the definition's
-pub next_task-chosen : (v : TableView) (s : Table) → IsSound v → Represents v s → next_task v ≡ chosen s
+pub next_task-chosen : (v : TableView) (s : Table) → IsSound v → RepresentsTable v s → next_task v ≡ chosen s
 next_task-chosen v s sound h =
     sym (ap (λ o. or_else o (least (candidates 0 s.defs s.states))) (first_open v s sound h) ∙ ap (λ o. or_else v.open_task o) (least-front v s sound h (front_of v.queues) refl))

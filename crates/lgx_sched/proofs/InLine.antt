@@ -8,7 +8,7 @@ use Rattle.std.proofs.lemmas.List.{length-take-le}
 use Rattle.std.proofs.lemmas.List.Elements.{All-nil, All-cons, All-take, All-contains, Contains-append_right}
 use Rattle.spec_tables.specs.Tasks.{Table, state_of, task}
 use Rattle.lgx_sched.specs.TableView.{TableView, queue_at, ready_at}
-use Rattle.lgx_sched.specs.Represents.{Ascends, rank_of, IsUpAt, IsQueueOf, IsAheadOf, IsInLine, AtMostUp, Represents}
+use Rattle.lgx_sched.specs.Represents.{Ascends, rank_of, IsUpAt, IsQueueOf, IsAheadOf, IsInLine, AtMostUp, RepresentsTable}
 use Rattle.lgx_sched.proofs.Queues.{All-given, in_cons}
 
 get_in : (q : List ℕ) (i t : ℕ) → slice_get q i ≡ Some t → Contains q t
@@ -66,12 +66,12 @@ positive p h = ne_eqb p 0 (λ e. absurd (omega arith))
 pub ready_at-place : (v : TableView) (p i : ℕ) → 0 < p → slice_get (queue_at v (p - 1)) i ≡ ready_at v p i
 ready_at-place v p i h = sym (ap (λ b. if b then None else slice_get (queue_at v (p - 1)) i) (positive p h))
 
-queue_of : (v : TableView) (s : Table) (p : ℕ) → 0 < p → Represents v s → IsQueueOf (state_of s) (λ k. (task s k).priority) p (queue_at v (p - 1))
+queue_of : (v : TableView) (s : Table) (p : ℕ) → 0 < p → RepresentsTable v s → IsQueueOf (state_of s) (λ k. (task s k).priority) p (queue_at v (p - 1))
 queue_of v s p h st =
     let same : p - 1 + 1 ≡ p = omega arith in
     subst (λ n. IsQueueOf (state_of s) (λ k. (task s k).priority) n (queue_at v (p - 1))) same (st.queues (p - 1))
 
-pub ready_in_line : (v : TableView) (s : Table) (p i t : ℕ) → 0 < p → Represents v s → ready_at v p i ≡ Some t → IsInLine s p i t
+pub ready_in_line : (v : TableView) (s : Table) (p i t : ℕ) → 0 < p → RepresentsTable v s → ready_at v p i ≡ Some t → IsInLine s p i t
 ready_in_line v s p i t h st e = (All-contains up q t hq.each (get_in q i t got), (take i q, (ahead, length-take-le i q (let l = slice_get_within q i t got in omega arith))))
   where
     q : List ℕ
@@ -96,5 +96,5 @@ ready_in_line v s p i t h st e = (All-contains up q t hq.each (get_in q i t got)
       by_rank = take_ascends rank i q hq.by_rank;
     }
 
-pub ready_none : (v : TableView) (s : Table) (p i : ℕ) → 0 < p → Represents v s → ready_at v p i ≡ None → AtMostUp s p i
+pub ready_none : (v : TableView) (s : Table) (p i : ℕ) → 0 < p → RepresentsTable v s → ready_at v p i ≡ None → AtMostUp s p i
 ready_none v s p i h st e = (queue_at v (p - 1), (queue_of v s p h st, get_none (queue_at v (p - 1)) i (ready_at-place v p i h ∙ e)))

@@ -9,7 +9,7 @@ use Rattle.spec_tables.specs.declared.task.TaskDef.{TaskDef}
 use Rattle.spec_tables.specs.Tasks.{TaskState, state_of, task, no_task}
 use Rattle.lgx_sched.specs.declared.active.ActiveTask.{ActiveTask}
 use Rattle.lgx_sched.specs.TableView.{TableView, has_open}
-use Rattle.lgx_sched.specs.Represents.{without_rank, IsUpAt, IsQueueOf, Represents, IsTable, HasPeriod, none_up}
+use Rattle.lgx_sched.specs.Represents.{without_rank, IsUpAt, IsQueueOf, RepresentsTable, IsTable, HasPeriod, none_up}
 use Rattle.lgx_sched.proofs.Steps.{IsUp}
 use Rattle.lgx_sched.proofs.Sound.{no_ups, all_none, count_none}
 
@@ -36,7 +36,7 @@ ups_down : (n : ℕ) → no_ups n ≡ map (option_map without_rank) (downs n)
 ups_down zero = refl
 ups_down (suc n) = ap (λ xs. None ∷ xs) (ups_down n)
 
-pub represents-fresh : (ds : List TaskDef) (next : ℕ) → Represents (fresh ds) (none_up ds next)
+pub represents-fresh : (ds : List TaskDef) (next : ℕ) → RepresentsTable (fresh ds) (none_up ds next)
 represents-fresh ds next =
     let no_one : (k : ℕ) → IsUp (state_of (none_up ds next) k) → ⊥ = λ k w. false≢true (subst IsUp (no_state (length ds) k) w) in
     record {

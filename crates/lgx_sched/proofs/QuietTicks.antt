@@ -9,7 +9,7 @@ use Rattle.spec_tables.specs.declared.task.TaskDef.{TaskDef}
 use Rattle.spec_tables.specs.Tasks.{Table, no_task, due, rotate, task}
 use Rattle.lgx_sched.specs.declared.active.ActiveTask.{ActiveTask}
 use Rattle.lgx_sched.specs.TableView.{TableView, up_of, def_of, front_of, has_run_out}
-use Rattle.lgx_sched.specs.Represents.{Represents, IsTable}
+use Rattle.lgx_sched.specs.Represents.{RepresentsTable, IsTable}
 use Rattle.lgx_sched.specs.QuietTicks.{is_due, IsIdle, alone_if, keeps_turn, IsQuiet, kept_until, IsQuietAt}
 use Rattle.lgx_sched.proofs.Chosen.{within, same_length, front-some, up_at_front}
 use Rattle.lgx_sched.proofs.Tables.{represents-rotate_none, represents-rotate_open}
@@ -75,23 +75,23 @@ none_runs_out n i (d ∷ ds) (u ∷ us) h =
     ap (λ b. cond b (Some i) (position_from (λ p. has_run_out n p.0 p.1) (i + 1) (zip ds us))) (h 0 (omega arith))
     ∙ none_runs_out n (i + 1) ds us (λ t l. h (suc t) (omega arith))
 
-turn_kept : (v : TableView) (s : Table) → IsTable v → Represents v s → keeps_turn v ≡ true → Represents v (rotate s)
+turn_kept : (v : TableView) (s : Table) → IsTable v → RepresentsTable v s → keeps_turn v ≡ true → RepresentsTable v (rotate s)
 turn_kept v s is h keeps = by_open v.open_task refl
   where
-    by_front : v.open_task ≡ None → (o : Option ℕ) → front_of v.queues ≡ o → alone_if v o ≡ true → Represents v (rotate s)
+    by_front : v.open_task ≡ None → (o : Option ℕ) → front_of v.queues ≡ o → alone_if v o ≡ true → RepresentsTable v (rotate s)
     by_front none None front e = represents-rotate_none v s is.0 h none front
     by_front none (Some t) front e = represents-rotate_alone v s t is h none front e
 
-    by_open : (o : Option ℕ) → v.open_task ≡ o → Represents v (rotate s)
+    by_open : (o : Option ℕ) → v.open_task ≡ o → RepresentsTable v (rotate s)
     by_open None none = by_front none (front_of v.queues) refl keeps
     by_open (Some t) some = represents-rotate_open v s is.0 h (ap (λ (x : Option ℕ). is_some x) some)
 
-due_as : (v : TableView) (s : Table) (t now : ℕ) → Represents v s → due t now s ≡ is_due now v.run_since (def_of v t).kind
+due_as : (v : TableView) (s : Table) (t now : ℕ) → RepresentsTable v s → due t now s ≡ is_due now v.run_since (def_of v t).kind
 due_as v s t now h =
     ap (λ r. is_due now r (task s t).kind) (sym h.run_since)
     ∙ ap (λ (xs : List TaskDef). is_due now v.run_since (get_or xs t no_task).kind) (sym h.defs)
 
-pub quiet_at : (v : TableView) (s : Table) (after until now : ℕ) → IsTable v → IsQuiet v after until → Represents v s → nat_lt after now && nat_lt now until ≡ true → IsQuietAt now v s
+pub quiet_at : (v : TableView) (s : Table) (after until now : ℕ) → IsTable v → IsQuiet v after until → RepresentsTable v s → nat_lt after now && nat_lt now until ≡ true → IsQuietAt now v s
 quiet_at v s after until now is q h inside =
     let above : after < now = grind (arith, nat_tests) in
     let below : now < until = grind (arith, nat_tests) in

@@ -12,14 +12,14 @@ use Rattle.spec_tables.specs.declared.task.TaskDef.{TaskDef}
 use Rattle.spec_tables.specs.Tasks.{TaskState, Table, state_of, task, or_else}
 use Rattle.lgx_sched.specs.declared.active.ActiveTask.{ActiveTask}
 use Rattle.lgx_sched.specs.TableView.{TableView, up_of, queue_at, place_of, has_open, front_of, next_task, pushed, popped, enqueued, dequeued, rotated, with_active, all_down}
-use Rattle.lgx_sched.specs.Represents.{without_rank, IsUpAt, Represents, IsSound, is_it}
+use Rattle.lgx_sched.specs.Represents.{without_rank, IsUpAt, RepresentsTable, IsSound, is_it}
 use Rattle.lgx_sched.proofs.Chosen.{within, same_length, front-some, up_at_front, state_as_up}
 use Rattle.lgx_sched.proofs.Steps.{IsUp, IsHead, starts_with, place_is, place_fits}
 
 -- ---- the task that is to run
 
 -- it is the first of its queue
-pub head-by : (v : TableView) (s : Table) (t : ℕ) (o : Option ℕ) → IsSound v → Represents v s → v.open_task ≡ o → or_else o (front_of v.queues) ≡ Some t → IsHead v t
+pub head-by : (v : TableView) (s : Table) (t : ℕ) (o : Option ℕ) → IsSound v → RepresentsTable v s → v.open_task ≡ o → or_else o (front_of v.queues) ≡ Some t → IsHead v t
 head-by v s t None sound h is e =
     let f = front-some v.queues t e in
     let p = f.0 in
@@ -33,15 +33,15 @@ head-by v s t (Some o) sound h is e =
     let first : IfSome (Some o) (λ k. slice_get (queue_at v (place_of v k)) 0 ≡ Some k) = subst (λ x. IfSome x (λ k. slice_get (queue_at v (place_of v k)) 0 ≡ Some k)) is sound.first in
     subst (λ k. slice_get (queue_at v (place_of v k)) 0 ≡ Some k) (same_Some o t e) first
 
-pub head-next : (v : TableView) (s : Table) (t : ℕ) → IsSound v → Represents v s → next_task v ≡ Some t → IsHead v t
+pub head-next : (v : TableView) (s : Table) (t : ℕ) → IsSound v → RepresentsTable v s → next_task v ≡ Some t → IsHead v t
 head-next v s t sound h e = head-by v s t v.open_task sound h refl e
 
-pub up-head : (v : TableView) (s : Table) (t : ℕ) → Represents v s → IsHead v t → IsUp (state_of s t)
+pub up-head : (v : TableView) (s : Table) (t : ℕ) → RepresentsTable v s → IsHead v t → IsUp (state_of s t)
 up-head v s t h head =
     let up : ℕ → Type 0 = IsUpAt (state_of s) (λ k. (task s k).priority) (place_of v t + 1) in
     (All-head up t _ (subst (λ q. All up q) (starts_with (queue_at v (place_of v t)) t head) ((h.queues (place_of v t)).each))).0
 
-pub task-head : (v : TableView) (s : Table) (t : ℕ) → IsSound v → Represents v s → IsHead v t → t < length v.defs
+pub task-head : (v : TableView) (s : Table) (t : ℕ) → IsSound v → RepresentsTable v s → IsHead v t → t < length v.defs
 task-head v s t sound h head =
     subst (λ n. t < n) (same_length v s sound h ∙ sym (ap (λ (xs : List TaskDef). length xs) h.defs)) (within s.states t (up-head v s t h head))
 
@@ -155,7 +155,7 @@ sound-up v t now sound l down =
     pushed_first None h = h
     pushed_first (Some k) h = first-pushed v.queues (place_of v t) t (place_of v k) k h
 
-pub sound-down : (v : TableView) (s : Table) (t : ℕ) → IsSound v → Represents v s → next_task v ≡ Some t → IsSound (dequeued t v)
+pub sound-down : (v : TableView) (s : Table) (t : ℕ) → IsSound v → RepresentsTable v s → next_task v ≡ Some t → IsSound (dequeued t v)
 sound-down v s t sound h next =
     let head = head-next v s t sound h next in
     let l = task-head v s t sound h head in
@@ -179,7 +179,7 @@ sound-down v s t sound h next =
           omega arith;
     }
 
-pub sound-last : (v : TableView) (s : Table) (t : ℕ) → IsSound v → Represents v s → v.open_task ≡ None → IsHead v t → IsSound (rotated t v)
+pub sound-last : (v : TableView) (s : Table) (t : ℕ) → IsSound v → RepresentsTable v s → v.open_task ≡ None → IsHead v t → IsSound (rotated t v)
 sound-last v s t sound h none head =
     let l = task-head v s t sound h head in
     let p = place_of v t in
@@ -201,7 +201,7 @@ sound-last v s t sound h none head =
           omega arith;
     }
 
-pub sound-with : (v : TableView) (s : Table) (t : ℕ) (u : ActiveTask) → IsSound v → Represents v s → next_task v ≡ Some t → IsSound (with_active t u v)
+pub sound-with : (v : TableView) (s : Table) (t : ℕ) (u : ActiveTask) → IsSound v → RepresentsTable v s → next_task v ≡ Some t → IsSound (with_active t u v)
 sound-with v s t u sound h next =
     let head = head-next v s t sound h next in
     let l = task-head v s t sound h head in

@@ -10,7 +10,7 @@ use Rattle.spec_tables.specs.declared.task.TaskDef.{TaskDef}
 use Rattle.spec_tables.specs.Tasks.{TaskState, Table, state_of, task, no_task, stop}
 use Rattle.lgx_sched.specs.declared.active.ActiveTask.{ActiveTask}
 use Rattle.lgx_sched.specs.TableView.{TableView, up_of, def_of, queue_at, place_of, pushed, popped, all_down}
-use Rattle.lgx_sched.specs.Represents.{rank_of, without_rank, IsUpAt, IsQueueOf, Represents, IsSound}
+use Rattle.lgx_sched.specs.Represents.{rank_of, without_rank, IsUpAt, IsQueueOf, RepresentsTable, IsSound}
 use Rattle.lgx_sched.proofs.Queues.{same_queue, other_queue, queue-push, queue-pop}
 use Rattle.lgx_sched.proofs.Chosen.{same_length, state_as_up}
 use Rattle.spec_base.proofs.Numbers.{one_more}
@@ -27,10 +27,10 @@ starts_with [] t e = absurd (none-some t e)
 starts_with (u ∷ us) t e = ap (λ x. x ∷ us) (same_Some u t e)
 
 -- the place of a task's queue by the list
-pub place_is : (v : TableView) (s : Table) → Represents v s → (t : ℕ) → place_of v t ≡ (task s t).priority - 1
+pub place_is : (v : TableView) (s : Table) → RepresentsTable v s → (t : ℕ) → place_of v t ≡ (task s t).priority - 1
 place_is v s h t = ap (λ (xs : List TaskDef). (get_or xs t no_task).priority - 1) h.defs
 
-pub priority_is : (v : TableView) (s : Table) → IsSound v → Represents v s → (t : ℕ) → t < length v.defs → (task s t).priority ≡ place_of v t + 1
+pub priority_is : (v : TableView) (s : Table) → IsSound v → RepresentsTable v s → (t : ℕ) → t < length v.defs → (task s t).priority ≡ place_of v t + 1
 priority_is v s sound h t l =
     let positive : 0 < (task s t).priority = subst (λ (xs : List TaskDef). 0 < (get_or xs t no_task).priority) h.defs ((sound.priorities t l).0) in
     one_more ((task s t).priority) positive ∙ ap (λ n. n + 1) (sym (place_is v s h t))
@@ -41,7 +41,7 @@ place_fits v sound t l = subst (λ n. place_of v t < n) (sym sound.queue_each) (
     below : (n : ℕ) → (0 < n) × (n ≤ LEAST_PRIORITY) → n - 1 < LEAST_PRIORITY
     below n b = omega (arith, b.0, b.1)
 
-pub fits_states : (v : TableView) (s : Table) → IsSound v → Represents v s → (t : ℕ) → t < length v.defs → t < length s.states
+pub fits_states : (v : TableView) (s : Table) → IsSound v → RepresentsTable v s → (t : ℕ) → t < length v.defs → t < length s.states
 fits_states v s sound h t l = subst (λ n. t < n) (ap (λ (xs : List TaskDef). length xs) h.defs ∙ sym (same_length v s sound h)) l
 
 -- ---- the first task of its queue goes down
@@ -49,7 +49,7 @@ fits_states v s sound h t l = subst (λ n. t < n) (ap (λ (xs : List TaskDef). l
 abbrev pub lowered : ℕ → Table → Table
 lowered t s = record s { states = set s.states t None }
 
-pub represents-down : (v : TableView) (s : Table) (o : Option ℕ) (t : ℕ) → IsSound v → Represents v s → t < length v.defs → IsHead v t → Represents (record v { ups = set v.ups t None; queues = popped v.queues (place_of v t); open_task = o }) (lowered t s)
+pub represents-down : (v : TableView) (s : Table) (o : Option ℕ) (t : ℕ) → IsSound v → RepresentsTable v s → t < length v.defs → IsHead v t → RepresentsTable (record v { ups = set v.ups t None; queues = popped v.queues (place_of v t); open_task = o }) (lowered t s)
 represents-down v s o t sound h l head =
     let l' = fits_states v s sound h t l in
     let pr : ℕ → ℕ = λ k. (task s k).priority in
@@ -83,7 +83,7 @@ represents-down v s o t sound h l head =
 abbrev pub raised : ℕ → TaskState → Table → Table
 raised t u s = record s { states = set s.states t (Some u); next = s.next + 1 }
 
-pub represents-up : (v : TableView) (s : Table) (o : Option ℕ) (t : ℕ) (u : TaskState) → IsSound v → Represents v s → t < length v.defs → state_of s t ≡ None → u.rank ≡ s.next → Represents (record v { ups = set v.ups t (Some (without_rank u)); queues = pushed v.queues (place_of v t) t; open_task = o }) (raised t u s)
+pub represents-up : (v : TableView) (s : Table) (o : Option ℕ) (t : ℕ) (u : TaskState) → IsSound v → RepresentsTable v s → t < length v.defs → state_of s t ≡ None → u.rank ≡ s.next → RepresentsTable (record v { ups = set v.ups t (Some (without_rank u)); queues = pushed v.queues (place_of v t) t; open_task = o }) (raised t u s)
 represents-up v s o t u sound h l down rank =
     let l' = fits_states v s sound h t l in
     let pr : ℕ → ℕ = λ k. (task s k).priority in
@@ -139,7 +139,7 @@ represents-up v s o t u sound h l down rank =
 
 -- ---- a state changes and keeps its rank
 
-pub represents-changed : (v : TableView) (s : Table) (o : Option ℕ) (t : ℕ) (x u : TaskState) → IsSound v → Represents v s → t < length v.defs → state_of s t ≡ Some x → u.rank ≡ x.rank → Represents (record v { ups = set v.ups t (Some (without_rank u)); open_task = o }) (record s { states = set s.states t (Some u) })
+pub represents-changed : (v : TableView) (s : Table) (o : Option ℕ) (t : ℕ) (x u : TaskState) → IsSound v → RepresentsTable v s → t < length v.defs → state_of s t ≡ Some x → u.rank ≡ x.rank → RepresentsTable (record v { ups = set v.ups t (Some (without_rank u)); open_task = o }) (record s { states = set s.states t (Some u) })
 represents-changed v s o t x u sound h l was rank =
     let l' = fits_states v s sound h t l in
     let s' : Table = record s { states = set s.states t (Some u) } in
@@ -165,7 +165,7 @@ represents-changed v s o t x u sound h l was rank =
 
 -- ---- the first task of its queue goes to its end
 
-pub represents-last : (v : TableView) (s : Table) (t : ℕ) (x : TaskState) → IsSound v → Represents v s → IsSound (record v { ups = set v.ups t None; queues = popped v.queues (place_of v t); open_task = None }) → t < length v.defs → IsHead v t → state_of s t ≡ Some x → Represents (record v { queues = pushed (popped v.queues (place_of v t)) (place_of v t) t }) (raised t (record x { rank = s.next }) s)
+pub represents-last : (v : TableView) (s : Table) (t : ℕ) (x : TaskState) → IsSound v → RepresentsTable v s → IsSound (record v { ups = set v.ups t None; queues = popped v.queues (place_of v t); open_task = None }) → t < length v.defs → IsHead v t → state_of s t ≡ Some x → RepresentsTable (record v { queues = pushed (popped v.queues (place_of v t)) (place_of v t) t }) (raised t (record x { rank = s.next }) s)
 represents-last v s t x sound h sound' l head was =
     let u : TaskState = record x { rank = s.next } in
     let down = represents-down v s None t sound h l head in
@@ -176,8 +176,8 @@ represents-last v s t x sound h sound' l head was =
     let ups_are : set (set v.ups t None) t (Some (without_rank u)) ≡ v.ups =
     set-set v.ups t None (Some (without_rank u)) ∙ (ap (λ y. set v.ups t y) (sym up_is) ∙ set-get_or v.ups t None) in
     let qs = pushed (popped v.queues (place_of v t)) (place_of v t) t in
-    subst (λ (xs : List (Option ActiveTask)). Represents (record v { ups = xs; queues = qs }) (raised t u s)) ups_are
-    (subst (λ (xs : List (Option TaskState)). Represents (record v { ups = set (set v.ups t None) t (Some (without_rank u)); queues = qs }) (record s { states = xs; next = s.next + 1 })) states_are up)
+    subst (λ (xs : List (Option ActiveTask)). RepresentsTable (record v { ups = xs; queues = qs }) (raised t u s)) ups_are
+    (subst (λ (xs : List (Option TaskState)). RepresentsTable (record v { ups = set (set v.ups t None) t (Some (without_rank u)); queues = qs }) (record s { states = xs; next = s.next + 1 })) states_are up)
 
 -- ---- every task goes down
 
@@ -204,7 +204,7 @@ none_twice : (us : List (Option TaskState)) → no_ups (map (option_map without_
 none_twice [] = refl
 none_twice (u ∷ us) = ap (λ xs. None ∷ xs) (none_twice us)
 
-pub represents-none : (v : TableView) (s : Table) (ran : ℕ) → Represents v s → Represents (record (all_down v) { run_since = ran }) (record (stop s) { run_since = ran })
+pub represents-none : (v : TableView) (s : Table) (ran : ℕ) → RepresentsTable v s → RepresentsTable (record (all_down v) { run_since = ran }) (record (stop s) { run_since = ran })
 represents-none v s ran h =
     let no_one : (k : ℕ) → IsUp (state_of (stop s) k) → ⊥ = λ k w. false≢true (subst IsUp (nothing s.states k) w) in
     record {

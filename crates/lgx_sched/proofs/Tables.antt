@@ -9,7 +9,7 @@ use Rattle.spec_tables.specs.declared.task.Release.{Release}
 use Rattle.spec_tables.specs.declared.task.Release.TheVariants.{Released, Overlap, Inhibited}
 use Rattle.lgx_sched.specs.declared.active.ActiveTask.{ActiveTask}
 use Rattle.lgx_sched.specs.TableView.{TableView, up_of, def_of, queue_at, place_of, has_open, front_of, next_task, answer_of, pushed, popped, enqueued, enqueued_if, dequeued, rotated}
-use Rattle.lgx_sched.specs.Represents.{without_rank, Represents, IsSound, IsTable, is_it}
+use Rattle.lgx_sched.specs.Represents.{without_rank, RepresentsTable, IsSound, IsTable, is_it}
 use Rattle.spec_base.proofs.Lists.{value_of_some}
 use Rattle.lgx_sched.proofs.Chosen.{state_as_up, next_task-chosen, open_as_up}
 use Rattle.std.proofs.lemmas.List.{get_or-set_same}
@@ -17,7 +17,7 @@ use Rattle.lgx_sched.proofs.Steps.{place_fits, lowered, represents-down, represe
 use Rattle.lgx_sched.proofs.Sound.{head-next, up-head, task-head, room-last, sound-up, sound-down, sound-last}
 
 -- what is down in the table is down in the list
-pub down_too : (v : TableView) (s : Table) (t : ℕ) → Represents v s → up_of v t ≡ None → state_of s t ≡ None
+pub down_too : (v : TableView) (s : Table) (t : ℕ) → RepresentsTable v s → up_of v t ≡ None → state_of s t ≡ None
 down_too v s t h e = go (state_of s t) (sym (state_as_up v s h t) ∙ e)
   where
     go : (o : Option TaskState) → option_map without_rank o ≡ None → o ≡ None
@@ -26,7 +26,7 @@ down_too v s t h e = go (state_of s t) (sym (state_as_up v s h t) ∙ e)
 
 -- ---- up
 
-pub represents-put_up : (v : TableView) (s : Table) (t now : ℕ) → IsSound v → Represents v s → t < length v.defs → up_of v t ≡ None → Represents (enqueued t now v) (put_up t now s)
+pub represents-put_up : (v : TableView) (s : Table) (t now : ℕ) → IsSound v → RepresentsTable v s → t < length v.defs → up_of v t ≡ None → RepresentsTable (enqueued t now v) (put_up t now s)
 represents-put_up v s t now sound h l down =
     represents-up v s v.open_task t (record { start = now; rank = s.next; region_count = 0; cps_open = false }) sound h l (down_too v s t h down) refl
 
@@ -36,7 +36,7 @@ table-up v t now is l down =
 
 -- ---- down
 
-pub represents-take_out : (v : TableView) (s : Table) (t : ℕ) → IsSound v → Represents v s → next_task v ≡ Some t → Represents (dequeued t v) (lowered t s)
+pub represents-take_out : (v : TableView) (s : Table) (t : ℕ) → IsSound v → RepresentsTable v s → next_task v ≡ Some t → RepresentsTable (dequeued t v) (lowered t s)
 represents-take_out v s t sound h next =
     let head = head-next v s t sound h next in
     represents-down v s None t sound h (task-head v s t sound h head) head
@@ -50,12 +50,12 @@ table-down v t is next =
 pub next-front : (v : TableView) (t : ℕ) → v.open_task ≡ None → front_of v.queues ≡ Some t → next_task v ≡ Some t
 next-front v t none front = ap (λ (o : Option ℕ). or_else o (front_of v.queues)) none ∙ front
 
-pub represents-put_last : (v : TableView) (s : Table) (t : ℕ) → IsSound v → Represents v s → v.open_task ≡ None → front_of v.queues ≡ Some t → Represents (rotated t v) (to_back t s)
+pub represents-put_last : (v : TableView) (s : Table) (t : ℕ) → IsSound v → RepresentsTable v s → v.open_task ≡ None → front_of v.queues ≡ Some t → RepresentsTable (rotated t v) (to_back t s)
 represents-put_last v s t sound h none front =
     let next = next-front v t none front in
     let head = head-next v s t sound h next in
     let x = value_of_some (state_of s t) (up-head v s t h head) in
-    subst (λ (o : Option TaskState). Represents (rotated t v) (record s { states = set s.states t (with_rank s.next o); next = s.next + 1 })) (sym x.1)
+    subst (λ (o : Option TaskState). RepresentsTable (rotated t v) (record s { states = set s.states t (with_rank s.next o); next = s.next + 1 })) (sym x.1)
     (represents-last v s t x.0 sound h (sound-down v s t sound h next) (task-head v s t sound h head) head x.1)
 
 pub table-last : (v : TableView) (t : ℕ) → IsTable v → v.open_task ≡ None → front_of v.queues ≡ Some t → IsTable (rotated t v)
@@ -102,7 +102,7 @@ known_front v t is none front = known_task v t is (next-front v t none front)
 
 -- ---- the calls by their definitions
 
-is_up_as : (v : TableView) (s : Table) (t : ℕ) → Represents v s → is_up s t ≡ is_some (up_of v t)
+is_up_as : (v : TableView) (s : Table) (t : ℕ) → RepresentsTable v s → is_up s t ≡ is_some (up_of v t)
 is_up_as v s t h = go (state_of s t) ∙ ap (λ (o : Option ActiveTask). is_some o) (sym (state_as_up v s h t))
   where
     go : (o : Option TaskState) → is_some o ≡ is_some (option_map without_rank o)
@@ -110,7 +110,7 @@ is_up_as v s t h = go (state_of s t) ∙ ap (λ (o : Option ActiveTask). is_some
     go (Some u) = refl
 
 -- the answer by the list
-pub answer_is : (v : TableView) (s : Table) (t : ℕ) → Represents v s → answer_of (def_of v t) (up_of v t) ≡ release_answer s t
+pub answer_is : (v : TableView) (s : Table) (t : ℕ) → RepresentsTable v s → answer_of (def_of v t) (up_of v t) ≡ release_answer s t
 answer_is v s t h =
     ap (λ (ds : List TaskDef). answer_of (get_or ds t no_task) (up_of v t)) h.defs
     ∙ ap (λ b. if (task s t).inhibited then Inhibited else (if b then Overlap else Released)) (sym (is_up_as v s t h))
@@ -124,48 +124,48 @@ pub released_down : (d : TaskDef) (u : Option ActiveTask) → Released ≡ answe
 released_down d None e = refl
 released_down d (Some x) e = absurd (not_released d.inhibited e)
 
-pub represents-release : (v : TableView) (s : Table) (t now : ℕ) (a : Release) → IsSound v → Represents v s → t < length v.defs → a ≡ answer_of (def_of v t) (up_of v t) → Represents (enqueued_if a t now v) (release t now s)
+pub represents-release : (v : TableView) (s : Table) (t now : ℕ) (a : Release) → IsSound v → RepresentsTable v s → t < length v.defs → a ≡ answer_of (def_of v t) (up_of v t) → RepresentsTable (enqueued_if a t now v) (release t now s)
 represents-release v s t now a sound h l e =
-    subst (λ x. Represents (enqueued_if a t now v) (put_up_if x t now s)) (e ∙ answer_is v s t h) (go a e)
+    subst (λ x. RepresentsTable (enqueued_if a t now v) (put_up_if x t now s)) (e ∙ answer_is v s t h) (go a e)
   where
-    go : (a : Release) → a ≡ answer_of (def_of v t) (up_of v t) → Represents (enqueued_if a t now v) (put_up_if a t now s)
+    go : (a : Release) → a ≡ answer_of (def_of v t) (up_of v t) → RepresentsTable (enqueued_if a t now v) (put_up_if a t now s)
     go Released e = represents-put_up v s t now sound h l (released_down (def_of v t) (up_of v t) e)
     go Overlap e = h
     go Inhibited e = h
 
-pub open_is : (v : TableView) (s : Table) (t : ℕ) → IsSound v → Represents v s → is_open (state_of s t) ≡ is_it v.open_task t
+pub open_is : (v : TableView) (s : Table) (t : ℕ) → IsSound v → RepresentsTable v s → is_open (state_of s t) ≡ is_it v.open_task t
 open_is v s t sound h = open_as_up (state_of s t) ∙ (ap has_open (sym (state_as_up v s h t)) ∙ sound.alone t)
 
-pub represents-rotate : (v : TableView) (s : Table) (t : ℕ) → IsSound v → Represents v s → v.open_task ≡ None → front_of v.queues ≡ Some t → Represents (rotated t v) (rotate s)
+pub represents-rotate : (v : TableView) (s : Table) (t : ℕ) → IsSound v → RepresentsTable v s → v.open_task ≡ None → front_of v.queues ≡ Some t → RepresentsTable (rotated t v) (rotate s)
 represents-rotate v s t sound h none front =
     let is_chosen : chosen s ≡ Some t = sym (next_task-chosen v s sound h) ∙ next-front v t none front in
-    subst (λ o. Represents (rotated t v) (unless_open o s)) (sym is_chosen)
-    (subst (λ b. Represents (rotated t v) (if b then s else to_back t s)) (sym (open_is v s t sound h ∙ ap (λ o. is_it o t) none))
+    subst (λ o. RepresentsTable (rotated t v) (unless_open o s)) (sym is_chosen)
+    (subst (λ b. RepresentsTable (rotated t v) (if b then s else to_back t s)) (sym (open_is v s t sound h ∙ ap (λ o. is_it o t) none))
     (represents-put_last v s t sound h none front))
 
-pub represents-rotate_none : (v : TableView) (s : Table) → IsSound v → Represents v s → v.open_task ≡ None → front_of v.queues ≡ None → Represents v (rotate s)
+pub represents-rotate_none : (v : TableView) (s : Table) → IsSound v → RepresentsTable v s → v.open_task ≡ None → front_of v.queues ≡ None → RepresentsTable v (rotate s)
 represents-rotate_none v s sound h none front =
-    subst (λ o. Represents v (unless_open o s)) (sym (sym (next_task-chosen v s sound h) ∙ (ap (λ (o : Option ℕ). or_else o (front_of v.queues)) none ∙ front))) h
+    subst (λ o. RepresentsTable v (unless_open o s)) (sym (sym (next_task-chosen v s sound h) ∙ (ap (λ (o : Option ℕ). or_else o (front_of v.queues)) none ∙ front))) h
 
-represents-rotate_at : (v : TableView) (s : Table) (o : Option ℕ) → IsSound v → Represents v s → v.open_task ≡ o → is_some o ≡ true → Represents v (rotate s)
+represents-rotate_at : (v : TableView) (s : Table) (o : Option ℕ) → IsSound v → RepresentsTable v s → v.open_task ≡ o → is_some o ≡ true → RepresentsTable v (rotate s)
 represents-rotate_at v s None sound h e w = absurd (false≢true w)
 represents-rotate_at v s (Some t) sound h e w =
-    subst (λ o. Represents v (unless_open o s)) (sym (sym (next_task-chosen v s sound h) ∙ ap (λ (o : Option ℕ). or_else o (front_of v.queues)) e))
-    (subst (λ b. Represents v (if b then s else to_back t s)) (sym (open_is v s t sound h ∙ (ap (λ o. is_it o t) e ∙ eq-eqb t t refl))) h)
+    subst (λ o. RepresentsTable v (unless_open o s)) (sym (sym (next_task-chosen v s sound h) ∙ ap (λ (o : Option ℕ). or_else o (front_of v.queues)) e))
+    (subst (λ b. RepresentsTable v (if b then s else to_back t s)) (sym (open_is v s t sound h ∙ (ap (λ o. is_it o t) e ∙ eq-eqb t t refl))) h)
 
-pub represents-rotate_open : (v : TableView) (s : Table) → IsSound v → Represents v s → is_some v.open_task ≡ true → Represents v (rotate s)
+pub represents-rotate_open : (v : TableView) (s : Table) → IsSound v → RepresentsTable v s → is_some v.open_task ≡ true → RepresentsTable v (rotate s)
 represents-rotate_open v s sound h w = represents-rotate_at v s v.open_task sound h refl w
 
-kind_is : (v : TableView) (s : Table) (t : ℕ) → Represents v s → is_continuous (task s t).kind ≡ is_continuous (def_of v t).kind
+kind_is : (v : TableView) (s : Table) (t : ℕ) → RepresentsTable v s → is_continuous (task s t).kind ≡ is_continuous (def_of v t).kind
 kind_is v s t h = ap (λ (xs : List TaskDef). is_continuous (get_or xs t no_task).kind) (sym h.defs)
 
 -- the task is down, and then released if it is the continuous one
-pub represents-finish : (v w : TableView) (s : Table) (t now : ℕ) → IsTable v → Represents v s → next_task v ≡ Some t → is_continuous (def_of v t).kind ≡ true → ((x : Table) → Represents (dequeued t v) x → Represents w (release t now x)) → Represents w (finish t now s)
+pub represents-finish : (v w : TableView) (s : Table) (t now : ℕ) → IsTable v → RepresentsTable v s → next_task v ≡ Some t → is_continuous (def_of v t).kind ≡ true → ((x : Table) → RepresentsTable (dequeued t v) x → RepresentsTable w (release t now x)) → RepresentsTable w (finish t now s)
 represents-finish v w s t now is h next continuous released =
-    subst (λ b. Represents w (release_some (if b then Some t else None) now (lowered t s))) (sym (kind_is v s t h ∙ continuous))
+    subst (λ b. RepresentsTable w (release_some (if b then Some t else None) now (lowered t s))) (sym (kind_is v s t h ∙ continuous))
     (released (lowered t s) (represents-take_out v s t is.0 h next))
 
-pub represents-finish_other : (v : TableView) (s : Table) (t now : ℕ) → IsTable v → Represents v s → next_task v ≡ Some t → is_continuous (def_of v t).kind ≡ false → Represents (dequeued t v) (finish t now s)
+pub represents-finish_other : (v : TableView) (s : Table) (t now : ℕ) → IsTable v → RepresentsTable v s → next_task v ≡ Some t → is_continuous (def_of v t).kind ≡ false → RepresentsTable (dequeued t v) (finish t now s)
 represents-finish_other v s t now is h next other =
-    subst (λ b. Represents (dequeued t v) (release_some (if b then Some t else None) now (lowered t s))) (sym (kind_is v s t h ∙ other))
+    subst (λ b. RepresentsTable (dequeued t v) (release_some (if b then Some t else None) now (lowered t s))) (sym (kind_is v s t h ∙ other))
     (represents-take_out v s t is.0 h next)

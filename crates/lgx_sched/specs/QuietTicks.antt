@@ -5,7 +5,7 @@ use Rattle.spec_tables.specs.declared.task.TaskKind.{TaskKind}
 use Rattle.spec_tables.specs.Tasks.{Table, divides_by_period, expired, due, rotate}
 use Rattle.lgx_sched.specs.declared.active.ActiveTask.{ActiveTask}
 use Rattle.lgx_sched.specs.TableView.{TableView, up_of, def_of, front_of, has_run_out, is_alone}
-use Rattle.lgx_sched.specs.Represents.{Represents, IsTable}
+use Rattle.lgx_sched.specs.Represents.{RepresentsTable, IsTable}
 
 -- a task of this kind is due at this tick
 abbrev pub is_due : ℕ → ℕ → TaskKind → Bool
@@ -44,4 +44,4 @@ kept_until until (Some o) u = if nat_le o.start u.start then until else 0
 pub record IsQuietAt (now : ℕ) (v : TableView) (s : Table) : Type 0 where
   pub expired : expired now s ≡ None
   pub due : (t : ℕ) → due t now s ≡ false
-  pub rotate : Represents v (rotate s)
+  pub rotate : RepresentsTable v (rotate s)

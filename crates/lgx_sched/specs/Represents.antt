@@ -51,7 +51,7 @@ AtMostUp s p i = (q : List ℕ) × (IsQueueOf (state_of s) (λ k. (task s k).pri
 -- Both have the same tasks up, each with the same start, count of regions and open CPS, and both came to Run at the
 -- same tick. No two up tasks share a rank, all are below the next one, and the queue of a priority holds its up tasks
 -- in the order of their ranks, whose numbers don't matter.
-pub record Represents (v : TableView) (s : Table) : Type 0 where
+pub record RepresentsTable (v : TableView) (s : Table) : Type 0 where
   pub defs : v.defs ≡ s.defs
   pub ups : v.ups ≡ map (option_map without_rank) s.states
   pub run_since : v.run_since ≡ s.run_since
@@ -84,7 +84,7 @@ pub record IsSound (v : TableView) : Type 0 where
 
 -- it is sound, and there is a list that it represents
 abbrev pub IsTable : TableView → Type 0
-IsTable v = IsSound v × ((s : Table) × Represents v s)
+IsTable v = IsSound v × ((s : Table) × RepresentsTable v s)
 
 -- the list of a table that was just made: every task is down
 abbrev pub none_up : List TaskDef → ℕ → Table

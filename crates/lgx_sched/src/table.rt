@@ -5,7 +5,7 @@ ghost use Rattle.spec_base.specs.declared.limits.TheConstants.{MAX_TASKS, LEAST_
 ghost use Rattle.spec_tables.specs.Tasks.{Table, no_task, chosen, release_answer, release, if_released, released_at_run, start, stop, finish, rotate, is_continuous, expired, due, region_up, region_down, region_clear, set_copy, held};
 ghost use Rattle.lgx_sched.specs.TableView.{TableView, up_of, def_of, queue_at, place_of, next_task, answer_of, ready_at, front_of, pushed, popped, enqueued, enqueued_if, dequeued, rotated, with_active, restarted, all_down, task_if_open, region_count_of, has_cps, is_alone, runs_again};
 ghost use Rattle.lgx_sched.specs.QuietTicks.{IsQuiet, IsQuietAt, keeps_turn};
-ghost use Rattle.lgx_sched.specs.Represents.{Represents, IsInLine, AtMostUp, IsTable, HasPeriod, none_up};
+ghost use Rattle.lgx_sched.specs.Represents.{RepresentsTable, IsInLine, AtMostUp, IsTable, HasPeriod, none_up};
 
 use crate::active::{ActiveTask, has_cps, task_if_open};
 use crate::expiry::first_expired;
@@ -60,7 +60,7 @@ impl TaskTable {
         requires few { length defs.now ≤ MAX_TASKS }
         requires priorities { All (λ d. (0 < d.priority) × (d.priority ≤ LEAST_PRIORITY)) defs.now }
         requires periods { All (λ d. HasPeriod d.kind) defs.now }
-        ensures represents { IfOk result (λ table. (next : ℕ) → Represents table (none_up defs.now next)) }
+        ensures represents { IfOk result (λ table. (next : ℕ) → RepresentsTable table (none_up defs.now next)) }
         ensures defs { IfOk result (λ table. table.defs ≡ defs.now) }
     {
         let kept = Vec::from_slice(alloc, defs)?;
@@ -83,7 +83,7 @@ impl TaskTable {
     pub fn chosen(&self) -> Option<u32>
         ensures front { result ≡ next_task self.now }
         ensures known { IfSome result (λ t. t < length self.now.defs) }
-        ensures represents { (s : Table) → Represents self.now s → result ≡ chosen s }
+        ensures represents { (s : Table) → RepresentsTable self.now s → result ≡ chosen s }
     {
         match self.open_task {
             Some(t) => Some(t),
@@ -97,8 +97,8 @@ impl TaskTable {
     pub fn ready(&self, priority: u8, i: u32) -> Option<u32>
         requires { (0 < priority) × (priority ≤ LEAST_PRIORITY) }
         ensures place { result ≡ ready_at self.now priority i }
-        ensures in_line { (s : Table) → Represents self.now s → IfSome result (IsInLine s priority i) }
-        ensures none { (s : Table) → Represents self.now s → IsNone result → AtMostUp s priority i }
+        ensures in_line { (s : Table) → RepresentsTable self.now s → IfSome result (IsInLine s priority i) }
+        ensures none { (s : Table) → RepresentsTable self.now s → IsNone result → AtMostUp s priority i }
     {
         self.queues.get(priority as usize - 1, i as usize)
     }
@@ -107,9 +107,9 @@ impl TaskTable {
     /// isn't released; then nothing changes.
     pub fn release(&mut self, t: u32, now: u32) -> Release
         requires task { t < length self.old.defs }
-        ensures answer { (s : Table) → Represents self.old s → result ≡ release_answer s t }
+        ensures answer { (s : Table) → RepresentsTable self.old s → result ≡ release_answer s t }
         ensures exact { self.new ≡ enqueued_if result t now self.old }
-        ensures represents { (s : Table) → Represents self.old s → Represents self.new (release t now s) }
+        ensures represents { (s : Table) → RepresentsTable self.old s → RepresentsTable self.new (release t now s) }
         ensures defs { self.new.defs ≡ self.old.defs }
     {
         let answer = self.answer(t);
@@ -123,7 +123,7 @@ impl TaskTable {
 
     /// Puts the chosen task last in its queue, unless it has something open. So equal priorities take turns at ticks.
     pub fn rotate(&mut self)
-        ensures represents { (s : Table) → Represents self.old s → Represents self.new (rotate s) }
+        ensures represents { (s : Table) → RepresentsTable self.old s → RepresentsTable self.new (rotate s) }
         ensures defs { self.new.defs ≡ self.old.defs }
     {
         if self.open_task.is_none() {
@@ -138,7 +138,7 @@ impl TaskTable {
     /// Takes down the chosen task `t` after its last program; the continuous task is released again at once.
     pub fn finish(&mut self, t: u32, now: u32)
         requires chosen { next_task self.old ≡ Some t }
-        ensures represents { (s : Table) → Represents self.old s → Represents self.new (finish t now s) }
+        ensures represents { (s : Table) → RepresentsTable self.old s → RepresentsTable self.new (finish t now s) }
         ensures defs { self.new.defs ≡ self.old.defs }
     {
         self.take_out(t);
@@ -163,8 +163,8 @@ impl TaskTable {
         requires chosen { next_task self.old ≡ Some t }
         requires again { runs_again self.old t ≡ true }
         ensures exact { self.new ≡ restarted t now self.old }
-        ensures represents { (s : Table) → Represents self.old s → Represents self.new (finish t now s) }
-        ensures chosen { (s : Table) → Represents self.old s → chosen (finish t now s) ≡ Some t }
+        ensures represents { (s : Table) → RepresentsTable self.old s → RepresentsTable self.new (finish t now s) }
+        ensures chosen { (s : Table) → RepresentsTable self.old s → chosen (finish t now s) ≡ Some t }
     {
         let up = ActiveTask {
             start: now,
@@ -179,7 +179,7 @@ impl TaskTable {
 
     /// The change to Run at the tick `now`: every task goes down, and the continuous one is released.
     pub fn start(&mut self, now: u32)
-        ensures represents { (s : Table) → Represents self.old s → Represents self.new (start now s) }
+        ensures represents { (s : Table) → RepresentsTable self.old s → RepresentsTable self.new (start now s) }
         ensures defs { self.new.defs ≡ self.old.defs }
     {
         self.put_all_down(now);
@@ -191,7 +191,7 @@ impl TaskTable {
     /// The task that a change to Run releases: the continuous one, unless it is inhibited. None if there is none.
     pub fn released_at_run(&self) -> Option<u32>
         ensures known { IfSome result (λ t. t < length self.now.defs) }
-        ensures represents { (s : Table) → Represents self.now s → result ≡ released_at_run s }
+        ensures represents { (s : Table) → RepresentsTable self.now s → result ≡ released_at_run s }
     {
         let t = continuous_task(self.defs.as_slice())?;
         if_released(answer_of(self.def(t), None), t)
@@ -199,7 +199,7 @@ impl TaskTable {
 
     /// The change to Program, or to Faulted: every task goes down.
     pub fn stop(&mut self)
-        ensures represents { (s : Table) → Represents self.old s → Represents self.new (stop s) }
+        ensures represents { (s : Table) → RepresentsTable self.old s → RepresentsTable self.new (stop s) }
         ensures defs { self.new.defs ≡ self.old.defs }
     {
         self.put_all_down(self.run_since);
@@ -208,7 +208,7 @@ impl TaskTable {
     /// Whether a periodic task is due at the tick `now`.
     pub fn due(&self, t: u32, now: u32) -> bool
         requires task { t < length self.now.defs }
-        ensures { (s : Table) → Represents self.now s → result ≡ due t now s }
+        ensures { (s : Table) → RepresentsTable self.now s → result ≡ due t now s }
     {
         match self.defs.as_slice()[t as usize].kind {
             TaskKind::Periodic(period) => self.run_since < now
@@ -220,7 +220,7 @@ impl TaskTable {
     /// The first task in project order that has been up for the ticks of its watchdog at the tick `now`.
     pub fn expired(&self, now: u32) -> Option<u32>
         ensures known { IfSome result (λ t. t < length self.now.defs) }
-        ensures represents { (s : Table) → Represents self.now s → result ≡ expired now s }
+        ensures represents { (s : Table) → RepresentsTable self.now s → result ≡ expired now s }
     {
         first_expired(now, self.defs.as_slice(), &self.ups)
     }
@@ -228,7 +228,7 @@ impl TaskTable {
     /// Whether the tick `now` is known to find nothing to do. If it isn't, the tick may still find nothing.
     #[inline(always)]
     pub fn is_quiet(&self, now: u32) -> bool
-        ensures { (s : Table) → Represents self.now s → result ≡ true → IsQuietAt now self.now s }
+        ensures { (s : Table) → RepresentsTable self.now s → result ≡ true → IsQuietAt now self.now s }
     {
         self.quiet.contains(now)
     }
@@ -272,7 +272,7 @@ impl TaskTable {
     pub fn region_up(&mut self, t: u32)
         requires chosen { next_task self.old ≡ Some t }
         requires room { region_count_of (up_of self.old t) + 1 < 2 ^ 32 }
-        ensures represents { (s : Table) → Represents self.old s → Represents self.new (region_up t s) }
+        ensures represents { (s : Table) → RepresentsTable self.old s → RepresentsTable self.new (region_up t s) }
         ensures defs { self.new.defs ≡ self.old.defs }
     {
         let up = self.active_task(t);
@@ -288,7 +288,7 @@ impl TaskTable {
     /// Closes a region of the chosen task `t` (UIE). If none is open it does nothing.
     pub fn region_down(&mut self, t: u32)
         requires chosen { next_task self.old ≡ Some t }
-        ensures represents { (s : Table) → Represents self.old s → Represents self.new (region_down t s) }
+        ensures represents { (s : Table) → RepresentsTable self.old s → RepresentsTable self.new (region_down t s) }
         ensures defs { self.new.defs ≡ self.old.defs }
     {
         let up = self.active_task(t);
@@ -304,7 +304,7 @@ impl TaskTable {
     /// Closes all regions of the chosen task `t`, as the end of a program scan does.
     pub fn region_clear(&mut self, t: u32)
         requires chosen { next_task self.old ≡ Some t }
-        ensures represents { (s : Table) → Represents self.old s → Represents self.new (region_clear t s) }
+        ensures represents { (s : Table) → RepresentsTable self.old s → RepresentsTable self.new (region_clear t s) }
         ensures defs { self.new.defs ≡ self.old.defs }
     {
         let up = self.active_task(t);
@@ -320,7 +320,7 @@ impl TaskTable {
     /// A CPS of the chosen task `t` starts, or has copied its last element.
     pub fn set_copy(&mut self, t: u32, sync: bool)
         requires chosen { next_task self.old ≡ Some t }
-        ensures represents { (s : Table) → Represents self.old s → Represents self.new (set_copy t sync s) }
+        ensures represents { (s : Table) → RepresentsTable self.old s → RepresentsTable self.new (set_copy t sync s) }
         ensures defs { self.new.defs ≡ self.old.defs }
     {
         let up = self.active_task(t);
@@ -335,7 +335,7 @@ impl TaskTable {
 
     /// Whether a CPS is in progress.
     pub fn held(&self) -> bool
-        ensures { (s : Table) → Represents self.now s → result ≡ held s }
+        ensures { (s : Table) → RepresentsTable self.now s → result ≡ held s }
     {
         match self.open_task {
             Some(t) => has_cps(self.ups[t as usize]),

@@ -6,10 +6,10 @@ use denote.Struct.Declared.{shape}
 use Rattle.std.specs.declared.sync.ledger.Ledger as Ledger
 use Rattle.std.proofs.sync.ledger.Book.TheSendSync as book
 use Rattle.lgx_shared.specs.declared.input.Input as Input
-use Rattle.lgx_shared.specs.contracts.named.Named as Named
-use Rattle.lgx_shared.specs.contracts.named.Named.TheInside as named
-use Rattle.lgx_shared.specs.contracts.kept.Fit as Fit
-use Rattle.lgx_shared.specs.contracts.kept.Kept as Kept
+use Rattle.lgx_shared.specs.contracts.recorder_of.RecorderOf as RecorderOf
+use Rattle.lgx_shared.specs.contracts.recorder_of.RecorderOf.TheInside as named
+use Rattle.lgx_shared.specs.contracts.locked_run.HasParts as HasParts
+use Rattle.lgx_shared.specs.contracts.locked_run.LockedRun as LockedRun
 use Rattle.std.proofs.Crossing.{crosses}
 use Rattle.lgx_rung.proofs.rung.Legs.TheLaws.TheKnot as source
 use Rattle.lgx_prog.proofs.rung.Legs.TheLaws.TheKnot as checked
@@ -32,7 +32,7 @@ use Rattle.lgx_edit.specs.contracts.texts.RoutineText as RoutineText
 use Rattle.lgx_edit.specs.contracts.changes.KeptEdit as KeptEdit
 use Rattle.lgx_edit.specs.contracts.changes.EditedRoutine as EditedRoutine
 use Rattle.lgx_edit.specs.contracts.edits.ProgramEdits as ProgramEdits
-use Rattle.lgx_steps.specs.contracts.parts.Parts as Parts
+use Rattle.lgx_steps.specs.contracts.parts.ControllerParts as ControllerParts
 use Rattle.lgx_core.specs.contracts.controller.Controller as Controller
 use Rattle.lgx_core.specs.contracts.controller.Controller.TheInside as controller
 use Rattle.lgx_shared.specs.contracts.recorder.Recorder as Recorder
@@ -40,7 +40,7 @@ use Rattle.lgx_shared.specs.contracts.recorder.Recorder.TheInside as recorder
 use Rattle.lgx_record.specs.contracts.recording.Recording as Recording
 use Rattle.lgx_record.specs.contracts.recording.Recording.TheInside as recording
 use Rattle.lgx_record.specs.contracts.follower_parts.FollowerParts as Followed
-use Rattle.lgx_record.specs.contracts.parts.Parts as Recorded
+use Rattle.lgx_record.specs.contracts.parts.RecordingParts as Recorded
 use Rattle.lgx_history.proofs.history.History.TheSendSync as history
 use Rattle.lgx_rung.proofs.ins.Ins.TheSendSync as ins
 
@@ -99,8 +99,8 @@ pub faults_send : IsSend FaultLog.the_row
 faults_send = search (sendable, crosses, fault_send, Cells-send, Deed-send) depth 60 fits 20000
 
 -- the parts of a controller, field by field
-pub parts_send : IsSend (Parts.the_field).row
-parts_send = struct_send (shape Parts.the_type) (
+pub parts_send : IsSend (ControllerParts.the_field).row
+parts_send = struct_send (shape ControllerParts.the_type) (
   search (sendable, crosses) depth 200 fits 100000,
   (
     search (sendable, crosses) depth 200 fits 100000,
@@ -145,8 +145,8 @@ parts_send = struct_send (shape Parts.the_type) (
 )
 
 -- as they lie in its box
-pub boxed_parts_send : IsSend Parts.the_row
-boxed_parts_send = of_fields (Parts.the_field).row _ _ (Parts.the_type).to_one parts_send
+pub boxed_parts_send : IsSend ControllerParts.the_row
+boxed_parts_send = of_fields (ControllerParts.the_field).row _ _ (ControllerParts.the_type).to_one parts_send
 
 controller_fields : IsSend controller.the_row
 controller_fields =
@@ -236,19 +236,19 @@ module _ (I : RattleType) (i : Input.Ghosts I.Denot) where
       of_fields (named.the_field I i).row _ _ (named.the_type I i).to_one
       (struct_send (shape (named.the_type I i)) (recorder_send, (search (sendable, crosses) depth 40, tt)))
 
-  pub named_send : IsSend I → IsSend (Named.the_row I i)
+  pub named_send : IsSend I → IsSend (RecorderOf.the_row I i)
   named_send s = view_send _ _ _ _ _ (named_fields s)
 
-  pub fit_send : (L : RattleType) (l : Ledger.Ghosts L.Denot) → IsSend I → IsSend L → IsSend (Fit.the_field I L i l).row
+  pub fit_send : (L : RattleType) (l : Ledger.Ghosts L.Denot) → IsSend I → IsSend L → IsSend (HasParts.the_field I L i l).row
   fit_send L l s t =
-      struct_send (shape (Fit.the_type I L i l))
+      struct_send (shape (HasParts.the_type I L i l))
       (search (sendable, crosses) depth 40, (search (sendable, crosses) depth 40, tt))
 
 module _ (I A S E : RattleType) (i : Input.Ghosts I.Denot) (a : Ledger.Ghosts A.Denot) (s : Ledger.Ghosts S.Denot) (e : Ledger.Ghosts E.Denot) where
-  pub under_lock_send : IsSend I → IsSend A → IsSend S → IsSend E → IsSend (Kept.the_row I A S E i a s e)
+  pub under_lock_send : IsSend I → IsSend A → IsSend S → IsSend E → IsSend (LockedRun.the_row I A S E i a s e)
   under_lock_send si sa ss se =
-      of_fields (Kept.the_field I A S E i a s e).row _ _ (Kept.the_type I A S E i a s e).to_one
-      (struct_send (shape (Kept.the_type I A S E i a s e)) (
+      of_fields (LockedRun.the_field I A S E i a s e).row _ _ (LockedRun.the_type I A S E i a s e).to_one
+      (struct_send (shape (LockedRun.the_type I A S E i a s e)) (
         named_send I i si,
         (
           history.the_send,

@@ -6,21 +6,21 @@ ghost use Rattle.lgx_shared.specs.Follows.{journal_of};
 ghost use Rattle.lgx_shared.specs.Seen.{front_view, HasSeen};
 
 use crate::input::Input;
-use crate::named::Named;
-use lgx_history::{History, Sight};
+use crate::recorder_of::RecorderOf;
+use lgx_history::{History, SeenToken};
 use std::marker::{Model, PhantomData};
 
 /// A lane, how many of its actions were made, and the journal that was seen then. It keeps no event: what was seen stands in
 /// proofs alone.
 #[derive(Drop)]
-pub(crate) struct Front<I: Input> {
+pub(crate) struct LaneFront<I: Input> {
     lane: u32,
     actions: u32,
-    sight: Sight,
+    sight: SeenToken,
     input: PhantomData<I>,
 }
 
-impl<I: Input> Model for Front<I> {
+impl<I: Input> Model for LaneFront<I> {
     ghost use Rattle.std.specs.Prelude.{◌≡◌};
     ghost use Rattle.std.specs.Coded.{codes};
     ghost use Rattle.lgx_shared.specs.Seen.{FrontView, front_view, front_code, HasSeen};
@@ -34,16 +34,16 @@ impl<I: Input> Model for Front<I> {
     ghost invariant = { λ f. (f.sight.name ≡ I.history) × HasSeen I.project I.script (front_view f.lane f.actions f.sight.events) };
 }
 
-impl<I: Input> Front<I> {
+impl<I: Input> LaneFront<I> {
     /// The front of a lane that sees the journal as it stands.
-    pub(crate) fn new(lane: u32, history: &mut History, named: &Named<I>) -> Front<I>
+    pub(crate) fn new(lane: u32, history: &mut History, named: &RecorderOf<I>) -> LaneFront<I>
         requires { history.old ≡ history_view I.history (journal_of named.now) }
         ensures same { history.new ≡ history.old }
         ensures seen { result ≡ front_view lane (slice_index_or named.now.counts lane 0) (journal_of named.now) }
     {
         let actions = named.made(lane);
         let _ = named.journal();
-        Front {
+        LaneFront {
             lane,
             actions,
             sight: history.sight(),
@@ -66,7 +66,7 @@ impl<I: Input> Front<I> {
     }
 
     /// Sees the journal as it stands, on which the history goes on; and the history began with what was seen before.
-    pub(crate) fn see(&mut self, history: &mut History, named: &Named<I>)
+    pub(crate) fn see(&mut self, history: &mut History, named: &RecorderOf<I>)
         requires name { history.old.name ≡ I.history }
         requires ahead { IsPrefix history.old.events (journal_of named.now) }
         ensures history { history.new ≡ history_view I.history (journal_of named.now) }
@@ -78,12 +78,12 @@ impl<I: Input> Front<I> {
     }
 
     /// Gives back its sight of the history, which stands at the journal: so the journal began with what was seen.
-    pub(crate) fn give_back(self, history: &mut History, named: &Named<I>)
+    pub(crate) fn give_back(self, history: &mut History, named: &RecorderOf<I>)
         requires { history.old ≡ history_view I.history (journal_of named.now) }
         ensures same { history.new ≡ history.old }
         ensures seen { IsPrefix self.events (journal_of named.now) }
     {
-        let Front {
+        let LaneFront {
             lane: _,
             actions: _,
             sight,

@@ -7,12 +7,12 @@
 
 mod front;
 mod input;
-mod kept;
 mod lanes;
-mod named;
+mod locked_run;
 mod pass;
 mod plan;
 mod recorder;
+mod recorder_of;
 mod serving;
 mod shared;
 mod turn;

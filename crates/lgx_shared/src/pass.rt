@@ -7,9 +7,9 @@ ghost use Rattle.lgx_history.specs.Histories.{history_view};
 ghost use Rattle.lgx_shared.specs.Follows.{journal_of};
 ghost use Rattle.lgx_shared.specs.Lanes.{most_turns};
 
-use crate::front::Front;
+use crate::front::LaneFront;
 use crate::input::Input;
-use crate::named::Named;
+use crate::recorder_of::RecorderOf;
 use lgx_history::History;
 use spec_base::limits::MAX_IMAGE_BYTES;
 use std::marker::PhantomData;
@@ -35,7 +35,7 @@ pub struct Pass<I: Input, A: Ledger, S: Ledger, E: Ledger> {
     /// Whether a turn of this pass was answered with want of memory.
     pub(crate) short: bool,
     /// What it has seen of the journal.
-    pub(crate) front: Front<I>,
+    pub(crate) front: LaneFront<I>,
     pub(crate) action_share: Share<A>,
     pub(crate) step_share: Share<S>,
     pub(crate) end_share: Share<E>,
@@ -62,7 +62,7 @@ impl<I: Input, A: Ledger, S: Ledger, E: Ledger> Pass<I, A, S, E> {
         lane: u32,
         length: u32,
         least_steps: u32,
-        front: Front<I>,
+        front: LaneFront<I>,
         action_share: Share<A>,
         step_share: Share<S>,
         end_share: Share<E>,
@@ -96,7 +96,11 @@ impl<I: Input, A: Ledger, S: Ledger, E: Ledger> Pass<I, A, S, E> {
 
     /// Gives back its sight of the history, which stands at the journal, and its shares of the ledgers of actions, of processor
     /// steps and of ends.
-    fn give_back(self, history: &mut History, named: &Named<I>) -> (Share<A>, Share<S>, Share<E>)
+    fn give_back(
+        self,
+        history: &mut History,
+        named: &RecorderOf<I>,
+    ) -> (Share<A>, Share<S>, Share<E>)
         requires { history.old ≡ history_view I.history (journal_of named.now) }
         ensures same { history.new ≡ history.old }
         ensures seen { IsPrefix self.front.events (journal_of named.now) }
@@ -162,7 +166,7 @@ pub(crate) fn all_came<I: Input, A: Ledger, S: Ledger, E: Ledger>(
 pub(crate) fn merged<I: Input, A: Ledger, S: Ledger, E: Ledger>(
     passes: Vec<Pass<I, A, S, E>>,
     history: &mut History,
-    named: &Named<I>,
+    named: &RecorderOf<I>,
 ) -> (Share<A>, Share<S>, Share<E>)
     requires some { 0 < vec_len passes }
     requires history { history.old ≡ history_view I.history (journal_of named.now) }

@@ -10,12 +10,12 @@ ghost use Rattle.lgx_shared.specs.Follows.{journal_of, Follows, IsNew, HasSpent,
 ghost use Rattle.lgx_shared.specs.Seen.{front_view, HasSeen, Tells};
 ghost use Rattle.lgx_shared.specs.Lanes.{most_turns};
 
-use crate::front::Front;
+use crate::front::LaneFront;
 use crate::input::Input;
-use crate::kept::Kept;
-use crate::named::{Named, begun};
+use crate::locked_run::LockedRun;
 use crate::pass::{Pass, all_came};
 use crate::recorder::Recorder;
+use crate::recorder_of::{RecorderOf, begun};
 use crate::turn::Turn;
 use lgx_history::History;
 use lgx_num::Memory;
@@ -26,7 +26,7 @@ use std::sync::{Mutex, Wait};
 /// A pass for each lane of the script and, last, one for the processor, from the whole shares of the ledgers.
 fn deal<I: Input, A: Ledger, S: Ledger, E: Ledger>(
     alloc: Global,
-    named: &Named<I>,
+    named: &RecorderOf<I>,
     history: &mut History,
     mut actions: Share<A>,
     mut steps: Share<S>,
@@ -49,7 +49,7 @@ fn deal<I: Input, A: Ledger, S: Ledger, E: Ledger>(
             lane,
             named.length_of(lane),
             named.least_steps(),
-            Front::new(lane, history, named),
+            LaneFront::new(lane, history, named),
             actions.split_off(1, 0),
             steps.split_off(1, 0),
             ends.split_off(1, 0),
@@ -61,7 +61,7 @@ fn deal<I: Input, A: Ledger, S: Ledger, E: Ledger>(
 
 /// A recorder that threads share under one lock, each by turns of its pass.
 pub struct Shared<I: Input, A: Ledger, S: Ledger, E: Ledger> {
-    kept: Mutex<Kept<I, A, S, E>>,
+    kept: Mutex<LockedRun<I, A, S, E>>,
 }
 
 impl<I: Input, A: Ledger, S: Ledger, E: Ledger> Shared<I, A, S, E> {
@@ -97,7 +97,7 @@ impl<I: Input, A: Ledger, S: Ledger, E: Ledger> Shared<I, A, S, E> {
             step_rest,
             end_rest,
         )?;
-        let kept = Kept::new(named, history, action_book, step_book, end_book);
+        let kept = LockedRun::new(named, history, action_book, step_book, end_book);
         Ok((
             Shared {
                 kept: Mutex::new(kept),

@@ -16,7 +16,7 @@ use Rattle.spec_machine.specs.State.{State, Progress, progress_of, programs_of}
 use Rattle.spec_machine.specs.ProcessorStep.{begin_program, next_program, new_scan}
 use Rattle.lgx_prog.specs.FlatProgram.{IsFlatProgram}
 use Rattle.lgx_engine.specs.Views.{PositionView}
-use Rattle.lgx_engine.specs.Represents.{Represents as RepresentsPosition}
+use Rattle.lgx_engine.specs.Represents.{RepresentsPosition as RepresentsPosition}
 use Rattle.lgx_versions.specs.declared.slots.Version.{Version}
 use Rattle.lgx_edit.specs.EditsView.{EditsView, books, holds, held_at, HoldsNow}
 use Rattle.lgx_steps.specs.declared.parts.Scan.{Scan as KeptScan}

@@ -21,7 +21,7 @@ use Rattle.spec_machine.specs.Edits.{Book, book_of}
 use Rattle.spec_machine.specs.State.{Progress, no_progress, plan_of, start, all_down}
 use Rattle.spec_machine.specs.ValidProject.{IsValidProject, has_targets, has_priority, has_period, is_proper_task, is_within, is_small_connection}
 use Rattle.lgx_conn.specs.Numbered.{IsSmall}
-use Rattle.lgx_sched.specs.Represents.{Represents as RepresentsTable, HasPeriod, none_up}
+use Rattle.lgx_sched.specs.Represents.{RepresentsTable as RepresentsTable, HasPeriod, none_up}
 use Rattle.lgx_edit.specs.declared.texts.ProgramText.{ProgramText as KeptProgram}
 use Rattle.lgx_edit.specs.Texts.{program_of, routine_of}
 use Rattle.lgx_edit.specs.EditsView.{EditsView, books, holds}

@@ -7,7 +7,7 @@ use Rattle.spec_tables.specs.declared.task.Release.{Release}
 use Rattle.spec_tables.specs.declared.task.Release.TheVariants.{Released, Overlap, Inhibited}
 use Rattle.spec_tables.specs.Tasks.{TaskState, Table, state_of, region_count, is_open, with_region_count, with_cps_open, with_rank, put_up, put_up_if, release_answer, release, release_some, continuous_task, if_continuous, stop, start, finish, set_region, region_up, region_down, set_copy, chosen, to_back, unless_open, rotate}
 use Rattle.lgx_sched.specs.TableView.{TableView, up_of, region_count_of}
-use Rattle.lgx_sched.specs.Represents.{Represents, without_rank}
+use Rattle.lgx_sched.specs.Represents.{RepresentsTable, without_rank}
 use Rattle.lgx_sched.specs.declared.active.ActiveTask.{ActiveTask}
 use Rattle.lgx_steps.proofs.Elements.{each-set, each-get_or, each-of_map}
 
@@ -94,7 +94,7 @@ at_most-rotate n T h = go (chosen T)
 
 -- ---- room for another region
 
-same-count : (w : TableView) (T : Table) (t : ℕ) → Represents w T → region_count_of (up_of w t) ≡ region_count (state_of T t)
+same-count : (w : TableView) (T : Table) (t : ℕ) → RepresentsTable w T → region_count_of (up_of w t) ≡ region_count (state_of T t)
 same-count w T t h = subst (λ (us : List (Option ActiveTask)). region_count_of (get_or us t None) ≡ region_count (state_of T t)) (sym h.ups) (go T.states t)
   where
     go : (us : List (Option TaskState)) (i : ℕ) → region_count_of (get_or (map (option_map without_rank) us) i None) ≡ region_count (get_or us i None)
@@ -103,5 +103,5 @@ same-count w T t h = subst (λ (us : List (Option ActiveTask)). region_count_of 
     go (Some u ∷ us) zero = refl
     go (u ∷ us) (suc i) = go us i
 
-pub region-room : (w : TableView) (T : Table) (t n : ℕ) → Represents w T → AreAtMost n T → n ≤ MAX_EVENTS → region_count_of (up_of w t) + 1 < 4294967296
+pub region-room : (w : TableView) (T : Table) (t n : ℕ) → RepresentsTable w T → AreAtMost n T → n ≤ MAX_EVENTS → region_count_of (up_of w t) + 1 < 4294967296
 region-room w T t n h most room = let a = at-state n T t most in let e = same-count w T t h in omega arith

@@ -8,7 +8,7 @@ use Rattle.spec_machine.specs.State.{State, progress_of, dropped}
 use Rattle.spec_machine.specs.Releases.{release_task, after_answer, overlap}
 use Rattle.lgx_fault.specs.Kept.{last_faults}
 use Rattle.lgx_sched.specs.TableView.{TableView}
-use Rattle.lgx_sched.specs.Represents.{Represents as RepresentsTable}
+use Rattle.lgx_sched.specs.Represents.{RepresentsTable as RepresentsTable}
 use Rattle.lgx_steps.specs.PartsView.{PartsView}
 use Rattle.lgx_steps.specs.Represents.{RepresentsState}
 use Rattle.lgx_steps.specs.Gives.{ReleaseGives}

@@ -14,7 +14,7 @@ use Rattle.spec_machine.specs.State.{State, Progress, progress_of, programs_of, 
 use Rattle.lgx_fault.specs.Kept.{last_faults}
 use Rattle.lgx_image.specs.Grains.{ImageView}
 use Rattle.lgx_sched.specs.TableView.{TableView}
-use Rattle.lgx_sched.specs.Represents.{Represents as RepresentsTable}
+use Rattle.lgx_sched.specs.Represents.{RepresentsTable as RepresentsTable}
 use Rattle.lgx_edit.specs.EditsView.{EditsView, books, holds}
 use Rattle.lgx_steps.specs.declared.parts.Progress.{Progress as KeptProgress}
 use Rattle.lgx_steps.specs.PartsView.{PartsView, idle, without_flags}

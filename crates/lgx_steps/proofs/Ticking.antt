@@ -11,7 +11,7 @@ use Rattle.spec_machine.specs.declared.reply.Mode.{Mode}
 use Rattle.spec_machine.specs.State.{State, Answered}
 use Rattle.spec_machine.specs.Releases.{release_task, task_fault, major_fault}
 use Rattle.spec_machine.specs.Ticks.{quiet, noted, after_release, release_if_due, release_due, after_watchdogs, in_run, in_mode}
-use Rattle.lgx_sched.specs.Represents.{Represents as RepresentsTable}
+use Rattle.lgx_sched.specs.Represents.{RepresentsTable as RepresentsTable}
 use Rattle.lgx_sched.specs.QuietTicks.{IsQuietAt}
 use Rattle.lgx_steps.specs.declared.parts.Released.{Released}
 use Rattle.lgx_steps.specs.PartsView.{PartsView}

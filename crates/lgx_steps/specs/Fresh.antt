@@ -10,7 +10,7 @@ use Rattle.spec_machine.specs.Edits.{book_of}
 use Rattle.spec_machine.specs.Project.{Project}
 use Rattle.spec_machine.specs.ValidProject.{IsValidProject}
 use Rattle.lgx_conn.specs.Numbered.{IsSmall}
-use Rattle.lgx_sched.specs.Represents.{Represents as RepresentsTable, HasPeriod, none_up}
+use Rattle.lgx_sched.specs.Represents.{RepresentsTable as RepresentsTable, HasPeriod, none_up}
 use Rattle.lgx_edit.specs.declared.texts.ProgramText.{ProgramText as KeptProgram}
 use Rattle.lgx_edit.specs.EditsView.{books, holds}
 use Rattle.lgx_edit.specs.Texts.{program_of}

@@ -11,7 +11,7 @@ use Rattle.spec_machine.specs.Releases.{AfterRelease}
 use Rattle.lgx_num.specs.declared.memory.Memory.{Memory}
 use Rattle.lgx_edit.specs.declared.error.EditError.{EditError}
 use Rattle.lgx_edit.specs.declared.error.EditError.TheVariants as error
-use Rattle.lgx_steps.specs.declared.parts.Parts.{Parts}
+use Rattle.lgx_steps.specs.declared.parts.ControllerParts.{ControllerParts}
 use Rattle.lgx_steps.specs.declared.parts.Released.{Released}
 use Rattle.lgx_steps.specs.PartsView.{PartsView, view_of}
 use Rattle.lgx_steps.specs.Represents.{RepresentsState}
@@ -25,7 +25,7 @@ pub record MatchesAnswer {A : Type 0} (Holds : State → Type 0) (answer : A) (x
 abbrev pub ViewGives : {A : Type 0} → ℕ → PartsView → A → Answered A → Type 0
 ViewGives n v answer x = MatchesAnswer (RepresentsState n v) answer x
 
-abbrev pub Gives : {A : Type 0} → ℕ → Parts → A → Answered A → Type 0
+abbrev pub Gives : {A : Type 0} → ℕ → ControllerParts → A → Answered A → Type 0
 Gives n v answer x = ViewGives n (view_of v) answer x
 
 -- the same of a release, which answers the fault of an overlap too
@@ -34,7 +34,7 @@ pub record ReleaseGives (n : ℕ) (v : PartsView) (released : Released) (x : Aft
   pub fault : released.fault ≡ x.fault
   pub represents : RepresentsState n v x.state
 
-abbrev pub GivesRelease : ℕ → Parts → Released → AfterRelease → Type 0
+abbrev pub GivesRelease : ℕ → ControllerParts → Released → AfterRelease → Type 0
 GivesRelease n v released x = ReleaseGives n (view_of v) released x
 
 -- ---- a report under way

@@ -8,7 +8,7 @@ use Rattle.lgx_image.specs.Grains.{ImageView}
 use Rattle.lgx_sched.specs.TableView.{TableView}
 use Rattle.lgx_edit.specs.EditsView.{EditsView}
 use Rattle.lgx_steps.specs.declared.parts.Progress.{Progress}
-use Rattle.lgx_steps.specs.declared.parts.Parts.{Parts}
+use Rattle.lgx_steps.specs.declared.parts.ControllerParts.{ControllerParts}
 
 -- The plan, and whether its tags are sealed; mode and tick; the tasks, each with its progress; for each program whether
 -- its next scan is its first; the image with its marks; for each program its book with the versions that run it; the forces; and
@@ -26,10 +26,10 @@ pub record PartsView : Type 0 where
   pub forces : Forces
   pub faults : List Fault
 
-abbrev pub plan_of : Parts → Plan
+abbrev pub plan_of : ControllerParts → Plan
 plan_of v = record { tags = v.tags.declarations; names = v.names; schedule = v.schedule; conns = v.conns }
 
-abbrev pub view_of : Parts → PartsView
+abbrev pub view_of : ControllerParts → PartsView
 view_of v = record {
   plan = plan_of v;
   sealed = v.tags.sealed;

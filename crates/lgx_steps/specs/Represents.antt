@@ -10,12 +10,12 @@ use Rattle.spec_machine.specs.State.{State, Scan, Progress, progress_of, program
 use Rattle.lgx_engine.specs.Represents.{IsRunOf}
 use Rattle.lgx_engine.specs.Views.{PositionView}
 use Rattle.lgx_fault.specs.Kept.{last_faults}
-use Rattle.lgx_sched.specs.Represents.{Represents as RepresentsTable}
+use Rattle.lgx_sched.specs.Represents.{RepresentsTable}
 use Rattle.lgx_versions.specs.declared.slots.Version.{Version}
 use Rattle.lgx_edit.specs.EditsView.{books, holds}
 use Rattle.lgx_steps.specs.declared.parts.Scan.{Scan as KeptScan}
 use Rattle.lgx_steps.specs.declared.parts.Progress.{Progress as KeptProgress}
-use Rattle.lgx_steps.specs.declared.parts.Parts.{Parts}
+use Rattle.lgx_steps.specs.declared.parts.ControllerParts.{ControllerParts}
 use Rattle.lgx_steps.specs.PartsView.{PartsView, view_of, idle}
 use Rattle.lgx_steps.specs.Plans.{IsSoundPlan, IsReadyBook}
 
@@ -89,19 +89,19 @@ pub record RepresentsState (n : ℕ) (v : PartsView) (s : State) : Type 0 where
   pub faults : v.faults ≡ last_faults s.faults
   pub sane : IsSane n s
 
-abbrev pub Represents : ℕ → Parts → State → Type 0
-Represents n v s = RepresentsState n (view_of v) s
+abbrev pub RepresentsParts : ℕ → ControllerParts → State → Type 0
+RepresentsParts n v s = RepresentsState n (view_of v) s
 
 -- they represent a state, of no more events than are counted
-pub record IsLive (v : Parts) : Type 0 where
+pub record IsLive (v : ControllerParts) : Type 0 where
   pub events : ℕ
   pub state : State
   pub room : events ≤ MAX_EVENTS
-  pub represents : Represents events v state
+  pub represents : RepresentsParts events v state
 
 -- and there is room for another event
-pub record HasRoom (v : Parts) : Type 0 where
+pub record HasRoom (v : ControllerParts) : Type 0 where
   pub events : ℕ
   pub state : State
   pub room : events < MAX_EVENTS
-  pub represents : Represents events v state
+  pub represents : RepresentsParts events v state

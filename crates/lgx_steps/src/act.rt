@@ -4,19 +4,19 @@ ghost use Rattle.spec_machine.specs.Events.{is_accept};
 ghost use Rattle.spec_machine.specs.State.{State};
 ghost use Rattle.spec_machine.specs.Actions.{act};
 ghost use Rattle.lgx_image.specs.Grains.{ChangesOnlyMarked};
-ghost use Rattle.lgx_steps.specs.Represents.{Represents, IsLive};
+ghost use Rattle.lgx_steps.specs.Represents.{RepresentsParts, IsLive};
 ghost use Rattle.lgx_steps.specs.Gives.{Gives};
 
 use crate::modes::replied;
-use crate::parts::Parts;
+use crate::parts::ControllerParts;
 use lgx_num::Memory;
 use spec_machine::{Action, Outcome};
 
-impl Parts {
+impl ControllerParts {
     /// What a lane does, which is the client of its edits. Only an accept takes memory; out of memory, nothing changes.
     pub fn act(&mut self, lane: u32, action: &Action) -> Result<Outcome, Memory>
         requires { IsLive self.old }
-        ensures gives { (n : ℕ) (s : State) → Represents n self.old s → IfOk result (λ outcome. Gives (n + 1) self.new outcome (act s lane action.now)) }
+        ensures gives { (n : ℕ) (s : State) → RepresentsParts n self.old s → IfOk result (λ outcome. Gives (n + 1) self.new outcome (act s lane action.now)) }
         ensures memory { IfErr result (λ _. IsTrue (is_accept action.now)) }
         ensures unchanged { IfErr result (λ _. self.new ≡ self.old) }
         ensures only_marked { ChangesOnlyMarked self.old.image self.new.image }

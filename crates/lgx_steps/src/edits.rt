@@ -3,11 +3,11 @@ ghost use Rattle.std.specs.Prelude.{◌≡◌, ℕ, ◌+◌, IfOk, IfErr};
 ghost use Rattle.spec_machine.specs.Edits.{accept, on_accepted, test, untest, assemble, cancel};
 ghost use Rattle.spec_machine.specs.State.{State};
 ghost use Rattle.spec_machine.specs.Actions.{edit_replied};
-ghost use Rattle.lgx_steps.specs.Represents.{Represents, IsLive};
+ghost use Rattle.lgx_steps.specs.Represents.{RepresentsParts, IsLive};
 ghost use Rattle.lgx_steps.specs.Gives.{Gives, edit_outcome, refusal_of};
 
 use crate::modes::replied;
-use crate::parts::Parts;
+use crate::parts::ControllerParts;
 use lgx_edit::EditError;
 use lgx_num::{Memory, Name};
 use spec_machine::{Accept, EditFault, Outcome, Reply};
@@ -32,12 +32,12 @@ fn refusal(error: EditError) -> Result<Outcome, Memory>
     }
 }
 
-impl Parts {
+impl ControllerParts {
     /// Adds edits to a program's accepted ones, and answers the accept's number. See [`lgx_edit::EditBook::accept`] for its
     /// refusals. Out of memory, nothing changes.
     pub fn accept(&mut self, client: u32, command: &Accept) -> Result<Outcome, Memory>
         requires { IsLive self.old }
-        ensures gives { (n : ℕ) (s : State) → Represents n self.old s → IfOk result (λ outcome. Gives (n + 1) self.new outcome (edit_replied s (accept s.plan.tags s.plan.names s.books client command.now))) }
+        ensures gives { (n : ℕ) (s : State) → RepresentsParts n self.old s → IfOk result (λ outcome. Gives (n + 1) self.new outcome (edit_replied s (accept s.plan.tags s.plan.names s.books client command.now))) }
         ensures unchanged { IfErr result (λ _. self.new ≡ self.old) }
         ensures image { self.new.image ≡ self.old.image }
     {
@@ -57,7 +57,7 @@ impl Parts {
     /// Selects a program's merged rungs, from its next begin on. See [`lgx_edit::EditBook::test`] for its refusals.
     pub fn test(&mut self, client: u32, program: &Name) -> Outcome
         requires { IsLive self.old }
-        ensures gives { (n : ℕ) (s : State) → Represents n self.old s → Gives n self.new result (edit_replied s (on_accepted test s.books client program.now)) }
+        ensures gives { (n : ℕ) (s : State) → RepresentsParts n self.old s → Gives n self.new result (edit_replied s (on_accepted test s.books client program.now)) }
         ensures image { self.new.image ≡ self.old.image }
     {
         let done = self.book.test(client, program);
@@ -67,7 +67,7 @@ impl Parts {
     /// Selects a program's base rungs, from its next begin on. See [`lgx_edit::EditBook::untest`] for its refusals.
     pub fn untest(&mut self, client: u32, program: &Name) -> Outcome
         requires { IsLive self.old }
-        ensures gives { (n : ℕ) (s : State) → Represents n self.old s → Gives n self.new result (edit_replied s (on_accepted untest s.books client program.now)) }
+        ensures gives { (n : ℕ) (s : State) → RepresentsParts n self.old s → Gives n self.new result (edit_replied s (on_accepted untest s.books client program.now)) }
         ensures image { self.new.image ≡ self.old.image }
     {
         let done = self.book.untest(client, program);
@@ -77,7 +77,7 @@ impl Parts {
     /// Makes a program's merged rungs its base. See [`lgx_edit::EditBook::assemble`] for its refusals.
     pub fn assemble(&mut self, client: u32, program: &Name) -> Outcome
         requires { IsLive self.old }
-        ensures gives { (n : ℕ) (s : State) → Represents n self.old s → Gives n self.new result (edit_replied s (on_accepted assemble s.books client program.now)) }
+        ensures gives { (n : ℕ) (s : State) → RepresentsParts n self.old s → Gives n self.new result (edit_replied s (on_accepted assemble s.books client program.now)) }
         ensures image { self.new.image ≡ self.old.image }
     {
         let done = self.book.assemble(client, program);
@@ -87,7 +87,7 @@ impl Parts {
     /// Drops a program's accepted edits. See [`lgx_edit::EditBook::cancel`] for its refusals.
     pub fn cancel(&mut self, client: u32, program: &Name) -> Outcome
         requires { IsLive self.old }
-        ensures gives { (n : ℕ) (s : State) → Represents n self.old s → Gives n self.new result (edit_replied s (on_accepted cancel s.books client program.now)) }
+        ensures gives { (n : ℕ) (s : State) → RepresentsParts n self.old s → Gives n self.new result (edit_replied s (on_accepted cancel s.books client program.now)) }
         ensures image { self.new.image ≡ self.old.image }
     {
         let done = self.book.cancel(client, program);

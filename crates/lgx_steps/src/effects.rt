@@ -5,16 +5,16 @@ ghost use Rattle.spec_machine.specs.State.{State, progress_of};
 ghost use Rattle.spec_machine.specs.Releases.{program_fault};
 ghost use Rattle.spec_machine.specs.ProcessorStep.{after_effect};
 ghost use Rattle.lgx_sched.specs.TableView.{next_task};
-ghost use Rattle.lgx_steps.specs.Represents.{Represents, IsLive};
+ghost use Rattle.lgx_steps.specs.Represents.{RepresentsParts, IsLive};
 ghost use Rattle.lgx_steps.specs.Gives.{Gives};
 
-use crate::parts::Parts;
+use crate::parts::ControllerParts;
 use crate::step::plainly;
 use lgx_engine::Effect;
 use spec_machine::{Mark, Moment, What};
 use spec_tables::{Fault, OVERFLOW, PROGRAM_FAULT, Severity};
 
-impl Parts {
+impl ControllerParts {
     /// What the effect of a scan's step of program `n` does.
     #[inline(always)]
     pub(crate) fn after_effect(&mut self, t: u32, n: u32, effect: Effect) -> Moment
@@ -22,7 +22,7 @@ impl Parts {
         requires chosen { next_task self.old.table ≡ Some t }
         requires known { t < length self.old.progress.items }
         requires target { TriggersKnownTask (length self.old.progress.items) effect }
-        ensures gives { (k : ℕ) (s : State) → Represents k self.old s → Gives (k + 1) self.new result (after_effect s t (progress_of s t) n effect) }
+        ensures gives { (k : ℕ) (s : State) → RepresentsParts k self.old s → Gives (k + 1) self.new result (after_effect s t (progress_of s t) n effect) }
         ensures image { self.new.image ≡ self.old.image }
     {
         match effect {
@@ -40,7 +40,7 @@ impl Parts {
         requires chosen { next_task self.old.table ≡ Some t }
         requires known { t < length self.old.progress.items }
         requires target { TriggersKnownTask (length self.old.progress.items) effect }
-        ensures gives { (k : ℕ) (s : State) → Represents k self.old s → Gives (k + 1) self.new result (after_effect s t (progress_of s t) n effect) }
+        ensures gives { (k : ℕ) (s : State) → RepresentsParts k self.old s → Gives (k + 1) self.new result (after_effect s t (progress_of s t) n effect) }
         ensures image { self.new.image ≡ self.old.image }
     {
         let ran = What::Ran {
@@ -64,7 +64,7 @@ impl Parts {
     fn up(&mut self, t: u32, ran: What) -> Moment
         requires live { IsLive self.old }
         requires chosen { next_task self.old.table ≡ Some t }
-        ensures gives { (k n : ℕ) (s : State) → Represents k self.old s → ran ≡ What.Ran t n → Gives (k + 1) self.new result (after_effect s t (progress_of s t) n Effect.Up) }
+        ensures gives { (k n : ℕ) (s : State) → RepresentsParts k self.old s → ran ≡ What.Ran t n → Gives (k + 1) self.new result (after_effect s t (progress_of s t) n Effect.Up) }
         ensures image { self.new.image ≡ self.old.image }
     {
         self.table.region_up(t);
@@ -79,7 +79,7 @@ impl Parts {
     fn down(&mut self, t: u32, ran: What) -> Moment
         requires live { IsLive self.old }
         requires chosen { next_task self.old.table ≡ Some t }
-        ensures gives { (k n : ℕ) (s : State) → Represents k self.old s → ran ≡ What.Ran t n → Gives (k + 1) self.new result (after_effect s t (progress_of s t) n Effect.Down) }
+        ensures gives { (k n : ℕ) (s : State) → RepresentsParts k self.old s → ran ≡ What.Ran t n → Gives (k + 1) self.new result (after_effect s t (progress_of s t) n Effect.Down) }
         ensures image { self.new.image ≡ self.old.image }
     {
         self.table.region_down(t);
@@ -94,7 +94,7 @@ impl Parts {
     fn trigger(&mut self, ran: What, other: u32) -> Moment
         requires live { IsLive self.old }
         requires target { other < length self.old.progress.items }
-        ensures gives { (k t n : ℕ) (s : State) → Represents k self.old s → ran ≡ What.Ran t n → Gives (k + 1) self.new result (after_effect s t (progress_of s t) n (Effect.Trigger other)) }
+        ensures gives { (k t n : ℕ) (s : State) → RepresentsParts k self.old s → ran ≡ What.Ran t n → Gives (k + 1) self.new result (after_effect s t (progress_of s t) n (Effect.Trigger other)) }
         ensures image { self.new.image ≡ self.old.image }
     {
         let released = self.release(other);
@@ -109,7 +109,7 @@ impl Parts {
     fn copy_start(&mut self, t: u32, ran: What, sync: bool) -> Moment
         requires live { IsLive self.old }
         requires chosen { next_task self.old.table ≡ Some t }
-        ensures gives { (k n : ℕ) (s : State) → Represents k self.old s → ran ≡ What.Ran t n → Gives (k + 1) self.new result (after_effect s t (progress_of s t) n (Effect.CopyStart sync)) }
+        ensures gives { (k n : ℕ) (s : State) → RepresentsParts k self.old s → ran ≡ What.Ran t n → Gives (k + 1) self.new result (after_effect s t (progress_of s t) n (Effect.CopyStart sync)) }
         ensures image { self.new.image ≡ self.old.image }
     {
         self.table.set_copy(t, sync);
@@ -124,7 +124,7 @@ impl Parts {
     fn copied(&mut self, t: u32, n: u32, last: bool, sync: bool) -> Moment
         requires live { IsLive self.old }
         requires chosen { next_task self.old.table ≡ Some t }
-        ensures gives { (k : ℕ) (s : State) → Represents k self.old s → Gives (k + 1) self.new result (after_effect s t (progress_of s t) n (Effect.Copied last sync)) }
+        ensures gives { (k : ℕ) (s : State) → RepresentsParts k self.old s → Gives (k + 1) self.new result (after_effect s t (progress_of s t) n (Effect.Copied last sync)) }
         ensures image { self.new.image ≡ self.old.image }
     {
         let what = What::Copied {
@@ -148,7 +148,7 @@ impl Parts {
         requires live { IsLive self.old }
         requires chosen { next_task self.old.table ≡ Some t }
         requires known { t < length self.old.progress.items }
-        ensures gives { (k : ℕ) (s : State) → Represents k self.old s → Gives (k + 1) self.new result (after_effect s t (progress_of s t) n (Effect.Left ended)) }
+        ensures gives { (k : ℕ) (s : State) → RepresentsParts k self.old s → Gives (k + 1) self.new result (after_effect s t (progress_of s t) n (Effect.Left ended)) }
         ensures image { self.new.image ≡ self.old.image }
     {
         let what = What::Left {
@@ -167,7 +167,7 @@ impl Parts {
     /// A minor fault of an instruction.
     fn minor(&mut self, t: u32, n: u32) -> Moment
         requires live { IsLive self.old }
-        ensures gives { (k : ℕ) (s : State) → Represents k self.old s → Gives (k + 1) self.new result (after_effect s t (progress_of s t) n Effect.Minor) }
+        ensures gives { (k : ℕ) (s : State) → RepresentsParts k self.old s → Gives (k + 1) self.new result (after_effect s t (progress_of s t) n Effect.Minor) }
         ensures image { self.new.image ≡ self.old.image }
     {
         let fault = self.program_fault(Severity::Minor, OVERFLOW, t, n);
@@ -185,7 +185,7 @@ impl Parts {
     /// A major fault of an instruction.
     fn major(&mut self, t: u32, n: u32, code: u8) -> Moment
         requires live { IsLive self.old }
-        ensures gives { (k : ℕ) (s : State) → Represents k self.old s → Gives (k + 1) self.new result (after_effect s t (progress_of s t) n (Effect.Major code)) }
+        ensures gives { (k : ℕ) (s : State) → RepresentsParts k self.old s → Gives (k + 1) self.new result (after_effect s t (progress_of s t) n (Effect.Major code)) }
         ensures image { self.new.image ≡ self.old.image }
     {
         let fault = self.program_fault(Severity::Major, code, t, n);

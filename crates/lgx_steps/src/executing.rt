@@ -2,10 +2,10 @@
 ghost use Rattle.std.specs.Prelude.{◌≡◌, ℕ, List, option_map};
 ghost use Rattle.spec_machine.specs.State.{State, Progress as MachineProgress, progress_of};
 ghost use Rattle.lgx_edit.specs.EditsView.{holds};
-ghost use Rattle.lgx_steps.specs.Represents.{Represents, RepresentsTask, IsLive};
+ghost use Rattle.lgx_steps.specs.Represents.{RepresentsParts, RepresentsTask, IsLive};
 ghost use Rattle.lgx_steps.specs.Executing.{executed_by, executed, IsCodeOf};
 
-use crate::parts::{Parts, Progress};
+use crate::parts::{ControllerParts, Progress};
 use lgx_edit::EditBook;
 use lgx_engine::Execution;
 use lgx_prog::FlatProgram;
@@ -50,13 +50,13 @@ fn executed_by(book: &EditBook, progress: &Progress) -> Option<Executed>
     }
 }
 
-impl Parts {
+impl ControllerParts {
     /// The instruction that the next processor step executes; None if that step is idle, begins a program, copies an element or
     /// leaves a routine.
     #[inline(always)]
     pub fn executing(&self) -> Option<Executed>
         requires { IsLive self.now }
-        ensures { (n : ℕ) (s : State) → Represents n self.now s → result ≡ executed s }
+        ensures { (n : ℕ) (s : State) → RepresentsParts n self.now s → result ≡ executed s }
     {
         match self.table.chosen() {
             Some(t) => executed_by(&self.book, &self.progress[t as usize]),
@@ -68,7 +68,7 @@ impl Parts {
     /// task.
     pub fn scanned(&self, task: u32) -> Option<&FlatProgram>
         requires { IsLive self.now }
-        ensures { (n : ℕ) (s : State) → Represents n self.now s → IsCodeOf (option_map (λ f. f.now) result) (progress_of s task).scan }
+        ensures { (n : ℕ) (s : State) → RepresentsParts n self.now s → IsCodeOf (option_map (λ f. f.now) result) (progress_of s task).scan }
     {
         match self.progress.get(task as usize) {
             Some(progress) => code_by(&self.book, progress),

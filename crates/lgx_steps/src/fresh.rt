@@ -5,10 +5,10 @@ ghost use Rattle.spec_machine.specs.Project.{Project};
 ghost use Rattle.spec_machine.specs.State.{start};
 ghost use Rattle.spec_machine.specs.ValidProject.{IsValidProject};
 ghost use Rattle.lgx_steps.specs.PartsView.{IsIdle};
-ghost use Rattle.lgx_steps.specs.Represents.{Represents};
+ghost use Rattle.lgx_steps.specs.Represents.{RepresentsParts};
 ghost use Rattle.lgx_steps.specs.Fresh.{AreProper, AreSmall, AreTablesOf, AreScansOf, IsOpened, IsTakenApart};
 
-use crate::parts::{Parts, Progress};
+use crate::parts::{ControllerParts, Progress};
 use lgx_conn::Conns;
 use lgx_edit::{ConnDefs, EditBook, Plant, PlantParts, ProgramText, Schedule, TaskDefs, TaskNames};
 use lgx_engine::Position;
@@ -146,7 +146,13 @@ fn scans_of(alloc: Global, texts: Vec<ProgramText>, tasks: usize) -> Result<Scan
 }
 
 /// The parts of a controller in Program at tick 0, with no task up.
-fn parts_of(alloc: Global, kept: Kept, tables: Tables, scans: Scans, faults: FaultLog) -> Parts
+fn parts_of(
+    alloc: Global,
+    kept: Kept,
+    tables: Tables,
+    scans: Scans,
+    faults: FaultLog,
+) -> ControllerParts
     ensures { result ≡ record {
       alloc = alloc;
       tags = kept.tags;
@@ -182,7 +188,7 @@ fn parts_of(alloc: Global, kept: Kept, tables: Tables, scans: Scans, faults: Fau
         progress,
         firsts,
     } = scans;
-    Parts {
+    ControllerParts {
         alloc,
         tags,
         names,
@@ -200,10 +206,10 @@ fn parts_of(alloc: Global, kept: Kept, tables: Tables, scans: Scans, faults: Fau
     }
 }
 
-impl Parts {
+impl ControllerParts {
     /// The parts of a controller in Program at tick 0, with no task up.
-    pub fn new(alloc: Global, project: Plant) -> Result<Parts, Memory>
-        ensures represents { IfOk result (λ parts. Represents 0 parts (start project)) }
+    pub fn new(alloc: Global, project: Plant) -> Result<ControllerParts, Memory>
+        ensures represents { IfOk result (λ parts. RepresentsParts 0 parts (start project)) }
         ensures valid { IfOk result (λ _. IsValidProject project) }
     {
         let faults = FaultLog::new(alloc)?;

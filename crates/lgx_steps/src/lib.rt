@@ -1,8 +1,8 @@
 //! The steps of a controller over its parts (1756-PM005): what each event does to the table of tasks, the scans in progress,
 //! the image, the books of edits, the forces and the log of faults.
 //!
-//! A [`Parts`] has no invariant of its own. Each step is told of the states of the machine that the parts represent, as
-//! `Represents` of specs/Represents.antt says: whichever of them it was, the answer is the machine's, and the parts represent the
+//! A [`ControllerParts`] has no invariant of its own. Each step is told of the states of the machine that the parts represent, as
+//! `RepresentsParts` of specs/Represents.antt says: whichever of them it was, the answer is the machine's, and the parts represent the
 //! machine's next state.
 #![tactic(auto)]
 
@@ -26,5 +26,5 @@ mod words;
 
 pub use begins::{Begins, MAX_BEGINS};
 pub use executing::Executed;
-pub use parts::{Parts, Progress, Released, Scan};
+pub use parts::{ControllerParts, Progress, Released, Scan};
 pub use stretch::Stretch;

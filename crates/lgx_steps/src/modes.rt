@@ -10,10 +10,10 @@ ghost use Rattle.lgx_image.specs.Grains.{ChangesOnlyMarked};
 ghost use Rattle.lgx_edit.specs.EditsView.{books};
 ghost use Rattle.lgx_steps.specs.PartsView.{without_flags};
 ghost use Rattle.lgx_steps.specs.Plans.{IsReadyBook};
-ghost use Rattle.lgx_steps.specs.Represents.{Represents, IsLive};
+ghost use Rattle.lgx_steps.specs.Represents.{RepresentsParts, IsLive};
 ghost use Rattle.lgx_steps.specs.Gives.{Gives};
 
-use crate::parts::{Parts, Progress};
+use crate::parts::{ControllerParts, Progress};
 use lgx_edit::EditBook;
 use lgx_image::Image;
 use lgx_num::Flags;
@@ -77,11 +77,11 @@ fn mark_all(firsts: &mut [bool])
     }
 }
 
-impl Parts {
+impl ControllerParts {
     /// The change to Run: `Held` comes while a CPS is in progress, then M2 if the controller is Faulted, and M1 if it is in Run.
     pub fn mode_run(&mut self) -> Outcome
         requires { IsLive self.old }
-        ensures gives { (n : ℕ) (s : State) → Represents n self.old s → Gives n self.new result (mode_run s) }
+        ensures gives { (n : ℕ) (s : State) → RepresentsParts n self.old s → Gives n self.new result (mode_run s) }
         ensures only_marked { ChangesOnlyMarked self.old.image self.new.image }
     {
         if self.table.held() {
@@ -98,7 +98,7 @@ impl Parts {
     /// continuous one is released.
     fn run(&mut self) -> Outcome
         requires { IsLive self.old }
-        ensures gives { (n : ℕ) (s : State) → Represents n self.old s → Gives n self.new result (ran s) }
+        ensures gives { (n : ℕ) (s : State) → RepresentsParts n self.old s → Gives n self.new result (ran s) }
         ensures only_marked { ChangesOnlyMarked self.old.image self.new.image }
     {
         let released = mask_of(self.table.released_at_run());
@@ -119,7 +119,7 @@ impl Parts {
     /// Program.
     pub fn mode_program(&mut self) -> Outcome
         requires { IsLive self.old }
-        ensures gives { (n : ℕ) (s : State) → Represents n self.old s → Gives n self.new result (mode_program s) }
+        ensures gives { (n : ℕ) (s : State) → RepresentsParts n self.old s → Gives n self.new result (mode_program s) }
         ensures image { self.new.image ≡ self.old.image }
     {
         if self.table.held() {
@@ -135,7 +135,7 @@ impl Parts {
     /// Every task goes down and drops its scan.
     fn stop(&mut self) -> Outcome
         requires { IsLive self.old }
-        ensures gives { (n : ℕ) (s : State) → Represents n self.old s → Gives n self.new result (acted (to_program s) Reply.Done) }
+        ensures gives { (n : ℕ) (s : State) → RepresentsParts n self.old s → Gives n self.new result (acted (to_program s) Reply.Done) }
         ensures image { self.new.image ≡ self.old.image }
     {
         self.leave_scans();
@@ -147,7 +147,7 @@ impl Parts {
     /// From Faulted to Program: `Held` comes while a CPS is in progress, then M3 if the controller isn't Faulted.
     pub fn clear(&mut self) -> Outcome
         requires { IsLive self.old }
-        ensures gives { (n : ℕ) (s : State) → Represents n self.old s → Gives n self.new result (clear s) }
+        ensures gives { (n : ℕ) (s : State) → RepresentsParts n self.old s → Gives n self.new result (clear s) }
         ensures image { self.new.image ≡ self.old.image }
     {
         if self.table.held() {

@@ -31,7 +31,7 @@ pub struct Progress {
 }
 
 /// All parts of a controller. Lists are in project order.
-pub struct Parts {
+pub struct ControllerParts {
     /// What an accept takes its memory from; nothing else takes any.
     pub alloc: Global,
     pub tags: TagTable,
@@ -51,9 +51,9 @@ pub struct Parts {
     pub faults: FaultLog,
 }
 
-impl Drop for Parts {
+impl Drop for ControllerParts {
     fn drop(self) {
-        let Parts {
+        let ControllerParts {
             alloc: _,
             tags: _,
             names: _,

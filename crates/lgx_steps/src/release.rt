@@ -2,11 +2,11 @@
 ghost use Rattle.std.specs.Prelude.{◌≡◌, ℕ, ◌<◌, length, None};
 ghost use Rattle.spec_machine.specs.State.{State};
 ghost use Rattle.spec_machine.specs.Releases.{release_task, major_fault, overlap, overlap_code};
-ghost use Rattle.lgx_sched.specs.Represents.{Represents as RepresentsTable};
-ghost use Rattle.lgx_steps.specs.Represents.{Represents, IsLive};
+ghost use Rattle.lgx_sched.specs.Represents.{RepresentsTable};
+ghost use Rattle.lgx_steps.specs.Represents.{RepresentsParts, IsLive};
 ghost use Rattle.lgx_steps.specs.Gives.{GivesRelease};
 
-use crate::parts::{Parts, Released};
+use crate::parts::{ControllerParts, Released};
 use lgx_sched::{Release, TaskKind};
 use spec_machine::Mode;
 use spec_tables::{EVENT_OVERLAP, Fault, PERIODIC_OVERLAP, Severity, TASK_FAULT};
@@ -21,12 +21,12 @@ fn overlap_code(kind: TaskKind) -> u8
     }
 }
 
-impl Parts {
+impl ControllerParts {
     /// Releases a task. One that is up overlaps, which is a minor fault; at one that is inhibited nothing changes.
     pub(crate) fn release(&mut self, t: u32) -> Released
         requires live { IsLive self.old }
         requires known { t < length self.old.progress.items }
-        ensures gives { (n : ℕ) (s : State) → Represents n self.old s → GivesRelease n self.new result (release_task t s) }
+        ensures gives { (n : ℕ) (s : State) → RepresentsParts n self.old s → GivesRelease n self.new result (release_task t s) }
         ensures tasks { length self.new.progress.items ≡ length self.old.progress.items }
         ensures image { self.new.image ≡ self.old.image }
     {
@@ -72,7 +72,7 @@ impl Parts {
     /// A major fault: every task goes down and drops its scan, and the controller is Faulted.
     pub(crate) fn major_fault(&mut self, fault: Fault)
         requires live { IsLive self.old }
-        ensures represents { (n : ℕ) (s : State) → Represents n self.old s → Represents n self.new (major_fault fault s) }
+        ensures represents { (n : ℕ) (s : State) → RepresentsParts n self.old s → RepresentsParts n self.new (major_fault fault s) }
         ensures image { self.new.image ≡ self.old.image }
     {
         self.leave_scans();

@@ -3,7 +3,7 @@ ghost use Rattle.std.specs.Prelude.{◌≡◌, ◌<◌, true, length, IfOk};
 ghost use Rattle.lgx_steps.specs.PartsView.{plan_of, view_of};
 ghost use Rattle.lgx_steps.specs.Represents.{IsLive};
 
-use crate::parts::{Parts, Progress, Scan};
+use crate::parts::{ControllerParts, Progress, Scan};
 use lgx_conn::Conns;
 use lgx_edit::{EditBook, Schedule, TaskNames};
 use lgx_engine::Position;
@@ -115,7 +115,7 @@ pub(crate) struct Lasting {
 }
 
 /// What no event changes once more.
-fn lasting_again(alloc: Global, parts: &Parts) -> Result<Lasting, Memory>
+fn lasting_again(alloc: Global, parts: &ControllerParts) -> Result<Lasting, Memory>
     ensures { IfOk result (λ copy. copy ≡ record { tags = parts.now.tags; names = parts.now.names; schedule = parts.now.schedule; conns = parts.now.conns }) }
 {
     let tags = parts.tags.copied(alloc)?;
@@ -131,7 +131,7 @@ fn lasting_again(alloc: Global, parts: &Parts) -> Result<Lasting, Memory>
 }
 
 /// Whether what no event changes is the same in both.
-fn same_lasting(a: &Parts, b: &Parts) -> bool
+fn same_lasting(a: &ControllerParts, b: &ControllerParts) -> bool
     ensures plan { result ≡ true → plan_of a.now ≡ plan_of b.now }
     ensures sealed { result ≡ true → a.now.tags.sealed ≡ b.now.tags.sealed }
 {
@@ -238,7 +238,7 @@ pub(crate) struct Running {
 }
 
 /// The tasks, their progress, and the programs once more. Where there is a task, there must be a program.
-fn running_again(alloc: Global, parts: &Parts) -> Result<Running, Memory>
+fn running_again(alloc: Global, parts: &ControllerParts) -> Result<Running, Memory>
     requires { 0 < length parts.now.progress.items → 0 < length parts.now.book }
     ensures table { IfOk result (λ copy. copy.table ≡ parts.now.table) }
     ensures progress { IfOk result (λ copy. copy.progress.items ≡ parts.now.progress.items) }
@@ -258,7 +258,7 @@ fn running_again(alloc: Global, parts: &Parts) -> Result<Running, Memory>
 }
 
 /// Whether the tasks, their progress, and the programs are the same in both.
-fn same_running(a: &Parts, b: &Parts) -> bool
+fn same_running(a: &ControllerParts, b: &ControllerParts) -> bool
     ensures table { result ≡ true → a.now.table ≡ b.now.table }
     ensures progress { result ≡ true → a.now.progress.items ≡ b.now.progress.items }
     ensures firsts { result ≡ true → a.now.firsts.items ≡ b.now.firsts.items }
@@ -281,7 +281,7 @@ pub(crate) struct Words {
 }
 
 /// The image, the forces and the log of faults once more.
-fn words_again(alloc: Global, parts: &Parts) -> Result<Words, Memory>
+fn words_again(alloc: Global, parts: &ControllerParts) -> Result<Words, Memory>
     ensures { IfOk result (λ copy. copy ≡ record { image = parts.now.image; forces = parts.now.forces; faults = parts.now.faults }) }
 {
     let image = parts.image.copied(alloc)?;
@@ -295,7 +295,7 @@ fn words_again(alloc: Global, parts: &Parts) -> Result<Words, Memory>
 }
 
 /// Whether the image, the forces and the log of faults are the same in both.
-fn same_words(a: &Parts, b: &Parts) -> bool
+fn same_words(a: &ControllerParts, b: &ControllerParts) -> bool
     ensures image { result ≡ true → a.now.image ≡ b.now.image }
     ensures forces { result ≡ true → a.now.forces ≡ b.now.forces }
     ensures faults { result ≡ true → a.now.faults ≡ b.now.faults }
@@ -317,7 +317,7 @@ fn together(
     lasting: Lasting,
     running: Running,
     words: Words,
-) -> Parts
+) -> ControllerParts
     ensures { result ≡ record {
       alloc = alloc;
       tags = lasting.tags;
@@ -352,7 +352,7 @@ fn together(
         forces,
         faults,
     } = words;
-    Parts {
+    ControllerParts {
         alloc,
         tags,
         names,
@@ -370,9 +370,9 @@ fn together(
     }
 }
 
-impl Parts {
+impl ControllerParts {
     /// The parts once more. A later accept takes its memory from `alloc`.
-    pub fn again(&self, alloc: Global) -> Result<Parts, Memory>
+    pub fn again(&self, alloc: Global) -> Result<ControllerParts, Memory>
         requires { IsLive self.now }
         ensures { IfOk result (λ copy. view_of copy ≡ view_of self.now) }
     {
@@ -385,7 +385,7 @@ impl Parts {
     }
 
     /// Whether the parts are the same. What changes most is looked at first.
-    pub fn is_same(&self, other: &Parts) -> bool
+    pub fn is_same(&self, other: &ControllerParts) -> bool
         ensures { result ≡ true → view_of self.now ≡ view_of other.now }
     {
         self.tick == other.tick

@@ -4,11 +4,11 @@ ghost use Rattle.spec_machine.specs.State.{State, progress_of, dropped};
 ghost use Rattle.spec_machine.specs.ProcessorStep.{scan_ended};
 ghost use Rattle.spec_tables.specs.Tasks.{Table, finish};
 ghost use Rattle.lgx_sched.specs.TableView.{next_task};
-ghost use Rattle.lgx_sched.specs.Represents.{Represents as RepresentsTable};
+ghost use Rattle.lgx_sched.specs.Represents.{RepresentsTable};
 ghost use Rattle.lgx_steps.specs.Plans.{list_at};
-ghost use Rattle.lgx_steps.specs.Represents.{Represents, IsLive};
+ghost use Rattle.lgx_steps.specs.Represents.{RepresentsParts, IsLive};
 
-use crate::parts::Parts;
+use crate::parts::ControllerParts;
 use lgx_sched::TaskTable;
 
 /// Takes down the chosen task after its last program. The continuous task runs again at once, and mostly where it stands.
@@ -26,14 +26,14 @@ fn finish(table: &mut TaskTable, t: u32, now: u32)
     }
 }
 
-impl Parts {
+impl ControllerParts {
     /// A task has no scan from now on, and so many of its programs ended. What its scan held is held no more.
     #[inline(always)]
     pub(crate) fn leave_scan(&mut self, t: u32, ended: usize)
         requires live { IsLive self.old }
         requires known { t < length self.old.progress.items }
         requires left { ended < length (list_at self.old.schedule t) }
-        ensures represents { (n : ℕ) (s : State) → Represents n self.old s → Represents n self.new (record s { progress = slice_set s.progress t (record (progress_of s t) { ended = ended; scan = None }) }) }
+        ensures represents { (n : ℕ) (s : State) → RepresentsParts n self.old s → RepresentsParts n self.new (record s { progress = slice_set s.progress t (record (progress_of s t) { ended = ended; scan = None }) }) }
         ensures table { self.new.table ≡ self.old.table }
         ensures tick { self.new.tick ≡ self.old.tick }
         ensures schedule { self.new.schedule ≡ self.old.schedule }
@@ -52,7 +52,7 @@ impl Parts {
     /// Every task drops its scan, and no program of it ended.
     pub(crate) fn leave_scans(&mut self)
         requires { IsLive self.old }
-        ensures represents { (n : ℕ) (s : State) → Represents n self.old s → Represents n self.new (record s { progress = map dropped s.progress }) }
+        ensures represents { (n : ℕ) (s : State) → RepresentsParts n self.old s → RepresentsParts n self.new (record s { progress = map dropped s.progress }) }
         ensures table { self.new.table ≡ self.old.table }
         ensures tick { self.new.tick ≡ self.old.tick }
         ensures image { self.new.image ≡ self.old.image }
@@ -68,7 +68,7 @@ impl Parts {
         requires live { IsLive self.old }
         requires chosen { next_task self.old.table ≡ Some t }
         requires known { t < length self.old.progress.items }
-        ensures represents { (n : ℕ) (s : State) → Represents n self.old s → Represents n self.new (scan_ended t (progress_of s t) s) }
+        ensures represents { (n : ℕ) (s : State) → RepresentsParts n self.old s → RepresentsParts n self.new (scan_ended t (progress_of s t) s) }
         ensures image { self.new.image ≡ self.old.image }
     {
         let programs = self.schedule.as_slice()[t as usize].len();

@@ -3,10 +3,10 @@ ghost use Rattle.std.specs.Prelude.{◌≡◌, ℕ, ◌+◌, ◌<◌, length, No
 ghost use Rattle.spec_base.specs.declared.limits.TheConstants.{MAX_TASKS};
 ghost use Rattle.spec_machine.specs.State.{State};
 ghost use Rattle.spec_machine.specs.Ticks.{tick, in_run, release_due, release_if_due, noted};
-ghost use Rattle.lgx_steps.specs.Represents.{Represents, IsLive, HasRoom};
+ghost use Rattle.lgx_steps.specs.Represents.{RepresentsParts, IsLive, HasRoom};
 ghost use Rattle.lgx_steps.specs.Gives.{Gives, IsBelow};
 
-use crate::parts::Parts;
+use crate::parts::ControllerParts;
 use lgx_sched::Release;
 use spec_machine::{Mode, TickReport};
 use spec_tables::{Fault, Severity, TASK_FAULT, WATCHDOG};
@@ -44,12 +44,12 @@ fn noted(t: u32, report: TickReport, answer: Release) -> TickReport
     }
 }
 
-impl Parts {
+impl ControllerParts {
     /// One tick.
     #[inline]
     pub fn tick(&mut self) -> TickReport
         requires { HasRoom self.old }
-        ensures gives { (n : ℕ) (s : State) → Represents n self.old s → Gives (n + 1) self.new result (tick s) }
+        ensures gives { (n : ℕ) (s : State) → RepresentsParts n self.old s → Gives (n + 1) self.new result (tick s) }
         ensures image { self.new.image ≡ self.old.image }
     {
         self.tick += 1;
@@ -63,7 +63,7 @@ impl Parts {
     #[inline(always)]
     fn in_run(&mut self) -> TickReport
         requires { IsLive self.old }
-        ensures gives { (n : ℕ) (s : State) → Represents n self.old s → Gives n self.new result (in_run s) }
+        ensures gives { (n : ℕ) (s : State) → RepresentsParts n self.old s → Gives n self.new result (in_run s) }
         ensures image { self.new.image ≡ self.old.image }
     {
         if self.table.is_quiet(self.tick) {
@@ -77,7 +77,7 @@ impl Parts {
     #[inline(never)]
     fn find_work(&mut self) -> TickReport
         requires { IsLive self.old }
-        ensures gives { (n : ℕ) (s : State) → Represents n self.old s → Gives n self.new result (in_run s) }
+        ensures gives { (n : ℕ) (s : State) → RepresentsParts n self.old s → Gives n self.new result (in_run s) }
         ensures image { self.new.image ≡ self.old.image }
     {
         let report = self.watch_and_release();
@@ -88,7 +88,7 @@ impl Parts {
     /// Passes the turn on, and then releases each task that is due, unless a watchdog ran out: that is a major fault.
     fn watch_and_release(&mut self) -> TickReport
         requires { IsLive self.old }
-        ensures gives { (n : ℕ) (s : State) → Represents n self.old s → Gives n self.new result (in_run s) }
+        ensures gives { (n : ℕ) (s : State) → RepresentsParts n self.old s → Gives n self.new result (in_run s) }
         ensures image { self.new.image ≡ self.old.image }
     {
         self.table.rotate();
@@ -115,7 +115,7 @@ impl Parts {
     /// Releases each task that is due, in project order.
     fn release_due(&mut self) -> TickReport
         requires { IsLive self.old }
-        ensures gives { (n : ℕ) (s : State) → Represents n self.old s → Gives n self.new result (release_due s) }
+        ensures gives { (n : ℕ) (s : State) → RepresentsParts n self.old s → Gives n self.new result (release_due s) }
         ensures image { self.new.image ≡ self.old.image }
     {
         let mut report = quiet();
@@ -131,7 +131,7 @@ impl Parts {
         requires known { t < length self.old.table.defs }
         requires few { t < MAX_TASKS }
         requires below { IsBelow t report }
-        ensures gives { (n : ℕ) (s : State) → Represents n self.old s → Gives n self.new result (release_if_due (record { state = s; answer = report }) t) }
+        ensures gives { (n : ℕ) (s : State) → RepresentsParts n self.old s → Gives n self.new result (release_if_due (record { state = s; answer = report }) t) }
         ensures live { IsLive self.new }
         ensures tasks { length self.new.table.defs ≡ length self.old.table.defs }
         ensures below { IsBelow (t + 1) result }

@@ -9,11 +9,11 @@ ghost use Rattle.spec_machine.specs.State.{State};
 ghost use Rattle.spec_machine.specs.Actions.{word_in, word_out, put_in, triggers};
 ghost use Rattle.lgx_image.specs.Grains.{ChangesOnlyMarked};
 ghost use Rattle.lgx_steps.specs.Plans.{IsKnown};
-ghost use Rattle.lgx_steps.specs.Represents.{Represents, IsLive};
+ghost use Rattle.lgx_steps.specs.Represents.{RepresentsParts, IsLive};
 ghost use Rattle.lgx_steps.specs.Gives.{Gives};
 
 use crate::modes::{mask_of, replied};
-use crate::parts::Parts;
+use crate::parts::ControllerParts;
 use lgx_conn::Slot;
 use lgx_force::ForceTable;
 use lgx_image::Image;
@@ -66,14 +66,14 @@ fn released_mask(t: u32, answer: Release) -> u32
     }
 }
 
-impl Parts {
+impl ControllerParts {
     /// An I/O word comes in: it is put into the image as it is forced. In Run the last word of an input with a trigger releases the
     /// trigger's task.
     ///
     /// `Held` comes while a CPS is in progress; else N1 at an unknown connection, N2 at a word out of range, N3 at an output.
     pub fn word_in(&mut self, conn: &Name, word: u32, value: i32) -> Outcome
         requires { IsLive self.old }
-        ensures gives { (n : ℕ) (s : State) → Represents n self.old s → Gives n self.new result (word_in s conn.now word value) }
+        ensures gives { (n : ℕ) (s : State) → RepresentsParts n self.old s → Gives n self.new result (word_in s conn.now word value) }
         ensures only_marked { ChangesOnlyMarked self.old.image self.new.image }
     {
         if self.table.held() {
@@ -92,7 +92,7 @@ impl Parts {
         requires inside { slot.byte + 4 ≤ length self.old.image.bytes }
         requires trigger { IsKnown (length self.old.progress.items) slot.trigger }
         requires word { slot.io < length self.old.forces.words }
-        ensures gives { (n : ℕ) (s : State) → Represents n self.old s → Gives n self.new result (put_in s value (Ok slot)) }
+        ensures gives { (n : ℕ) (s : State) → RepresentsParts n self.old s → Gives n self.new result (put_in s value (Ok slot)) }
         ensures only_marked { ChangesOnlyMarked self.old.image self.new.image }
     {
         put_word(&self.forces, slot, value, &mut self.image);
@@ -106,7 +106,7 @@ impl Parts {
     fn trigger_by_word(&mut self, trigger: Option<u32>) -> Outcome
         requires live { IsLive self.old }
         requires known { IsKnown (length self.old.progress.items) trigger }
-        ensures gives { (n : ℕ) (s : State) → Represents n self.old s → Gives n self.new result (triggers s Mode.Run trigger) }
+        ensures gives { (n : ℕ) (s : State) → RepresentsParts n self.old s → Gives n self.new result (triggers s Mode.Run trigger) }
         ensures image { self.new.image ≡ self.old.image }
     {
         match trigger {
@@ -127,7 +127,7 @@ impl Parts {
     /// `Held` comes while a CPS is in progress; else N1 at an unknown connection, N2 at a word out of range, N3 at an input.
     pub fn word_out(&self, conn: &Name, word: u32) -> Reply
         requires { IsLive self.now }
-        ensures { (n : ℕ) (s : State) → Represents n self.now s → result ≡ (word_out s conn.now word).answer.reply }
+        ensures { (n : ℕ) (s : State) → RepresentsParts n self.now s → result ≡ (word_out s conn.now word).answer.reply }
     {
         if self.table.held() {
             return Reply::Held;

@@ -19,7 +19,7 @@ use Rattle.spec_language.proofs.FoundBounds.{and_left}
 use Rattle.spec_base.proofs.Lists.{each_append, each_map, any_some}
 use Rattle.lgx_tags.specs.Keys.{key_of}
 use Rattle.lgx_tags.specs.Scopes.{IsScopeOf, is_own}
-use Rattle.lgx_tags.specs.Tables.{IsAdmitted, Represents, keys_of, has_own}
+use Rattle.lgx_tags.specs.Tables.{IsAdmitted, RepresentsDeclarations, keys_of, has_own}
 use Rattle.lgx_tags.specs.declared.key.Key.{Key}
 use Rattle.lgx_tags.proofs.Spans.{padded_size, padded_total, total_append, total_ordered, end_is, ordered}
 use Rattle.lgx_tags.proofs.Lookups.{same_key, key_position}
@@ -102,7 +102,7 @@ keys_insert s name es ks k p q free = rw (p, q, key_new s name es free) refl
 own_more : (es : List Entry) (e : Entry) → has_own (es ++ e ∷ []) ≡ (has_own es || is_own e.scope)
 own_more es e = or_push has_own (λ (e : Entry). is_own e.scope) refl (λ x xs. refl) es e
 
-pub kept_more : (d : Declarations) (e : Entry) (ks : List Key) (count count' : ℕ) (own own' : Bool) → Represents d ks count own → own' ≡ (own || is_own e.scope) → IsAdmitted d.types d.programs e → count' ≡ bytes (record d { entries = d.entries ++ e ∷ [] }) → count' ≤ MAX_IMAGE_BYTES → length (aliases (record d { entries = d.entries ++ e ∷ [] })) < 4294967296 → Represents (record d { entries = d.entries ++ e ∷ [] }) (keys_of d.entries ++ key_of e.scope e.name ∷ []) count' own'
+pub kept_more : (d : Declarations) (e : Entry) (ks : List Key) (count count' : ℕ) (own own' : Bool) → RepresentsDeclarations d ks count own → own' ≡ (own || is_own e.scope) → IsAdmitted d.types d.programs e → count' ≡ bytes (record d { entries = d.entries ++ e ∷ [] }) → count' ≤ MAX_IMAGE_BYTES → length (aliases (record d { entries = d.entries ++ e ∷ [] })) < 4294967296 → RepresentsDeclarations (record d { entries = d.entries ++ e ∷ [] }) (keys_of d.entries ++ key_of e.scope e.name ∷ []) count' own'
 kept_more d e ks count count' own own' k o l p r f = record { admitted = each_append (IsAdmitted d.types d.programs) d.entries (e ∷ []) k.admitted (l, tt); keyed = sym (keys_more d.entries e); counted = p; room = r; few = f; owned = o ∙ ap (λ (b : Bool). b || is_own e.scope) k.owned ∙ sym (own_more d.entries e) }
 
 -- an alias takes no bytes

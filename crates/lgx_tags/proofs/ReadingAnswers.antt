@@ -17,7 +17,7 @@ use Rattle.spec_language.specs.Resolution.{Subscripts, numbers_alone, resolved, 
 use Rattle.spec_language.specs.ResolutionLaws.{LiesIn}
 use Rattle.spec_language.proofs.FoundBounds.{text_lies}
 use Rattle.lgx_tags.specs.Parts.{OperandPart, first_part, begins_marked, with_word}
-use Rattle.lgx_tags.specs.TextReading.{Reading, step, end_after, found_after, Answers, NamesInBounds}
+use Rattle.lgx_tags.specs.TextReading.{Reading, step, end_after, found_after, AnswersTag, NamesInBounds}
 use Rattle.lgx_tags.specs.declared.error.TagError.{TagError}
 use Rattle.lgx_tags.specs.declared.error.TagError.TheVariants.{Tag, Memory}
 use Rattle.lgx_tags.proofs.FormStates.{form_unnamed}
@@ -62,7 +62,7 @@ not_begun s types named text name rest code p e m q = begins s types named text 
 pub went_on : (s : Subscripts) (types : List TypeDecl) (named : List ℕ → Result Found TagCode) (ts rest : List Token) (p : OperandPart) (k j : Reading) → first_part ts ≡ Some (p, rest) → step s types named p k ≡ Ok j → found_after s types named ts k ≡ found_after s types named rest j
 went_on s types named ts rest p k j e q = on_part s types named ts rest p k e ∙ rw q refl
 
-pub stopped : (s : Subscripts) (types : List TypeDecl) (named : List ℕ → Result Found TagCode) (ts rest : List Token) (p : OperandPart) (k : Reading) (error : TagError) → first_part ts ≡ Some (p, rest) → Answers (step s types named p k) (Err error) → Answers (found_after s types named ts k) (Err error)
+pub stopped : (s : Subscripts) (types : List TypeDecl) (named : List ℕ → Result Found TagCode) (ts rest : List Token) (p : OperandPart) (k : Reading) (error : TagError) → first_part ts ≡ Some (p, rest) → AnswersTag (step s types named p k) (Err error) → AnswersTag (found_after s types named ts k) (Err error)
 stopped s types named ts rest p k (Tag code) e q = on_part s types named ts rest p k e ∙ rw q refl
 stopped s types named ts rest p k Memory e q = tt
 
@@ -72,8 +72,8 @@ pub ended : (s : Subscripts) (types : List TypeDecl) (named : List ℕ → Resul
 ended s types named [] k e = refl
 ended s types named (c ∷ cs) k e = not_on_part s types named c cs k e
 
-pub answered : (a b : Result Found TagCode) (r : Result Found TagError) → a ≡ b → Answers b r → Answers a r
-answered a b r e q = subst (λ (x : Result Found TagCode). Answers x r) (sym e) q
+pub answered : (a b : Result Found TagCode) (r : Result Found TagError) → a ≡ b → AnswersTag b r → AnswersTag a r
+answered a b r e q = subst (λ (x : Result Found TagCode). AnswersTag x r) (sym e) q
 
 -- ---- a text that is a name alone
 
@@ -85,15 +85,15 @@ name_tokens text p =
 in_name : (s : Subscripts) (types : List TypeDecl) (named : List ℕ → Result Found TagCode) (text : List ℕ) → is_name text ≡ true → in_form s types named text ≡ named text
 in_name s types named text p = rw (name_tokens text p, named_tag text p) refl
 
-pub name_answered : (s : Subscripts) (types : List TypeDecl) (named : List ℕ → Result Found TagCode) (text : List ℕ) (r : Result Found TagError) → is_name text ≡ true → Answers (named text) r → Answers (in_form s types named text) r
+pub name_answered : (s : Subscripts) (types : List TypeDecl) (named : List ℕ → Result Found TagCode) (text : List ℕ) (r : Result Found TagError) → is_name text ≡ true → AnswersTag (named text) r → AnswersTag (in_form s types named text) r
 name_answered s types named text r p q = answered (in_form s types named text) (named text) r (in_name s types named text p) q
 
 -- ---- what is answered lies in the image
 
-pub lies : (s : Subscripts) (types : List TypeDecl) (bytes : ℕ) (named : List ℕ → Result Found TagCode) (text : List ℕ) (r : Result Found TagError) → SoundTypes types → NamesInBounds types bytes named → Answers (in_form s types named text) r → IfOk r (λ f. LiesIn types bytes f)
+pub lies : (s : Subscripts) (types : List TypeDecl) (bytes : ℕ) (named : List ℕ → Result Found TagCode) (text : List ℕ) (r : Result Found TagError) → SoundTypes types → NamesInBounds types bytes named → AnswersTag (in_form s types named text) r → IfOk r (λ f. LiesIn types bytes f)
 lies s types bytes named text (Err error) sound known q = tt
 lies s types bytes named text (Ok f) sound known q = (text_lies s types bytes named sound known text f q).0
 
-pub fixed : (types : List TypeDecl) (bytes : ℕ) (named : List ℕ → Result Found TagCode) (text : List ℕ) (r : Result Found TagError) → SoundTypes types → NamesInBounds types bytes named → Answers (in_form numbers_alone types named text) r → IfOk r (λ f. f.steps ≡ [])
+pub fixed : (types : List TypeDecl) (bytes : ℕ) (named : List ℕ → Result Found TagCode) (text : List ℕ) (r : Result Found TagError) → SoundTypes types → NamesInBounds types bytes named → AnswersTag (in_form numbers_alone types named text) r → IfOk r (λ f. f.steps ≡ [])
 fixed types bytes named text (Err error) sound known q = tt
 fixed types bytes named text (Ok f) sound known q = (text_lies numbers_alone types bytes named sound known text f q).1

@@ -24,10 +24,10 @@ subscripts_of Operands = meaning.operands
 subscripts_of NumbersAlone = meaning.numbers_alone
 
 -- the answer is what is meant, or there was no memory
-abbrev pub Answers : {A : Type 0} → Result A TagCode → Result A TagError → Type 0
-Answers meant (Ok x) = meant ≡ Ok x
-Answers meant (Err (Tag code)) = meant ≡ Err code
-Answers meant (Err Memory) = ⊤
+abbrev pub AnswersTag : {A : Type 0} → Result A TagCode → Result A TagError → Type 0
+AnswersTag meant (Ok x) = meant ≡ Ok x
+AnswersTag meant (Err (Tag code)) = meant ≡ Err code
+AnswersTag meant (Err Memory) = ⊤
 
 -- what names stand for lies in the image, and no subscript moves it
 abbrev pub NamesInBounds : List TypeDecl → ℕ → (List ℕ → Result Found TagCode) → Type 0

@@ -89,11 +89,11 @@ impl Model for Declared {
 
     ghost Value = { Declarations };
 
-    ghost use Rattle.lgx_tags.specs.Tables.{Represents};
+    ghost use Rattle.lgx_tags.specs.Tables.{RepresentsDeclarations};
 
     ghost view = { λ t. record { types = t.types; programs = t.programs; entries = t.entries.items } };
 
-    ghost invariant = { λ t. Represents (record { types = t.types; programs = t.programs; entries = t.entries.items }) t.keys.keys t.bytes t.any_own };
+    ghost invariant = { λ t. RepresentsDeclarations (record { types = t.types; programs = t.programs; entries = t.entries.items }) t.keys.keys t.bytes t.any_own };
 }
 
 impl Declared {

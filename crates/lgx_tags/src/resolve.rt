@@ -8,7 +8,7 @@ ghost use Rattle.spec_language.specs.Resolution.{in_form};
 ghost use Rattle.spec_language.specs.ResolutionLaws.{LiesIn, width};
 ghost use Rattle.lgx_types.specs.Tables.{HasSize};
 ghost use Rattle.lgx_tags.specs.Parts.{part_of, ElementIsDigits};
-ghost use Rattle.lgx_tags.specs.TextReading.{subscripts_of, Answers, NamesInBounds, dotted_at, element_at, open_at, close_at, step, end_after, AllInImage, AreSized};
+ghost use Rattle.lgx_tags.specs.TextReading.{subscripts_of, AnswersTag, NamesInBounds, dotted_at, element_at, open_at, close_at, step, end_after, AllInImage, AreSized};
 
 use crate::data_type::is_array;
 use crate::error::TagError;
@@ -80,7 +80,7 @@ impl Reading {
         names: &N,
         name: &[u8],
     ) -> Result<Self, TagError>
-        ensures { Answers (open_at (subscripts_of subscripts) (N.named names.now) name.now self) result }
+        ensures { AnswersTag (open_at (subscripts_of subscripts) (N.named names.now) name.now self) result }
     {
         if !is_array(self.found.of) {
             return Err(TagError::Tag(TagCode::G5));
@@ -100,7 +100,7 @@ impl Reading {
     /// A dot and a word.
     fn enter_member(self, types: &TypeTable, word: &[u8]) -> Result<Self, TagError>
         requires { self.found.at ≤ 8 * MAX_IMAGE_BYTES }
-        ensures { Answers (dotted_at types.now word.now self) result }
+        ensures { AnswersTag (dotted_at types.now word.now self) result }
     {
         let Reading { arrays, found } = self;
         let found = find_dotted(types, found, word)?;
@@ -112,7 +112,7 @@ impl Reading {
         requires digits { IsTrue (are_digits 10 digits.now) }
         requires size { HasSize types.now (single self.found.of.base) }
         requires room { self.found.at + width types.now self.found.of ≤ 8 * MAX_IMAGE_BYTES }
-        ensures { Answers (element_at types.now digits.now self) result }
+        ensures { AnswersTag (element_at types.now digits.now self) result }
     {
         let Reading { arrays, found } = self;
         let found = find_numbered(types, found, digits)?;
@@ -122,7 +122,7 @@ impl Reading {
     /// The bracket that closes the innermost one.
     fn close_bracket(self, types: &TypeTable) -> Result<Self, TagError>
         requires { AreSized types.now self.arrays }
-        ensures { Answers (close_at types.now self.arrays self.found) result }
+        ensures { AnswersTag (close_at types.now self.arrays self.found) result }
     {
         let Reading { mut arrays, found } = self;
         let Some(array) = arrays.pop() else {
@@ -143,7 +143,7 @@ impl Reading {
         requires fit { ElementIsDigits (part_of part) }
         requires placed { AllInImage types.now (N.bytes names.now) self }
         requires room { N.bytes names.now ≤ MAX_IMAGE_BYTES }
-        ensures { Answers (step (subscripts_of subscripts) types.now (N.named names.now) (part_of part.entry) self) result }
+        ensures { AnswersTag (step (subscripts_of subscripts) types.now (N.named names.now) (part_of part.entry) self) result }
     {
         match part {
             OperandPart::Dotted(word) => self.enter_member(types, word),
@@ -155,7 +155,7 @@ impl Reading {
 
     /// The end of the text: the rest begins with no part.
     fn end(self, rest: &[u8]) -> Result<Found, TagError>
-        ensures { Answers (end_after rest.now self) result }
+        ensures { AnswersTag (end_after rest.now self) result }
     {
         let Reading { arrays, found } = self;
         if rest.is_empty() && arrays.is_empty() {
@@ -168,7 +168,7 @@ impl Reading {
 
 /// What a name alone names.
 fn resolve_name<N: Names>(names: &N, name: &[u8]) -> Result<Found, TagError>
-    ensures { Answers (N.named names.now name.now) result }
+    ensures { AnswersTag (N.named names.now name.now) result }
 {
     Ok(names.named(name)?)
 }
@@ -184,7 +184,7 @@ fn resolve_form<N: Names>(
     requires sound { SoundTypes types.now }
     requires lie { NamesInBounds types.now (N.bytes names.now) (N.named names.now) }
     requires room { N.bytes names.now ≤ MAX_IMAGE_BYTES }
-    ensures answer { Answers (in_form (subscripts_of subscripts) types.now (N.named names.now) text.now) result }
+    ensures answer { AnswersTag (in_form (subscripts_of subscripts) types.now (N.named names.now) text.now) result }
     ensures lies { IfOk result (λ f. LiesIn types.now (N.bytes names.now) f) }
     ensures fixed { subscripts ≡ Subscripts.NumbersAlone → IfOk result (λ f. f.steps ≡ []) }
 {
@@ -214,7 +214,7 @@ pub(crate) fn resolve_text<N: Names>(
     requires sound { SoundTypes types.now }
     requires lie { NamesInBounds types.now (N.bytes names.now) (N.named names.now) }
     requires room { N.bytes names.now ≤ MAX_IMAGE_BYTES }
-    ensures answer { Answers (in_form (subscripts_of subscripts) types.now (N.named names.now) text.now) result }
+    ensures answer { AnswersTag (in_form (subscripts_of subscripts) types.now (N.named names.now) text.now) result }
     ensures lies { IfOk result (λ f. LiesIn types.now (N.bytes names.now) f) }
     ensures fixed { subscripts ≡ Subscripts.NumbersAlone → IfOk result (λ f. f.steps ≡ []) }
 {

@@ -13,7 +13,7 @@ ghost use Rattle.lgx_tags.specs.Scopes.{IsScopeOf};
 ghost use Rattle.lgx_tags.specs.Errors.{bad_alias, fault_of};
 ghost use Rattle.lgx_tags.specs.Sealing.{IsSealOf};
 ghost use Rattle.spec_language.specs.TagSpans.{spans_of, tag_names};
-ghost use Rattle.lgx_tags.specs.TextReading.{Answers, subscripts_of};
+ghost use Rattle.lgx_tags.specs.TextReading.{AnswersTag, subscripts_of};
 
 use crate::declared::Declared;
 use crate::error::{SealError, TagError};
@@ -163,7 +163,7 @@ impl TagTable {
         subscripts: Subscripts,
     ) -> Result<Found, TagError>
         requires { self.now.sealed ≡ true }
-        ensures answer { Answers (in_form (subscripts_of subscripts) self.now.declarations.types (named self.now.declarations scope) text.now) result }
+        ensures answer { AnswersTag (in_form (subscripts_of subscripts) self.now.declarations.types (named self.now.declarations scope) text.now) result }
         ensures lies { IfOk result (λ f. LiesIn self.now.declarations.types (bytes self.now.declarations) f) }
         ensures sized { IfOk result (λ f. HasSize self.now.declarations.types (single f.of.base)) }
         ensures fixed { subscripts ≡ Subscripts.NumbersAlone → IfOk result (λ f. f.steps ≡ []) }
@@ -183,7 +183,7 @@ impl TagTable {
     /// names nothing, as it is met from left to right: G10, then G3 to G6 and G9.
     pub fn resolve(&self, alloc: Global, scope: Scope, text: &[u8]) -> Result<Found, TagError>
         requires { self.now.sealed ≡ true }
-        ensures answer { Answers (found self.now.declarations scope text.now) result }
+        ensures answer { AnswersTag (found self.now.declarations scope text.now) result }
         ensures lies { IfOk result (λ f. LiesIn self.now.declarations.types (bytes self.now.declarations) f) }
         ensures sized { IfOk result (λ f. HasSize self.now.declarations.types (single f.of.base)) }
     {
@@ -193,7 +193,7 @@ impl TagTable {
     /// What an operand's text names if numbers alone may be subscripts: any other subscript is G6.
     pub fn resolve_fixed(&self, alloc: Global, scope: Scope, text: &[u8]) -> Result<Found, TagError>
         requires { self.now.sealed ≡ true }
-        ensures answer { Answers (found_fixed self.now.declarations scope text.now) result }
+        ensures answer { AnswersTag (found_fixed self.now.declarations scope text.now) result }
         ensures lies { IfOk result (λ f. LiesIn self.now.declarations.types (bytes self.now.declarations) f) }
         ensures sized { IfOk result (λ f. HasSize self.now.declarations.types (single f.of.base)) }
         ensures fixed { IfOk result (λ f. f.steps ≡ []) }

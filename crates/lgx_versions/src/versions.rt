@@ -34,7 +34,7 @@ impl Model for Versions {
 }
 
 impl Versions {
-    ghost use Rattle.std.specs.Prelude.{◌^◌, ◌≡◌, ◌≢◌, ◌+◌, ◌<◌, ℕ, Some, None, Ok, IfSome, IfNone, IsSome, IsNone, IsTrue, IsOkAnd, is_some, option_map, slice_index_or};
+    ghost use Rattle.std.specs.Prelude.{◌^◌, ◌≡◌, ◌≢◌, ◌+◌, ◌<◌, ℕ, Some, None, Ok, IfSome, IfNone, IsSome, IsNone, IsTrue, IsOkAnd, option_map, slice_index_or};
     ghost use Rattle.lgx_versions.specs.Roles.{only_base, selected, add, select, assemble, cancel, hold, drop_hold};
     ghost use Rattle.lgx_versions.specs.View.{AreSlotsOf, NoneMoves, number_of};
 
@@ -123,13 +123,6 @@ impl Versions {
         ensures { result ≡ self.now.roles.newest }
     {
         self.newest
-    }
-
-    /// Whether there is a merged program.
-    pub fn has_merged(&self) -> bool
-        ensures { result ≡ is_some self.now.roles.merged }
-    {
-        self.places.merged.is_some()
     }
 
     /// The number of the selected program.

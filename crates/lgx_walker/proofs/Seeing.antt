@@ -24,7 +24,7 @@ use Rattle.lgx_edit.specs.Plants.{watch_of, project_of}
 use Rattle.lgx_question.specs.Seen.{is_program, holds_in, IsSeen}
 use Rattle.lgx_question.proofs.SeenLines.{first_lines_are_seen, no_line_is_seen}
 use Rattle.lgx_core.specs.ControllerView.{ControllerView}
-use Rattle.lgx_core.specs.Represents.{Represents, StandsFor}
+use Rattle.lgx_core.specs.Represents.{RepresentsController, StandsFor}
 use Rattle.lgx_walker.specs.declared.watcher.Watcher.{Watcher}
 use Rattle.lgx_walker.specs.Lines.{IsLineOf, step_events}
 use Rattle.lgx_walker.specs.Places.{AreInside}
@@ -81,7 +81,7 @@ line_seen p x values ended q None seen at = no_line_is_seen p x values ended q s
 line_seen p x values ended q (Some line) seen at = first_lines_are_seen p x values ended q line seen at
 
 -- the first line by the numbers that were read after the event
-pub line_after : (p : Project) (journal : List Event) (e : Event) (w : Watcher) (values : List ℤ) (ended : Option ℕ) (q : Question) (o : Option ℕ) → Watches w p (journal ++ e ∷ []) → ((s : State) → Represents w.controller s → AreInside w.places (length w.controller.parts.image.bytes) → values ≡ map (number s.image) w.places) → ((n : ℕ) → ends_scan n (step (run p journal) e).answer ≡ is_program n ended) → position (holds_in values ended) q.lines ≡ o → IsLineOf p q (step (run p journal) e) o
+pub line_after : (p : Project) (journal : List Event) (e : Event) (w : Watcher) (values : List ℤ) (ended : Option ℕ) (q : Question) (o : Option ℕ) → Watches w p (journal ++ e ∷ []) → ((s : State) → RepresentsController w.controller s → AreInside w.places (length w.controller.parts.image.bytes) → values ≡ map (number s.image) w.places) → ((n : ℕ) → ends_scan n (step (run p journal) e).answer ≡ is_program n ended) → position (holds_in values ended) q.lines ≡ o → IsLineOf p q (step (run p journal) e) o
 line_after p journal e w values ended q o h read ends at =
     line_seen p (step (run p journal) e) values ended q o
     (seen_after p journal e w values ended h (read (run p (journal ++ e ∷ [])) h.stands_for.represents (places_inside w p (journal ++ e ∷ []) h)) ends) at
@@ -93,7 +93,7 @@ ended_after p journal m ended same ends n = sym (ap (ends_scan n) same) ∙ ends
 -- ---- without an event
 
 -- a watcher whose controller represents what it did
-pub still_watches : (p : Project) (journal : List Event) (old new : Watcher) → new.places ≡ old.places → ((s : State) → Represents old.controller s → Represents new.controller s) → new.controller.spent ≡ old.controller.spent → Watches old p journal → Watches new p journal
+pub still_watches : (p : Project) (journal : List Event) (old new : Watcher) → new.places ≡ old.places → ((s : State) → RepresentsController old.controller s → RepresentsController new.controller s) → new.controller.spent ≡ old.controller.spent → Watches old p journal → Watches new p journal
 still_watches p journal old new places represents spent h = record {
   places_are = places ∙ h.places_are;
   stands_for = record {

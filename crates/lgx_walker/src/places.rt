@@ -2,7 +2,7 @@
 ghost use Rattle.std.specs.Prelude.{◌≡◌, true, false, map, length, IfOk};
 ghost use Rattle.lgx_num.specs.Image.{number, InBounds};
 ghost use Rattle.spec_machine.specs.State.{State};
-ghost use Rattle.lgx_core.specs.Represents.{Represents};
+ghost use Rattle.lgx_core.specs.Represents.{RepresentsController};
 ghost use Rattle.lgx_walker.specs.Places.{AreInside};
 
 use lgx_core::Controller;
@@ -75,7 +75,7 @@ fn lies_in(place: Place, len: u32) -> bool
 
 /// The number at a place of the controller's image, or 0 if it doesn't lie there.
 pub(crate) fn number_at(controller: &Controller, place: Place) -> i32
-    ensures { (s : State) → Represents controller.now s → InBounds place (length controller.now.parts.image.bytes) → result ≡ number s.image place }
+    ensures { (s : State) → RepresentsController controller.now s → InBounds place (length controller.now.parts.image.bytes) → result ≡ number s.image place }
 {
     if lies_in(place, controller.image_len()) {
         controller.read(place)
@@ -90,7 +90,7 @@ pub(crate) fn read_numbers(
     places: &[Place],
     values: &mut Vec<i32>,
 ) -> Result<(), Memory>
-    ensures { IfOk result (λ _. (s : State) → Represents controller.now s → AreInside places.now (length controller.now.parts.image.bytes) → values.new.items ≡ map (number s.image) places.now) }
+    ensures { IfOk result (λ _. (s : State) → RepresentsController controller.now s → AreInside places.now (length controller.now.parts.image.bytes) → values.new.items ≡ map (number s.image) places.now) }
 {
     values.clear();
     for place in places {

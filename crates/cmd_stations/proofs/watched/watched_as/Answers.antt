@@ -4,7 +4,7 @@ use Rattle.spec_machine.specs.declared.event.Event.{Event}
 use Rattle.spec_machine.specs.Project.{Project}
 use Rattle.lgx_core.specs.Represents.{StandsFor}
 use Rattle.lgx_record.specs.Records.{Records}
-use Rattle.cmd_stations.specs.declared.lines.Place.TheVariants.{Report}
+use Rattle.cmd_stations.specs.declared.lines.NextLine.TheVariants.{Report}
 use Rattle.spec_story.specs.Snapshots.{snapshots}
 use Rattle.lgx_stations.specs.Asking.{ForAll}
 use Rattle.cmd_stations.specs.Rest.{rest_of}

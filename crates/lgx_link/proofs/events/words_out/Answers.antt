@@ -6,7 +6,7 @@ use Rattle.spec_machine.specs.declared.event.Event.TheVariants.{Act}
 use Rattle.spec_machine.specs.declared.event.Action.TheVariants.{WordOut}
 use Rattle.spec_machine.specs.Machine.{run}
 use Rattle.lgx_core.specs.ControllerView.{ControllerView}
-use Rattle.lgx_core.specs.Represents.{Represents}
+use Rattle.lgx_core.specs.Represents.{RepresentsController}
 use Rattle.lgx_record.specs.Records.{Records}
 use Rattle.lgx_link.specs.Running.{outs}
 use Rattle.lgx_link.proofs.WordsCounted.{outs_more, spent_after, told_more}
@@ -35,7 +35,7 @@ loop-word-preserved c =
           subst P (append_assoc events (outs output n) (e ∷ []) ∙ ap (λ (es : List Event). events ++ es) (sym (outs_more output n))) made;
       words = λ project events h.
           let now = c.loop-word.invariant.records project events h in
-          let stands = subst (λ (v : ControllerView). Represents v (run project (events ++ outs output n))) (sym c.controller.ensures) now.controller.represents in
+          let stands = subst (λ (v : ControllerView). RepresentsController v (run project (events ++ outs output n))) (sym c.controller.ensures) now.controller.represents in
           told_more project events output n c.word_out-reply.result c.loop-word.words c.push_word.new.words (c.loop-word.invariant.words project events h) (c.word_out-reply.ensures (run project (events ++ outs output n)) stands) c.push_word.ensures.word;
       few = (let more = c.push_word.ensures.few in let before = c.loop-word.invariant.few in omega arith);
       range = c.push_word.ensures.range c.loop-word.invariant.range;

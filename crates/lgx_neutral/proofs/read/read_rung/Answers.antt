@@ -2,7 +2,7 @@ use Rattle.std.proofs.Common.{rules, ◌≡◌, ap, sym, ◌∙◌, length, Ok, 
 use Rattle.std.proofs.lemmas.Result.{IfOk-at_ok}
 use Rattle.lgx_rung.specs.Tokens.{read_tokens, read_token, read_rung}
 use Rattle.lgx_rung.proofs.Reading.{IsFit, read_token_fit}
-use Rattle.lgx_neutral.specs.Answer.{Answers}
+use Rattle.lgx_neutral.specs.Answer.{AnswersRung}
 use Rattle.lgx_neutral.specs.Lexing.{left, placed, token_of}
 use Rattle.lgx_neutral.specs.Reading.{reading}
 use Rattle.lgx_neutral.proofs.Answers.{caused, spelled, every_rung, every_fault, taken, refused}
@@ -24,7 +24,7 @@ loop-next-preserved c =
 pub returns-in-Err : goal.returns-in-Err
 returns-in-Err c =
     let text = c.args.text.now in
-    let answer : Answers (read_rung text) (Err c.at.result) =
+    let answer : AnswersRung (read_rung text) (Err c.at.result) =
     refused (length text) (placed c.in-Some.next) (left c.next.new.self) (left c.loop-next.lexer) (reading c.loop-next.reader) (reading c.take.new.self)
     (read_rung text) c.in-Err.refusal c.at.result c.in-Some.ensures.tokens c.loop-next.invariant.reads c.in-Err.ensures.takes c.at.ensures in
     record {
@@ -38,7 +38,7 @@ returns-in-Err c =
 pub returns : goal.returns
 returns c =
     let text = c.args.text.now in
-    let answer : Answers (read_rung text) c.map_err.result = search rules in
+    let answer : AnswersRung (read_rung text) c.map_err.result = search rules in
     record {
       answer = answer;
       rung = spelled text c.map_err.result answer;

@@ -5,7 +5,7 @@ use Rattle.spec_language.specs.OperandForm.{form, tokens}
 use Rattle.spec_language.specs.Resolution.{in_form}
 use Rattle.lgx_tags.specs.declared.resolve.Subscripts.{Subscripts}
 use Rattle.lgx_tags.specs.Parts.{part_of}
-use Rattle.lgx_tags.specs.TextReading.{subscripts_of, Answers, step, found_after, end_after}
+use Rattle.lgx_tags.specs.TextReading.{subscripts_of, AnswersTag, step, found_after, end_after}
 use Rattle.lgx_tags.proofs.ReadingAnswers.{begun, not_begun, went_on, stopped, ended, answered, fixed}
 use Rattle.lgx_tags.proofs.ReadingBounds.{named_placed, step_placed}
 use Rattle.lgx_tags.proofs.resolve.resolve_form.Goals as goal
@@ -52,5 +52,5 @@ returns-clause-fixed g c = λ alone.
     let rest = c.loop-part.rest.now in
     let reading = c.loop-part.reading in
     let s = subscripts_of c.args.subscripts in
-    let answer : Answers (in_form s types named text) c.end.result = answered (in_form s types named text) (end_after rest reading) c.end.result (c.loop-part.invariant.reads ∙ ended s types named rest reading (c.in_default.ensures.none refl)) c.end.ensures in
-    fixed types (g.N.Names.bytes c.args.names.now) named text c.end.result c.requires.sound c.requires.lie (subst (λ (x : Subscripts). Answers (in_form (subscripts_of x) types named text) c.end.result) alone answer)
+    let answer : AnswersTag (in_form s types named text) c.end.result = answered (in_form s types named text) (end_after rest reading) c.end.result (c.loop-part.invariant.reads ∙ ended s types named rest reading (c.in_default.ensures.none refl)) c.end.ensures in
+    fixed types (g.N.Names.bytes c.args.names.now) named text c.end.result c.requires.sound c.requires.lie (subst (λ (x : Subscripts). AnswersTag (in_form (subscripts_of x) types named text) c.end.result) alone answer)

@@ -2,7 +2,7 @@ use Rattle.std.proofs.Common.{◌≡◌, true, sym, subst, ◌∙◌}
 use Rattle.lgx_num.specs.Name.{is_name}
 use Rattle.spec_language.specs.Resolution.{in_form}
 use Rattle.lgx_tags.specs.declared.resolve.Subscripts.{Subscripts}
-use Rattle.lgx_tags.specs.TextReading.{subscripts_of, Answers}
+use Rattle.lgx_tags.specs.TextReading.{subscripts_of, AnswersTag}
 use Rattle.lgx_tags.proofs.ReadingAnswers.{name_answered, lies, fixed}
 use Rattle.lgx_tags.proofs.resolve.resolve_text.Goals as goal
 
@@ -18,7 +18,7 @@ returns-then-is_name-clause-lies g c =
     let names = g.N.Names.named c.args.names.now in
     let s = subscripts_of c.args.subscripts in
     let named : is_name text ≡ true = sym c.is_name.ensures ∙ c.if-is_name.true in
-    let answer : Answers (in_form s c.args.types.now names text) c.resolve_name.result = name_answered s c.args.types.now names text c.resolve_name.result named c.resolve_name.ensures in
+    let answer : AnswersTag (in_form s c.args.types.now names text) c.resolve_name.result = name_answered s c.args.types.now names text c.resolve_name.result named c.resolve_name.ensures in
     lies s c.args.types.now (g.N.Names.bytes c.args.names.now) names text c.resolve_name.result c.requires.sound c.requires.lie answer
 
 pub returns-then-is_name-clause-fixed : goal.returns-then-is_name-clause-fixed
@@ -28,5 +28,5 @@ returns-then-is_name-clause-fixed g c = λ alone.
     let names = g.N.Names.named c.args.names.now in
     let s = subscripts_of c.args.subscripts in
     let named : is_name text ≡ true = sym c.is_name.ensures ∙ c.if-is_name.true in
-    let answer : Answers (in_form s types names text) c.resolve_name.result = name_answered s types names text c.resolve_name.result named c.resolve_name.ensures in
-    fixed types (g.N.Names.bytes c.args.names.now) names text c.resolve_name.result c.requires.sound c.requires.lie (subst (λ (x : Subscripts). Answers (in_form (subscripts_of x) types names text) c.resolve_name.result) alone answer)
+    let answer : AnswersTag (in_form s types names text) c.resolve_name.result = name_answered s types names text c.resolve_name.result named c.resolve_name.ensures in
+    fixed types (g.N.Names.bytes c.args.names.now) names text c.resolve_name.result c.requires.sound c.requires.lie (subst (λ (x : Subscripts). AnswersTag (in_form (subscripts_of x) types names text) c.resolve_name.result) alone answer)

@@ -5,7 +5,7 @@ use Rattle.std.proofs.lemmas.Option.{slice_get-get_or}
 use Rattle.spec_machine.specs.Machine.{run}
 use Rattle.spec_link.specs.Links.{is_held, words_from}
 use Rattle.lgx_core.specs.ControllerView.{ControllerView}
-use Rattle.lgx_core.specs.Represents.{Represents}
+use Rattle.lgx_core.specs.Represents.{RepresentsController}
 use Rattle.lgx_record.specs.Records.{Records}
 use Rattle.lgx_link.specs.declared.packet.Packet.{Packet}
 use Rattle.lgx_link.specs.declared.running.Running.{Running}
@@ -21,7 +21,7 @@ returns-in-Stale-clause-link c = λ l s h.
     let shown = c.deref.result.now in
     let at_shown : slice_get shown k ≡ Some p = slice_get-get_or shown k p (ltb-true k (length shown) (sym look.0)) ∙ ap Some (sym look.1) in
     let at = subst (λ (xs : List Packet). slice_get xs k ≡ Some p) c.deref.ensures.value at_shown in
-    let stands = subst (λ (u : ControllerView). Represents u (run l.b s.b)) (sym c.controller.ensures) h.b.controller.represents in
+    let stands = subst (λ (u : ControllerView). RepresentsController u (run l.b s.b)) (sym c.controller.ensures) h.b.controller.represents in
     let free : is_held l.b s.b ≡ false = sym (c.copy_open.ensures (run l.b s.b) stands) ∙ c.if-copy_open.false in
     let stale = is_stale v l s k p h at (sym c.in-Stale.is ∙ c.take.ensures.answer) in
     let w : Running = record v { consumer = c.take.new.self } in
@@ -37,7 +37,7 @@ returns-in_ok-words_in-in-New-clause-link c = λ l s h.
     let shown = c.deref.result.now in
     let at_shown : slice_get shown k ≡ Some p = slice_get-get_or shown k p (ltb-true k (length shown) (sym look.0)) ∙ ap Some (sym look.1) in
     let at = subst (λ (xs : List Packet). slice_get xs k ≡ Some p) c.deref.ensures.value at_shown in
-    let stands = subst (λ (u : ControllerView). Represents u (run l.b s.b)) (sym c.controller.ensures) h.b.controller.represents in
+    let stands = subst (λ (u : ControllerView). RepresentsController u (run l.b s.b)) (sym c.controller.ensures) h.b.controller.represents in
     let free : is_held l.b s.b ≡ false = sym (c.copy_open.ensures (run l.b s.b) stands) ∙ c.if-copy_open.false in
     let newer = is_new v l s k p h at (sym c.in-New.is ∙ c.take.ensures.answer) in
     let w : Running = record v { b = c.words_in.new.recording; consumer = c.take.new.self } in

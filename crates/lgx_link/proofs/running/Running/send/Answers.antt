@@ -3,7 +3,7 @@ use Rattle.spec_link.specs.declared.script.LinkAnswer.TheVariants.{SendHeld, Sen
 use Rattle.spec_link.specs.Links.{is_held, send}
 use Rattle.spec_machine.specs.Machine.{run}
 use Rattle.lgx_core.specs.ControllerView.{ControllerView}
-use Rattle.lgx_core.specs.Represents.{Represents}
+use Rattle.lgx_core.specs.Represents.{RepresentsController}
 use Rattle.lgx_link.specs.declared.packet.Packet.{Packet}
 use Rattle.lgx_link.specs.declared.running.Running.{Running}
 use Rattle.lgx_link.specs.Running.{IsAnswered}
@@ -12,13 +12,13 @@ use Rattle.lgx_link.proofs.running.Running.send.Goals as goal
 
 pub returns-then-copy_open-clause-link : goal.returns-then-copy_open-clause-link
 returns-then-copy_open-clause-link c = λ l s h.
-    let stands = subst (λ (v : ControllerView). Represents v (run l.a s.a)) (sym c.controller.ensures) h.a.controller.represents in
+    let stands = subst (λ (v : ControllerView). RepresentsController v (run l.a s.a)) (sym c.controller.ensures) h.a.controller.represents in
     let held : is_held l.a s.a ≡ true = sym (c.copy_open.ensures (run l.a s.a) stands) ∙ c.if-copy_open.true in
     subst (λ b. IsAnswered c.args.self.now SendHeld l (send l s b)) (sym held) (record { link = h; answer_is = refl })
 
 pub returns-clause-link : goal.returns-clause-link
 returns-clause-link c = λ l s h.
-    let stands = subst (λ (v : ControllerView). Represents v (run l.a s.a)) (sym c.controller.ensures) h.a.controller.represents in
+    let stands = subst (λ (v : ControllerView). RepresentsController v (run l.a s.a)) (sym c.controller.ensures) h.a.controller.represents in
     let free : is_held l.a s.a ≡ false = sym (c.copy_open.ensures (run l.a s.a) stands) ∙ c.if-copy_open.false in
     let made = c.in_ok-words.ensures in
     let packet = c.send-packet.result in

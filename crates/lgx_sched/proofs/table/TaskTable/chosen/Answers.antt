@@ -2,7 +2,7 @@
 use Rattle.std.proofs.Common.{◌<◌, ℕ, length, Option, Some, IfSome, sym, ◌∙◌, ap, subst}
 use Rattle.spec_tables.specs.Tasks.{or_else}
 use Rattle.lgx_sched.specs.TableView.{TableView, front_of}
-use Rattle.lgx_sched.specs.Represents.{Represents}
+use Rattle.lgx_sched.specs.Represents.{RepresentsTable}
 use Rattle.lgx_sched.proofs.Tables.{known_next}
 use Rattle.lgx_sched.proofs.Chosen.{next_task-chosen}
 use Rattle.lgx_sched.proofs.table.TaskTable.chosen.Goals as goal
@@ -20,10 +20,10 @@ returns-in-None-clause-known c =
 pub returns-in-Some-clause-represents : goal.returns-in-Some-clause-represents
 returns-in-Some-clause-represents c = λ s h.
     ap (λ (o : Option ℕ). or_else o (front_of c.self.inside.queues)) (sym c.in-Some.is)
-    ∙ next_task-chosen _ s c.self.invariant.table.0 (subst (λ v. Represents v s) (sym c.self.view_is) h)
+    ∙ next_task-chosen _ s c.self.invariant.table.0 (subst (λ v. RepresentsTable v s) (sym c.self.view_is) h)
 
 pub returns-in-None-clause-represents : goal.returns-in-None-clause-represents
 returns-in-None-clause-represents c = λ s h.
     c.front.ensures
     ∙ (ap (λ (o : Option ℕ). or_else o (front_of c.self.inside.queues)) (sym c.in-None.is)
-    ∙ next_task-chosen _ s c.self.invariant.table.0 (subst (λ v. Represents v s) (sym c.self.view_is) h))
+    ∙ next_task-chosen _ s c.self.invariant.table.0 (subst (λ v. RepresentsTable v s) (sym c.self.view_is) h))

@@ -2,7 +2,7 @@
 use Rattle.std.proofs.Common.{Some, ◌∙◌, ap, subst, sym}
 use Rattle.spec_tables.specs.Tasks.{finish}
 use Rattle.lgx_sched.specs.TableView.{TableView}
-use Rattle.lgx_sched.specs.Represents.{Represents}
+use Rattle.lgx_sched.specs.Represents.{RepresentsTable}
 use Rattle.lgx_sched.proofs.Again.{restarted-same, restarted-with, represents-finish_again, chosen-finish_again}
 use Rattle.lgx_sched.proofs.table.TaskTable.finish_again.Goals as goal
 
@@ -11,7 +11,7 @@ returns-clause-exact c = c.change.ensures.exact ∙ restarted-with c.args.self.n
 
 pub returns-clause-represents : goal.returns-clause-represents
 returns-clause-represents c = λ s h.
-    subst (λ (v : TableView). Represents v (finish c.args.t c.args.now s)) (sym (c.change.ensures.exact ∙ restarted-with c.args.self.now c.args.t c.args.now c.requires.again))
+    subst (λ (v : TableView). RepresentsTable v (finish c.args.t c.args.now s)) (sym (c.change.ensures.exact ∙ restarted-with c.args.self.now c.args.t c.args.now c.requires.again))
     (represents-finish_again c.args.self.now s c.args.t c.args.now c.change.ensures.table h c.requires.chosen c.requires.again)
 
 pub returns-clause-chosen : goal.returns-clause-chosen
@@ -23,7 +23,7 @@ returns-then-same_active-clause-exact c =
 
 pub returns-then-same_active-clause-represents : goal.returns-then-same_active-clause-represents
 returns-then-same_active-clause-represents c = λ s h.
-    subst (λ (v : TableView). Represents v (finish c.args.t c.args.now s)) (sym (restarted-same c.args.self.now c.args.t c.args.now (c.active_task.ensures.up ∙ ap (λ a. Some a) (c.same_active.ensures c.if-same_active.true))))
+    subst (λ (v : TableView). RepresentsTable v (finish c.args.t c.args.now s)) (sym (restarted-same c.args.self.now c.args.t c.args.now (c.active_task.ensures.up ∙ ap (λ a. Some a) (c.same_active.ensures c.if-same_active.true))))
     (represents-finish_again c.args.self.now s c.args.t c.args.now c.active_task.ensures.table h c.requires.chosen c.requires.again)
 
 pub returns-then-same_active-clause-chosen : goal.returns-then-same_active-clause-chosen

@@ -1,6 +1,6 @@
 -- Only the open task can have a CPS in progress.
 use Rattle.std.proofs.Common.{None, ap, ◌∙◌, subst, sym, arith}
-use Rattle.lgx_sched.specs.Represents.{Represents}
+use Rattle.lgx_sched.specs.Represents.{RepresentsTable}
 use Rattle.lgx_sched.specs.TableView.{has_cps}
 use Rattle.std.proofs.lemmas.List.{get_or_read}
 use Rattle.lgx_sched.proofs.Calls.{held-none, held-some, open_task_known}
@@ -17,7 +17,7 @@ returns-in-Some c = λ s h.
     let l = open_task_known _ c.in-Some.t c.self.invariant.table c.in-Some.is in
     let same = c.self.invariant.table.0.as_many in
     c.has_cps.ensures ∙ (ap has_cps (get_or_read c.self.inside.ups.items c.in-Some.t _ (omega arith) c.index.ensures None)
-    ∙ sym (held-some _ s c.in-Some.t c.self.invariant.table.0 (subst (λ v. Represents v s) (sym c.self.view_is) h) c.in-Some.is))
+    ∙ sym (held-some _ s c.in-Some.t c.self.invariant.table.0 (subst (λ v. RepresentsTable v s) (sym c.self.view_is) h) c.in-Some.is))
 
 pub returns-in-None : goal.returns-in-None
-returns-in-None c = λ s h. sym (held-none _ s c.self.invariant.table.0 (subst (λ v. Represents v s) (sym c.self.view_is) h) c.in-None.is)
+returns-in-None c = λ s h. sym (held-none _ s c.self.invariant.table.0 (subst (λ v. RepresentsTable v s) (sym c.self.view_is) h) c.in-None.is)

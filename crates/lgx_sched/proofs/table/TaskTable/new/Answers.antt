@@ -1,7 +1,7 @@
 -- A table that was just made represents the list in which all tasks are down.
 use Rattle.std.proofs.Common.{◌∙◌, subst}
 use Rattle.lgx_sched.specs.TableView.{TableView}
-use Rattle.lgx_sched.specs.Represents.{Represents, IsTable, none_up}
+use Rattle.lgx_sched.specs.Represents.{RepresentsTable, IsTable, none_up}
 use Rattle.spec_tables.proofs.StateLists.{none_alone}
 use Rattle.lgx_sched.proofs.Made.{table-fresh, represents-fresh, fresh_from}
 use Rattle.lgx_sched.proofs.QuietTicks.{quiet-none}
@@ -16,5 +16,5 @@ invariant_of-result c = record {
 
 pub returns-clause-represents : goal.returns-clause-represents
 returns-clause-represents c = λ next.
-    subst (λ (v : TableView). Represents v (none_up c.args.defs.now next)) (fresh_from c.args.defs.now _ _ _ (c.of.ensures ∙ c.in_ok-kept.ensures.items) (c.in_ok-ups.ensures.items_if_clones_equal (none_alone _ (λ x h. h))) c.in_ok-queues.ensures)
+    subst (λ (v : TableView). RepresentsTable v (none_up c.args.defs.now next)) (fresh_from c.args.defs.now _ _ _ (c.of.ensures ∙ c.in_ok-kept.ensures.items) (c.in_ok-ups.ensures.items_if_clones_equal (none_alone _ (λ x h. h))) c.in_ok-queues.ensures)
     (represents-fresh c.args.defs.now next)

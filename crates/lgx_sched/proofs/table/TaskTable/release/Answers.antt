@@ -3,7 +3,7 @@ use Rattle.std.proofs.Common.{◌∙◌, subst, sym}
 use Rattle.spec_tables.specs.declared.task.Release.TheVariants.{Released, Overlap, Inhibited}
 use Rattle.spec_tables.specs.Tasks.{release}
 use Rattle.lgx_sched.specs.TableView.{TableView, def_of, up_of}
-use Rattle.lgx_sched.specs.Represents.{Represents}
+use Rattle.lgx_sched.specs.Represents.{RepresentsTable}
 use Rattle.lgx_sched.proofs.Tables.{answer_is, released_down, represents-release}
 use Rattle.lgx_sched.proofs.table.TaskTable.release.Goals as goal
 
@@ -12,7 +12,7 @@ put_up-requires-clause-down c = released_down (def_of c.args.self.now c.args.t) 
 
 pub returns-in-Released-clause-represents : goal.returns-in-Released-clause-represents
 returns-in-Released-clause-represents c = λ s h.
-    subst (λ (v : TableView). Represents v (release c.args.t c.args.now s)) (sym c.put_up.ensures)
+    subst (λ (v : TableView). RepresentsTable v (release c.args.t c.args.now s)) (sym c.put_up.ensures)
     (represents-release c.args.self.now s c.args.t c.args.now Released c.answer-answer.ensures.table.0 h c.requires.task (sym c.in-Released.is ∙ c.answer-answer.ensures.value))
 
 pub returns-in-Overlap-clause-represents : goal.returns-in-Overlap-clause-represents

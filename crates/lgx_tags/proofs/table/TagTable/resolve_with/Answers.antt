@@ -7,7 +7,7 @@ use Rattle.spec_language.specs.Declarations.{Declarations, bytes}
 use Rattle.spec_language.specs.Resolution.{in_form, named}
 use Rattle.spec_language.specs.ResolutionLaws.{LiesIn}
 use Rattle.lgx_tags.specs.Chains.{Answer, named_by, AllResolved}
-use Rattle.lgx_tags.specs.TextReading.{Answers, subscripts_of}
+use Rattle.lgx_tags.specs.TextReading.{AnswersTag, subscripts_of}
 use Rattle.lgx_tags.proofs.Declares.{AreInScopes, all_placed}
 use Rattle.lgx_tags.proofs.ResolvedChains.{resolved_named}
 use Rattle.lgx_tags.proofs.ResolvePasses.{names_in_bounds}
@@ -35,7 +35,7 @@ returns-clause-answer c =
     let all_resolved : AllResolved d c.as_slice-known.result.now = subst (λ (d : Declarations). AllResolved d c.as_slice-known.result.now) (sym back) (subst (AllResolved c.args.self.now.declarations) (sym c.as_slice-known.ensures.value) c.seal_of.ensures.all_resolved) in
     let placed : AreInScopes d.programs d.entries = all_placed d.types d.programs d.entries c.types-types.ensures.admitted in
     let same : in_form (subscripts_of c.args.subscripts) c.types-types.result.now (named_by d.entries c.as_slice-known.result.now c.args.scope) c.args.text.now ≡ in_form (subscripts_of c.args.subscripts) d.types (named d c.args.scope) c.args.text.now = ap (λ (types : List TypeDecl). in_form (subscripts_of c.args.subscripts) types (named_by d.entries c.as_slice-known.result.now c.args.scope) c.args.text.now) c.types-types.ensures.value ∙ form_same (subscripts_of c.args.subscripts) d.types (named_by d.entries c.as_slice-known.result.now c.args.scope) (named d c.args.scope) c.args.text.now (λ name. sym (resolved_named d c.as_slice-known.result.now placed all_resolved c.args.scope name)) in
-    subst (λ (d : Declarations). Answers (in_form (subscripts_of c.args.subscripts) d.types (named d c.args.scope) c.args.text.now) c.resolve_text.result) back (subst (λ (meant : Answer). Answers meant c.resolve_text.result) same c.resolve_text.ensures.answer)
+    subst (λ (d : Declarations). AnswersTag (in_form (subscripts_of c.args.subscripts) d.types (named d c.args.scope) c.args.text.now) c.resolve_text.result) back (subst (λ (meant : Answer). AnswersTag meant c.resolve_text.result) same c.resolve_text.ensures.answer)
 
 pub returns-clause-sized : goal.returns-clause-sized
 returns-clause-sized c =

@@ -1,0 +1,15 @@
+-- Nothing was counted, and nothing was made.
+use Rattle.std.proofs.Common.{sym, ◌∙◌}
+use Rattle.lgx_shared.proofs.Making.{nothing_made}
+use Rattle.lgx_shared.proofs.Numbers.{none_above}
+use Rattle.lgx_shared.proofs.locked_run.LockedRun.new.Goals as goal
+
+pub invariant_of-result : goal.invariant_of-result
+invariant_of-result g c =
+    let none = nothing_made g.I.Input.project g.I.Input.script c.args.named c.requires.recorder in
+    record {
+      shown = c.requires.history;
+      acted = c.requires.books.0 ∙ sym none.0;
+      stepped = c.requires.books.1 ∙ sym none.1;
+      spent = λ some. absurd (none_above c.args.ends.total c.requires.books.2 some);
+    }

@@ -1,0 +1,14 @@
+use Rattle.std.proofs.Common.{sym, subst}
+use Rattle.lgx_steps.specs.PartsView.{view_of}
+use Rattle.lgx_steps.proofs.Editing.{gives-edited, assemble-ready}
+use Rattle.spec_machine.specs.Edits.{assemble}
+use Rattle.lgx_steps.specs.Gives.{ViewGives}
+use Rattle.spec_machine.specs.declared.answer.Outcome.{Outcome}
+use Rattle.spec_machine.specs.Edits.{on_accepted}
+use Rattle.spec_machine.specs.Actions.{edit_replied}
+use Rattle.lgx_steps.proofs.parts.ControllerParts.assemble.Goals as goal
+
+pub returns-clause-gives : goal.returns-clause-gives
+returns-clause-gives c = λ n s h.
+    subst (λ (x : Outcome). ViewGives n (record (view_of c.args.self.now) { book = c.assemble-done.new.self }) x (edit_replied s (on_accepted assemble s.books c.args.client c.args.program.now))) (sym c.answered.ensures)
+    (gives-edited n (view_of c.args.self.now) s h assemble assemble-ready c.args.client c.args.program.now c.assemble-done.new.self c.assemble-done.result c.assemble-done.ensures)
