@@ -1,8 +1,8 @@
 -- The program on its way.
 use Rattle.std.specs.Prelude.{ℕ, List}
 use Rattle.lgx_answer.specs.Plan.{Plan}
-use Rattle.cmd_explore.specs.declared.word.Explore.{Explore}
-use Rattle.cmd_explore.specs.declared.word.Explore.TheVariants.{All, OnProject, OnScript}
+use Rattle.cmd_explore.specs.declared.command.Explore.{Explore}
+use Rattle.cmd_explore.specs.declared.command.Explore.TheVariants.{All, OnProject, OnScript}
 use Rattle.cmd_explore.specs.ExplorePlan.{project_read, script_read, question_read}
 
 -- the file that is read next

@@ -8,7 +8,7 @@ ghost use Rattle.lgx_answer.specs.Process.{IsProcess};
 ghost use Rattle.cmd_explore.specs.ExplorePlan.{plan_of};
 ghost use Rattle.cmd_explore.specs.Explored.{said_by, Explored, EndsExplored};
 
-use crate::word::explore_script;
+use crate::command::explore_script;
 use lgx_answer::{Status, Verdict, exit_number, say};
 use lgx_explore::Progress;
 use lgx_io::{Files, Gathered, Sink};

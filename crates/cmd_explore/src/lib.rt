@@ -7,13 +7,13 @@
 
 mod call;
 mod causes;
+mod command;
 mod counts;
 mod explored;
 mod judged;
 mod progress;
 mod text_out;
-mod word;
 
 pub use call::{USAGE, explore, program};
+pub use command::explore_script;
 pub use progress::Lines;
-pub use word::explore_script;

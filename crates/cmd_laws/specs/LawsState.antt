@@ -2,8 +2,8 @@
 use Rattle.std.specs.Prelude.{ℕ, List}
 use Rattle.lgx_answer.specs.Plan.{Plan}
 use Rattle.lgx_laws.specs.Laws.{roster_of}
-use Rattle.cmd_laws.specs.declared.word.Laws.{Laws}
-use Rattle.cmd_laws.specs.declared.word.Laws.TheVariants.{Both, OnProject}
+use Rattle.cmd_laws.specs.declared.command.Laws.{Laws}
+use Rattle.cmd_laws.specs.declared.command.Laws.TheVariants.{Both, OnProject}
 use Rattle.cmd_laws.specs.LawsPlan.{trace_next, on_trace}
 
 -- the file that is read next

@@ -5,7 +5,7 @@ ghost use Rattle.lgx_answer.specs.Answered.{Answered, call_of};
 ghost use Rattle.lgx_answer.specs.Laws.{FollowsPlan};
 ghost use Rattle.cmd_laws.specs.LawsPlan.{plan_of};
 
-use crate::word::judge_trace;
+use crate::command::judge_trace;
 use lgx_answer::{Status, Verdict, say};
 use lgx_io::{Files, Sink};
 use lgx_process::Planned;

@@ -5,10 +5,10 @@
 #![tactic(auto)]
 
 mod call;
+mod command;
 mod laws;
 mod lines;
-mod word;
 
 pub use call::{LawsProgram, USAGE, judge};
+pub use command::judge_trace;
 pub use laws::traces_say_yes;
-pub use word::judge_trace;

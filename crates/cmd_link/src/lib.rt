@@ -3,8 +3,8 @@
 #![tactic(auto)]
 
 mod causes;
+mod command;
 mod judged;
 mod lines;
-mod word;
 
-pub use word::link_projects;
+pub use command::link_projects;

@@ -5,10 +5,10 @@
 //! the type parameters of its `impl`. So it reads its two files itself, in the order of its plan (specs/RunPlan).
 #![tactic(auto)]
 
+mod command;
 mod kept;
 mod lanes;
 mod lines;
-mod word;
 
+pub use command::run;
 pub use lgx_shared::Gate;
-pub use word::run;

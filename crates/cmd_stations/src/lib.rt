@@ -5,10 +5,10 @@
 //! the type parameters of its `impl`. So it reads its two files itself, in the order of its plan (specs/StationsPlan).
 #![tactic(auto)]
 
+mod command;
 mod lines;
 mod texts;
 mod watched;
-mod word;
 
+pub use command::stations;
 pub use lgx_stations::{Gate, MAX_STATIONS};
-pub use word::stations;

@@ -1,8 +1,8 @@
 -- The command `audit P T` under way.
 use Rattle.std.specs.Prelude.{ℕ, List}
 use Rattle.lgx_answer.specs.Plan.{Plan}
-use Rattle.cmd_trace.specs.declared.audit_word.Audit.{Audit}
-use Rattle.cmd_trace.specs.declared.audit_word.Audit.TheVariants.{Both, OnTable}
+use Rattle.cmd_trace.specs.declared.audit_command.Audit.{Audit}
+use Rattle.cmd_trace.specs.declared.audit_command.Audit.TheVariants.{Both, OnTable}
 use Rattle.cmd_trace.specs.AuditPlan.{trace_next, on_trace}
 
 -- the file that is read next

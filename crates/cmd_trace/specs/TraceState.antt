@@ -1,8 +1,8 @@
 -- The command `trace P J` under way.
 use Rattle.std.specs.Prelude.{ℕ, List}
 use Rattle.lgx_answer.specs.Plan.{Plan}
-use Rattle.cmd_trace.specs.declared.trace_word.Trace.{Trace}
-use Rattle.cmd_trace.specs.declared.trace_word.Trace.TheVariants.{Both, OnProject}
+use Rattle.cmd_trace.specs.declared.trace_command.Trace.{Trace}
+use Rattle.cmd_trace.specs.declared.trace_command.Trace.TheVariants.{Both, OnProject}
 use Rattle.cmd_trace.specs.TracePlan.{journal_next, journal_read}
 
 -- the file that is read next

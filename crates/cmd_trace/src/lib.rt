@@ -2,18 +2,18 @@
 //! schedule.
 #![tactic(auto)]
 
-mod audit_word;
+mod audit_command;
 mod laws;
 mod lines;
 mod next;
 mod place;
 mod seen;
 mod table;
+mod trace_command;
 mod trace_lines;
-mod trace_word;
 
-pub use audit_word::audit_trace;
+pub use audit_command::audit_trace;
 pub use laws::traces_are_legal;
 pub use lines::{trace_cause_line, yes_line};
 pub use table::table_of;
-pub use trace_word::trace_journal;
+pub use trace_command::trace_journal;

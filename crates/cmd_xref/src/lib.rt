@@ -3,7 +3,7 @@
 
 mod lines;
 mod names;
+mod xref_command;
 mod xref_lines;
-mod xref_word;
 
-pub use xref_word::xref_project;
+pub use xref_command::xref_project;

@@ -1,13 +1,13 @@
-// The driver: it follows the plan of any word.
+// The driver: it follows the plan of any command.
 ghost use Rattle.std.specs.Prelude.{◌≡◌};
 ghost use Rattle.lgx_answer.specs.Plan.{Say, Read, only};
 ghost use Rattle.lgx_answer.specs.Endings.{ending_of, after_puts, after_read};
 ghost use Rattle.lgx_answer.specs.Answered.{Answered, call_of};
 
+use crate::file_command::{FileCommand, Step};
 use crate::lines::Lines;
 use crate::puts::{put_text, write_lines};
 use crate::status::{Status, Verdict};
-use crate::word::{FileCommand, Step};
 use lgx_io::{FileFault, Files, Sink, SinkFault};
 use lgx_num::Memory;
 use std::alloc::Global;
@@ -58,21 +58,21 @@ pub fn write<L: Lines, F: Files, K: Sink>(
     after_puts(write_lines(alloc, lines, sink), verdict)
 }
 
-/// Reads the files of a word one after another, up to a verdict, and writes its text.
+/// Reads the files of a command one after another, up to a verdict, and writes its text.
 pub fn answer<W: FileCommand, F: Files, K: Sink>(
     alloc: Global,
-    word: W,
+    command: W,
     files: &mut F,
     sink: &mut K,
 ) -> Status
-    ensures { Answered (Read (W.file word) (W.next word))
+    ensures { Answered (Read (W.file command) (W.next command))
         (call_of F.told F.failures files.old files.new K.held K.faults sink.old sink.new (ending_of result)) }
 {
-    let bytes = match files.read(word.name()) {
+    let bytes = match files.read(command.name()) {
         Ok(bytes) => bytes,
         Err(fault) => return after_read(fault),
     };
-    match word.judge(alloc, bytes) {
+    match command.judge(alloc, bytes) {
         Ok(Step::Say(verdict, text)) => after_puts(put_text(text.as_slice(), sink), verdict),
         Ok(Step::Write(verdict, lines)) => after_puts(write_lines(alloc, lines, sink), verdict),
         Ok(Step::Read(next)) => answer(alloc, next, files, sink),

@@ -19,7 +19,7 @@ pub trait Lines: Drop + Sized {
         ensures none { result ≡ Ok false → rest self.old ≡ [] };
 }
 
-/// No line: what a word has that says all that it says in one piece.
+/// No line: what a command has that says all that it says in one piece.
 #[derive(Drop)]
 pub struct NoLines;
 

@@ -8,6 +8,7 @@
 mod asked;
 mod chart;
 mod clock;
+mod command;
 mod entry;
 mod error;
 mod forms;
@@ -17,12 +18,12 @@ mod text_out;
 mod vcd;
 mod vcd_texts;
 mod wave_file;
-mod word;
 mod words;
 
 pub use asked::{Asked, MAX_WIDTH, MIN_WIDTH, View, WatchedPlace, asked_of};
 pub use chart::read_chart;
 pub use clock::{Clock, time_of};
+pub use command::draw;
 pub use entry::{Chart, End, Entry, Note};
 pub use error::{ChartCode, ChartError, ChartFault};
 pub use lgx_answer::Status;
@@ -31,5 +32,4 @@ pub use places::places_of;
 pub use text_out::{push, push_count, push_joined};
 pub use vcd::vcd_text;
 pub use wave_file::{USAGE, WaveProgram, wave};
-pub use word::draw;
 pub use words::owned;

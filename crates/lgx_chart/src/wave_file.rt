@@ -7,10 +7,10 @@ ghost use Rattle.lgx_chart.specs.Vcd.{vcd_text};
 ghost use Rattle.lgx_chart.specs.WavePlan.{wave_asked, wave_plan};
 
 use crate::asked::{Asked, asked_of};
+use crate::command::draw;
 use crate::entry::Chart;
 use crate::picture::Picture;
 use crate::vcd::vcd_text;
-use crate::word::draw;
 use lgx_answer::Status;
 use lgx_io::{Files, Sink};
 use lgx_num::Memory;

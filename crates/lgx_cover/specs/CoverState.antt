@@ -1,8 +1,8 @@
 -- The program on its way.
 use Rattle.std.specs.Prelude.{ℕ, List}
 use Rattle.lgx_answer.specs.Plan.{Plan}
-use Rattle.lgx_cover.specs.declared.word.Cover.{Cover}
-use Rattle.lgx_cover.specs.declared.word.Cover.TheVariants.{Both, OnProject}
+use Rattle.lgx_cover.specs.declared.command.Cover.{Cover}
+use Rattle.lgx_cover.specs.declared.command.Cover.TheVariants.{Both, OnProject}
 use Rattle.lgx_cover.specs.CoverPlan.{project_read, journal_read}
 
 -- the file that is read next

@@ -5,7 +5,7 @@ ghost use Rattle.lgx_answer.specs.Answered.{Answered, call_of};
 ghost use Rattle.lgx_answer.specs.Laws.{FollowsPlan};
 ghost use Rattle.lgx_cover.specs.CoverPlan.{plan_of};
 
-use crate::word::cover_journal;
+use crate::command::cover_journal;
 use lgx_answer::{Status, Verdict, say};
 use lgx_io::{Files, Sink};
 use lgx_process::Planned;

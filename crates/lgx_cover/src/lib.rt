@@ -6,6 +6,7 @@
 #![tactic(auto)]
 
 mod call;
+mod command;
 mod coverage;
 mod covered;
 mod growth;
@@ -14,9 +15,8 @@ mod table;
 mod tables;
 mod text_out;
 mod version;
-mod word;
 
 pub use call::{CoverProgram, USAGE, cover};
+pub use command::cover_journal;
 pub use coverage::Coverage;
 pub use version::Version;
-pub use word::cover_journal;

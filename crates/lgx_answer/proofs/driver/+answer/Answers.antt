@@ -16,5 +16,5 @@ returns-in-Ok-Write g t c =
 pub returns-in-Ok-Read : goal.returns-in-Ok-Read
 returns-in-Ok-Read g t c =
     let leads = c.in-Ok-Read.ensures.read _ (ap (λ s. Ok s) c.in-Ok-Read.field-0-is) in
-    let more = Read (g.W.Word.file c.in-Ok-Read.next) (g.W.Word.next c.in-Ok-Read.next) in
+    let more = Read (g.W.FileCommand.file c.in-Ok-Read.next) (g.W.FileCommand.next c.in-Ok-Read.next) in
     read_on _ _ _ _ _ _ more _ _ _ _ _ _ c.name.ensures c.in-Ok.ensures.ok c.in-Ok.ensures.whole c.in-Ok.ensures.failures c.in-Ok.ensures.same leads c.answer.ensures
