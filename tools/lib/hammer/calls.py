@@ -42,7 +42,7 @@ def long_report(steps):
 
 
 class Call(NamedTuple):
-    """A call by its name: a word and an example. `script` is the script of a `run`."""
+    """A call by its name: a command and an example. `script` is the script of a `run`."""
 
     name: str
     words: list
@@ -76,12 +76,12 @@ def fixed(call, out):
 
 
 def calls_of(program):
-    """Each word that the program has, on a small and a middle example; one with an output that takes several writes."""
+    """Each command that the program has, on a small and a middle example; one with an output that takes several writes."""
     made = []
     for example, folder in (("first", FIRST), ("conveyor", CONVEYOR)):
         project, journal = f"{folder}/project.json", f"{folder}/journal.txt"
-        made += [Call(f"{word} {example}", [word, project]) for word in ("check", "text", "migrate", "xref")]
-        made += [Call(f"{word} {example}", [word, project, journal]) for word in ("replay", "trace")]
+        made += [Call(f"{verb} {example}", [verb, project]) for verb in ("check", "text", "migrate", "xref")]
+        made += [Call(f"{verb} {example}", [verb, project, journal]) for verb in ("replay", "trace")]
         made.append(Call(f"stations {example}", ["stations", project, journal, "2" if example == "first" else "5"]))
         if program.beside("logix_live"):
             made.append(Call(f"live {example}", [project], contents_of(journal), program.beside("logix_live")))
@@ -111,4 +111,4 @@ def calls_of(program):
         if program.beside(name):
             made += [Call(f"{name} {example}", ["tick"], contents_of(f"{folder}/report.txt"), program.beside(name))
                      for example, folder in (("first", FIRST), ("conveyor", CONVEYOR))]
-    return [call for call in made if call.path or call.words[0] in program.words]
+    return [call for call in made if call.path or call.words[0] in program.commands]
