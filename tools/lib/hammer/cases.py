@@ -4,18 +4,13 @@ import functools
 import json
 import os
 
-from lib.paths import EXAMPLES
+from lib.paths import EXAMPLES, read_bytes
 
 from .bent import Bender
 from .made import Maker
 from .plain.audit import Counting, Table, event_of
 from .plain.judge import answer, kept_project
 from .sound import shown, unsound
-
-
-def contents_of(path):
-    with open(path, "rb") as file:
-        return file.read()
 
 
 @functools.cache
@@ -25,7 +20,7 @@ def example_files():
     for folder in sorted(os.listdir(EXAMPLES)):
         project, journal = f"{EXAMPLES}/{folder}/project.json", f"{EXAMPLES}/{folder}/journal.txt"
         if os.path.exists(project):
-            found.append((contents_of(project), contents_of(journal) if os.path.exists(journal) else b"mode run\ncpu 9\nend\n"))
+            found.append((read_bytes(project), read_bytes(journal) if os.path.exists(journal) else b"mode run\ncpu 9\nend\n"))
     return found
 
 
