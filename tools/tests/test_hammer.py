@@ -157,8 +157,8 @@ class Limits(unittest.TestCase):
     def test_rows(self):
         for row in limits.LIMITS:
             files = row.make(row.most + row.by)
-            if row.word in ("check", "replay") and sum(map(len, files)) < 20_000 and row.most < 10_000:
-                self.assertEqual(answer([row.word], files), (row.status, row.text), row.what)
+            if row.command in ("check", "replay") and sum(map(len, files)) < 20_000 and row.most < 10_000:
+                self.assertEqual(answer([row.command], files), (row.status, row.text), row.what)
 
 
 if __name__ == "__main__":

@@ -21,7 +21,7 @@ from lib.hammer.program import Ran
 class Plain:
     """The plain interpreter as a program of the hammer; `bend` changes what it answers to files."""
 
-    words = corpus.Words.words
+    commands = corpus.Commands.commands
 
     def __init__(self, bend=lambda verb, files, out: out, folder=None):
         self.bend, self.room, self.runs, self.told, self.path = bend, folder, 0, {}, f"{folder}/programs/logix"
@@ -55,7 +55,7 @@ class Made(unittest.TestCase):
             seen = []
             for seed in range(6):
                 judge, files = make(random.Random(seed), Plain())
-                if judge.word == "replay":
+                if judge.command == "replay":
                     self.assertIsNone(judge(Plain(), files))
                     seen.append(judge(Plain(forgetful), files))
             self.assertTrue(seen and any("from byte" in (one or "") for one in seen))
@@ -81,11 +81,11 @@ class OnOne(unittest.TestCase):
             runs = [tuple(files) for (one, _), files in made.items() if one == kind and len(files) > 1]
             self.assertEqual(len(set(runs)), len(runs), kind)
 
-    def test_no_word_reads_a_project_alone_twice(self):
+    def test_no_command_reads_a_project_alone_twice(self):
         hammer = Hammer(Plain(), "s", "nowhere", runs=12)
-        words = [hammer.case("whole", number)[0].word for number in range(24)]
-        for word in ("check", "text", "migrate", "xref"):
-            self.assertEqual((words[:12].count(word), words[12:].count(word)), (1, 1))
+        met = [hammer.case("whole", number)[0].command for number in range(24)]
+        for command in ("check", "text", "migrate", "xref"):
+            self.assertEqual((met[:12].count(command), met[12:].count(command)), (1, 1))
 
     def test_a_case_is_made_by_its_number_alone(self):
         made = self.cases(4, range(8))
@@ -97,10 +97,10 @@ class OnOne(unittest.TestCase):
         for kind in ("whole", "marks", "begins", "journals", "traces", "links"):
             for number in range(6):
                 judge, files = Hammer(Plain(), "s", "nowhere", runs=4).case(kind, number)
-                first = answer([judge.word], files)
-                self.assertEqual(answer([judge.word], files), first)
+                first = answer([judge.command], files)
+                self.assertEqual(answer([judge.command], files), first)
                 kept_project.cache_clear()
-                self.assertEqual(answer([judge.word], files), first)
+                self.assertEqual(answer([judge.command], files), first)
 
 
 class Books(unittest.TestCase):
@@ -249,7 +249,7 @@ class Corpus(unittest.TestCase):
     def test_it_is_small_and_meets_what_it_was_kept_for(self):
         self.assertLess(os.path.getsize(corpus.PATH), 200_000)
         for one in corpus.read():
-            met = corpus.met_by(one.word, one.files)
+            met = corpus.met_by(one.command, one.files)
             self.assertLessEqual(set(one.meets), met, one)
 
     def test_it_is_written_as_it_is_read(self):

@@ -156,7 +156,7 @@ class Projects(unittest.TestCase):
 
     def test_limits(self) -> None:
         for row in LIMITS:
-            for number in (row.most, row.most + row.by) if row.word == "check" else ():
+            for number in (row.most, row.most + row.by) if row.command == "check" else ():
                 self.compare(row.make(number)[0])
         self.assertGreater(min(self.taken, self.refused), 15)
 

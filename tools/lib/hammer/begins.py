@@ -87,5 +87,5 @@ def files(draw, made=None):
 
 
 def begins(draw, program, made=None, _=None):
-    verb = draw.choice([verb for verb in ("replay", "replay", "trace") if verb in program.words])
+    verb = draw.choice([verb for verb in ("replay", "replay", "trace") if verb in program.commands])
     return judged(verb), files(draw, made)

@@ -3,8 +3,10 @@
 import random
 from typing import NamedTuple
 
+from lib.paths import EXAMPLES, read_bytes
+
 from . import lanes
-from .cases import EXAMPLES, contents_of, file_text, journal_text
+from .cases import file_text, journal_text
 from .laws import Broken
 from .made import Maker
 from .plain.journal import Script
@@ -42,7 +44,7 @@ def long_report(steps):
 
 
 class Call(NamedTuple):
-    """A call by its name: a word and an example. `script` is the script of a `run`."""
+    """A call by its name: a command and an example. `script` is the script of a `run`."""
 
     name: str
     words: list
@@ -56,7 +58,7 @@ class Call(NamedTuple):
     def same(self, program, out, whole):
         """Raises what differs from the whole answer, which threads may change within the rules."""
         if self.script:
-            lanes.judge_answer(program, contents_of(self.words[1]), Script(self.script), out)
+            lanes.judge_answer(program, read_bytes(self.words[1]), Script(self.script), out)
         elif fixed(self, out) != fixed(self, whole):
             raise Broken(f"{shown(out)}, and not {shown(whole)}")
 
@@ -76,15 +78,15 @@ def fixed(call, out):
 
 
 def calls_of(program):
-    """Each word that the program has, on a small and a middle example; one with an output that takes several writes."""
+    """Each command that the program has, on a small and a middle example; one with an output that takes several writes."""
     made = []
     for example, folder in (("first", FIRST), ("conveyor", CONVEYOR)):
         project, journal = f"{folder}/project.json", f"{folder}/journal.txt"
-        made += [Call(f"{word} {example}", [word, project]) for word in ("check", "text", "migrate", "xref")]
-        made += [Call(f"{word} {example}", [word, project, journal]) for word in ("replay", "trace")]
+        made += [Call(f"{verb} {example}", [verb, project]) for verb in ("check", "text", "migrate", "xref")]
+        made += [Call(f"{verb} {example}", [verb, project, journal]) for verb in ("replay", "trace")]
         made.append(Call(f"stations {example}", ["stations", project, journal, "2" if example == "first" else "5"]))
         if program.beside("logix_live"):
-            made.append(Call(f"live {example}", [project], contents_of(journal), program.beside("logix_live")))
+            made.append(Call(f"live {example}", [project], read_bytes(journal), program.beside("logix_live")))
         if program.beside("logix_cover"):
             made.append(Call(f"cover {example}", [project, journal], path=program.beside("logix_cover")))
     if program.beside("logix_explore"):
@@ -101,7 +103,7 @@ def calls_of(program):
         made += [Call("laws first", [f"{FIRST}/project.json", trace], path=program.beside("logix_laws")),
                  Call("laws doctored", [f"{AUDIT}/project.json", f"{AUDIT}/doctored.txt"], path=program.beside("logix_laws"))]
     script, middle = f"{SHIFT}/shift.txt", program.put("turn-script", MIDDLE_SCRIPT)
-    made.append(Call("run two_engineers", ["run", f"{SHIFT}/project.json", script], script=contents_of(script)))
+    made.append(Call("run two_engineers", ["run", f"{SHIFT}/project.json", script], script=read_bytes(script)))
     made.append(Call("run conveyor", ["run", f"{CONVEYOR}/project.json", middle], script=MIDDLE_SCRIPT))
     made.append(Call("link two_stations", ["link", f"{STATIONS}/a.json", f"{STATIONS}/b.json", f"{STATIONS}/link.txt"]))
     taker, linked = program.put("turn-taker", TAKER), program.put("turn-link", LINK_SCRIPT)
@@ -109,6 +111,6 @@ def calls_of(program):
     made.append(Call("gen 1", ["gen", "1"]))
     for name in ("logix_timeline", "logix_wave"):
         if program.beside(name):
-            made += [Call(f"{name} {example}", ["tick"], contents_of(f"{folder}/report.txt"), program.beside(name))
+            made += [Call(f"{name} {example}", ["tick"], read_bytes(f"{folder}/report.txt"), program.beside(name))
                      for example, folder in (("first", FIRST), ("conveyor", CONVEYOR))]
-    return [call for call in made if call.path or call.words[0] in program.words]
+    return [call for call in made if call.path or call.words[0] in program.commands]

@@ -4,18 +4,13 @@ import functools
 import json
 import os
 
-from lib.paths import EXAMPLES
+from lib.paths import EXAMPLES, read_bytes
 
 from .bent import Bender
 from .made import Maker
 from .plain.audit import Counting, Table, event_of
 from .plain.judge import answer, kept_project
 from .sound import shown, unsound
-
-
-def contents_of(path):
-    with open(path, "rb") as file:
-        return file.read()
 
 
 @functools.cache
@@ -25,7 +20,7 @@ def example_files():
     for folder in sorted(os.listdir(EXAMPLES)):
         project, journal = f"{EXAMPLES}/{folder}/project.json", f"{EXAMPLES}/{folder}/journal.txt"
         if os.path.exists(project):
-            found.append((contents_of(project), contents_of(journal) if os.path.exists(journal) else b"mode run\ncpu 9\nend\n"))
+            found.append((read_bytes(project), read_bytes(journal) if os.path.exists(journal) else b"mode run\ncpu 9\nend\n"))
     return found
 
 
@@ -45,11 +40,11 @@ def told(ran, status, text):
 
 
 def judged(verb):
-    """Compares what the word answers with the plain interpreter."""
+    """Compares what the command answers with the plain interpreter."""
     def judge(program, contents):
         ran, wanted = program.answer(verb, *contents), answer([verb], contents)
         return told(ran, wanted[0], wanted[1].encode("latin-1")) if wanted else unsound(ran, {0})
-    judge.word = verb
+    judge.command = verb
     return judge
 
 
@@ -62,7 +57,7 @@ def journal_text(lines):
 
 
 OF_JOURNAL, OF_PROJECT = ("replay", "replay", "replay", "replay", "trace"), ("check", "text", "migrate", "xref")
-EVERY = 3  # of the cases on one project every third, up to the last word, reads the project alone
+EVERY = 3  # of the cases on one project every third, up to the last command, reads the project alone
 
 
 def made_project(*slips):
@@ -82,12 +77,12 @@ whole_project = made_project(0.0, 0.0, 0.0, 0.002, 0.01)
 
 
 def whole(draw, program, made=None, at=None):
-    """A made project and journal, with some slips; or the case of this number on a project that was made before, where no word reads the project alone twice."""
+    """A made project and journal, with some slips; or the case of this number on a project that was made before, where no command reads the project alone twice."""
     maker, project = made or whole_project(draw)
     maker.draw = draw
     contents = [project, journal_text(maker.journal())]
-    words = OF_JOURNAL + OF_PROJECT if at is None else OF_JOURNAL if at % EVERY else OF_PROJECT[at // EVERY:][:1] or OF_JOURNAL
-    verb = draw.choice([word for word in words if word in program.words] or ["replay"])
+    commands = OF_JOURNAL + OF_PROJECT if at is None else OF_JOURNAL if at % EVERY else OF_PROJECT[at // EVERY:][:1] or OF_JOURNAL
+    verb = draw.choice([command for command in commands if command in program.commands] or ["replay"])
     return judged(verb), contents if verb in OF_JOURNAL else contents[:1]
 
 

@@ -27,9 +27,9 @@ PROJECTS = {"link": 2}
 
 
 class Kept(NamedTuple):
-    """A case: the word, its files, and the rare things that it was kept for."""
+    """A case: the command, its files, and the rare things that it was kept for."""
 
-    word: str
+    command: str
     files: list
     meets: list
 
@@ -42,16 +42,16 @@ def read(path=PATH):
 
 
 def kept_of(text):
-    """A case from its text: a head that says the word and what it was kept for, and its files."""
+    """A case from its text: a head that says the command and what it was kept for, and its files."""
     head, _, rest = text.partition(b"\n")
-    word, *meets = head.decode("latin-1").split("; ")
-    return Kept(word, rest[:-len(END)].split(BETWEEN), meets)
+    command, *meets = head.decode("latin-1").split("; ")
+    return Kept(command, rest[:-len(END)].split(BETWEEN), meets)
 
 
 def write(kept, path=PATH):
     with open(path, "wb") as file:
         for one in kept:
-            file.write(b"\n" + HEAD + "; ".join([one.word, *one.meets]).encode("latin-1") + b"\n" + BETWEEN.join(one.files) + END)
+            file.write(b"\n" + HEAD + "; ".join([one.command, *one.meets]).encode("latin-1") + b"\n" + BETWEEN.join(one.files) + END)
 
 
 def is_writable(files):
@@ -80,7 +80,7 @@ class Changes:
         of_project, of_text = (*[self.rung] * 8, self.value, self.bent), (*[self.line] * 4, *[self.number] * 4, self.bent)
         for _ in range(self.draw.choice((1, 1, 1, 2, 3))):
             at = self.draw.randrange(len(files))
-            way = self.draw.choice(of_project if at < PROJECTS.get(one.word, 1) else of_text)
+            way = self.draw.choice(of_project if at < PROJECTS.get(one.command, 1) else of_text)
             files[at] = way(files[at])
         return files
 
@@ -151,18 +151,18 @@ def kept(draw, program):
     known, rows = by_row()
     one = draw.choice(draw.choice(rows) if draw.random() < 0.6 else known)
     files = one.files if draw.random() < 0.1 else Changes(draw, known).files(one)
-    how = draw.choice(("live", "stations")) if one.word == "replay" and draw.random() < 0.1 else one.word
+    how = draw.choice(("live", "stations")) if one.command == "replay" and draw.random() < 0.1 else one.command
     if how == "stations":
         return of_stations, [*files, b"2"]
-    return (of_live, files) if how == "live" and program.beside("logix_live") else (cases.judged(one.word), files)
+    return (of_live, files) if how == "live" and program.beside("logix_live") else (cases.judged(one.command), files)
 
 
 # ---- finding more, by the plain interpreter alone
 
-class Words:
+class Commands:
     """What the makers of cases ask of a program."""
 
-    words = {"replay", "trace", "check", "text", "migrate", "xref", "audit", "link"}
+    commands = {"replay", "trace", "check", "text", "migrate", "xref", "audit", "link"}
 
     @staticmethod
     def beside(_):
@@ -175,14 +175,14 @@ MAKERS = (
 )
 
 
-def met_by(word, files):
+def met_by(command, files):
     """What a case meets; nothing of a long one."""
     coverage = Coverage()
     with Watching(coverage):
-        wanted = answer([word], files)
+        wanted = answer([command], files)
     if wanted is None:
         return set()
-    coverage.meet(f"status {word} {wanted[0]}")
+    coverage.meet(f"status {command} {wanted[0]}")
     if wanted[0]:
         coverage.causes(wanted[1])
     return coverage.case()
@@ -194,28 +194,28 @@ class Finder:
     def __init__(self, seed, known):
         self.draw, self.kept, self.counts, self.tried = Draw(f"find {seed}"), list(known), Coverage().counts, 0
         for one in self.kept:
-            self.counts.update(met_by(one.word, one.files))
+            self.counts.update(met_by(one.command, one.files))
 
     def drawn(self):
         if self.kept and self.tried > WARM and self.draw.random() < 0.7:
             one = self.draw.choice(self.kept[-40:] if self.draw.random() < 0.4 else self.kept)
-            return one.word, Changes(self.draw, self.kept).files(one)
+            return one.command, Changes(self.draw, self.kept).files(one)
         make = self.draw.choices([make for make, _ in MAKERS], [often for _, often in MAKERS])[0]
-        judge, files = make(self.draw, Words)
-        return judge.word, files
+        judge, files = make(self.draw, Commands)
+        return judge.command, files
 
     def find(self, seconds):
         until, early = time.monotonic() + seconds, {}
         while time.monotonic() < until and self.size() < MOST_BYTES:
-            word, files = self.drawn()
+            command, files = self.drawn()
             self.tried += 1
-            met = met_by(word, files)
+            met = met_by(command, files)
             self.counts.update(met)
             rare = sorted(what for what in met if self.counts[what] <= RARE)
             if self.tried <= WARM:
-                early.update({what: (word, files) for what in rare})
+                early.update({what: (command, files) for what in rare})
             elif rare:
-                self.keep(word, files, rare)
+                self.keep(command, files, rare)
             if self.tried == WARM:
                 self.keep_early(early)
         return self.kept
@@ -225,13 +225,13 @@ class Finder:
             if self.counts[what] <= RARE and not any(what in one.meets for one in self.kept):
                 self.keep(*early[what], [what])
 
-    def keep(self, word, files, rare):
+    def keep(self, command, files, rare):
         """Keeps the case, made smaller, if it stays small enough."""
         shrink.MOST_SECONDS = SECONDS_OF_SHRINKING
-        smaller = shrink.Shrinker(lambda made: set(rare) <= met_by(word, made)).shrink(files)
+        smaller = shrink.Shrinker(lambda made: set(rare) <= met_by(command, made)).shrink(files)
         smaller = [compact(bytes(text)) for text in smaller]
-        if sum(map(len, smaller)) < MOST_FILE and is_writable(smaller) and set(rare) <= met_by(word, smaller):
-            self.kept.append(Kept(word, smaller, rare[:MOST_TOLD]))
+        if sum(map(len, smaller)) < MOST_FILE and is_writable(smaller) and set(rare) <= met_by(command, smaller):
+            self.kept.append(Kept(command, smaller, rare[:MOST_TOLD]))
 
     def size(self):
         return sum(len(text) + 40 for one in self.kept for text in one.files)

@@ -36,7 +36,7 @@ CODES = {
 FAULTS = ("minor 4/4", "major 4/20", "major 4/31", "major 4/34", "major 4/84", "major 6/1", "minor 6/2", "minor 6/3")
 SHORT = 500  # bytes
 CODE = re.compile(r"\b([MNFETCPYGJKLQUV])([0-9]{1,2})\b")
-WORDS_WITH_STATUSES = {
+STATUSES_OF_COMMANDS = {
     "check": (0, 2, 4, 5, 6, 7), "text": (0, 2, 4, 5, 6), "migrate": (0, 2, 4, 5, 6), "xref": (0, 2, 4, 5, 6), "replay": (0, 2, 3, 4, 5, 6), "gen": (0,),
     "trace": (0, 2, 3, 4, 5, 6), "audit": (0, 2, 3, 4, 5, 6, 8), "run": (0, 2, 3, 4, 5, 6), "stations": (0, 2, 3, 4, 5, 6), "link": (0, 2, 3, 4, 5, 6),
     "logix": (1,), "live": (0, 1, 2, 4, 5, 6), "cover": (0, 1, 2, 3, 4, 5, 6), "explore": (0, 1, 2, 3, 4, 5, 6, 8, 9), "laws": (0, 1, 2, 3, 4, 5, 6, 8),
@@ -54,7 +54,7 @@ def rows():
     made += [f"cause {letter}{number}" for letter, numbers in CODES.items() for number in numbers] + ["cause held"]
     made += [f"law {law}" for law in LAWS]
     made += [f"fault {fault}" for fault in FAULTS]
-    return made + [f"status {word} {status}" for word, statuses in WORDS_WITH_STATUSES.items() for status in statuses]
+    return made + [f"status {command} {status}" for command, statuses in STATUSES_OF_COMMANDS.items() for status in statuses]
 
 
 class Coverage:

@@ -48,8 +48,8 @@ def of_project(program, contents):
     migrated = got(program, {checked.status}, "migrate", project)
     listed = got(program, {checked.status}, "text", project)
     if checked.status:
-        for word in sorted({"migrate", "text", "xref"} & program.words):
-            same(f"{word}, check", got(program, {checked.status}, word, project), checked)
+        for command in sorted({"migrate", "text", "xref"} & program.commands):
+            same(f"{command}, check", got(program, {checked.status}, command, project), checked)
         return None
     same("check of the migrated project", got(program, {0}, "check", migrated.out), checked)
     same("migrate of the migrated project", got(program, {0}, "migrate", migrated.out), migrated)
@@ -57,7 +57,7 @@ def of_project(program, contents):
     respelled = with_rungs(json.loads(project), listed.out.decode("latin-1"))
     same("check of the project as it is spelled", got(program, {0}, "check", respelled), checked)
     same("text of the project as it is spelled", got(program, {0}, "text", respelled), listed)
-    if "xref" in program.words:
+    if "xref" in program.commands:
         same("xref of the migrated project", got(program, {0}, "xref", migrated.out), got(program, {0}, "xref", project))
     return None
 

@@ -1,6 +1,6 @@
 """Every limit of the documents, met exactly and passed by one, through the program: a table that names the limit.
 
-A row is what the limit is, a word, a maker of files for a number, the limit's number, and what is answered beyond it.
+A row is what the limit is, a command, a maker of files for a number, the limit's number, and what is answered beyond it.
 """
 
 from typing import NamedTuple
@@ -18,7 +18,7 @@ class Limit(NamedTuple):
     """At `most` the status is 0; one beyond, the answer is `status` and `text`. `least` is the other way: one below is refused."""
 
     what: str
-    word: str
+    command: str
     make: object
     most: int
     status: int
@@ -335,7 +335,7 @@ def number_of_limits():
 def of_limit(program, contents):
     """The row of this number: met, and passed by one."""
     row = LIMITS[int(contents[0])]
-    met = program.answer(row.word, *row.make(row.most))
+    met = program.answer(row.command, *row.make(row.most))
     if row.what == "nesting of JSON":
         wrong = told(met, 2, b"project P3\n")
     else:
@@ -344,7 +344,7 @@ def of_limit(program, contents):
         wrong = f"status {met.status} with {met.out[:200]!r}" if met.status or met.err or refused else None
     if wrong:
         return f"{row.what}, met at {row.most}: {wrong}"
-    wrong = told(program.answer(row.word, *row.make(row.most + row.by)), row.status, row.text.encode())
+    wrong = told(program.answer(row.command, *row.make(row.most + row.by)), row.status, row.text.encode())
     return f"{row.what}, passed at {row.most + row.by}: {wrong}" if wrong else None
 
 

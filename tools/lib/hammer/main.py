@@ -17,7 +17,7 @@ from .plain.judge import answer
 from .program import PAGE, Program
 from .shrink import Shrinker
 
-# Each kind: what draws a case, how often beside the others, and a word that the program must have for it.
+# Each kind: what draws a case, how often beside the others, and a command that the program must have for it.
 KINDS = {
     "whole": (cases.whole, 80, "replay"), "long runs": (cases.long_runs, 0.5, "replay"),
     "edit runs": (cases.edit_runs, 0.1, "replay"), "projects": (cases.projects, 60, "check"),
@@ -61,14 +61,14 @@ class Hammer:
         self.differences = []
 
     def known_kinds(self, wanted):
-        """The kinds that are wanted and that the program has the words for."""
+        """The kinds that are wanted and that the program has the commands for."""
         kinds = [kind for kind in KINDS if not wanted or kind in wanted]
         kinds = [kind for kind in kinds if self.has(KINDS[kind][2] or "logix_live")]
         return [kind for kind in kinds if kind not in IN_TURN or IN_TURN[kind](self.program)]
 
-    def has(self, word):
-        """Whether the program has a word, or there is a program of this name."""
-        return self.program.beside(word) if word.startswith("logix_") else word in self.program.words
+    def has(self, command):
+        """Whether the program has a command, or there is a program of this name."""
+        return self.program.beside(command) if command.startswith("logix_") else command in self.program.commands
 
     def case(self, kind, number):
         """The judge and the files of a case, by its number alone."""

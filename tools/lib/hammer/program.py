@@ -48,7 +48,7 @@ class Program:
         signal.signal(signal.SIGALRM, hang)
         signal.signal(signal.SIGTERM, lambda *_: sys.exit(128 + signal.SIGTERM))
         resource.setrlimit(resource.RLIMIT_AS, (MOST_MEMORY, resource.getrlimit(resource.RLIMIT_AS)[1]))
-        self.words = self.usage()
+        self.commands = self.usage()
 
     def close(self):
         os.close(self.out)
@@ -56,7 +56,7 @@ class Program:
         shutil.rmtree(self.room, ignore_errors=True)
 
     def usage(self):
-        """The words that the usage line names."""
+        """The commands that the usage line names."""
         line = self.run([]).out.decode("latin-1")
         return {piece.split()[0] for piece in line.partition("logix ")[2].split(", ")}
 
@@ -68,7 +68,7 @@ class Program:
         return path
 
     def answer(self, verb, *contents, more=()):
-        """Runs a word on files of these contents, and then more words."""
+        """Runs a command on files of these contents, and then more words."""
         return self.run([verb, *(self.put(f"file{at}", one) for at, one in enumerate(contents)), *more])
 
     def tally(self, fault, came):

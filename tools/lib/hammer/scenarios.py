@@ -6,7 +6,9 @@ import io
 import os
 import shutil
 
-from .cases import contents_of, file_text, first_difference
+from lib.paths import read_bytes
+
+from .cases import file_text, first_difference
 from .laws import Broken, law
 from .made import Maker
 from .outside import scenario
@@ -76,7 +78,7 @@ class Called:
         self.out, self.err = out.getvalue(), err.getvalue()
 
     def file(self, name):
-        return contents_of(f"{self.folder}/{name}")
+        return read_bytes(f"{self.folder}/{name}")
 
 
 @law

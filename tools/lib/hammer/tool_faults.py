@@ -7,9 +7,9 @@ import os
 import subprocess
 from typing import NamedTuple
 
-from .cases import EXAMPLES
+from lib.paths import EXAMPLES, TOOLS
+
 from .laws import Broken, law
-from .outside import TOOLS
 
 SECONDS, UNREAD = 60, 4  # at this status nothing is written
 # So that a few turns are of all calls, they don't come in order; the step and the number of turns have no common divisor.

@@ -1,4 +1,4 @@
-"""Each allocation, and each open, read and write of the system, fails once, in turn: at each word, on a small and a middle example.
+"""Each allocation, and each open, read and write of the system, fails once, in turn: at each command, on a small and a middle example.
 
 On a long example, with an output of several writes, some hundreds of its allocations.
 """
@@ -20,7 +20,7 @@ OUT_OF_MEMORY = 6
 # Of a call with more allocations every so manieth fails, so that about so many do.
 MOST_ALLOCATIONS = 2_000
 NEEDLESS = 1
-# Words that start threads: their allocations are failed one in each run.
+# Commands that start threads: their allocations are failed one in each run.
 THREADED = ("run", "stations")
 
 

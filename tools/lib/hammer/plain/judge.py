@@ -39,7 +39,7 @@ def kept_project(contents):
 
 
 def answer(words, contents):
-    """The status and the output of the word over these contents of its files; None of a long run."""
+    """The status and the output of the command over these contents of its files; None of a long run."""
     try:
         return answer_of(words[0], contents)
     except TooLong:
