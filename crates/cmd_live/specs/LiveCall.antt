@@ -24,7 +24,7 @@ pub record LiveCall : Type 0 where
   pub new : ConsoleSeen
   pub answer : Ending
 
--- the same as a call of a word of the program `logix`
+-- the same as a call of a command of the program `logix`
 abbrev pub as_call : LiveCall → Call
 as_call c = record {
   told = c.told;
