@@ -1,6 +1,6 @@
 pub mod Counting
 pub mod Migrated
-pub mod FileParts
+pub mod Parts
 pub mod Passes
 pub mod Programs
 pub mod Sources

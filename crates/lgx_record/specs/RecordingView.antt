@@ -5,7 +5,7 @@ use Rattle.spec_text.specs.ReportText.{Names}
 use Rattle.lgx_journal.specs.Journals.{JournalView}
 use Rattle.lgx_watch.specs.Kept.{Kept}
 use Rattle.lgx_core.specs.ControllerView.{ControllerView}
-use Rattle.lgx_record.specs.declared.parts.RecordingParts.{ControllerParts}
+use Rattle.lgx_record.specs.declared.parts.RecordingParts.{RecordingParts}
 use Rattle.lgx_record.specs.FollowerView.{FollowerView}
 
 -- Its controller, the journal of what the controller did, the log of the report's lines, the names that they are written
@@ -19,7 +19,7 @@ pub record RecordingView : Type 0 where
   pub places : List Place
   pub values : List ℤ
 
-abbrev pub view_of : ControllerParts → RecordingView
+abbrev pub view_of : RecordingParts → RecordingView
 view_of r = record {
   controller = r.follower.controller;
   journal = r.journal;
