@@ -14,3 +14,4 @@ pub mod Handed
 pub mod Advances
 pub mod Shortly
 pub mod KnownOperands
+pub mod WholeScans

@@ -6,3 +6,4 @@ pub mod Rows
 pub mod Steps
 pub mod Runs
 pub mod Executing
+pub mod Over

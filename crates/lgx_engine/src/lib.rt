@@ -2,7 +2,7 @@
 //!
 //! A step copies an element, leaves a routine or executes an instruction, takes no memory, and touches what it needs. It is
 //! `advance` of `spec_scan`, if code and position represent rungs and a position in them as `IsRunOf` says. [`advance_on`] makes
-//! many of them at once.
+//! many of them at once, and [`advance_over`] goes over the ends of scans.
 #![tactic(auto)]
 
 mod branches;
@@ -12,6 +12,7 @@ mod handing;
 mod known;
 mod moves;
 mod operand;
+mod over;
 mod place;
 mod row;
 mod run;
@@ -21,6 +22,7 @@ mod settling;
 mod short;
 
 pub use frame::Position;
+pub use over::{BeginSteps, MAX_BEGINS, advance_over};
 pub use place::Execution;
 pub use run::{CodeRun, advance_on};
 pub use scan::advance;

@@ -1,5 +1,5 @@
 -- A task begins its next program.
-use Rattle.std.proofs.Common.{◌≡◌, ℕ, ◌+◌, ◌<◌, List, [], ◌∷◌, length, get_or, set, map, Bool, true, false, if◌then◌else◌, Some, None, refl, sym, ap, ◌∙◌, subst, length-set}
+use Rattle.std.proofs.Common.{◌≡◌, ℕ, ◌<◌, List, [], ◌∷◌, length, get_or, set, map, Bool, true, false, if◌then◌else◌, Some, None, refl, sym, ap, ◌∙◌, subst, length-set}
 use Rattle.std.specs.Prelude.{slice_index}
 use Rattle.std.proofs.lemmas.List.{get_or-set_same, get_or_default, length-map}
 use Rattle.std.specs.List.{AllByRecursion as Each}

@@ -16,6 +16,8 @@ pub mod AfterEffects
 pub mod Ticking
 pub mod BeginningAgain
 pub mod GoingAgain
+pub mod ScansOver
+pub mod RunningOver
 pub mod Running
 pub mod IoWords
 pub mod Editing

@@ -17,7 +17,7 @@ use Rattle.lgx_steps.proofs.Reading.{in-plan, task-at, task-read}
 use Rattle.lgx_steps.proofs.States.{with-progress, with-image}
 
 module _ (n : ℕ) (v : PartsView) (s : State) (h : RepresentsState n v s) (t : ℕ) (l : t < length v.progress) (old x d : KeptProgress) (i : ImageView) (read : old ≡ get_or v.progress t d) (long : length i.bytes ≡ length v.image.bytes) where
-  image-long : length v.image.bytes ≡ bytes s.plan.tags
+  pub image-long : length v.image.bytes ≡ bytes s.plan.tags
   image-long = ap (λ (b : List ℕ). length b) h.image ∙ h.sane.image
 
   -- the task as the scan's step sees it

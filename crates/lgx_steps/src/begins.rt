@@ -6,7 +6,7 @@ use arrayvec::ArrayVec;
 use spec_machine::What;
 
 /// How many begins a stretch tells at most before its last step.
-pub const MAX_BEGINS: usize = 512;
+pub const MAX_BEGINS: usize = lgx_engine::MAX_BEGINS;
 
 /// The steps before the last of a stretch of which something is told. All of them began the same version of the same program.
 #[derive(Drop)]
