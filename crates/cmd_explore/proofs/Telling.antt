@@ -17,7 +17,7 @@ use Rattle.lgx_answer.specs.declared.status.Status.{Status}
 use Rattle.lgx_answer.specs.declared.status.Status.TheVariants as status
 use Rattle.lgx_answer.specs.Endings.{ending_of, number}
 use Rattle.lgx_answer.specs.Endings as ending
-use Rattle.lgx_answer.specs.Answered.{Change, Told as Contents, Failures, Call, Came, AddsOf, Answered}
+use Rattle.lgx_answer.specs.Answered.{Change, Told as Contents, Failures, call_with, Came, AddsOf, Answered}
 use Rattle.lgx_answer.specs.Exit.{ExitsWritten, ExitsUnwritten}
 use Rattle.lgx_answer.specs.Laws.{Reaches}
 use Rattle.lgx_answer.specs.Process.{IsProcess}
@@ -91,14 +91,10 @@ module _ (contents : Contents) (held : Change (Option (List ℕ))) (p s q : List
 
 -- ---- by the words of the command line
 
-abbrev call_of : Contents → Change Failures → Change (Option (List ℕ)) → Change ℕ → Status → Call
-call_of contents failures held faults s =
-    record { told = contents; failures = failures; held = held; faults = faults; answer = ending_of s }
-
 pub words_explored : (words : List (List ℕ)) (contents : Contents) (failures : Change Failures) (held : Change (Option (List ℕ))) (faults : Change ℕ) (st : Status) (p s q : List ℕ) (said : Verdict)
-    → Answered (plan_of words) (call_of contents failures held faults st) → words ≡ p ∷ s ∷ q ∷ [] → said_by (number st) ≡ Some said → Explored contents held p s q said
+    → Answered (plan_of words) (call_with contents failures held faults (ending_of st)) → words ≡ p ∷ s ∷ q ∷ [] → said_by (number st) ≡ Some said → Explored contents held p s q said
 words_explored words contents failures held faults st p s q said a same is =
-    let call = call_of contents failures held faults st in
+    let call = call_with contents failures held faults (ending_of st) in
     let P : List (List ℕ) → Type 0 = λ ws. Answered (plan_of ws) call in
     let known = answers_by st said is in
     explored contents held p s q said known.answers (only_if (explore_plan p s q) call said (subst P same a) known.ends)

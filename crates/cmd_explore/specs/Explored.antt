@@ -17,7 +17,7 @@ use Rattle.lgx_answer.specs.Answered.{Change, Told as Contents, Came}
 use Rattle.cmd_explore.specs.ToldTexts.{IsToldText}
 use Rattle.cmd_explore.specs.ExplorePlan.{verdict_of}
 
--- the verdict that the number of a status tells, if it is one that answers a question
+-- the verdict that the number of a status means, if it is one that answers a question
 abbrev pub said_by : ℕ → Option Verdict
 said_by n = if nat_eq n 0 then Some verdict.Ok else if nat_eq n 8 then Some verdict.Breach else if nat_eq n 9 then Some verdict.Unknown else None
 

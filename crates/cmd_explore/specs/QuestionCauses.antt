@@ -1,4 +1,4 @@
--- The line that tells why a file is no question.
+-- The line that says why a file is no question.
 use Rattle.std.specs.Prelude.{◌≡◌, ℕ, List, [], ◌∷◌, Err, codes, decimal}
 use Rattle.spec_machine.specs.Project.{Project}
 use Rattle.spec_text.specs.TextLines.{line_of}

@@ -25,7 +25,7 @@ moment_words steps ticks = codes "after" ∷ codes "step" ∷ (decimal steps ++ 
 unfoldable pub comment_line : ℕ → ℕ → ℕ → List ℕ
 comment_line line steps ticks = line_of (codes "#" ∷ codes "line" ∷ decimal line ∷ moment_words steps ticks)
 
--- a journal after whose last event the line with this number, from 0, holds: what the comment tells of it, lines from 1; and its
+-- a journal after whose last event the line with this number, from 0, holds: what the comment says of it, lines from 1; and its
 -- canonical text
 abbrev pub witness_text : List Event → ℕ → List ℕ
 witness_text journal line = comment_line (line + 1) (steps_of journal) (ticks_of journal) ++ text journal

@@ -43,7 +43,7 @@ fn follow<P: Progress + Drop, F: Files, K: Sink>(
     }
 }
 
-/// The program `logix_explore P S Q`: tells of all journals that the script of the file `S` may have on the project of the file `P`,
+/// The program `logix_explore P S Q`: says of all journals that the script of the file `S` may have on the project of the file `P`,
 /// whose actions come within the window of the question of the file `Q`, whether a line of the question ever holds after an event.
 /// It writes one text, by one put.
 ///
@@ -54,8 +54,8 @@ fn follow<P: Progress + Drop, F: Files, K: Sink>(
 /// the states of a layer, and not with the number of journals.
 ///
 /// The files are read in this order, each only if none before it is refused. A project and a script are refused as `logix`
-/// refuses them, a question with the line `question CODE line N`; any other words are answered with the usage line. `progress` is
-/// told how far the exploration is.
+/// refuses them, a question with the line `question CODE line N`; any other words are answered with the usage line. How far the
+/// exploration is, is reported to `progress`.
 #[tactic(auto, using(lgx_answer::proofs::Follows::follows_plan, crate::proofs::Telling::words_explored))]
 pub fn explore<P: Progress + Drop, F: Files, K: Sink>(
     alloc: Global,

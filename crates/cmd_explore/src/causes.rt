@@ -1,4 +1,4 @@
-// The line that tells why a file is no question.
+// The line that says why a file is no question.
 ghost use Rattle.std.specs.Prelude.{◌≡◌, IfOk};
 ghost use Rattle.cmd_explore.specs.QuestionCauses.{question_code, question_cause_line};
 
@@ -19,7 +19,7 @@ fn question_code(code: QuestionCode) -> &'static [u8]
     }
 }
 
-/// The line that tells why a file is no question.
+/// The line that says why a file is no question.
 #[tactic(auto, unfolding(crate::specs::QuestionCauses::question_cause_line))]
 pub(crate) fn question_cause_line(alloc: Global, fault: QuestionFault) -> Result<Vec<u8>, Memory>
     ensures { IfOk result (λ text. text.items ≡ question_cause_line fault) }

@@ -1,9 +1,9 @@
-// How far an exploration is, told to whoever waits for it.
+// How far an exploration is, shown to whoever waits for it.
 use lgx_explore::Progress;
 use std::io::Eprint;
 use std::time::{Clock, Duration, Instant};
 
-/// Tells on standard error how far an exploration is, at most a line a second, once it has taken two seconds.
+/// Shows on standard error how far an exploration is, at most a line a second, once it has taken two seconds.
 #[derive(Drop)]
 pub struct Lines<'a, R> {
     rt: &'a R,

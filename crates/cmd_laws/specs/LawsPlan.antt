@@ -31,13 +31,13 @@ no_line b = line_of (codes "no" ∷ law_word b.law ∷ decimal b.at ∷ [])
 
 -- ---- the plan
 
--- Yes is said of a trace that keeps all laws, and of no other; else the breach is told that it has. That this is so is part of what
--- may be written.
+-- Yes is said of a trace that keeps all laws, and of no other; else the breach that it has is reported. That this is so is part of
+-- what may be written.
 abbrev pub by_breach : Roster → List TraceEvent → Option Breach → Plan
 by_breach r trace None = Say verdict.Ok (λ text. (text ≡ yes_line (length trace)) × KeepsAll r trace)
 by_breach r trace (Some b) = Say verdict.Breach (λ text. (text ≡ no_line b) × IsBreach r trace b.law b.at)
 
--- what a trace is told
+-- the answer to a trace
 abbrev pub judged : Roster → List TraceEvent → Plan
 judged r trace = by_breach r trace (breach r trace)
 

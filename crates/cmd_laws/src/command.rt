@@ -55,7 +55,7 @@ fn judge_by(
     judge(alloc, trace, table, tasks, schedule)
 }
 
-/// What a trace is told.
+/// The answer to a trace.
 fn judged(
     alloc: Global,
     project: &PlantParts,
@@ -85,7 +85,7 @@ fn judged(
     }
 }
 
-/// What the bytes of a trace are told.
+/// The answer to the bytes of a trace.
 fn on_trace(alloc: Global, project: &PlantParts, bytes: &[u8]) -> Result<Saying, Memory>
     ensures { IfOk result (λ s. Says (on_trace (roster_of project.now) bytes.now) s.verdict s.text) }
 {

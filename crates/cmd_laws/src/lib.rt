@@ -1,6 +1,6 @@
 //! The program `logix_laws P T`: does a trace keep the laws that the audit leaves out?
 //!
-//! It reads a project and a trace of a run of it, and tells of each law of lgx_laws whether the trace keeps it: yes, or the first
+//! It reads a project and a trace of a run of it, and says of each law of lgx_laws whether the trace keeps it: yes, or the first
 //! event that breaks one. The plan of its calls, specs/LawsPlan, says what each answer means.
 #![tactic(auto)]
 

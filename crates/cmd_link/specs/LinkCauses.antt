@@ -1,4 +1,4 @@
--- The lines that tell why one of the three files is refused.
+-- The lines that say why one of the three files is refused.
 use Rattle.std.specs.Prelude.{◌≡◌, ℕ, List, [], ◌∷◌, ◌++◌, Err, codes, decimal}
 use Rattle.spec_machine.specs.Project.{Project}
 use Rattle.spec_text.specs.TextLines.{line_of}
@@ -26,7 +26,7 @@ link_cause_line f = line_of (codes "link" ∷ link_code f.code ∷ codes "line" 
 abbrev pub controller_cause_line : List ℕ → ProjectFault → List ℕ
 controller_cause_line letter fault = letter ++ project_cause_line fault
 
--- ---- what a reader tells of the bytes of a file
+-- ---- what a reader says of the bytes of a file
 
 -- the bytes are no project, and this is the line that says why
 pub record IsNoController (letter bytes line : List ℕ) : Type 0 where

@@ -1,4 +1,4 @@
-// The lines that tell why one of the three files is refused.
+// The lines that say why one of the three files is refused.
 ghost use Rattle.std.specs.Prelude.{◌≡◌, ◌++◌, IfOk};
 ghost use Rattle.cmd_link.specs.LinkCauses.{link_code, link_cause_line};
 
@@ -19,7 +19,7 @@ fn link_code(code: LinkCode) -> &'static [u8]
     }
 }
 
-/// The line that tells why a file is no link script.
+/// The line that says why a file is no link script.
 #[tactic(auto, unfolding(crate::specs::LinkCauses::link_cause_line))]
 pub(crate) fn link_cause_line(alloc: Global, fault: LinkFault) -> Result<Vec<u8>, Memory>
     ensures { IfOk result (λ text. text.items ≡ link_cause_line fault) }

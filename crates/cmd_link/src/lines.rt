@@ -33,7 +33,7 @@ impl LinkLines {
     ghost use Rattle.std.specs.Prelude.{◌≡◌, ◌<◌, ◌++◌, ◌-◌, [], Ok, true, false, length};
     ghost use Rattle.std.specs.Io.BufRead.{take_through};
 
-    /// Makes the next line, and no more than that, in place of what stands in `line`; `false` if there is none.
+    /// Makes the next line, and no more than that, in place of what is in `line`; `false` if there is none.
     fn next_line(&mut self, line: &mut Vec<u8>) -> Result<bool, Memory>
         ensures one { result ≡ Ok true → line.new.items ≡ take_through 10 (link_rest self.old) }
         ensures more { result ≡ Ok true → link_rest self.old ≡ line.new.items ++ link_rest self.new }

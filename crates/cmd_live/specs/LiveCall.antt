@@ -16,7 +16,7 @@ use Rattle.lgx_live.specs.Talks.{Talks}
 abbrev pub usage_text : List ℕ
 usage_text = codes "usage: logix_live P" ++ 10 ∷ []
 
--- what the files tell, the reads that failed, the console before and after, and the answer
+-- what is known of the files' contents, the reads that failed, the console before and after, and the answer
 pub record LiveCall : Type 0 where
   pub told : Told
   pub failures : Change Failures

@@ -2,7 +2,6 @@
 //! from a console, one by one.
 #![tactic(auto)]
 
-mod followed;
 mod open;
 mod process;
 

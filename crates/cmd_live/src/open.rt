@@ -7,16 +7,15 @@ ghost use Rattle.lgx_live.specs.Console.{Says};
 ghost use Rattle.lgx_live.specs.Talks.{Talks};
 ghost use Rattle.cmd_live.specs.LiveCall.{IsSaid, only_word, OnProject, OnFile, IsLive};
 
-use crate::followed::Followed;
 use lgx_answer::{Status, Verdict, after_read};
 use lgx_io::{Files, SinkFault};
 use lgx_judge::{Judged, judge_project};
-use lgx_live::{Console, talk};
+use lgx_live::{Console, Followed, talk};
 use lgx_project::Project;
-use lgx_record::Follower;
+use lgx_record::Run;
 use std::alloc::Global;
 
-/// The line that tells how to use the program.
+/// The line that says how to use the program.
 pub const USAGE: &[u8] = b"usage: logix_live P\n";
 
 /// The status of a whole text, or of the fault that cut it off.
@@ -59,9 +58,9 @@ fn talk_on<C: Console>(alloc: Global, project: Project, console: &mut C) -> Stat
     requires { (C.seen console.old).waiting ≡ [] }
     ensures { Talks project (C.seen console.old) (C.seen console.new) (ending_of result) }
 {
-    match Follower::of_project(alloc, project) {
-        Ok(follower) => {
-            let mut followed = Followed { follower };
+    match Run::of_project(alloc, project) {
+        Ok(run) => {
+            let mut followed = Followed { run };
             talk(alloc, console, &mut followed)
         }
         Err(_) => Status::Memory,

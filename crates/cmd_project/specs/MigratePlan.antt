@@ -5,7 +5,7 @@ use Rattle.lgx_answer.specs.Plan.{Plan, Say, Read, only}
 use Rattle.lgx_project.specs.Migrated.{migrated_text}
 use Rattle.lgx_judge.specs.Plans.{on_project}
 
--- the text is that of the bytes: the project alone doesn't tell it
+-- the text is that of the bytes: the project alone doesn't determine it
 abbrev pub migrate_judged : List ℕ → Plan
 migrate_judged bytes = on_project (λ project. Say verdict.Ok (only (migrated_text bytes))) bytes
 

@@ -13,7 +13,7 @@ use lgx_rung::SourceRung;
 use lgx_watch::push_word;
 use std::alloc::Global;
 
-/// Where the lines of a program go on: the routine, and the line of it, each counted from 0. A routine's line 0 tells its names.
+/// Where the lines of a program go on: the routine, and the line of it, each counted from 0. A routine's line 0 has its names.
 #[derive(Clone, Copy)]
 struct RungLine {
     routine: usize,

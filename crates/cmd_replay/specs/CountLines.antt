@@ -1,4 +1,4 @@
--- What `gen` tells of a report: how many lines it has, and its end line.
+-- What `gen` says of a report: how many lines it has, and its end line.
 use Rattle.std.specs.Prelude.{ℕ, List, [], ◌∷◌, ◌++◌, length, codes, decimal}
 use Rattle.spec_machine.specs.declared.event.Event.{Event}
 use Rattle.spec_machine.specs.Project.{Project}

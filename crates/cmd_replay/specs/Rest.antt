@@ -11,7 +11,7 @@ use Rattle.cmd_replay.specs.CountLines.{count_line}
 
 -- the report from the next line on
 abbrev pub report_rest : ReportLines → List ℕ
-report_rest l = report_from l.recording.names l.recording.log l.end l.next
+report_rest l = report_from l.run.names l.log l.end l.next
 
 -- the line with the counts and the end line, or one of them, or nothing
 abbrev pub told_from : Next → ℕ → Kept → End → List ℕ
@@ -19,9 +19,9 @@ told_from next.Counts n log end = count_line n (length log.lines) log.lost ++ en
 told_from next.Last n log end = end_line log end
 told_from next.Nothing n log end = []
 
--- what `gen` tells from the next line on
+-- what `gen` says from the next line on
 abbrev pub counts_rest : Counts → List ℕ
-counts_rest l = told_from l.next l.number l.recording.log l.end
+counts_rest l = told_from l.next l.number l.log l.end
 
 -- how many lines these are
 abbrev pub counts_left : Next → ℕ

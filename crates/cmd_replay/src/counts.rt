@@ -4,13 +4,12 @@ ghost use Rattle.spec_base.specs.declared.limits.TheConstants.{MAX_EVENTS};
 ghost use Rattle.cmd_replay.specs.CountLines.{count_line, counted_report};
 ghost use Rattle.cmd_replay.specs.Rest.{counts_rest, counts_left};
 
-use crate::recorded::replayed;
+use crate::journal_run::replayed;
 use lgx_answer::Lines;
 use lgx_journal::Journal;
 use lgx_judge::{End, end_line, end_of};
 use lgx_num::Memory;
 use lgx_project::Project;
-use lgx_record::Recording;
 use lgx_watch::{Log, push_count};
 use std::alloc::Global;
 
@@ -25,18 +24,18 @@ pub(crate) enum Next {
     Nothing,
 }
 
-/// What is said of the report of what was recorded: how many lines it has, and its end line.
+/// What is said of the report of a run: how many lines it has, and its end line.
 #[derive(Drop)]
 pub(crate) struct Counts {
     /// The number that made the texts.
     number: u32,
-    recording: Recording,
+    log: Log,
     end: End,
     next: Next,
 }
 
-/// Makes the line with the number that made the texts, and how many lines the log of their run kept and lost, in place of what
-/// stands in the text.
+/// Makes the line with the number that made the texts, and how many lines the log of their run kept and lost, in place of what is
+/// in the text.
 #[tactic(auto, unfolding(crate::specs::CountLines::count_line))]
 fn count_line(text: &mut Vec<u8>, number: u32, log: &Log) -> Result<(), Memory>
     ensures { OnOk result (text.new.items ≡ count_line number (length log.now.lines) log.now.lost) }
@@ -60,12 +59,12 @@ impl Lines for Counts {
     fn line(&mut self, line: &mut Vec<u8>) -> Result<bool, Memory> {
         match self.next {
             Next::Counts => {
-                count_line(line, self.number, self.recording.log())?;
+                count_line(line, self.number, &self.log)?;
                 self.next = Next::Last;
                 Ok(true)
             }
             Next::Last => {
-                end_line(line, self.recording.log(), self.end)?;
+                end_line(line, &self.log, self.end)?;
                 self.next = Next::Nothing;
                 Ok(true)
             }
@@ -84,11 +83,12 @@ pub(crate) fn counts_of(
     requires { length journal.now.events ≤ MAX_EVENTS }
     ensures { IfOk result (λ lines. counts_rest lines ≡ counted_report number project journal.now.events) }
 {
-    let recording = replayed(alloc, project, journal)?;
-    let end = end_of(recording.controller(), recording.steps());
+    let mut log = Log::new(alloc)?;
+    let run = replayed(alloc, project, journal, &mut log)?;
+    let end = end_of(run.controller(), run.steps());
     Ok(Counts {
         number,
-        recording,
+        log,
         end,
         next: Next::Counts,
     })

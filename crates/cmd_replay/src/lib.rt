@@ -4,7 +4,7 @@
 
 mod counts;
 mod generated;
-mod recorded;
+mod journal_run;
 mod replay;
 mod report_lines;
 

@@ -1,12 +1,11 @@
 -- What the bytes of a file lead to, by what a reader tells of them.
-use Rattle.std.proofs.Common.{◌≡◌, ℕ, List, Option, Ok, refl}
+use Rattle.std.proofs.Common.{◌≡◌, ℕ, List, Ok, refl}
 use Rattle.spec_machine.specs.Project.{Project}
 use Rattle.spec_text.specs.Scripts.{Script}
 use Rattle.spec_project.specs.Projects.{project_of}
 use Rattle.lgx_answer.specs.declared.status.Verdict.TheVariants as verdict
 use Rattle.lgx_answer.specs.Plan.{Plan, Say, only}
-use Rattle.lgx_answer.specs.Endings.{Ending}
-use Rattle.lgx_answer.specs.Answered.{Change, Told, Failures, Call, Answered, LeadsTo}
+use Rattle.lgx_answer.specs.Answered.{Call, Answered, LeadsTo}
 use Rattle.lgx_answer.proofs.Follow.{says_leads}
 use Rattle.lgx_judge.specs.Plans.{on_project, on_script}
 use Rattle.lgx_judge.specs.Judged.{IsNoProject, IsNoScript}
@@ -30,11 +29,8 @@ pub project_read : (s bytes : List ℕ) (project : Project) → project_of bytes
 project_read s bytes project is = project_leads (script_read s) bytes project (script_read s project) is (λ call a. a)
 
 -- what is written of a run is a text of it
-pub run_written : (project : Project) (script : Script) (text : List ℕ)
-    (told : Told) (failures : Change Failures) (held : Change (Option (List ℕ))) (faults : Change ℕ) (answer : Ending)
+pub run_written : (project : Project) (script : Script) (text : List ℕ) (call : Call)
     → IsRunText project script text
-    → Answered (Say verdict.Ok (only text)) (record { told = told; failures = failures; held = held; faults = faults; answer = answer })
-    → Answered (script_ran project script) (record { told = told; failures = failures; held = held; faults = faults; answer = answer })
-run_written project script text told failures held faults answer is a =
-    let call : Call = record { told = told; failures = failures; held = held; faults = faults; answer = answer } in
+    → Answered (Say verdict.Ok (only text)) call → Answered (script_ran project script) call
+run_written project script text call is a =
     says_leads (script_ran project script) verdict.Ok text call (refl, is) a

@@ -16,7 +16,7 @@ use Rattle.cmd_run.specs.declared.lines.NextLine.TheVariants.{Journal, Report}
 abbrev pub run_line : EventRun → List ℕ
 run_line r = line_of (event_words r.event r.count)
 
--- what stands in a journal after its runs
+-- what a journal has after its runs: no event
 abbrev pub no_run : EventRun
 no_run = record { event = Cpu; count = 0 }
 

@@ -12,8 +12,8 @@ use Rattle.lgx_answer.specs.declared.status.Status.TheVariants as status
 use Rattle.lgx_answer.specs.declared.status.Verdict.{Verdict}
 use Rattle.lgx_answer.specs.declared.status.Verdict.TheVariants as verdict
 use Rattle.lgx_answer.specs.Plan.{Texts, Plan, Say, only}
-use Rattle.lgx_answer.specs.Endings.{Ending, ending_of, after_read}
-use Rattle.lgx_answer.specs.Answered.{Change, Told, Failures, Call, Answered, Writes, LeadsTo}
+use Rattle.lgx_answer.specs.Endings.{ending_of, after_read}
+use Rattle.lgx_answer.specs.Answered.{Change, Told, Failures, Call, call_with, Answered, Writes, LeadsTo}
 use Rattle.lgx_answer.proofs.Follow.{says_leads}
 use Rattle.lgx_judge.specs.Plans.{of_journal, on_project, on_journal}
 use Rattle.lgx_judge.specs.Judged.{IsNoProject, IsNoJournal}
@@ -43,22 +43,19 @@ journal_accepted accepted bytes journal is =
     subst P (sym is) (λ call a. a)
 
 -- what is written of the stations is a text of them
-pub watched_written : (project : Project) (journal : List Event) (count : ℕ) (text : List ℕ)
-    (told : Told) (failures : Change Failures) (held : Change (Option (List ℕ))) (faults : Change ℕ) (answer : Ending)
+pub watched_written : (project : Project) (journal : List Event) (count : ℕ) (text : List ℕ) (call : Call)
     → IsStationsText project journal count text
-    → Answered (Say verdict.Ok (only text)) (record { told = told; failures = failures; held = held; faults = faults; answer = answer })
-    → Answered (journal_watched count project journal) (record { told = told; failures = failures; held = held; faults = faults; answer = answer })
-watched_written project journal count text told failures held faults answer is a =
-    let call : Call = record { told = told; failures = failures; held = held; faults = faults; answer = answer } in
+    → Answered (Say verdict.Ok (only text)) call → Answered (journal_watched count project journal) call
+watched_written project journal count text call is a =
     says_leads (journal_watched count project journal) verdict.Ok text call (refl, is) a
 
 -- ---- status 0
 
 -- it is the ending of a call that said so
 pub said_ok : (v : Verdict) (texts : Texts) (told : Told) (failures : Change Failures) (held : Change (Option (List ℕ))) (faults : Change ℕ) (s : Status)
-    → Answered (Say v texts) (record { told = told; failures = failures; held = held; faults = faults; answer = ending_of s }) → s ≡ status.Ok → verdict.Ok ≡ v
+    → Answered (Say v texts) (call_with told failures held faults (ending_of s)) → s ≡ status.Ok → verdict.Ok ≡ v
 said_ok v texts told failures held faults s a ok =
-    let P : Status → Type 0 = λ x. Writes v texts (record { told = told; failures = failures; held = held; faults = faults; answer = ending_of x }) in
+    let P : Status → Type 0 = λ x. Writes v texts (call_with told failures held faults (ending_of x)) in
     (subst P ok a.0).0
 
 -- and of none whose file didn't come

@@ -1,5 +1,5 @@
 -- The lines of stations, one station more; and the whole text.
-use Rattle.std.proofs.Common.{◌≡◌, ℕ, suc, ◌+◌, ◌-◌, ◌<◌, List, [], ◌++◌, length, drop, take, take_all, length-drop, sym, ap, ◌∙◌, arith}
+use Rattle.std.proofs.Common.{◌≡◌, ℕ, suc, ◌+◌, ◌-◌, ◌<◌, List, [], ◌++◌, length, drop, take, take_all, length-drop, sym, ap, ◌∙◌, subst, arith}
 use Rattle.std.proofs.lemmas.List.{take-append-drop, drop-drop}
 use Rattle.std.specs.Io.BufRead.{take_through}
 use Rattle.std.specs.Prelude.{slice_index_or}
@@ -9,12 +9,16 @@ use Rattle.spec_machine.specs.declared.event.Event.{Event}
 use Rattle.spec_machine.specs.Project.{Project}
 use Rattle.spec_story.specs.Snapshots.{snapshots}
 use Rattle.spec_text.specs.ReportText.{report}
-use Rattle.lgx_record.specs.RecordingView.{RecordingView}
-use Rattle.lgx_record.specs.Records.{Records}
+use Rattle.lgx_watch.specs.Kept.{Kept, no_lines}
+use Rattle.lgx_watch.proofs.Pushes.{keeps_the_first}
+use Rattle.lgx_record.specs.RunSeen.{RunSeen}
+use Rattle.lgx_record.specs.IsRunOf.{IsRunOf}
 use Rattle.lgx_judge.specs.declared.ends.End.{End}
 use Rattle.lgx_judge.specs.ReportLines.{end_of}
 use Rattle.lgx_judge.proofs.Reports.{report_from_start}
 use Rattle.lgx_stations.specs.declared.watcher.Readings.{Readings}
+use Rattle.lgx_stations.specs.declared.reported.Reported.{Reported}
+use Rattle.lgx_stations.specs.Reports.{Reports}
 use Rattle.lgx_stations.specs.Telling.{AreReadingsOf}
 use Rattle.cmd_stations.specs.declared.lines.NextLine.TheVariants.{Report}
 use Rattle.cmd_stations.specs.StationsText.{station_lines, lines_from, IsStationsText}
@@ -44,14 +48,19 @@ one_line xs shown front line at n same empty is cut =
     let whole : take (length shown - at) (drop at shown) ≡ drop at shown = take_all (length shown - at) (drop at shown) (omega (arith, length-drop at shown)) in
     is ∙ (ap (λ f. f ++ take n (take (length shown - at) (drop at shown))) empty ∙ (cut ∙ (ap (λ l. take_through 10 l) whole ∙ ap (λ l. take_through 10 (drop at l)) same)))
 
--- the report of what was recorded, and the lines of the stations
-pub is_stations_text : (project : Project) (journal : List Event) (count : ℕ) (v : RecordingView) (end : End) (rs : List Readings) (text : List ℕ)
-    → Records v project journal → end ≡ end_of project journal → length rs ≡ count → All (λ r. AreReadingsOf (snapshots project journal) r) rs → text ≡ lines_from 0 rs
-    → IsStationsText project journal count (rest_of v end text (Report 0))
-is_stations_text project journal count v end rs text h is_end many each is =
+-- a run without an event has an empty report
+pub just_begun : (run : RunSeen) (log : Kept) (p q : Project) → p ≡ q → IsRunOf run p [] → log ≡ no_lines → Reports (record { run = run; log = log }) q []
+just_begun run log p q same h empty =
+    subst (λ (x : Project). Reports (record { run = run; log = log }) x []) same (record { run = h; log = empty ∙ keeps_the_first [] })
+
+-- the report of a run, and the lines of the stations
+pub is_stations_text : (project : Project) (journal : List Event) (count : ℕ) (r : Reported) (end : End) (rs : List Readings) (text : List ℕ)
+    → Reports r project journal → end ≡ end_of project journal → length rs ≡ count → All (λ r. AreReadingsOf (snapshots project journal) r) rs → text ≡ lines_from 0 rs
+    → IsStationsText project journal count (rest_of r end text (Report 0))
+is_stations_text project journal count r end rs text h is_end many each is =
     record {
       readings = rs;
       count = many;
       each = each;
-      is = ap (λ t. t ++ text) (report_from_start v.names v.log end project journal h.names h.log is_end) ∙ ap (λ t. report project journal ++ t) is;
+      is = ap (λ t. t ++ text) (report_from_start r.run.names r.log end project journal h.run.names h.log is_end) ∙ ap (λ t. report project journal ++ t) is;
     }

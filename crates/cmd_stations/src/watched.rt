@@ -13,16 +13,17 @@ use lgx_journal::Journal;
 use lgx_judge::end_of;
 use lgx_num::Memory;
 use lgx_project::Project;
-use lgx_record::Recording;
-use lgx_stations::{Gate, Input, watch_journal};
+use lgx_record::Run;
+use lgx_stations::{Gate, Input, Reported, watch_journal};
+use lgx_watch::Log;
 use std::alloc::Global;
 use std::marker::Brand;
 use std::sync::Wait;
 use std::thread::Threads;
 
-/// The lines of a journal that was replayed on a project, while so many stations watched.
+/// The lines of a journal that was replayed on a project, while `stations` operator stations watched.
 ///
-/// No type of a station stands in its signature: so its caller may say what the input names.
+/// No type of a station is in its signature: so its caller may say what the input names.
 fn watched_as<I: Input + Send, G: Gate + Sync, R: Threads + Wait + Sync>(
     rt: &R,
     alloc: Global,
@@ -34,29 +35,24 @@ fn watched_as<I: Input + Send, G: Gate + Sync, R: Threads + Wait + Sync>(
     requires input { (project ≡ I.project) × (journal.now.events ≡ I.journal) }
     requires stations { (0 < stations) × (stations ≤ MAX_STATIONS) }
     requires few { length journal.now.events ≤ MAX_EVENTS }
-    ensures text { IfOk result (λ lines. IsStationsText project journal.now.events stations (rest_of lines.recording lines.end lines.stations.items lines.place)) }
+    ensures text { IfOk result (λ lines. IsStationsText project journal.now.events stations (rest_of lines.reported lines.end lines.stations.items lines.place)) }
     ensures asked { IfOk result (λ _. ForAll (λ station n. G.asked gate.now station n) stations (snapshots project journal.now.events)) }
 {
-    let mut recording = Recording::of_journal(alloc, project)?;
-    let readings = watch_journal::<I, Recording, G, R>(
-        rt,
-        alloc,
-        gate,
-        &mut recording,
-        journal,
-        stations,
-    )?;
+    let log = Log::new(alloc)?;
+    let run = Run::of_project(alloc, project)?;
+    let mut reported = Reported { run, log };
+    let readings = watch_journal::<I, G, R>(rt, alloc, gate, &mut reported, journal, stations)?;
     let text = stations_text(alloc, &readings)?;
-    let end = end_of(recording.controller(), recording.steps());
+    let end = end_of(reported.run.controller(), reported.run.steps());
     Ok(StationsLines {
-        recording,
+        reported,
         end,
         stations: text,
         place: NextLine::Report(0),
     })
 }
 
-/// The lines of a journal that was replayed on a project, while so many stations watched.
+/// The lines of a journal that was replayed on a project, while `stations` operator stations watched.
 pub(crate) fn watched<G: Gate + Sync, R: Threads + Wait + Sync>(
     rt: &R,
     alloc: Global,
@@ -67,7 +63,7 @@ pub(crate) fn watched<G: Gate + Sync, R: Threads + Wait + Sync>(
 ) -> Result<StationsLines, Memory>
     requires stations { (0 < stations) × (stations ≤ MAX_STATIONS) }
     requires few { length journal.now.events ≤ MAX_EVENTS }
-    ensures text { IfOk result (λ lines. IsStationsText project journal.now.events stations (rest_of lines.recording lines.end lines.stations.items lines.place)) }
+    ensures text { IfOk result (λ lines. IsStationsText project journal.now.events stations (rest_of lines.reported lines.end lines.stations.items lines.place)) }
     ensures asked { IfOk result (λ _. ForAll (λ station n. G.asked gate.now station n) stations (snapshots project journal.now.events)) }
 {
     watched_as::<Brand, G, R>(rt, alloc, project, journal, stations, gate)

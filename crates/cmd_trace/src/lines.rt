@@ -50,7 +50,7 @@ fn code_word(code: TraceCode) -> &'static [u8]
     }
 }
 
-/// The line that tells why a file is no trace.
+/// The line that says why a file is no trace.
 pub fn trace_cause_line(alloc: Global, fault: TraceFault) -> Result<Vec<u8>, Memory>
     ensures { IfOk result (λ text. text.items ≡ trace_cause_line fault) }
 {

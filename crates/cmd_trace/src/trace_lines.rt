@@ -56,7 +56,7 @@ impl ReadProject {
 #[derive(Drop)]
 pub struct TraceLines {
     alloc: Global,
-    /// The file of the project. Contracts tell by it what is left.
+    /// The file of the project. Contracts say by it what is left.
     file: Vec<u8>,
     /// The names of the programs.
     names: Vec<Name>,

@@ -11,7 +11,7 @@ use lgx_judge::{Judged, judge_project};
 use lgx_num::Memory;
 use std::alloc::Global;
 
-/// `xref P`: tells of each tag which instructions write it and which read it.
+/// `xref P`: says of each tag which instructions write it and which read it.
 #[derive(Drop)]
 pub(crate) struct CrossReference<'a> {
     /// The name of the project's file.

@@ -14,17 +14,12 @@ use Rattle.lgx_answer.specs.Endings as ending
 use Rattle.lgx_answer.specs.Endings.{after_puts, after_read}
 use Rattle.lgx_answer.specs.Plan.{Texts, Plan, Say, Read, OneOf, Says, only}
 use Rattle.lgx_answer.specs.Puts.{Puts}
-use Rattle.lgx_answer.specs.Answered.{Change, Told, Failures, Call, Came, AddsPartOf, Writes, Misses, Answered, LeadsTo}
-
--- a call whose answer is known
-abbrev call_of : Told → Change Failures → Change (Option (List ℕ)) → Change ℕ → Ending → Call
-call_of told failures held faults answer =
-    record { told = told; failures = failures; held = held; faults = faults; answer = answer }
+use Rattle.lgx_answer.specs.Answered.{Change, Told, Failures, Call, call_with, Came, AddsPartOf, Writes, Misses, Answered, LeadsTo}
 
 -- a text that was put is written
 written : (told : Told) (failures : Change Failures) (held : Change (Option (List ℕ))) (faults : Change ℕ) (done : Result (Unit {0}) SinkFault) (verdict : Verdict) (texts : Texts) (text : List ℕ)
     → texts text → Puts held faults text done
-    → Writes verdict texts (call_of told failures held faults (after_puts done verdict))
+    → Writes verdict texts (call_with told failures held faults (after_puts done verdict))
 written told failures held faults (Ok x) verdict texts text is puts =
     (refl, (text, is, puts.whole), puts.unfailed (λ e. absurd (cc e)))
 written told failures held faults (Err Failed) verdict texts text is puts =
@@ -34,7 +29,7 @@ written told failures held faults (Err Memory) verdict texts text is puts =
 
 -- one text of these is written
 widened : (verdict : Verdict) (texts : Texts) (text : List ℕ) (told : Told) (failures : Change Failures) (held : Change (Option (List ℕ))) (faults : Change ℕ) (answer : Ending)
-    → texts text → Writes verdict (only text) (call_of told failures held faults answer) → Writes verdict texts (call_of told failures held faults answer)
+    → texts text → Writes verdict (only text) (call_with told failures held faults answer) → Writes verdict texts (call_with told failures held faults answer)
 widened verdict texts text told failures held faults (ending.Said said) is w =
     (w.0, (text, is, subst (λ t. Appends held.old held.new t) w.1.1 w.1.2), w.2)
 widened verdict texts text told failures held faults ending.ReadFault is w = absurd w
@@ -50,9 +45,9 @@ widened verdict texts text told failures held faults ending.TooLong is w = absur
 -- and what the plan says is answered
 pub says_answered : (plan : Plan) (told : Told) (failures : Change Failures) (held : Change (Option (List ℕ))) (faults : Change ℕ) (done : Result (Unit {0}) SinkFault) (verdict : Verdict) (text : List ℕ)
     → Says plan verdict text → failures.new ≡ failures.old → Puts held faults text done
-    → Answered plan (call_of told failures held faults (after_puts done verdict))
+    → Answered plan (call_with told failures held faults (after_puts done verdict))
 says_answered (Say verdict texts) told failures held faults done said text says same puts =
-    let P : Verdict → Type 0 = λ v. Writes v texts (call_of told failures held faults (after_puts done said)) in
+    let P : Verdict → Type 0 = λ v. Writes v texts (call_with told failures held faults (after_puts done said)) in
     (subst P says.0 (written told failures held faults done said texts text says.1 puts), same)
 says_answered (Read name next) told failures held faults done said text says same puts = absurd says
 says_answered (OneOf A plans) told failures held faults done said text (x, says) same puts =
@@ -61,9 +56,9 @@ says_answered (OneOf A plans) told failures held faults done said text (x, says)
 -- what a verdict's text is, is put, and the call ends so
 pub says_put : (told : Told) (failures : Change Failures) (held : Change (Option (List ℕ))) (faults : Change ℕ) (done : Result (Unit {0}) SinkFault) (verdict : Verdict) (text : List ℕ) (answer : Ending)
     → failures.new ≡ failures.old → Puts held faults text done → answer ≡ after_puts done verdict
-    → Answered (Say verdict (only text)) (call_of told failures held faults answer)
+    → Answered (Say verdict (only text)) (call_with told failures held faults answer)
 says_put told failures held faults done verdict text answer same puts is =
-    let P : Ending → Type 0 = λ e. Answered (Say verdict (only text)) (call_of told failures held faults e) in
+    let P : Ending → Type 0 = λ e. Answered (Say verdict (only text)) (call_with told failures held faults e) in
     subst P (sym is) (says_answered (Say verdict (only text)) told failures held faults done verdict text (refl, refl) same puts)
 
 -- what is answered with a text that a plan says is an answer to the plan
@@ -78,7 +73,7 @@ says_leads (OneOf A plans) verdict text call (x, says) a = inr (x, says_leads (p
 -- memory ran out before anything was read or written
 pub stopped : (plan : Plan) (told : Told) (failures : Change Failures) (held : Change (Option (List ℕ))) (faults : Change ℕ)
     → failures.new ≡ failures.old → held.new ≡ held.old → faults.new ≡ faults.old
-    → Answered plan (call_of told failures held faults ending.Memory)
+    → Answered plan (call_with told failures held faults ending.Memory)
 stopped (Say verdict texts) told failures held faults f h w = ((inr h, w), f)
 stopped (Read name next) told failures held faults f h w = inl (f, record { held = h; faults = w })
 stopped (OneOf A plans) told failures held faults f h w =
@@ -91,7 +86,7 @@ too_long (Some contents) taken w = omega (arith, w.0, w.1)
 -- a file that didn't come
 pub missed : (told : Told) (name : List ℕ) (fault : FileFault) (failures : Change Failures) (held : Change (Option (List ℕ))) (faults : Change ℕ)
     → IsCause (told name) fault → failures.new ≡ failures.old ++ added name (Err fault)
-    → Misses name (call_of told failures held faults (after_read fault))
+    → Misses name (call_with told failures held faults (after_read fault))
 missed told name file.Failed failures held faults why gains = gains
 missed told name (file.TooLong taken) failures held faults why gains = (gains, too_long (told name) taken why)
 missed told name file.Memory failures held faults why gains = gains ∙ append-nil failures.old
@@ -99,13 +94,13 @@ missed told name file.Memory failures held faults why gains = gains ∙ append-n
 -- files that tell the same pointwise
 pub answered_told : (plan : Plan) (told now : Told) (failures : Change Failures) (held : Change (Option (List ℕ))) (faults : Change ℕ) (answer : Ending)
     → ((name : List ℕ) → now name ≡ told name)
-    → Answered plan (record { told = now; failures = failures; held = held; faults = faults; answer = answer })
-    → Answered plan (record { told = told; failures = failures; held = held; faults = faults; answer = answer })
+    → Answered plan (call_with now failures held faults answer)
+    → Answered plan (call_with told failures held faults answer)
 answered_told (Say verdict texts) told now failures held faults answer same a = a
 answered_told (Read name next) told now failures held faults answer same (inl (misses, silent)) =
     inl (misses_told answer misses, record { held = silent.held; faults = silent.faults })
   where
-    misses_told : (s : Ending) → Misses name (record { told = now; failures = failures; held = held; faults = faults; answer = s }) → Misses name (record { told = told; failures = failures; held = held; faults = faults; answer = s })
+    misses_told : (s : Ending) → Misses name (call_with now failures held faults s) → Misses name (call_with told failures held faults s)
     misses_told (ending.Said said) m = absurd m
     misses_told ending.ReadFault m = m
     misses_told ending.WriteFault m = absurd m
@@ -130,9 +125,9 @@ came told asked name bytes named short whole =
 pub read_says : (told : Told) (asked name bytes : List ℕ) (next : List ℕ → Plan) (failures : Change Failures) (held : Change (Option (List ℕ))) (faults : Change ℕ) (done : Result (Unit {0}) SinkFault) (verdict : Verdict) (text shown : List ℕ) (answer : Ending)
     → asked ≡ name → length bytes ≤ MAX_FILE_BYTES → IfSome (told asked) (λ contents. bytes ≡ contents) → failures.new ≡ failures.old ++ []
     → Says (next bytes) verdict text → shown ≡ text → Puts held faults shown done → answer ≡ after_puts done verdict
-    → Answered (Read name next) (call_of told failures held faults answer)
+    → Answered (Read name next) (call_with told failures held faults answer)
 read_says told asked name bytes next failures held faults done verdict text shown answer named short whole same says is_shown puts is =
-    let P : Ending → Type 0 = λ s. Answered (next bytes) (call_of told failures held faults s) in
+    let P : Ending → Type 0 = λ s. Answered (next bytes) (call_with told failures held faults s) in
     let Q : List ℕ → Type 0 = λ l. Puts held faults l done in
     let said = says_answered (next bytes) told failures held faults done verdict text says (same ∙ append-nil failures.old) (subst Q is_shown puts) in
     inr (bytes, came told asked name bytes named short whole, subst P (sym is) said)
@@ -141,9 +136,9 @@ read_says told asked name bytes next failures held faults done verdict text show
 pub read_on : (told now : Told) (asked name bytes : List ℕ) (next : List ℕ → Plan) (then : Plan) (f0 f1 f2 : Failures) (held : Change (Option (List ℕ))) (faults : Change ℕ) (answer : Ending)
     → asked ≡ name → length bytes ≤ MAX_FILE_BYTES → IfSome (told asked) (λ contents. bytes ≡ contents) → f1 ≡ f0 ++ []
     → ((other : List ℕ) → now other ≡ told other)
-    → LeadsTo (next bytes) then → Answered then (call_of now (record { old = f1; new = f2 }) held faults answer)
-    → Answered (Read name next) (call_of told (record { old = f0; new = f2 }) held faults answer)
+    → LeadsTo (next bytes) then → Answered then (call_with now (record { old = f1; new = f2 }) held faults answer)
+    → Answered (Read name next) (call_with told (record { old = f0; new = f2 }) held faults answer)
 read_on told now asked name bytes next then f0 f1 f2 held faults answer named short whole same tells leads more =
-    let P : Failures → Type 0 = λ f. Answered (next bytes) (call_of told (record { old = f; new = f2 }) held faults answer) in
+    let P : Failures → Type 0 = λ f. Answered (next bytes) (call_with told (record { old = f; new = f2 }) held faults answer) in
     let here = answered_told (next bytes) told now (record { old = f1; new = f2 }) held faults answer tells (leads _ more) in
     inr (bytes, came told asked name bytes named short whole, subst P (same ∙ append-nil f0) here)

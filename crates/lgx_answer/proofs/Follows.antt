@@ -8,16 +8,12 @@ use Rattle.lgx_answer.specs.declared.status.Verdict.{Verdict}
 use Rattle.lgx_answer.specs.Endings.{Ending}
 use Rattle.lgx_answer.specs.Endings as ending
 use Rattle.lgx_answer.specs.Plan.{Texts, Plan, Say, Read, OneOf}
-use Rattle.lgx_answer.specs.Answered.{Change, Told, Failures, Call, Came, Gains, AddsOf, Writes, Misses, RunsOut, Answered}
+use Rattle.lgx_answer.specs.Answered.{Change, Told, Failures, Call, call_with, Came, Gains, AddsOf, Writes, Misses, RunsOut, Answered}
 use Rattle.lgx_answer.specs.Laws.{Reaches, Comes, IsSure, FollowsPlan}
-
--- a call as its parts, so that its answer can be matched
-abbrev call_of : Told → Change Failures → Change (Option (List ℕ)) → Change ℕ → Ending → Call
-call_of t f h w s = record { told = t; failures = f; held = h; faults = w; answer = s }
 
 -- ---- a leaf
 
-says_only : (v : Verdict) (texts : Texts) (t : Told) (f : Change Failures) (h : Change (Option (List ℕ))) (w : Change ℕ) (s : Ending) (said : Verdict) → s ≡ ending.Said said → Writes v texts (call_of t f h w s) → (said ≡ v) × AddsOf h texts
+says_only : (v : Verdict) (texts : Texts) (t : Told) (f : Change Failures) (h : Change (Option (List ℕ))) (w : Change ℕ) (s : Ending) (said : Verdict) → s ≡ ending.Said said → Writes v texts (call_with t f h w s) → (said ≡ v) × AddsOf h texts
 says_only v texts t f h w (ending.Said x) said is wr =
     let same : x ≡ said = cc is in
     (sym same ∙ wr.0, wr.1)
@@ -26,21 +22,21 @@ says_only v texts t f h w ending.WriteFault said is wr = absurd (cc is)
 says_only v texts t f h w ending.Memory said is wr = absurd (cc is)
 says_only v texts t f h w ending.TooLong said is wr = absurd wr
 
-leaf_rose : (v : Verdict) (texts : Texts) (t : Told) (f : Change Failures) (h : Change (Option (List ℕ))) (w : Change ℕ) (s : Ending) → s ≡ ending.WriteFault → Writes v texts (call_of t f h w s) → FaultsRose w.old w.new
+leaf_rose : (v : Verdict) (texts : Texts) (t : Told) (f : Change Failures) (h : Change (Option (List ℕ))) (w : Change ℕ) (s : Ending) → s ≡ ending.WriteFault → Writes v texts (call_with t f h w s) → FaultsRose w.old w.new
 leaf_rose v texts t f h w (ending.Said x) is wr = absurd (cc is)
 leaf_rose v texts t f h w ending.ReadFault is wr = absurd wr
 leaf_rose v texts t f h w ending.WriteFault is wr = wr.1
 leaf_rose v texts t f h w ending.Memory is wr = absurd (cc is)
 leaf_rose v texts t f h w ending.TooLong is wr = absurd wr
 
-leaf_same : (v : Verdict) (texts : Texts) (t : Told) (f : Change Failures) (h : Change (Option (List ℕ))) (w : Change ℕ) (s : Ending) → s ≢ ending.WriteFault → Writes v texts (call_of t f h w s) → w.new ≡ w.old
+leaf_same : (v : Verdict) (texts : Texts) (t : Told) (f : Change Failures) (h : Change (Option (List ℕ))) (w : Change ℕ) (s : Ending) → s ≢ ending.WriteFault → Writes v texts (call_with t f h w s) → w.new ≡ w.old
 leaf_same v texts t f h w (ending.Said x) other wr = wr.2
 leaf_same v texts t f h w ending.ReadFault other wr = absurd wr
 leaf_same v texts t f h w ending.WriteFault other wr = absurd (other refl)
 leaf_same v texts t f h w ending.Memory other wr = wr.1
 leaf_same v texts t f h w ending.TooLong other wr = absurd wr
 
-leaf_read : (v : Verdict) (texts : Texts) (t : Told) (f : Change Failures) (h : Change (Option (List ℕ))) (w : Change ℕ) (s : Ending) → (s ≡ ending.ReadFault) ⊎ (s ≡ ending.TooLong) → Writes v texts (call_of t f h w s) → ⊥
+leaf_read : (v : Verdict) (texts : Texts) (t : Told) (f : Change Failures) (h : Change (Option (List ℕ))) (w : Change ℕ) (s : Ending) → (s ≡ ending.ReadFault) ⊎ (s ≡ ending.TooLong) → Writes v texts (call_with t f h w s) → ⊥
 leaf_read v texts t f h w (ending.Said x) (inl is) wr = cc is
 leaf_read v texts t f h w (ending.Said x) (inr is) wr = cc is
 leaf_read v texts t f h w ending.ReadFault is wr = wr
@@ -50,7 +46,7 @@ leaf_read v texts t f h w ending.Memory (inl is) wr = cc is
 leaf_read v texts t f h w ending.Memory (inr is) wr = cc is
 leaf_read v texts t f h w ending.TooLong is wr = wr
 
-leaf_comes : (v : Verdict) (texts : Texts) (t : Told) (f : Change Failures) (h : Change (Option (List ℕ))) (w : Change ℕ) (s wanted : Ending) → wanted ≡ ending.Said v → (FaultsRose w.old w.new → ⊥) → Writes v texts (call_of t f h w s) → (s ≡ wanted) ⊎ (s ≡ ending.Memory)
+leaf_comes : (v : Verdict) (texts : Texts) (t : Told) (f : Change Failures) (h : Change (Option (List ℕ))) (w : Change ℕ) (s wanted : Ending) → wanted ≡ ending.Said v → (FaultsRose w.old w.new → ⊥) → Writes v texts (call_with t f h w s) → (s ≡ wanted) ⊎ (s ≡ ending.Memory)
 leaf_comes v texts t f h w (ending.Said x) wanted is unfailed wr = inl (ap (λ z. ending.Said z) wr.0 ∙ sym is)
 leaf_comes v texts t f h w ending.ReadFault wanted is unfailed wr = absurd wr
 leaf_comes v texts t f h w ending.WriteFault wanted is unfailed wr = absurd (unfailed wr.1)
@@ -59,21 +55,21 @@ leaf_comes v texts t f h w ending.TooLong wanted is unfailed wr = absurd wr
 
 -- ---- a file that didn't come
 
-misses_said : (name : List ℕ) (t : Told) (f : Change Failures) (h : Change (Option (List ℕ))) (w : Change ℕ) (s : Ending) (said : Verdict) → s ≡ ending.Said said → Misses name (call_of t f h w s) → ⊥
+misses_said : (name : List ℕ) (t : Told) (f : Change Failures) (h : Change (Option (List ℕ))) (w : Change ℕ) (s : Ending) (said : Verdict) → s ≡ ending.Said said → Misses name (call_with t f h w s) → ⊥
 misses_said name t f h w (ending.Said x) said is m = m
 misses_said name t f h w ending.ReadFault said is m = cc is
 misses_said name t f h w ending.WriteFault said is m = m
 misses_said name t f h w ending.Memory said is m = cc is
 misses_said name t f h w ending.TooLong said is m = cc is
 
-misses_rose : (name : List ℕ) (t : Told) (f : Change Failures) (h : Change (Option (List ℕ))) (w : Change ℕ) (s : Ending) → s ≡ ending.WriteFault → Misses name (call_of t f h w s) → ⊥
+misses_rose : (name : List ℕ) (t : Told) (f : Change Failures) (h : Change (Option (List ℕ))) (w : Change ℕ) (s : Ending) → s ≡ ending.WriteFault → Misses name (call_with t f h w s) → ⊥
 misses_rose name t f h w (ending.Said x) is m = m
 misses_rose name t f h w ending.ReadFault is m = cc is
 misses_rose name t f h w ending.WriteFault is m = m
 misses_rose name t f h w ending.Memory is m = cc is
 misses_rose name t f h w ending.TooLong is m = cc is
 
-misses_comes : (name bytes : List ℕ) (t : Told) (f : Change Failures) (h : Change (Option (List ℕ))) (w : Change ℕ) (s wanted : Ending) → t name ≡ Some bytes → (Gains f name cause.Failed → ⊥) → (MAX_FILE_BYTES < length bytes → wanted ≡ ending.TooLong) → Misses name (call_of t f h w s) → (s ≡ wanted) ⊎ (s ≡ ending.Memory)
+misses_comes : (name bytes : List ℕ) (t : Told) (f : Change Failures) (h : Change (Option (List ℕ))) (w : Change ℕ) (s wanted : Ending) → t name ≡ Some bytes → (Gains f name cause.Failed → ⊥) → (MAX_FILE_BYTES < length bytes → wanted ≡ ending.TooLong) → Misses name (call_with t f h w s) → (s ≡ wanted) ⊎ (s ≡ ending.Memory)
 misses_comes name bytes t f h w (ending.Said x) wanted is unfailed long m = absurd m
 misses_comes name bytes t f h w ending.ReadFault wanted is unfailed long m = absurd (unfailed m)
 misses_comes name bytes t f h w ending.WriteFault wanted is unfailed long m = absurd m

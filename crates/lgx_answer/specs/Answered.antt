@@ -15,7 +15,7 @@ pub record Change (A : Type 0) : Type 0 where
   pub old : A
   pub new : A
 
--- the contents that the files tell by name, if they tell them
+-- the contents of the files by name, where they are known
 abbrev pub Told : Type 0
 Told = List ℕ → Option (List ℕ)
 
@@ -23,7 +23,7 @@ Told = List ℕ → Option (List ℕ)
 abbrev pub Failures : Type 0
 Failures = List (List ℕ × ReadCause)
 
--- what the files tell, the reads that failed, what the sink holds, its count of faults, and the answer
+-- what is known of the files' contents, the reads that failed, what the sink holds, its count of faults, and the answer
 pub record Call : Type 0 where
   pub told : Told
   pub failures : Change Failures
@@ -31,7 +31,11 @@ pub record Call : Type 0 where
   pub faults : Change ℕ
   pub answer : Ending
 
--- the call of these files, before it and after it, of this sink, and of this answer, where these functions tell of files and sinks
+-- a call by its parts
+abbrev pub call_with : Told → Change Failures → Change (Option (List ℕ)) → Change ℕ → Ending → Call
+call_with told failures held faults answer = record { told = told; failures = failures; held = held; faults = faults; answer = answer }
+
+-- the call of these files, before it and after it, of this sink, and of this answer, where these functions describe files and sinks
 abbrev pub call_of : {F K : Type 0} → (F → Told) → (F → Failures) → F → F → (K → Option (List ℕ)) → (K → ℕ) → K → K → Ending → Call
 call_of told failures files now held faults sink then answer = record {
   told = told files;
@@ -45,7 +49,7 @@ call_of told failures files now held faults sink then answer = record {
 abbrev pub Gains : Change Failures → List ℕ → ReadCause → Type 0
 Gains failures name why = failures.new ≡ failures.old ++ (name, why) ∷ []
 
--- the bytes of a file that came whole: not too many, and those that are told
+-- the bytes of a file that came whole: not too many, and those of its contents, if these are known
 pub record Came (told : Told) (name : List ℕ) (bytes : List ℕ) : Type 0 where
   pub short : length bytes ≤ MAX_FILE_BYTES
   pub whole : IfSome (told name) (λ contents. bytes ≡ contents)

@@ -16,8 +16,8 @@ Reaches told (Say verdict texts) wanted P = (wanted ≡ verdict) × P texts
 Reaches told (Read name next) wanted P = (bytes : List ℕ) × Came told name bytes × Reaches told (next bytes) wanted P
 Reaches told (OneOf A plans) wanted P = (x : A) × Reaches told (plans x) wanted P
 
--- What is told all along, of files that didn't fail, comes to this status: to a verdict, and no put failed; or to a file that is
--- too long.
+-- The files that are read have known contents and didn't fail, and they come to this status: to a verdict, and no put failed; or to
+-- a file that is too long.
 abbrev pub Comes : Call → Plan → Ending → Type 0
 Comes call (Say verdict texts) wanted =
     (wanted ≡ ending.Said verdict) × (FaultsRose call.faults.old call.faults.new → ⊥)
@@ -25,7 +25,7 @@ Comes call (Read name next) wanted =
     (bytes : List ℕ) × (call.told name ≡ Some bytes) × (Gains call.failures name cause.Failed → ⊥) × (((MAX_FILE_BYTES < length bytes) × (wanted ≡ ending.TooLong)) ⊎ ((length bytes ≤ MAX_FILE_BYTES) × Comes call (next bytes) wanted))
 Comes call (OneOf A plans) wanted = (x : A) → Comes call (plans x) wanted
 
--- what is told leads the plan to this text alone
+-- what is known of the files leads the plan to this text alone
 abbrev pub IsSure : Told → Plan → Verdict → List ℕ → Type 0
 IsSure told (Say verdict texts) wanted text = (wanted ≡ verdict) × ((t : List ℕ) → texts t → t ≡ text)
 IsSure told (Read name next) wanted text = (bytes : List ℕ) × (told name ≡ Some bytes) × IsSure told (next bytes) wanted text
@@ -37,9 +37,9 @@ pub record FollowsPlan (plan : Plan) (call : Call) : Type 0 where
   pub ends : Answered plan call
   -- a verdict comes only if the plan has it there, and then all of a text of it was added
   pub only : (said : Verdict) → call.answer ≡ ending.Said said → Reaches call.told plan said (AddsOf call.held)
-  -- what is told all along gives its status, or memory ran out
+  -- what is known all along gives its status, or memory ran out
   pub comes : (wanted : Ending) → Comes call plan wanted → (call.answer ≡ wanted) ⊎ (call.answer ≡ ending.Memory)
-  -- where what is told allows one text alone, no verdict adds another
+  -- where what is known allows one text alone, no verdict adds another
   pub exact : (said wanted : Verdict) (text : List ℕ) → IsSure call.told plan wanted text → call.answer ≡ ending.Said said → (said ≡ wanted) × Appends call.held.old call.held.new text
   -- write fault: exactly if a put failed
   pub write_fault : call.answer ≡ ending.WriteFault → FaultsRose call.faults.old call.faults.new

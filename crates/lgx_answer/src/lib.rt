@@ -3,7 +3,7 @@
 //!
 //! A command reads files one after another, each by what was read before, and then it says a verdict with a text. That is
 //! its plan. A [`FileCommand`] is a command under way: it names the file that it reads next and judges its bytes. What a call
-//! answers is told once, by the plan alone, for all commands; so a new command brings a plan of its own, its function `judge`,
+//! answers is defined once, by the plan alone, for all commands; so a new command brings a plan of its own, its function `judge`,
 //! and nothing else.
 #![tactic(auto)]
 

@@ -12,7 +12,7 @@ pub trait Lines: Drop + Sized {
     /// A number that falls with each line.
     ghost left: { Self → ℕ };
 
-    /// Makes the next line, in place of what stands in `line`; `false` if there is none.
+    /// Makes the next line, in place of what is in `line`; `false` if there is none.
     fn line(&mut self, line: &mut Vec<u8>) -> Result<bool, Memory>
         ensures more { result ≡ Ok true → rest self.old ≡ line.new.items ++ rest self.new }
         ensures fewer { result ≡ Ok true → left self.new < left self.old }

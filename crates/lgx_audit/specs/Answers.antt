@@ -1,4 +1,4 @@
--- How the answer of a call stands to what its definition says.
+-- How the answer of a call relates to what its definition says.
 use Rattle.std.specs.Prelude.{ℕ, List, ◌++◌, Result, Ok, Err}
 use Rattle.spec_schedule.specs.declared.trace.TraceEvent.{TraceEvent}
 use Rattle.lgx_audit.specs.declared.error.TraceFault.{TraceFault}

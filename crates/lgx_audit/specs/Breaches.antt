@@ -48,7 +48,7 @@ breach_from table before (e ∷ es) = elim (broken_by table (before ++ e ∷ [])
 abbrev pub breach : Table → List TraceEvent → Option Breach
 breach table trace = breach_from table [] trace
 
--- ---- laws: of traces of the table, the function tells what is legal, and which breach it is
+-- ---- laws: of traces of the table, the function says what is legal, and which breach it is
 
 abbrev pub NoneIsLegal : Type 0
 NoneIsLegal = (table : Table) (trace : List TraceEvent) → AreInTable table trace → (breach table trace ≡ None) ↔ Legal table trace

@@ -29,7 +29,7 @@ o >>= f = option_and_then f o
 abbrev pub is_word : List ℕ → List ℕ → Bool
 is_word word wanted = bytes_eq word wanted
 
--- a zero stands before other digits
+-- a zero comes before other digits
 abbrev pub is_padded : List ℕ → Bool
 is_padded (c ∷ d ∷ ds) = nat_eq c 48
 is_padded _ = false
@@ -42,7 +42,7 @@ number_of word = if is_padded word then None else unsigned_of word
 abbrev pub named_of : List ℕ → Option (Option ℕ)
 named_of word = if is_word word (codes "-") then Some None else option_map (λ n. Some n) (number_of word)
 
--- the number that stands after these bytes
+-- the number after these bytes
 abbrev pub number_after : ℕ → List ℕ → List ℕ → Option ℕ
 number_after count front word = if is_word (take count word) front then number_of (drop count word) else None
 
@@ -161,7 +161,7 @@ abbrev pub is_end : List ℕ → Bool
 is_end line = bytes_eq line (codes "end")
 
 -- The lines from number n on. The last piece has no line feed, and so is no line: a text without the line `end` is refused
--- there, which is the line after its last if nothing stands behind that one.
+-- there, which is the line after its last if nothing follows that one.
 abbrev pub trace_from : ℕ → Table → List (List ℕ) → Result (List TraceEvent) TraceFault
 trace_from n table [] = refused n K1
 trace_from n table (p ∷ []) = refused n K1

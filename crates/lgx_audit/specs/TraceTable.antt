@@ -1,4 +1,4 @@
--- Which events may stand in a trace of a project with this table.
+-- Which events a trace of a project with this table may have.
 use Rattle.std.specs.Prelude.{ℕ, ◌^◌, ◌<◌, List, length, slice_index_or, Bool, true, ◌&&◌, nat_lt, nat_le, Option, Some, None, IsTrue}
 use Rattle.spec_base.specs.declared.limits.TheConstants.{OWN_LANE}
 use Rattle.spec_schedule.specs.declared.trace.TraceMark.{TraceMark}

@@ -14,7 +14,7 @@ pub fn one_pass_decides()
     ensures over_ticks { WaysNowAreWays }
 {}
 
-/// The breach that is told of a trace of the table is none exactly where the trace is legal, and else the one that it has.
+/// The breach that is reported of a trace of the table is none exactly where the trace is legal, and else the one that it has.
 pub fn breaches_are_told()
     ensures none { NoneIsLegal }
     ensures some { SomeIsBreach }

@@ -26,7 +26,7 @@ pub(crate) fn named_of(word: &[u8]) -> Option<Option<u32>>
     Some(Some(number))
 }
 
-/// The number that stands after these bytes.
+/// The number after these bytes.
 fn number_after(word: &[u8], front: &[u8]) -> Option<u32>
     ensures { result ≡ number_after (length front.now) front.now word.now }
 {

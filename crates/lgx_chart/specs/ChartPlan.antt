@@ -20,7 +20,7 @@ code_text V5 = codes "V5"
 abbrev pub fault_text : ChartFault → List ℕ
 fault_text fault = codes "report " ++ code_text fault.code ++ codes " line " ++ decimal fault.line ++ codes "\n"
 
--- a text that is no report is refused with the line that tells why
+-- a text that is no report is refused with the line that says why
 abbrev pub refused : ChartFault → Plan
 refused fault = Say verdict.Project (only (fault_text fault))
 

@@ -89,7 +89,7 @@ ended mode tick step lost = record { tick = tick; step = step; mode = mode; lost
 abbrev pub are_end_words : List ℕ → List ℕ → List ℕ → Bool
 are_end_words first mode lost = bytes_eq first (codes "end") && is_mode mode && bytes_eq lost (codes "lost")
 
--- the end that these words tell
+-- the end that these words give
 abbrev pub end_at : List ℕ → List ℕ → List ℕ → List ℕ → Option End
 end_at tick step mode count =
     option_and_then (λ t. option_and_then (λ s. option_map (ended mode t s) (unsigned_of count)) (unsigned_of step)) (unsigned_of tick)

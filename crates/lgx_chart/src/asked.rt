@@ -36,7 +36,7 @@ pub struct WatchedPlace {
     pub start: Option<i32>,
 }
 
-/// What words ask for: what is shown, and the watched places that they tell, each with its value before the first line.
+/// What words ask for: what is shown, and the watched places that they name, each with its value before the first line.
 #[derive(Drop)]
 pub struct Asked {
     pub view: View,
@@ -90,7 +90,7 @@ fn is_width(number: u32) -> bool
     MIN_WIDTH <= number && number <= MAX_WIDTH
 }
 
-/// The place that `NAME=VALUE` tells.
+/// The place that `NAME=VALUE` gives.
 #[tactic(auto, using(crate::proofs::WordLists::three_parts))]
 fn started(alloc: Global, is_bool: bool, text: &[u8]) -> Result<Option<WatchedPlace>, Memory>
     ensures { IfOk result (λ place. place ≡ started is_bool (pieces 61 text.now)) }
@@ -114,7 +114,7 @@ fn started(alloc: Global, is_bool: bool, text: &[u8]) -> Result<Option<WatchedPl
     }))
 }
 
-/// The place that an option tells.
+/// The place that an option gives.
 fn place_of(alloc: Global, word: &[u8], value: &[u8]) -> Result<Option<WatchedPlace>, Memory>
     ensures { IfOk result (λ place. place ≡ place_of word.now value.now) }
 {

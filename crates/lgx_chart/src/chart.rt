@@ -17,7 +17,7 @@ use spec_machine::limits::MAX_WATCHES;
 use std::alloc::Global;
 use std::marker::Model;
 
-/// What the lines before a line have told.
+/// What is known from the lines before a line.
 #[derive(Drop)]
 struct Seen {
     lines: u64,

@@ -38,7 +38,7 @@ fn push_fault(text: &mut Vec<u8>, alloc: Global, fault: ChartFault) -> Result<()
     push(text, b"\n")
 }
 
-/// The line that tells why a text is no report.
+/// The line that says why a text is no report.
 fn fault_text(alloc: Global, fault: ChartFault) -> Result<Vec<u8>, Memory>
     ensures { IfOk result (λ text. text.items ≡ fault_text fault) }
 {

@@ -10,7 +10,7 @@ use lgx_journal::{signed_of, unsigned_of};
 use lgx_num::{Memory, is_name, split_first};
 use std::alloc::Global;
 
-/// The begin that these words tell.
+/// The begin that these words give.
 fn begun(alloc: Global, task: &[u8], program: &[u8], version: &[u8]) -> Result<Option<Note>, Memory>
     ensures { IfOk result (λ note. note ≡ begun task.now program.now version.now) }
 {
@@ -226,7 +226,7 @@ fn are_end_words(first: &[u8], mode: &[u8], lost: &[u8]) -> bool
     first == b"end".as_slice() && is_mode(mode) && lost == b"lost".as_slice()
 }
 
-/// The end that these words tell.
+/// The end that these words give.
 fn end_at(
     alloc: Global,
     tick: &[u8],
@@ -274,7 +274,7 @@ pub(crate) fn line_entry(alloc: Global, line: &[u8]) -> Result<Option<Entry>, Me
     entry_of(alloc, &words)
 }
 
-/// The end that a line tells.
+/// The end that a line gives.
 pub(crate) fn line_end(alloc: Global, line: &[u8]) -> Result<Option<End>, Memory>
     ensures { IfOk result (λ end. end ≡ end_of (pieces 32 line.now)) }
 {

@@ -132,7 +132,7 @@ fn push_untold(
 }
 
 /// The watched places of a picture, each with its value when the first time that is shown begins, if that is known: those that
-/// are told, and then those that a report names besides.
+/// are asked for, and then those that a report names besides.
 pub fn places_of(alloc: Global, asked: &Asked, chart: &Chart) -> Result<Vec<WatchedPlace>, Memory>
     ensures { IfOk result (λ places. places.items ≡ places_of asked.now chart.now) }
 {

@@ -51,7 +51,7 @@ fn wave_asked(alloc: Global, words: &[String]) -> Result<Option<WaveFile>, Memor
 /// The program `logix_wave`: reads a report, writes it as a wave file by one put, and answers how the program ends. The report
 /// is the one file, and its name is empty.
 ///
-/// Time is the number of processor steps, or with the word `tick` the tick. Further words, by twos, tell the first and the last
+/// Time is the number of processor steps, or with the word `tick` the tick. Further words, by twos, give the first and the last
 /// time that is shown, and watched places, each a BOOL or a number, with its value before the first line. A text that is no report
 /// is answered `Project`, with one line, `report CODE line N`.
 pub fn wave<F: Files, K: Sink>(

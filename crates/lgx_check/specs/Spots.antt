@@ -1,4 +1,4 @@
--- Where instructions stand, in the words of the definition.
+-- Where instructions are, in the words of the definition.
 use Rattle.std.specs.Prelude.{ℕ, ◌+◌, ◌≤◌, Bool}
 use Rattle.spec_base.specs.declared.limits.TheConstants.{MAX_ROUTINE_INSTRUCTIONS}
 use Rattle.spec_language.specs.Checked as checking
@@ -11,11 +11,11 @@ spot_at leads p = record { rung = p.rung; ins = p.ins; before = p.before; leads 
 abbrev pub spot_of : Spot → checking.Spot
 spot_of s = spot_at s.leads s.place
 
--- the place so many instructions of the rung later
+-- the place n instructions of the rung later
 abbrev pub place_after : ℕ → InstructionPlace → InstructionPlace
 place_after n p = record { rung = p.rung; ins = p.ins + n; before = p.before + n }
 
--- no more instructions stand before it than a routine may have
+-- no more instructions come before it than a routine may have
 pub record IsWithin (p : InstructionPlace) : Type 0 where
   pub room : p.before ≤ MAX_ROUTINE_INSTRUCTIONS
   pub order : p.ins ≤ p.before

@@ -103,7 +103,7 @@ fn kind_at(kinds: &[OperandKind], i: usize) -> OperandKind
     kinds[i]
 }
 
-/// Whether a label that was found stands elsewhere.
+/// Whether a label that was found is elsewhere.
 fn stands_elsewhere(spot: Spot, found: Option<LabelPlace>) -> bool
     ensures { result ≡ elsewhere (spot_of spot) found }
 {

@@ -12,7 +12,7 @@ use lgx_types::NameIndex;
 use std::alloc::Global;
 use std::marker::Model;
 
-/// Where an instruction stands: its rung, and its number in the rung, in the order of the text.
+/// Where an instruction is: its rung, and its number in the rung, in the order of the text.
 #[derive(Clone, Copy, PartialEq, Eq, Debug)]
 pub(crate) struct LabelPlace {
     pub(crate) rung: u64,

@@ -27,7 +27,7 @@ fn with_digit(number: u64, base: u32, digit: u32) -> u64
     (number * u64::from(base) + u64::from(digit)).min(BEYOND)
 }
 
-/// The number that digits made so far, and whether a digit stands before the next byte.
+/// The number that digits made so far, and whether a digit comes right before the next byte.
 #[derive(Clone, Copy)]
 struct Reading {
     number: u64,
@@ -171,7 +171,7 @@ pub(crate) fn decimal(text: &[u8]) -> Option<i32>
     }
 }
 
-/// What the second operand's text tells: of a JSR it is to be the count of its inputs.
+/// The number that the second operand's text gives: of a JSR it is to be the count of its inputs.
 pub(crate) fn second_number(texts: &[Items<u8>]) -> Option<i32>
     ensures { result ≡ second_number texts.now }
 {

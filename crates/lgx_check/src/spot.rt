@@ -1,10 +1,9 @@
-// Where instructions stand.
+// Where instructions are.
 ghost use Rattle.std.specs.Prelude.{◌≡◌, ◌<◌, ◌≤◌};
 ghost use Rattle.spec_base.specs.declared.limits.TheConstants.{MAX_ROUTINE_INSTRUCTIONS};
 ghost use Rattle.lgx_check.specs.Spots.{place_after};
 
-/// The place of an instruction: its rung, its number in the rung, and how many instructions of the routine stand before
-/// it.
+/// The place of an instruction: its rung, its number in the rung, and how many instructions of the routine come before it.
 #[derive(Clone, Copy, PartialEq, Eq, Debug)]
 pub(crate) struct InstructionPlace {
     pub(crate) rung: u64,

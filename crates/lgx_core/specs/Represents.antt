@@ -41,7 +41,8 @@ GoesOn old new entry = (p : Project) (events : List Event) → StandsFor p event
 
 -- ---- a stretch of processor steps
 
--- A run goes on with so many processor steps: the controller stands for it, and the machine gives the last of them this answer.
+-- A run goes on with the processor steps of a stretch: the controller stands for it, and the machine gives the last of them this
+-- answer.
 pub record HasSteps (p : Project) (events : List Event) (x : Stretch) (v : ControllerView) : Type 0 where
   pub stands : StandsFor p (events ++ replicate x.steps Cpu) v
   pub answers : trace p (events ++ replicate x.steps Cpu) ≡ trace p (events ++ replicate (x.steps - 1) Cpu) ++ OfStep x.last ∷ []

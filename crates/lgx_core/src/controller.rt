@@ -82,12 +82,12 @@ impl Controller {
         self.parts.cpu()
     }
 
-    /// Processor steps, up to one of which more is told than that it was made, but for begins that `begins` notes, or after
-    /// which a word of the image is hit; at most `most`. It does what so many calls of [`Controller::cpu`] do, and counts each of
-    /// them.
+    /// Processor steps, up to one of which there is more to report than that it was made, but for begins that `begins` notes, or
+    /// after which a word of the image is hit; at most `most`. It does what as many calls of [`Controller::cpu`] do, and counts
+    /// each of them.
     ///
-    /// A hit that stood there before ends it too, so hits are to be cleared first. While no task is up, all of them are made at
-    /// once. What `begins` told before is lost.
+    /// A hit that was there before ends it too, so hits are to be cleared first. While no task is up, all of them are made at once.
+    /// What `begins` noted before is lost.
     #[inline(always)]
     pub fn stretch(&mut self, most: u32, begins: &mut Begins) -> Stretch
         requires some { 0 < most }

@@ -1,7 +1,8 @@
 //! The controller (1756-PM005): tasks, the ladder engine, I/O words, forces and online edits, one event at a time.
 //!
-//! A [`Controller`] represents a state of the machine of `spec_machine`, as `RepresentsController` of specs/Represents.antt says. Each call answers
-//! what the machine's step answers, and the controller then represents the machine's next state; the readers tell of the state.
+//! A [`Controller`] represents a state of the machine of `spec_machine`, as `RepresentsController` of specs/Represents.antt says.
+//! Each call answers what the machine's step answers, and the controller then represents the machine's next state; the readers show
+//! the state.
 #![tactic(auto)]
 
 mod actions;

@@ -1,4 +1,4 @@
-// What a controller tells of the next processor step, and of the rungs that a task scans.
+// What a controller shows of the next processor step, and of the rungs that a task scans.
 ghost use Rattle.std.specs.Prelude.{◌≡◌, option_map};
 ghost use Rattle.spec_machine.specs.State.{State, progress_of};
 ghost use Rattle.lgx_steps.specs.Executing.{executed, IsCodeOf};

@@ -1,4 +1,4 @@
-// What a controller tells of its state.
+// What a controller shows of its state.
 ghost use Rattle.std.specs.Prelude.{◌≡◌, ◌/◌, true, false, length, replicate};
 ghost use Rattle.lgx_num.specs.Number.{bytes_in};
 ghost use Rattle.lgx_num.specs.Image.{number, InBounds};

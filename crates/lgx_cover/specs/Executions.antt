@@ -14,7 +14,7 @@ use Rattle.lgx_cover.specs.declared.version.Version.{Version}
 
 -- ---- the versions that programs began with
 
--- the one that a processor step tells, if a program begins with it
+-- the one that a processor step reports, if a program begins with it
 abbrev pub version_in : What → List Version
 version_in (what.Began t q n) = record { program = q; number = n } ∷ []
 version_in _ = []

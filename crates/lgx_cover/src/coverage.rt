@@ -57,7 +57,7 @@ impl Coverage {
         Ok(moment.what)
     }
 
-    /// So many processor steps while no task is up.
+    /// `count` processor steps while no task is up.
     fn rest(&mut self, count: u32)
         requires room { self.old.controller.spent + count ≤ MAX_EVENTS }
         ensures { (project : Projects) (events : List Events) → Covers self.old project events → chosen (run project events).table ≡ None → Covers self.new project (events ++ replicate count Cpu) }
@@ -69,7 +69,7 @@ impl Coverage {
         }
     }
 
-    /// So many processor steps.
+    /// `count` processor steps.
     pub(crate) fn steps(&mut self, count: u32) -> Result<(), Memory>
         requires coverage { IsCoverage self.old }
         requires room { self.old.controller.spent + count ≤ MAX_EVENTS }

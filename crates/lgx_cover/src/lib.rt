@@ -1,8 +1,8 @@
-//! How often each instruction was executed by the run of a journal, and the program that tells it.
+//! How often each instruction was executed by the run of a journal, and the program that reports it.
 //!
-//! A [`Coverage`] is a controller with a table for each version that a program began with: before each processor step the controller
-//! is asked which instruction it will execute, and that is counted. The text tells the counts, instruction by instruction, in the
-//! order of the code.
+//! A [`Coverage`] is a controller with a table for each version that a program began with: before each processor step the
+//! controller is asked which instruction it will execute, and that is counted. The text gives the counts, instruction by
+//! instruction, in the order of the code.
 #![tactic(auto)]
 
 mod call;

@@ -117,7 +117,7 @@ impl Tables {
         }
     }
 
-    /// Notes the version that a program begins with, if a processor step tells one.
+    /// Notes the version that a program begins with, if a processor step reports one.
     #[inline(always)]
     pub(crate) fn note(&mut self, what: What) -> Result<(), Memory>
         ensures { (begun : List Versions) (all : List Occurrence) → KeepCounts self.old begun all → OnOk result (KeepCounts self.new (begun ++ version_in what) all) }

@@ -1,4 +1,4 @@
--- Where aliases stand.
+-- Where aliases are.
 use Rattle.std.specs.Prelude.{Bool, true, false, List, filter, map}
 use Rattle.spec_project.specs.declared.described.DescribedMeaning.{DescribedMeaning}
 use Rattle.spec_project.specs.declared.described.DescribedMeaning.TheVariants.{OfType as typed, AliasOf}

@@ -59,7 +59,7 @@ pub(crate) fn declare_all(
     Ok(())
 }
 
-/// Where an alias stands: its scope, and its number among the tags there.
+/// Where an alias is: its scope, and its number among the tags there.
 #[derive(Clone, Copy)]
 struct AliasPlace {
     scope: Scope,

@@ -35,7 +35,7 @@ fn tag_error(alloc: Global, error: TagError) -> ProjectError
     }
 }
 
-/// The same refusal of what stands in the list of a scope's tags.
+/// The same refusal of what is in the list of a scope's tags.
 pub(crate) fn in_tags_of(alloc: Global, scope: Scope, error: ProjectError) -> ProjectError
     ensures { IsFaultOf (in_tags_of scope (fault_of error)) (fault_of result) }
 {

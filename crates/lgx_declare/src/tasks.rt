@@ -53,7 +53,7 @@ fn any_continuous(tasks: &[DescribedTask]) -> bool
     tasks.iter().any(|task| is_continuous(task))
 }
 
-/// The first tasks, at most so many.
+/// The first tasks, at most `count`.
 #[tactic(auto, using(std::proofs::lemmas::List::take_all))]
 fn first_tasks(tasks: &[DescribedTask], count: usize) -> &[DescribedTask]
     ensures { result.now ≡ take count tasks.now }
@@ -64,7 +64,7 @@ fn first_tasks(tasks: &[DescribedTask], count: usize) -> &[DescribedTask]
     tasks
 }
 
-/// Whether a task is continuous, and one of so many tasks is, too.
+/// Whether a task is continuous, and one of the first `place` tasks is, too.
 fn is_second(tasks: &[DescribedTask], place: usize, task: &DescribedTask) -> bool
     ensures { result ≡ (is_continuous_task task.now && list_any is_continuous_task (take place tasks.now)) }
 {
@@ -155,7 +155,7 @@ fn listed_in(
     Ok(list)
 }
 
-/// Whether a number stands in the list once.
+/// Whether a number is in the list exactly once.
 fn is_once(list: &[u32], number: usize) -> bool
     ensures { result ≡ (count_by (λ m. m == number) list.now == 1) }
 {

@@ -32,7 +32,7 @@ with_change places (Replaced i new) = slice_set places i (taken (Some (new ∷ [
 with_change places (Inserted i new) = slice_set places i (inserted new (slice_index_or places i nothing_around))
 with_change places (Deleted i) = slice_set places i (taken (Some []) (slice_index_or places i nothing_around))
 
--- all that stands around these rungs, which are one or none
+-- the first of these rungs, if there is one, with all that is put around it
 abbrev pub put_around : List Source → AroundView → List Source
 put_around [] a = a.before
 put_around (rung ∷ rungs) a = a.before ++ unwrap_or a.instead (rung ∷ [])
@@ -41,7 +41,7 @@ abbrev pub rest_of : List Source → List Source
 rest_of [] = []
 rest_of (rung ∷ rungs) = rungs
 
--- each rung with what stands around it, and what stands after the last
+-- each rung with what is put around it, and what is put after the last
 abbrev pub woven : List Source → List AroundView → List Source
 woven base [] = []
 woven base (a ∷ places) = put_around base a ++ woven (rest_of base) places

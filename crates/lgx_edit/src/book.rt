@@ -141,8 +141,8 @@ impl EditBook {
         self.programs[n].cancel(client)
     }
 
-    /// Holds the selected version of a program, which is told by its number in the project, and answers the version's
-    /// number. None may be held of it.
+    /// Holds the selected version of a program, which is given by its number in the project, and answers the version's number. None
+    /// may be held of it.
     pub fn hold(&mut self, program: u32) -> u32
         requires known { program < length self.old }
         requires free { IsNone (held_at self.old program) }

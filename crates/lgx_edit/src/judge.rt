@@ -9,7 +9,7 @@ ghost use Rattle.lgx_edit.specs.Texts.{change_of, accepted_of};
 use crate::changes::{KeptEdit, RungChange};
 use spec_machine::RungEdit;
 
-/// Whether an edit names a rung that isn't there, of so many.
+/// Whether an edit names a rung that isn't there, where there are `rungs`.
 fn is_misplaced(rungs: usize, edit: &RungEdit) -> bool
     ensures { result ≡ is_misplaced rungs edit.now }
 {
@@ -20,7 +20,7 @@ fn is_misplaced(rungs: usize, edit: &RungEdit) -> bool
     }
 }
 
-/// The place of the first edit that names a rung that isn't there, of so many.
+/// The place of the first edit that names a rung that isn't there, where there are `rungs`.
 pub fn first_misplaced(rungs: usize, edits: &[RungEdit]) -> Option<u32>
     requires { length edits.now ≤ MAX_EDITS }
     ensures { result ≡ position_from (is_misplaced rungs) 0 edits.now }

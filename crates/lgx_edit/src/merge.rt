@@ -10,7 +10,7 @@ use lgx_rung::SourceRung;
 use std::alloc::Global;
 use std::marker::Model;
 
-/// What stands in place of a rung: itself, nothing if it was deleted, or another if it was replaced.
+/// What comes in place of a rung: itself, nothing if it was deleted, or another if it was replaced.
 #[derive(Drop)]
 pub enum Instead {
     Itself,
@@ -18,8 +18,7 @@ pub enum Instead {
     Other(SourceRung),
 }
 
-/// What changes put around a rung: the rungs before it, in the order in which they were accepted, and what stands in its
-/// place.
+/// What changes put around a rung: the rungs before it, in the order in which they were accepted, and what comes in its place.
 #[derive(Drop)]
 pub struct Around {
     before: Vec<SourceRung>,
@@ -38,7 +37,7 @@ impl Model for Around {
     ghost view = { λ a. record { before = a.before.items; instead = instead_of a.instead } };
 }
 
-/// Adds what stands in place of a rung.
+/// Adds what comes in place of a rung.
 fn add_instead(
     merged: &mut Vec<SourceRung>,
     alloc: Global,
@@ -65,7 +64,7 @@ impl Around {
         }
     }
 
-    /// Puts a rung before this one, after those that stand there.
+    /// Puts a rung before this one, after those that are there.
     fn insert(&mut self, rung: SourceRung) -> Result<(), Memory>
         ensures { OnOk result (self.new ≡ inserted rung self.old) }
     {
@@ -82,7 +81,7 @@ impl Around {
         }
     }
 
-    /// Adds all that stands around the first of these rungs to the merged ones; after the last rung there is none.
+    /// Adds the first of these rungs, with all that is put around it, to the merged ones; after the last rung there is none.
     fn add_to(
         self,
         merged: &mut Vec<SourceRung>,
@@ -162,7 +161,7 @@ fn others(rungs: &[SourceRung]) -> &[SourceRung]
     }
 }
 
-/// The rungs of the base with all that stands around them.
+/// The rungs of the base with all that is put around them.
 fn weave(alloc: Global, base: &[SourceRung], places: Vec<Around>) -> Result<Vec<SourceRung>, Memory>
     ensures { IfOk result (λ merged. merged.items ≡ woven base.now places.items) }
 {

@@ -1,4 +1,4 @@
-// Where a program scan stands in flat code.
+// Where a program scan is in flat code.
 use crate::branches::Branches;
 use arrayvec::ArrayVec;
 use lgx_num::Place;
@@ -21,7 +21,7 @@ pub(crate) type Inputs = ArrayVec<i32, MAX_PARAMETERS>;
 /// The places of the numbers that come back from a call.
 pub(crate) type Returns = ArrayVec<Place, MAX_PARAMETERS>;
 
-/// Where a routine in progress stands: the place in its code, the condition and the open branches.
+/// Where a routine in progress is: the place in its code, the condition and the open branches.
 #[derive(Drop, Default)]
 pub(crate) struct RungState {
     pub(crate) pc: usize,
@@ -55,7 +55,7 @@ impl RungState {
     }
 }
 
-/// A routine in progress: its number, where it stands, its zone, and what its call handed over.
+/// A routine in progress: its number, where it is, its zone, and what its call handed over.
 #[derive(Drop, Default)]
 pub(crate) struct Frame {
     pub(crate) routine: u32,
@@ -73,14 +73,14 @@ impl Model for Frame {
     ghost view = { λ f. record { routine = f.routine; pc = f.rung.pc; on = f.rung.on; zone = zone_of f.zone; branches = f.rung.branches; inputs = f.inputs.items; returns = f.returns.items } };
 }
 
-/// What a scan tells its instructions: the tick, and whether it is the first scan, which is the flag `S:FS`.
+/// What a scan gives its instructions: the tick, and whether it is the first scan, which is the flag `S:FS`.
 #[derive(Clone, Copy)]
 pub(crate) struct ScanContext {
     pub(crate) now: u32,
     pub(crate) first: bool,
 }
 
-/// The routines in progress, the innermost last. A place that a routine left keeps what stood there until it is taken again.
+/// The routines in progress, the innermost last. A place that a routine left keeps what was there until it is taken again.
 #[derive(Drop)]
 pub(crate) struct Frames {
     pub(crate) slots: [Frame; MAX_FRAMES],
@@ -99,7 +99,7 @@ impl Model for Frames {
     ghost invariant = { λ f. (f.depth ≤ MAX_FRAMES) × (length f.slots ≡ MAX_FRAMES) };
 }
 
-/// Where a program scan stands: the routines in progress, and the copy in progress. It takes no memory.
+/// Where a program scan is: the routines in progress, and the copy in progress. It takes no memory.
 #[derive(Drop)]
 pub struct Position {
     pub(crate) frames: Frames,

@@ -47,7 +47,7 @@ impl Frames {
         }
     }
 
-    /// The instruction before which the innermost routine stands; None if it is at its end, or if there is none.
+    /// The next instruction of the innermost routine; None if the routine is at its end, or if there is none.
     pub(crate) fn next_ins<'a>(&self, program: &'a FlatProgram) -> Option<&'a Prepared>
         ensures next { (fs : List MachineFrame) → RepresentsFrames program.now self.now fs → NextIs fs (option_map (λ i. i.now) result) }
         ensures room { IsSome result → HasNext self.now }
@@ -135,7 +135,7 @@ impl Frames {
     }
 }
 
-/// The instruction before which a routine in progress stands; None if it is at its end.
+/// The next instruction of a routine in progress; None if the routine is at its end.
 fn ins_at<'a>(program: &'a FlatProgram, frame: &Frame) -> Option<&'a Prepared>
     ensures next { (f : MachineFrame) → RepresentsIn program.now frame.now f → NextFor f (option_map (λ i. i.now) result) }
     ensures room { IsSome result → frame.now.pc + 1 < 2 ^ 64 }

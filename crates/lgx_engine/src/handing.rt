@@ -97,7 +97,7 @@ fn handed_over(args: &[Operand], image: &Image) -> Option<Call>
     })
 }
 
-/// How many inputs the count of a JSR tells; 0 if it has none.
+/// How many inputs the count of a JSR gives; 0 if it has none.
 fn inputs_in(args: &[Operand]) -> usize
     requires { OperandsFit Op.Jsr args.now }
     ensures { result ≡ inputs_in args.now }

@@ -31,7 +31,7 @@ impl Position {
     }
 }
 
-/// The instruction before which the innermost routine stands; None if it is at its end, or if there is none.
+/// The next instruction of the innermost routine; None if the routine is at its end, or if there is none.
 #[inline(always)]
 fn executing_in(program: &FlatProgram, frames: &Frames) -> Option<Execution>
     ensures { (fs : List MachineFrame) → RepresentsFrames program.now frames.now fs → result ≡ in_frames fs }
@@ -42,7 +42,7 @@ fn executing_in(program: &FlatProgram, frames: &Frames) -> Option<Execution>
     }
 }
 
-/// What a routine executes that stands before an instruction.
+/// What a routine executes that is before an instruction.
 #[inline(always)]
 fn execution_of(program: &FlatProgram, frame: &Frame) -> Execution
     ensures { (f : MachineFrame) → RepresentsIn program.now frame.now f → result ≡ execution_of f }

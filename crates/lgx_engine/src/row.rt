@@ -55,7 +55,7 @@ pub(crate) struct RowStep {
     pub(crate) control: Control,
 }
 
-/// What an instruction is told: the condition before it, and what the scan tells.
+/// What an instruction gets: the condition before it, and what the scan gives.
 #[derive(Clone, Copy)]
 struct RowInput {
     on: bool,

@@ -52,7 +52,7 @@ module _ {Node : Type 0} (stands : Stands Node) (keeps : Keeps Node) (script : S
         let served = partial_journals_are_served p script counts journal valid proper one.layer.partial in
         let same : steps_of (journal ++ Act lane h.action ∷ []) ≡ steps_of journal = steps_on journal (Act lane h.action ∷ []) ∙ (let e : steps_of journal + 0 ≡ steps_of journal = omega arith in e) in
         keeps_it p k node (with_one_more counts lane, journal ++ Act lane h.action ∷ []) (m.kept refl)
-        (record { partial = (due_actions_serve p script counts journal lane h.action served h.due).0.partial; window = m.window; steps = same ∙ one.layer.steps }, m.stands_for)
+        (record { partial = (due_actions_serve p script counts journal lane h.action served h.due).served.partial; window = m.window; steps = same ∙ one.layer.steps }, m.stands_for)
 
     pub stepped_keeps : (k : ℕ) (before node : Node) → IsStepped stands keeps script q node before → KeepsOne stands keeps p script q k before → KeepsOne stands keeps p script q (k + 1) node
     stepped_keeps k before node stepped one =

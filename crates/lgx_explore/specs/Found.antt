@@ -1,4 +1,4 @@
--- What is told of all journals of a script.
+-- What is answered for all journals of a script.
 use Rattle.std.specs.Prelude.{◌≡◌, ℕ, List, slice_index_or, ⊤}
 use Rattle.spec_machine.specs.declared.event.Event.{Event}
 use Rattle.spec_machine.specs.Project.{Project}
@@ -28,13 +28,13 @@ Tells keeps p script q found.Never = (k : ℕ) → IsNeverBefore p script q k
 Tells keeps p script q (found.Shown node made line) = GoesOnTo p script q (keeps node script).0 (keeps node script).1 made line
 Tells keeps p script q (found.Unknown k) = IsNeverBefore p script q k
 
--- the node with this number is told with the event and the line
+-- the node with this number is reported with the event and the line
 pub record IsToldAt {Node : Type 0} (nodes : List Node) (at : ℕ) (made : Next) (line : ℕ) (f : Found Node) : Type 0 where
   pub node : Node
   pub here : slice_index_or nodes at node ≡ node
   pub is : f ≡ found.Shown node made line
 
--- what a stop at the node with this number, in the layer of so many steps, tells
+-- what is answered at a stop at the node with this number, in the layer of `steps` steps
 abbrev pub IsToldBy : {Node : Type 0} → List Node → ℕ → ℕ → Stop → Found Node → Type 0
 IsToldBy nodes at steps (stops.Shown made line) f = IsToldAt nodes at made line f
 IsToldBy nodes at steps stops.Limit f = f ≡ found.Unknown steps
@@ -45,7 +45,7 @@ abbrev pub IfOver : {Node : Type 0} → Over Node → (Node → Next → ℕ →
 IfOver (over.Shown node made line) P = P node made line
 IfOver _ P = ⊤
 
--- what is told where the layer of so many steps isn't made
+-- what is answered where the layer of `steps` steps isn't made
 abbrev pub IsToldOf : {Node : Type 0} → ℕ → Over Node → Found Node → Type 0
 IsToldOf steps (over.Shown node made line) f = f ≡ found.Shown node made line
 IsToldOf steps over.Limit f = f ≡ found.Unknown steps

@@ -1,4 +1,4 @@
-// What is told of all journals of a script.
+// What is answered for all journals of a script.
 ghost use Rattle.std.specs.Prelude.{◌<◌, length, ℕ, IfOk};
 ghost use Rattle.lgx_explore.specs.Shown.{IfShown};
 ghost use Rattle.lgx_explore.specs.Found.{IsToldBy, IsToldOf};
@@ -7,7 +7,7 @@ use crate::halt::{Halt, Over};
 use crate::node::{Next, Stop};
 use lgx_num::Memory;
 
-/// What is told of all journals of a script within the question's window.
+/// What is answered for all journals of a script within the question's window.
 #[derive(Drop)]
 pub enum Found<N: Drop> {
     /// No line of the question ever holds.
@@ -15,11 +15,11 @@ pub enum Found<N: Drop> {
     /// After the journal that the node keeps and this event, the line of the question with this number, from 0, holds as
     /// the first. No line holds after fewer processor steps.
     Shown(N, Next, u32),
-    /// After fewer processor steps no line holds, but of those with so many there are more nodes than a layer may have.
+    /// After fewer processor steps than this no line holds, but with this many there are more nodes than a layer may have.
     Unknown(u32),
 }
 
-/// What a halt tells in the layer of so many processor steps.
+/// What is answered at a halt in the layer of `steps` processor steps.
 pub(crate) fn told<N: Drop>(nodes: Vec<N>, halt: Halt, steps: u32) -> Result<Found<N>, Memory>
     requires { IfShown halt.stop (λ _ _. halt.at < length nodes.items) }
     ensures { IfOk result (IsToldBy nodes.items halt.at steps halt.stop) }
@@ -32,7 +32,7 @@ pub(crate) fn told<N: Drop>(nodes: Vec<N>, halt: Halt, steps: u32) -> Result<Fou
     }
 }
 
-/// What is told where the layer of so many processor steps isn't made.
+/// What is answered where the layer of `steps` processor steps isn't made.
 pub(crate) fn told_over<N: Drop>(over: Over<N>, steps: u32) -> Result<Found<N>, Memory>
     ensures { IfOk result (IsToldOf steps over) }
 {

@@ -16,7 +16,7 @@ use spec_text::Script;
 use std::alloc::Global;
 
 /// Explores all journals of a script within the question's window, with at most `most` nodes in a layer. The error is that
-/// memory ran out. Each layer after the first is told to `progress` when it is made.
+/// memory ran out. Each layer after the first is reported to `progress` when it is made.
 pub fn explore<N: Node, P: Progress>(
     alloc: Global,
     script: &Script,

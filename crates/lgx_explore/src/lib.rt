@@ -1,7 +1,7 @@
 //! A script's journals explored, layer by layer.
 //!
-//! A layer is all partial journals with so many processor steps. A [`Node`] stands for those that led to the same; each
-//! layer has nodes for all, so [`explore`] tells of all.
+//! A layer is all partial journals with a given number of processor steps. A [`Node`] stands for those that led to the same; each
+//! layer has nodes for all, so [`explore`] answers for all.
 #![tactic(auto)]
 
 mod found;

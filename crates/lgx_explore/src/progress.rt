@@ -1,7 +1,7 @@
 // How far an exploration is.
 
-/// Who is told how far an exploration is. Nothing that is told of the journals rests on it.
+/// Who hears how far an exploration is. Nothing that is said of the journals rests on it.
 pub trait Progress {
-    /// The layer of so many processor steps and ticks was made, and has so many nodes.
+    /// The layer of `steps` processor steps and `ticks` ticks was made, and has `nodes` nodes.
     fn layer(&mut self, steps: u32, ticks: u32, nodes: usize);
 }

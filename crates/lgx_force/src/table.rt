@@ -49,7 +49,7 @@ impl Model for ForceTable {
 }
 
 impl ForceTable {
-    /// A table of so many I/O words, without a force and not enabled.
+    /// A table of `words` I/O words, without a force and not enabled.
     pub fn new(alloc: Global, words: u32) -> Result<ForceTable, Memory>
         ensures exact { IfOk result (λ table. table ≡ no_forces words) }
         ensures words { IfOk result (λ table. length table.words ≡ words) }

@@ -6,7 +6,7 @@ use Rattle.std.specs.Fn.{iterate}
 abbrev pub next_state : ℕ → ℕ
 next_state state = (state * 1664525 + 1013904223) % 2 ^ 32
 
--- the state after so many draws; before the first it is n
+-- the state after `draws` draws; before the first it is n
 unfoldable pub state_after : ℕ → ℕ → ℕ
 state_after draws n = iterate next_state draws n
 

@@ -6,7 +6,7 @@ use Rattle.std.specs.List.{join_with_byte, range_with_len}
 abbrev pub numbered : List ℕ → List ℕ → ℕ → List ℕ
 numbered before after number = before ++ decimal number ++ after
 
--- the texts of the numbers from 0 on, so many, with commas between them
+-- the texts of `count` numbers, from 0 on, with commas between them
 unfoldable pub listed : (ℕ → List ℕ) → ℕ → List ℕ
 listed text count = join_with_byte 44 (map text (range_with_len 0 count))
 

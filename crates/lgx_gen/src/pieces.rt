@@ -25,7 +25,7 @@ pub(crate) fn push_comma(text: &mut Vec<u8>, number: u32) -> Result<(), Memory>
     Ok(())
 }
 
-/// Adds a list whose elements are alike but for their numbers, which stand between `before` and `after`.
+/// Adds a list whose elements are alike but for their numbers, which come between `before` and `after`.
 pub(crate) fn push_listed(
     text: &mut Vec<u8>,
     count: u32,

@@ -131,7 +131,7 @@ fn push_initial_values(text: &mut Vec<u8>) -> Result<(), Memory>
 /// The project that a number makes: four programs of 32 drawn rungs each, under a continuous, two periodic and an event task.
 ///
 /// It is a project file of schema 1 with each tag, rung, task, initial value and watched place on a line of its own. Its lists
-/// have commas at the ends of lines, and a line feed stands after its last brace. Out of memory is the one fault.
+/// have commas at the ends of lines, and a line feed comes after its last brace. Out of memory is the one fault.
 pub fn gen_project(alloc: Global, n: u32) -> Result<Vec<u8>, Memory>
     ensures { IfOk result (λ text. text.items ≡ (generated n).project) }
 {

@@ -1,4 +1,4 @@
-// What is told to stations, and the rule under which they read it.
+// What is published to stations, and the rule under which they read it.
 use crate::published::Published;
 use crossbeam_utils::rule::{Outcome, Protocol};
 use spec_board::Snapshot;
@@ -26,7 +26,7 @@ impl<S: Story> Protocol<Published, ()> for Follows<S> {
     ghost first = { tt };
 }
 
-/// What a step under the rule tells: the list before it, and that after it, is a prefix of the story.
+/// What is known of a step under the rule: the list before it, and that after it, is a prefix of the story.
 pub(crate) struct Finds<S> {
     story: PhantomData<S>,
 }

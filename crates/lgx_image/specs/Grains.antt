@@ -17,7 +17,7 @@ pub record ImageView : Type 0 where
 unfoldable pub grain_of : ℕ → ℕ
 grain_of byte = byte / GRAIN
 
--- how many grains so many bytes have; the last may be shorter
+-- how many grains n bytes have; the last may be shorter
 unfoldable pub grains_in : ℕ → ℕ
 grains_in zero = 0
 grains_in (suc last) = suc (grain_of last)

@@ -30,11 +30,11 @@ pub record Cleared (old now : List ℕ) (from : ℕ) : Type 0 where
   pub none : (g : ℕ) → g / 64 < from → bit_of_words now g ≡ false
   pub rest : (g : ℕ) → from ≤ g / 64 → bit_of_words now g ≡ bit_of_words old g
 
--- the marks of so many grains
+-- the marks of `grains` grains
 unfoldable pub marks_of : List ℕ → ℕ → List Bool
 marks_of words grains = map (bit_of_words words) (range_with_len 0 grains)
 
--- the first so many of a list of truth values; what it hasn't is false
+-- the first n of a list of truth values; what it hasn't is false
 unfoldable pub flags_of : List Bool → ℕ → List Bool
 flags_of flags n = map (is_marked flags) (range_with_len 0 n)
 

@@ -9,7 +9,7 @@ use spec_base::limits::MAX_IMAGE_BYTES;
 use std::alloc::Global;
 use std::marker::Model;
 
-/// The bytes of a word, by which an image tells that a watched place changed.
+/// The bytes of a word, by which an image notes that a watched place changed.
 pub const WORD_BYTES: u32 = 4;
 
 /// The words of the largest image.

@@ -259,7 +259,7 @@ impl Image {
         }
     }
 
-    /// Stores the bytes of a DINT that may stand in two words.
+    /// Stores the bytes of a DINT that may lie in two words.
     fn store_bytes(&mut self, byte: u32, value: i32)
         requires { byte + 4 ≤ length self.old.bytes }
         ensures grains { length self.old.marks ≡ grains_in (length self.old.bytes) }
@@ -276,7 +276,7 @@ impl Image {
         self.store_byte(byte + 3, low[3]);
     }
 
-    /// The number that an operand is, or that stands at its place; 0 for any other operand. Its place lies in the image.
+    /// The number that an operand is, or that is at its place; 0 for any other operand. Its place lies in the image.
     pub fn value(&self, arg: Arg) -> i32
         requires { ArgInBounds arg (length self.now.bytes) }
         ensures { result ≡ value_of self.now.bytes arg }
@@ -335,7 +335,7 @@ impl Image {
         self.store_word(target, value);
     }
 
-    /// Copies bytes that may stand in any words.
+    /// Copies bytes that may lie in any words.
     fn copy_bytes(&mut self, source: u32, target: u32, size: u32)
         requires source { source + size ≤ length self.old.bytes }
         requires target { target + size ≤ length self.old.bytes }

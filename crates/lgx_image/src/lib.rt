@@ -2,9 +2,9 @@
 //!
 //! To contracts an [`Image`] is its bytes, for each grain of `GRAIN` bytes whether it is marked, and for each word of `WORD_BYTES`
 //! whether it is watched and whether it is hit. A write marks the grains of its bytes, changed or not. A watched word is hit when
-//! a byte of it changes: so who watches some places learns at once that one may have changed. What stands at a place and what a
-//! write makes of the bytes are `number` and `write` of `lgx_num`; where operands lie is `bind` of `spec_scan`.
-//! `ChangesOnlyMarked` says what every change of an image keeps.
+//! a byte of it changes: so who watches some places learns at once that one may have changed. What is at a place and what a write
+//! makes of the bytes are `number` and `write` of `lgx_num`; where operands lie is `bind` of `spec_scan`. `ChangesOnlyMarked` says
+//! what every change of an image keeps.
 #![tactic(auto)]
 
 mod bytes;

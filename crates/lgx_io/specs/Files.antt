@@ -15,8 +15,7 @@ added name (Err Failed) = (name, cause.Failed) ∷ []
 added name (Err (TooLong taken)) = (name, cause.TooLong) ∷ []
 added name (Err Memory) = []
 
--- what a fault says of the file: more bytes came than a file may have, and if its contents are told, they
--- have all those that came
+-- what a fault says of the file: more bytes came than a file may have, and if its contents are known, they have all those that came
 abbrev pub IsCause : Option (List ℕ) → FileFault → Type 0
 IsCause told Failed = Unit {0}
 IsCause told (TooLong taken) = (MAX_FILE_BYTES < taken) × IfSome told (λ contents. taken ≤ length contents)

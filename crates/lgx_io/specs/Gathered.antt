@@ -2,7 +2,7 @@
 use Rattle.std.specs.Prelude.{ℕ, List, Option}
 use Rattle.std.specs.Io.KnownBytes.{append_known}
 
--- `Gathered`: what its writer holds, if that is told; the bytes that wait to be written; the count of faults
+-- `Gathered`: what its writer holds, if that is known; the bytes that wait to be written; the count of faults
 pub record GatheredState : Type 0 where
   pub written : Option (List ℕ)
   pub waiting : List ℕ

@@ -10,12 +10,12 @@ pub record OpenedState (O : Type 0) : Type 0 where
   pub opener : O
   pub failures : List (List ℕ × ReadCause)
 
--- `OnlyReader`: what the reader had at the start, if that is told, and whether it wasn't opened yet
+-- `OnlyReader`: what the reader had at the start, if that is known, and whether it wasn't opened yet
 pub record OnlyReaderState : Type 0 where
   pub contents : Option (List ℕ)
   pub is_left : Bool
 
--- if it is told which names were opened, this one was added
+-- if it is known which names were opened, this one was added
 abbrev pub AddsName : Option (List (List ℕ)) → Option (List (List ℕ)) → List ℕ → Type 0
 AddsName None new name = Unit {0}
 AddsName (Some names) new name = new ≡ Some (names ++ name ∷ [])

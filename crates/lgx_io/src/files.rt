@@ -21,7 +21,7 @@ pub enum FileFault {
     Memory,
 }
 
-/// Why a read stands in the list of failures.
+/// Why a read is in the list of failures.
 #[derive(Clone, Copy)]
 pub enum ReadCause {
     Failed,
@@ -46,7 +46,7 @@ impl<T: Drop> From<AllocFailed<T>> for FileFault {
 
 /// Files by name.
 pub trait Files {
-    /// The contents of the file of a name, if they are told.
+    /// The contents of the file of a name, if they are known.
     ghost told: { Self → List ℕ → Option (List ℕ) };
 
     /// The reads that failed or found too long a file, the oldest first: each by its name and its cause.
@@ -55,8 +55,7 @@ pub trait Files {
     /// The whole file of this name, at most `MAX_FILE_BYTES` bytes.
     ///
     /// `Failed` and `TooLong` come only if this read was added to the list of failures, and nothing else is
-    /// ever added to it. If the contents are told and are longer than the limit, the answer is `TooLong`,
-    /// `Failed` or `Memory`.
+    /// ever added to it. If the contents are known and are longer than the limit, the answer is `TooLong`, `Failed` or `Memory`.
     fn read(&mut self, name: &str) -> Result<Vec<u8>, FileFault>
         ensures ok { IfOk result (λ bytes. length bytes.items ≤ MAX_FILE_BYTES) }
         ensures whole { IfOk result (λ bytes.

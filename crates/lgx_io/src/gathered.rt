@@ -34,8 +34,8 @@ pub fn write_all<W: Write>(writer: &mut W, bytes: &[u8]) -> bool
     false
 }
 
-/// A sink that gathers what is put, and writes it if there is no more room, and at [`Gathered::finish`]. It tells
-/// what it holds if its writer does.
+/// A sink that gathers what is put, and writes it if there is no more room, and at [`Gathered::finish`]. What it holds is known if
+/// what its writer holds is.
 ///
 /// After the first fault it never writes again but when it is dropped: a `BufWriter` that is dropped tries to
 /// write what it has left, and nobody hears of a fault then.

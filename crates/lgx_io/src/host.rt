@@ -12,7 +12,7 @@ use std::rt::Files as FileAccess;
 /// How many bytes are gathered before they are written.
 const GATHERED_BYTES: usize = 65_536;
 
-/// What opens the files of the system by their paths. It tells nothing.
+/// What opens the files of the system by their paths. Nothing is known of their contents.
 #[derive(Drop)]
 pub struct HostOpener<'a, R: FileAccess> {
     rt: &'a R,
@@ -30,7 +30,7 @@ impl<'a, R: FileAccess> Open for HostOpener<'a, R> {
     }
 }
 
-/// The files of the system by their paths. They tell nothing.
+/// The files of the system by their paths. Nothing is known of their contents.
 pub type HostFiles<'a, R> = OpenedFiles<HostOpener<'a, R>>;
 
 impl<'a, R: FileAccess> HostFiles<'a, R> {
@@ -42,8 +42,8 @@ impl<'a, R: FileAccess> HostFiles<'a, R> {
     }
 }
 
-/// Standard output. It tells nothing of what is written. It gathers 65,536 bytes at a time; if there is no memory
-/// for so many, each piece is written at once.
+/// Standard output. Nothing is known of what is written. It gathers 65,536 bytes at a time; if there is no memory for that, each
+/// piece is written at once.
 pub type HostSink<'a, P> = Gathered<Printer<'a, P>>;
 
 impl<'a, P: Print> HostSink<'a, P> {

@@ -48,8 +48,8 @@ impl<R: Read + Drop> Open for OnlyReader<R> {
     }
 }
 
-/// A reader, as standard input, that stands for the file of each name. Its contents are told if the reader's are:
-/// what it has left when this is made. It is read once, and each later read is `Failed`.
+/// A reader, as standard input, that stands for the file of each name. Its contents are known if the reader's are: what it has left
+/// when this is made. It is read once, and each later read is `Failed`.
 ///
 /// The reader is owned: one behind a `&mut` gets no proof.
 pub type Input<R> = OpenedFiles<OnlyReader<R>>;

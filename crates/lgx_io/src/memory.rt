@@ -60,8 +60,8 @@ fn note_failure(
     Ok(())
 }
 
-/// Files in memory, which tell their contents. Each call whose number is listed fails, and so does a read of a
-/// name that isn't there.
+/// Files in memory, whose contents are known. Each call whose number is listed fails, and so does a read of a name that isn't
+/// there.
 ///
 /// Calls are counted from 1. A call that answers `Memory` leaves the object as before and isn't counted.
 #[derive(Drop)]
@@ -157,7 +157,7 @@ impl Files for MemFiles {
     }
 }
 
-/// A sink in memory, which tells what it holds and fails at the calls that it was given.
+/// A sink in memory. What it holds is known, and it fails at the calls that it was given.
 ///
 /// Calls are counted from 1. A call that answers `Memory` leaves the object as before and isn't counted.
 #[derive(Drop)]

@@ -15,10 +15,10 @@ pub trait Open {
     /// An open file, of which nothing was read.
     type File: Read + Drop;
 
-    /// The contents of the file of a name, if they are told.
+    /// The contents of the file of a name, if they are known.
     ghost contents: { Self → List ℕ → Option (List ℕ) };
 
-    /// The names that were opened, the oldest first, if they are told.
+    /// The names that were opened, the oldest first, if they are known.
     ghost opened: { Self → Option (List (List ℕ)) };
 
     /// The file of this name. `None` if it isn't there or couldn't be opened.
@@ -29,7 +29,7 @@ pub trait Open {
         ensures same { (other : List ℕ) → contents self.new other ≡ contents self.old other };
 }
 
-/// Files that are opened by name. They tell what their opener tells.
+/// Files that are opened by name. Their contents are known if their opener's are.
 #[derive(Drop)]
 pub struct OpenedFiles<O: Open> {
     opener: O,

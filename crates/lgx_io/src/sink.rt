@@ -34,10 +34,10 @@ impl<T: Drop> From<AllocFailed<T>> for SinkFault {
 
 /// What takes pieces of bytes, one after another.
 pub trait Sink {
-    /// The bytes that it holds, if they are told.
+    /// The bytes that it holds, if they are known.
     ghost held: { Self → Option (List ℕ) };
 
-    /// How often a put failed; the count stands still at 18,446,744,073,709,551,615.
+    /// How often a put failed; the count stops at 18,446,744,073,709,551,615.
     ghost faults: { Self → ℕ };
 
     /// Adds the whole piece.

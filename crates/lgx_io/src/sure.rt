@@ -12,7 +12,7 @@ use crate::sink::{Sink, SinkFault};
 use std::alloc::Global;
 use std::marker::Model;
 
-/// Files in memory that never answer `Failed`, and tell their contents. A name that isn't there has none.
+/// Files in memory that never answer `Failed`, and whose contents are known. A name that isn't there has none.
 #[derive(Drop)]
 pub struct SureFiles {
     alloc: Global,

@@ -13,7 +13,7 @@ abbrev pub counted_event : Counted → Event
 counted_event Steps = Cpu
 counted_event Ticks = Tick
 
--- a number above 0 in digits, a line feed, and what stands after it
+-- a number above 0 in digits, a line feed, and what comes after it
 pub record IsCount (text after : List ℕ) (count : ℕ) : Type 0 where
   pub digits : List ℕ
   pub is : text ≡ digits ++ 10 ∷ after

@@ -13,7 +13,7 @@ pub record JournalView : Type 0 where
 abbrev pub journal_view : List Event → ℕ → JournalView
 journal_view events spare = record { events = events; spare = spare }
 
--- a run stands there at least once, and an action once
+-- a run has its event at least once, and an action once
 abbrev pub is_run : EventRun → Bool
 is_run r = nat_le 1 r.count && (not (is_action r.event) || nat_eq r.count 1)
 
@@ -23,7 +23,7 @@ after_runs [] r = r ∷ []
 after_runs (q ∷ []) r = if runs_on q.event r.event then record q { count = q.count + r.count } ∷ [] else q ∷ r ∷ []
 after_runs (q ∷ p ∷ qs) r = q ∷ after_runs (p ∷ qs) r
 
--- how often the event of the last run stands there
+-- how often the last run has its event
 abbrev pub last_count : List EventRun → ℕ
 last_count [] = 0
 last_count (q ∷ []) = q.count

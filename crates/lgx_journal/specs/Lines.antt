@@ -4,7 +4,7 @@ use Rattle.std.specs.List.{list_any}
 use Rattle.spec_base.specs.Pieces.{has_byte}
 use Rattle.spec_base.specs.declared.limits.TheConstants.{MAX_LINE_BYTES}
 
--- no line feed stands in it, and it has not too many bytes
+-- no line feed is in it, and it has not too many bytes
 abbrev pub is_plain : List ℕ → Bool
 is_plain text = nat_le (length text) MAX_LINE_BYTES && not (has_byte 10 text)
 

@@ -1,4 +1,4 @@
--- How a reader's answer stands to what its definition says.
+-- How a reader's answer relates to what its definition says.
 use Rattle.std.specs.Prelude.{ℕ, ◌+◌, List, ◌++◌, Result, Ok, Err, Bool, not, ◌||◌, nat_eq, nat_le, nat_lt, if◌then◌else◌, length, Option, Some, None}
 use Rattle.spec_machine.specs.declared.event.Event.{Event}
 use Rattle.spec_machine.specs.Events.{is_action}
@@ -31,7 +31,7 @@ abbrev pub error_at : LineError → ℕ → JournalError
 error_at (one.Code code) n = whole.Line (record { code = code; line = n })
 error_at one.Memory n = whole.Memory
 
--- an action stands there once
+-- a run has an action once
 abbrev pub is_single : EventRun → Bool
 is_single r = not (is_action r.event) || nat_eq r.count 1
 
@@ -54,7 +54,7 @@ after_events es (Ok runs) = Ok (es ++ events_of runs)
 abbrev pub read_after : List Event → ℕ → Tally → List ℕ → Result (List Event) JournalFault
 read_after es n t text = after_events es (runs_from n t (lines text))
 
--- the first cause for which an action may not stand last in its lane
+-- the first cause for which an action may not come last in its lane
 abbrev pub lane_fault : Script → ℕ → ℕ → Option JournalCode
 lane_fault s lane at =
     if nat_lt lane (length s.lanes) then (if nat_lt (actions_in s) MAX_ACTIONS then (if nat_le at (last_tick s) then (if nat_le (last_at s lane) at then None else Some J5) else Some J3) else Some J4) else Some J2

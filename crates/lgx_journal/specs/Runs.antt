@@ -11,7 +11,7 @@ use Rattle.lgx_journal.specs.declared.runs.Run.TheVariants.{Cpu, Tick, Act}
 use Rattle.lgx_journal.specs.declared.runs.RunView.{RunView}
 use Rattle.lgx_journal.specs.declared.runs.RunView.TheVariants as view
 
--- what a reader of runs sees: an event, and how often it stands there
+-- what a reader of runs sees: an event, and how often it comes
 abbrev pub seen_run : RunView → EventRun
 seen_run (view.Cpu n) = record { event = event.Cpu; count = n }
 seen_run (view.Tick n) = record { event = event.Tick; count = n }
@@ -68,5 +68,5 @@ pub record AreRuns (acts : List Event) (runs : List Run) : Type 0 where
   pub among : AreAmong acts runs
   pub joined : joined (events_of (runs_in acts runs)) ≡ runs_in acts runs
   pub few : length (events_of (runs_in acts runs)) ≤ MAX_EVENTS
-  -- each action stands in a run of its own
+  -- each action is in a run of its own
   pub fewer : length acts ≤ length runs

@@ -67,7 +67,7 @@ has_lane (Act lane a) = nat_le lane OWN_LANE
 abbrev pub HasLanes : List Event → Type 0
 HasLanes journal = IsTrue (list_all has_lane journal)
 
--- an event that stands there so often
+-- an event that comes `count` times
 abbrev pub event_run : Event → ℕ → EventRun
 event_run e count = record { event = e; count = count }
 
@@ -75,7 +75,7 @@ event_run e count = record { event = e; count = count }
 abbrev pub is_kept_run : EventRun → Bool
 is_kept_run r = is_kept r.event && is_u32 r.count
 
--- its lane is at most the journal's own, and it stands there at least once, an action once
+-- its lane is at most the journal's own, and it comes at least once, an action once
 abbrev pub is_placed : EventRun → Bool
 is_placed r = has_lane r.event && is_run r
 

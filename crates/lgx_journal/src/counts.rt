@@ -38,7 +38,7 @@ fn count_line(text: &[u8]) -> Option<(u32, &[u8])>
     None
 }
 
-/// What stands after `cpu ` where a text begins with it.
+/// What comes after `cpu ` where a text begins with it.
 #[inline(always)]
 fn after_cpu(text: &[u8]) -> Option<&[u8]>
     ensures { IfSome result (λ r. text.now ≡ codes "cpu " ++ r.now) }
@@ -49,7 +49,7 @@ fn after_cpu(text: &[u8]) -> Option<&[u8]>
     }
 }
 
-/// What stands after `tick ` where a text begins with it.
+/// What comes after `tick ` where a text begins with it.
 #[inline(always)]
 fn after_tick(text: &[u8]) -> Option<&[u8]>
     ensures { IfSome result (λ r. text.now ≡ codes "tick " ++ r.now) }

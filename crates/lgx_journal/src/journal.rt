@@ -12,7 +12,7 @@ use std::marker::Model;
 /// The events of a run in order, and for how many more runs of equal ones there is room.
 ///
 /// Processor steps that follow one another are one run, and ticks too; each action is a run of its own. A run takes eight bytes,
-/// and the actions stand beside the runs, in order.
+/// and the actions are kept beside the runs, in order.
 pub struct Journal {
     runs: Vec<Run>,
     acts: Vec<Event>,
@@ -74,7 +74,7 @@ impl Journal {
         self.runs.len() < self.runs.capacity() && self.acts.len() < self.acts.capacity()
     }
 
-    /// Makes room for so many more runs.
+    /// Makes room for `runs` more runs.
     #[inline(always)]
     pub fn reserve(&mut self, runs: u32) -> Result<(), Memory>
         ensures events { self.new.events ≡ self.old.events }
@@ -108,7 +108,7 @@ impl Journal {
         }
     }
 
-    /// Puts so many processor steps last. It takes no memory.
+    /// Puts `count` processor steps last. It takes no memory.
     #[inline(always)]
     pub fn add_steps(&mut self, count: u32)
         requires room { 0 < self.old.spare }
@@ -120,7 +120,7 @@ impl Journal {
         put_run(&mut self.runs, Run::Cpu(count));
     }
 
-    /// Puts so many ticks last. It takes no memory.
+    /// Puts `count` ticks last. It takes no memory.
     #[inline(always)]
     pub fn add_ticks(&mut self, count: u32)
         requires room { 0 < self.old.spare }
@@ -132,7 +132,7 @@ impl Journal {
         put_run(&mut self.runs, Run::Tick(count));
     }
 
-    /// Puts so many steps or ticks last.
+    /// Puts `count` steps or ticks last.
     #[inline(always)]
     pub(crate) fn add_counted(&mut self, counted: Counted, count: u32)
         requires room { 0 < self.old.spare }
@@ -209,7 +209,7 @@ impl Journal {
         }
     }
 
-    /// How often the event of run `i` stands there.
+    /// How often run `i` has its event.
     #[inline(always)]
     pub fn count_at(&self, i: u32) -> u32
         requires { i < length (joined self.now.events) }

@@ -24,8 +24,8 @@ use spec_text::{EventRun, JournalCode, JournalFault};
 use std::alloc::Global;
 use std::marker::Model;
 
-/// Reads a journal line by line, and keeps how many processor steps, ticks and actions stand in its lines so far; they are within
-/// the limits of a journal.
+/// Reads a journal line by line, and keeps how many processor steps, ticks and actions its lines have so far; they are within the
+/// limits of a journal.
 #[derive(Drop)]
 pub struct JournalReader {
     steps: u32,
@@ -72,7 +72,7 @@ impl JournalReader {
         }
     }
 
-    /// Counts so many steps or ticks, unless a limit would be passed.
+    /// Counts `count` steps or ticks, unless a limit would be passed.
     #[inline(always)]
     fn take_count(&mut self, counted: Counted, count: u32) -> bool
         ensures allowed { result ≡ is_allowed (with_run self.old (event_run (counted_event counted) count)) }
@@ -258,7 +258,7 @@ fn read_counts<'a>(
     (number, rest)
 }
 
-/// Puts the events of a text into a journal without one, or tells its first line with a cause and the line's first cause.
+/// Puts the events of a text into a journal without one, or gives the first line that has a cause, and the line's first cause.
 fn read_lines(alloc: Global, journal: &mut Journal, bytes: &[u8]) -> Result<(), JournalError>
     requires { journal.old.events ≡ [] }
     ensures journal { OnOk result (journal_of bytes.now ≡ Ok journal.new.events) }

@@ -48,7 +48,7 @@ fn is_out(number: u32) -> bool
     number == 0 || number > MAX_SCRIPT_STEPS
 }
 
-/// Whether a script may have so many steps, such a pace and so many lanes.
+/// Whether a script may have `steps` steps, the pace `pace` and `lanes` lanes.
 fn is_within(steps: u32, pace: u32, lanes: u32) -> bool
     ensures { result ≡ (not (is_out steps) && not (is_out pace) && nat_le lanes OWN_LANE) }
 {
@@ -103,7 +103,7 @@ fn header_of(line: &[u8]) -> Option<(u32, u32, u32)>
     header_after(verb, steps, pace, after)
 }
 
-/// So many lanes without an action.
+/// `count` lanes without an action.
 #[tactic(auto, using(crate::proofs::ReadLanes::replicate_more))]
 fn empty_lanes(alloc: Global, count: u32) -> Result<Vec<Items<Timed>>, Memory>
     ensures { IfOk result (λ lanes. lanes.items ≡ replicate count []) }
@@ -187,7 +187,7 @@ fn put_action(
     Ok(())
 }
 
-/// The first cause for which an action may not stand last in its lane.
+/// The first cause for which an action may not come last in its lane.
 fn fault_of(draft: &Draft, lane: u32, at: u32) -> Option<JournalCode>
     ensures { result ≡ lane_fault draft.now lane at }
 {

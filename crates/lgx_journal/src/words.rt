@@ -32,7 +32,7 @@ fn word_len(text: &[u8]) -> usize
     text.len()
 }
 
-/// The first word, which is empty if there is none, and what stands after it.
+/// The first word, which is empty if there is none, and what comes after it.
 pub fn split_word(text: &[u8]) -> (&[u8], &[u8])
     ensures word { result.0.now ≡ first_word text.now }
     ensures after { result.1.now ≡ after_word text.now }
@@ -41,7 +41,7 @@ pub fn split_word(text: &[u8]) -> (&[u8], &[u8])
     from.split_at(word_len(from))
 }
 
-/// The first word and what stands after it, if there is a word.
+/// The first word and what comes after it, if there is a word.
 #[tactic(auto, using(crate::proofs::WordSplits::words_next, crate::proofs::WordSplits::words_none))]
 pub fn next_word(text: &[u8]) -> Option<(&[u8], &[u8])>
     ensures some { IfSome result (λ r. words text.now ≡ r.0.now ∷ words r.1.now) }

@@ -266,7 +266,7 @@ fn push_run(text: &mut Vec<u8>, alloc: Global, run: RunView<'_>) -> Result<(), M
     Ok(())
 }
 
-/// Adds the line of an event that stands there so often, with its line feed: see [`write_event`].
+/// Adds the line of an event that comes `count` times, with its line feed: see [`write_event`].
 pub fn push_event(
     text: &mut Vec<u8>,
     alloc: Global,
@@ -283,8 +283,8 @@ pub fn push_event(
     }
 }
 
-/// The line of an event that stands there so often, with its line feed. An action's line has no count, and lane 31 isn't
-/// named. A lane above 31 is written as it is; no reader takes such a line.
+/// The line of an event that comes `count` times, with its line feed. An action's line has no count, and lane 31 isn't named. A
+/// lane above 31 is written as it is; no reader takes such a line.
 pub fn write_event(alloc: Global, event: &Event, count: u32) -> Result<Vec<u8>, Memory>
     ensures text { IfOk result (λ line. line.items ≡ line_of (event_words event.now count)) }
     ensures kept { OnOk result (IsTrue (is_kept_run (event_run event.now count))) }

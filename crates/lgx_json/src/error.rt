@@ -59,14 +59,14 @@ impl ProjectError {
         })
     }
 
-    /// The same refusal of what stands in the field of this key.
+    /// The same refusal of what is in the field of this key.
     pub fn in_field(self, alloc: Global, key: &str) -> ProjectError
         ensures { IsFaultOf (in_field key.now (fault_of self)) (fault_of result) }
     {
         self.under(alloc, key.as_bytes())
     }
 
-    /// The same refusal of what stands at this place of a list.
+    /// The same refusal of what is at this place of a list.
     pub fn at_place(self, alloc: Global, place: usize) -> ProjectError
         ensures { IsFaultOf (at_place place (fault_of self)) (fault_of result) }
     {

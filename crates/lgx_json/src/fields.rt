@@ -17,7 +17,7 @@ use serde_json::{Map, Value};
 use spec_project::ProjectCode;
 use std::alloc::Global;
 
-/// What stands in a field that an object must have.
+/// What is in a field that an object must have.
 #[tactic(auto, unfolding(spec_project::specs::Judges::field))]
 pub(crate) fn needed<R: Reader>(
     alloc: Global,
@@ -37,7 +37,7 @@ pub(crate) fn needed<R: Reader>(
     }
 }
 
-/// What stands in a field that an object may have.
+/// What is in a field that an object may have.
 #[tactic(auto, unfolding(spec_project::specs::Judges::field))]
 pub(crate) fn optional<R: Reader>(
     alloc: Global,

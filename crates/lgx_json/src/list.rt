@@ -64,7 +64,7 @@ fn read_elements<R: Reader>(
     Ok(Items::of(made))
 }
 
-/// A list of at least so many elements, and at most so many, each read by a reader.
+/// A list of at least `least` elements, and at most `most`, each read by a reader.
 #[derive(Clone, Copy)]
 pub(crate) struct ListOf<R> {
     pub least: usize,
@@ -91,7 +91,7 @@ impl<R: Reader> Reader for ListOf<R> {
     }
 }
 
-/// A list of at least so many elements, and at most so many, each read by the reader.
+/// A list of at least `least` elements, and at most `most`, each read by the reader.
 pub(crate) fn read_list<R: Reader>(
     alloc: Global,
     reader: &R,

@@ -1,4 +1,4 @@
--- The lines that tell why a file is no project, no journal or no script.
+-- The lines that say why a file is no project, no journal or no script.
 use Rattle.std.specs.Prelude.{ℕ, List, [], ◌∷◌, ◌++◌, codes, decimal}
 use Rattle.spec_language.specs.declared.types.TypeCode.{TypeCode}
 use Rattle.spec_language.specs.declared.types.TypeCode.TheVariants.{Y1, Y2, Y3, Y4, Y5, Y6}

@@ -1,4 +1,4 @@
--- What a reader tells of the bytes of a file.
+-- What a reader says of the bytes of a file.
 use Rattle.std.specs.Prelude.{◌≡◌, ℕ, List, Err}
 use Rattle.spec_text.specs.declared.script.JournalFault.{JournalFault}
 use Rattle.spec_text.specs.JournalText.{journal_of}

@@ -9,7 +9,7 @@ use Rattle.spec_text.specs.ReportText.{Names, line_text, end_text}
 use Rattle.lgx_watch.specs.Kept.{Kept}
 use Rattle.lgx_judge.specs.declared.ends.End.{End}
 
--- what the end line of a journal's report tells
+-- what the end line of a journal's report says
 abbrev pub end_of : Project → List Event → End
 end_of project journal =
     record { tick = (run project journal).tick; steps = steps_of journal; mode = (run project journal).mode }

@@ -1,4 +1,4 @@
-// The lines that tell why a file is no project, no journal or no script.
+// The lines that say why a file is no project, no journal or no script.
 ghost use Rattle.std.specs.Prelude.{◌≡◌, ◌++◌, IfOk, OnOk};
 ghost use Rattle.lgx_judge.specs.CauseLines.{path_words, inner_words, line_words, project_cause_line, journal_cause_line, script_cause_line};
 ghost use Rattle.lgx_watch.specs.Spaces.{after_spaces};
@@ -42,7 +42,7 @@ fn push_line(text: &mut Vec<u8>, fault: JournalFault) -> Result<(), Memory>
     push_count(text, fault.line)
 }
 
-/// The line that tells why a file is no project, with an LF at its end.
+/// The line that says why a file is no project, with an LF at its end.
 #[tactic(auto, using(crate::proofs::CauseLine::cause_line), unfolding(crate::specs::CauseLines::project_cause_line))]
 pub fn project_cause_line(alloc: Global, fault: &ProjectFault) -> Result<Vec<u8>, Memory>
     ensures { IfOk result (λ text. text.items ≡ project_cause_line fault.now) }
@@ -56,7 +56,7 @@ pub fn project_cause_line(alloc: Global, fault: &ProjectFault) -> Result<Vec<u8>
     Ok(text)
 }
 
-/// The line that tells why a file is no journal.
+/// The line that says why a file is no journal.
 #[tactic(auto, unfolding(crate::specs::CauseLines::journal_cause_line))]
 pub(crate) fn journal_cause_line(alloc: Global, fault: JournalFault) -> Result<Vec<u8>, Memory>
     ensures { IfOk result (λ text. text.items ≡ journal_cause_line fault) }
@@ -68,7 +68,7 @@ pub(crate) fn journal_cause_line(alloc: Global, fault: JournalFault) -> Result<V
     Ok(text)
 }
 
-/// The line that tells why a file is no script.
+/// The line that says why a file is no script.
 #[tactic(auto, unfolding(crate::specs::CauseLines::script_cause_line))]
 pub(crate) fn script_cause_line(alloc: Global, fault: JournalFault) -> Result<Vec<u8>, Memory>
     ensures { IfOk result (λ text. text.items ≡ script_cause_line fault) }

@@ -1,4 +1,4 @@
-// What the end line of a report tells of the controller.
+// What the end line of a report says of the controller.
 ghost use Rattle.std.specs.Prelude.{◌≡◌, List};
 ghost use Rattle.spec_machine.specs.declared.event.Event.{Event};
 ghost use Rattle.spec_machine.specs.Events.{steps_of};
@@ -9,7 +9,7 @@ ghost use Rattle.lgx_judge.specs.ReportLines.{end_of};
 use lgx_core::Controller;
 use lgx_watch::Mode;
 
-/// What the end line of a report tells besides the number of lost lines.
+/// What the end line of a report says besides the number of lost lines.
 #[derive(Clone, Copy)]
 pub struct End {
     pub tick: u32,
@@ -18,7 +18,7 @@ pub struct End {
     pub mode: Mode,
 }
 
-/// What the end line tells of a run of so many processor steps, after which the controller is as it is now.
+/// What the end line says of a run of `steps` processor steps, after which the controller is as it is now.
 pub fn end_of(controller: &Controller, steps: u32) -> End
     ensures { (project : Project) (events : List Event) → StandsFor project events controller.now → steps ≡ steps_of events → result ≡ end_of project events }
 {

@@ -1,8 +1,8 @@
 //! What every command has of its files and of its run.
 //!
-//! What a file is judged to be, one reader for each kind: a project, a journal, a script; and the line that says why it isn't.
-//! What each leads to is told in the plans of specs/Plans. And the report of what was recorded, handed out line by line: whoever
-//! writes a report asks for its lines by number, one after another, and needs room for one line at a time.
+//! What a file is judged to be, one reader for each kind: a project, a journal, a script; and the line that says why it isn't. The
+//! plans of specs/Plans say what each leads to. And the report of what was recorded, handed out line by line: whoever writes a
+//! report asks for its lines by number, one after another, and needs room for one line at a time.
 #![tactic(auto)]
 
 mod causes;

@@ -7,7 +7,7 @@ use crate::ends::End;
 use lgx_num::Memory;
 use lgx_watch::{Log, Names, end_text, push_line_text};
 
-/// Makes line number `i` of the log, in place of what stands in the text.
+/// Makes line number `i` of the log, in place of what is in the text.
 fn log_line(text: &mut Vec<u8>, log: &Log, names: &Names, i: u32) -> Result<(), Memory>
     requires { i < length log.now.lines }
     ensures { OnOk result (text.new.items ≡ line_at names.now log.now.lines i) }
@@ -16,7 +16,7 @@ fn log_line(text: &mut Vec<u8>, log: &Log, names: &Names, i: u32) -> Result<(), 
     push_line_text(text, log, i, names)
 }
 
-/// Makes the end line of a report, in place of what stands in the text. Out of memory comes if there is no room for it.
+/// Makes the end line of a report, in place of what is in the text. Out of memory comes if there is no room for it.
 pub fn end_line(text: &mut Vec<u8>, log: &Log, end: End) -> Result<(), Memory>
     ensures { OnOk result (text.new.items ≡ end_line log.now end) }
 {
@@ -25,9 +25,9 @@ pub fn end_line(text: &mut Vec<u8>, log: &Log, end: End) -> Result<(), Memory>
     Ok(())
 }
 
-/// Makes line number `next` of a report, counted from 0, in place of what stands in the text; `false` if the report has no such
-/// line. The end line has the number after the last of the log's. Out of memory comes if there is no room for the line, and the
-/// text may hold a part of it then.
+/// Makes line number `next` of a report, counted from 0, in place of what is in the text; `false` if the report has no such line.
+/// The end line has the number after the last of the log's. Out of memory comes if there is no room for the line, and the text may
+/// hold a part of it then.
 #[tactic(auto, using(crate::proofs::Reports::from_log_line, crate::proofs::Reports::from_end_line, crate::proofs::Reports::from_past))]
 pub fn report_line(
     text: &mut Vec<u8>,

@@ -33,7 +33,7 @@ is_plain fault.Plain = true
 is_plain _ = false
 
 -- A step by the copy that its task has in progress. With none the step may start one. With one it copies an element, the last of
--- which tells the end of a CPS or of another copy, as it was started. Neither has a fault.
+-- which marks the end of a CPS or of another copy, as it was started. Neither has a fault.
 abbrev pub goes_on : Option Bool → TraceMark → StepFault → Bool
 goes_on None Copy f = is_plain f
 goes_on None Sync f = is_plain f

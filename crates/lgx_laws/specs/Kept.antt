@@ -44,7 +44,7 @@ past_after table trace = back [] (counted_events table trace)
 abbrev pub no_booked : Booked
 no_booked = record { newest = 0; testing = false; owner = None; tested = false }
 
--- of a program, by its numbers now and by what is told of its edits
+-- of a program, by its numbers now and by what is known of its edits
 abbrev pub booked : Numbers → Owned → Booked
 booked n o = record { newest = n.merged; testing = n.testing; owner = o.owner; tested = o.tested }
 
@@ -78,7 +78,7 @@ pub record IsProper (r : Roster) : Type 0 where
 
 -- ---- what is presumed of an event
 
--- the task whose watchdog a tick tells is one of so many
+-- the task that a tick reports for its watchdog is one of n tasks
 abbrev pub IsToldWithin : ℕ → TraceEvent → Type 0
 IsToldWithin n e = go e
   where

@@ -34,8 +34,8 @@ roster_of p = record { table = table_of p; tasks = p.tasks; schedule = p.schedul
 
 -- ---- the laws
 
--- All of them, from the one that is told first: what goes on between steps, who comes up, what a step is of, and then how actions
--- are answered.
+-- All of them, from the one that is reported first: what goes on between steps, who comes up, what a step is of, and then how
+-- actions are answered.
 abbrev pub laws : List Law
 laws = Regions ∷ Copies ∷ Watchdogs ∷ Releases ∷ Starts ∷ Triggers ∷ Scans ∷ Modes ∷ Edits ∷ Numbers ∷ []
 
@@ -107,7 +107,7 @@ breach_from r at past (x ∷ xs) = elim (broken_at r past x) [
 abbrev pub breach : Roster → List TraceEvent → Option Breach
 breach r trace = breach_from r 0 [] (counted_events r.table trace)
 
--- ---- laws: the function tells where all are kept, and which breach it is
+-- ---- laws: the function says where all are kept, and which breach it is
 
 abbrev pub NoneIsKept : Type 0
 NoneIsKept = (r : Roster) (trace : List TraceEvent) → (breach r trace ≡ None) ↔ KeepsAll r trace

@@ -1,4 +1,4 @@
-// What is told of the edits of programs, and the laws of edits and of numbers at one event.
+// What is known of the edits of programs, and the laws of edits and of numbers at one event.
 ghost use Rattle.std.specs.Prelude.{◌≡◌, ◌+◌, ◌<◌, ◌∷◌, ℕ, List, Some, length, nat_eq, replicate, slice_index_or, IfOk};
 ghost use Rattle.spec_schedule.specs.declared.trace.TraceEvent.TheVariants.{Act};
 ghost use Rattle.spec_schedule.specs.Counting.{Counted, CountedEvent, Numbers, unedited, edited, edited_all};

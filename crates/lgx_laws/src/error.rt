@@ -3,14 +3,14 @@ ghost use Rattle.std.specs.Prelude.{◌≡◌};
 
 use lgx_num::Memory;
 
-/// The laws, from the one that is told first.
+/// The laws, from the one that is reported first.
 #[derive(Clone, Copy)]
 pub enum Law {
     /// While a task has a region or a CPS open, no other steps.
     Regions,
     /// A copy that was started goes on, an element a step, to its end.
     Copies,
-    /// A tick tells the first task that has been up as long as its watchdog.
+    /// A tick reports the first task that has been up as long as its watchdog.
     Watchdogs,
     /// A tick releases the tasks that are due.
     Releases,

@@ -2,7 +2,7 @@
 ghost use Rattle.lgx_laws.specs.Laws.{NoneIsKept, SomeIsBreach};
 ghost use Rattle.lgx_laws.specs.OwnTraces.{RunsKeepLaws};
 
-/// The breach that is told of a trace is none exactly where the trace keeps all laws, and else the one that it has.
+/// The breach that is reported of a trace is none exactly where the trace keeps all laws, and else the one that it has.
 pub fn breaches_are_told()
     ensures none { NoneIsKept }
     ensures some { SomeIsBreach }

@@ -79,7 +79,7 @@ pub(crate) fn keeps_watchdogs(
     }
 }
 
-/// Whether a task is due at the tick that comes after so many ticks in Run.
+/// Whether a task is due at the tick that comes after `run` ticks in Run.
 fn is_due(task: TaskDef, run: Option<u64>) -> bool
     requires period { IsPeriod task.kind }
     requires ticks { (n : ℕ) → run ≡ Some n → n < 18446744073709551615 }
@@ -134,7 +134,7 @@ fn are_masks(released: u32, overlapped: u32, coming: u32, again: u32) -> bool
     released == coming && overlapped == again
 }
 
-/// Whether a tick tells just the tasks that it releases and those that overlap.
+/// Whether a tick reports just the tasks that it releases and those that overlap.
 fn tells_due(
     tasks: &[TaskDef],
     counts: &[Count],

@@ -8,7 +8,7 @@ ghost use Rattle.lgx_laws.specs.Kept.{IsTriggeredWithin};
 use lgx_audit::{Count, StepFault, TraceEvent, TraceMark};
 use spec_tables::TaskDef;
 
-/// Whether a fault tells just this: that a task overlaps, or doesn't.
+/// Whether a fault says just this: that a task overlaps, or doesn't.
 fn tells_overlap(fault: StepFault, overlaps: bool) -> bool
     ensures { result ≡ tells_overlap fault overlaps }
 {

@@ -1,4 +1,4 @@
--- How a reader's answer stands to what its definition says.
+-- How a reader's answer relates to what its definition says.
 use Rattle.std.specs.Prelude.{ℕ, ◌+◌, List, ◌++◌, Result, Ok, Err}
 use Rattle.lgx_journal.specs.declared.error.LineError.{LineError}
 use Rattle.lgx_journal.specs.declared.error.LineError.TheVariants as line

@@ -21,7 +21,7 @@ use Rattle.lgx_link.specs.declared.running.Running.{Running}
 
 -- ---- the words of a connection
 
--- a word out for each of so many words of a connection, in order
+-- a word out for each of the first n words of a connection, in order
 abbrev pub outs : List ℕ → ℕ → List Event
 outs output n = map (λ k. Act OWN_LANE (WordOut output k)) (range_with_len 0 n)
 
@@ -73,7 +73,7 @@ events_of_b (OnB e n) = n
 events_of_b (Deliver k) = MAX_WORDS
 events_of_b _ = 0
 
--- After so many events of each controller and so many sendings there is room for those of these lines.
+-- After `a` events of the first controller, `b` of the second and `sends` sendings there is room for those of these lines.
 pub record HasRoom (a b sends : ℕ) (steps : List LinkStep) : Type 0 where
   pub of_a : a + sum_by events_of_a steps ≤ MAX_EVENTS
   pub of_b : b + sum_by events_of_b steps ≤ MAX_EVENTS

@@ -1,4 +1,4 @@
-// What a recording takes of a line: an event so many times, or all words of a connection.
+// What a recording takes of a line: an event some number of times, or all words of a connection.
 ghost use Rattle.std.specs.Prelude.{◌≡◌, ℕ, ◌+◌, ◌≤◌, ◌<◌, List, [], ◌∷◌, ◌++◌, length, replicate, IfOk, OnOk};
 ghost use Rattle.spec_base.specs.declared.limits.TheConstants.{MAX_EVENTS, OWN_LANE};
 ghost use Rattle.spec_machine.specs.declared.event.Event.{Event as Events};
@@ -6,27 +6,44 @@ ghost use Rattle.spec_machine.specs.declared.event.Event.TheVariants.{Act};
 ghost use Rattle.spec_machine.specs.declared.event.Action.TheVariants.{WordIn};
 ghost use Rattle.spec_machine.specs.Project.{Project};
 ghost use Rattle.spec_link.specs.Links.{word_of, words_answered, words_from};
-ghost use Rattle.lgx_record.specs.Records.{Records};
+ghost use Rattle.lgx_record.specs.Records.{Records, RecordsMore};
 ghost use Rattle.lgx_link.specs.declared.packet.TheConstants.{MAX_WORDS};
 ghost use Rattle.lgx_link.specs.Running.{outs, AreWords};
 
 use crate::packet::Words;
-use lgx_journal::{Action, Event, Reply};
+use lgx_journal::{Action, Event, Reply, RunView};
 use lgx_num::{Memory, Name};
 use lgx_record::Recording;
 use spec_base::limits::OWN_LANE;
 
-/// Takes an event so many times.
+/// Takes an action `count` times.
+fn act_times(
+    recording: &mut Recording,
+    lane: u32,
+    action: &Action,
+    count: u32,
+) -> Result<(), Memory>
+    requires { recording.old.controller.spent + count ≤ MAX_EVENTS }
+    ensures records { OnOk result (RecordsMore recording.old recording.new (replicate count (Act lane action.now))) }
+    ensures spent { OnOk result (recording.new.controller.spent ≡ recording.old.controller.spent + count) }
+{
+    for _ in 0..count {
+        recording.apply(RunView::Act(lane, action))?;
+    }
+    Ok(())
+}
+
+/// Takes an event `count` times: processor steps and ticks together.
 pub(crate) fn take_times(recording: &mut Recording, event: &Event, count: u32) -> Result<(), Memory>
     requires { recording.old.controller.spent + count ≤ MAX_EVENTS }
     ensures records { (project : Project) (events : List Events) → Records recording.old project events → OnOk result (Records recording.new project (events ++ replicate count event.now)) }
     ensures spent { OnOk result (recording.new.controller.spent ≡ recording.old.controller.spent + count) }
 {
-    recording.law_of_recordings();
-    for _ in 0..count {
-        recording.apply(event)?;
+    match event {
+        Event::Cpu => recording.apply(RunView::Cpu(count)),
+        Event::Tick => recording.apply(RunView::Tick(count)),
+        Event::Act(lane, action) => act_times(recording, *lane, action, count),
     }
-    Ok(())
 }
 
 /// Adds the word that a reply is, if it is one.
@@ -60,8 +77,8 @@ pub(crate) fn words_out(
     for word in 0..count {
         let reply = recording.controller().word_out(output, word);
         let conn = output.copied();
-        let ask = Event::Act(OWN_LANE, Action::WordOut { conn, word });
-        recording.apply(&ask)?;
+        let ask = Action::WordOut { conn, word };
+        recording.apply(RunView::Act(OWN_LANE, &ask))?;
         push_word(&mut words, reply);
     }
     Ok(words)
@@ -73,8 +90,8 @@ fn put_word(recording: &mut Recording, input: &Name, word: u32, value: i32) -> R
     ensures { (project : Project) (events : List Events) → Records recording.old project events → OnOk result (Records recording.new project (events ++ Act OWN_LANE (WordIn input.now word value) ∷ [])) }
 {
     let conn = input.copied();
-    let put = Event::Act(OWN_LANE, Action::WordIn { conn, word, value });
-    recording.apply(&put)?;
+    let put = Action::WordIn { conn, word, value };
+    recording.apply(RunView::Act(OWN_LANE, &put))?;
     Ok(())
 }
 

@@ -14,7 +14,7 @@ use spec_link::{LinkCode, LinkStep, MAX_DELIVERS, MAX_SENDS};
 use std::alloc::Global;
 use std::marker::Model;
 
-/// What stands in the lines so far: the events of each controller, the sendings and the deliveries.
+/// What is in the lines so far: the events of each controller, the sendings and the deliveries.
 #[derive(Drop)]
 pub(crate) struct StepReader {
     a: JournalReader,
@@ -76,7 +76,7 @@ impl StepReader {
         }
     }
 
-    /// A line `send`, by what stands after its first word.
+    /// A line `send`, by what comes after its first word.
     fn send(&mut self, after: &[u8]) -> Result<LinkStep, StepError>
         ensures step { IfOk result (λ step. read_send self.old (words after.now) ≡ Ok step) }
         ensures counted { IfOk result (λ step. self.new ≡ with_step self.old step) }
@@ -110,7 +110,7 @@ impl StepReader {
         Ok(LinkStep::Deliver(number))
     }
 
-    /// A line `deliver K`, by what stands after its first word.
+    /// A line `deliver K`, by what comes after its first word.
     fn deliver(&mut self, after: &[u8]) -> Result<LinkStep, StepError>
         ensures step { IfOk result (λ step. read_deliver self.old (words after.now) ≡ Ok step) }
         ensures counted { IfOk result (λ step. self.new ≡ with_step self.old step) }

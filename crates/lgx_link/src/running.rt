@@ -59,8 +59,8 @@ impl Running {
         ensures { IfOk result (λ running. IsLink running (pair_of a b script.now) opened) }
     {
         let words = connection_words(&a, true, &script.output).unwrap_or(0);
-        let a = Recording::of_journal(alloc, a)?;
-        let b = Recording::of_journal(alloc, b)?;
+        let a = Recording::of_project(alloc, a)?;
+        let b = Recording::of_project(alloc, b)?;
         Ok(Running {
             a,
             b,

@@ -5,3 +5,4 @@ pub mod Runs
 pub mod Talking
 pub mod Sessions
 pub mod Lines
+pub mod Events

@@ -8,8 +8,8 @@ use Rattle.lgx_answer.specs.Puts.{Puts}
 use Rattle.lgx_live.specs.declared.console.AskFault.{AskFault}
 use Rattle.lgx_live.specs.declared.console.AskFault.TheVariants as ask
 
--- The lines that are still to come, if they are told; what was written each time that a line was asked for, if that is told; the
--- bytes that were put, if they are told, and those of them that wait to be written; how often a put or a flush failed, and how
+-- The lines that are still to come, if they are known; what was written each time that a line was asked for, if that is known; the
+-- bytes that were put, if they are known, and those of them that wait to be written; how often a put or a flush failed, and how
 -- often a read did.
 pub record ConsoleSeen : Type 0 where
   pub lines : Option (List (List ℕ))
@@ -19,13 +19,13 @@ pub record ConsoleSeen : Type 0 where
   pub faults : ℕ
   pub misses : ℕ
 
--- told lines begin with these, and lose them
+-- known lines begin with these, and lose them
 abbrev pub Gives : Option (List (List ℕ)) → Option (List (List ℕ)) → List (List ℕ) → Type 0
 Gives None new ls = Unit {0}
 Gives (Some xs) None ls = ⊥
 Gives (Some xs) (Some ys) ls = xs ≡ ls ++ ys
 
--- to a told list these texts were added; a text that isn't told says nothing
+-- to a known list these texts were added; a text that isn't known says nothing
 abbrev pub AddsAsks : Option (List (List ℕ)) → Option (List (List ℕ)) → Option (List ℕ) → (List ℕ → List (List ℕ)) → Type 0
 AddsAsks None new held texts = Unit {0}
 AddsAsks (Some before) new None texts = Unit {0}

@@ -22,7 +22,7 @@ abbrev pub asks_through : Project → List (List ℕ) → List ℕ → List (Lis
 asks_through project lines put =
     asks_before project no_line_yet lines put ++ (put ++ answers_text project no_line_yet lines) ∷ []
 
--- told lines are at their end, or go on with `end`
+-- known lines are at their end, or go on with `end`
 abbrev pub IsOver : Option (List (List ℕ)) → Type 0
 IsOver None = Unit {0}
 IsOver (Some []) = Unit {0}

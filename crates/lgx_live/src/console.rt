@@ -18,7 +18,7 @@ pub enum AskFault {
 pub trait Console {
     ghost seen: { Self → ConsoleSeen };
 
-    /// Asks for the next line, which then stands in `line` without its line feed; `false` if there is none. Whoever asks has written
+    /// Asks for the next line, which is then in `line` without its line feed; `false` if there is none. Whoever asks has written
     /// all that was put before.
     fn next_line(&mut self, line: &mut Vec<u8>) -> Result<bool, AskFault>
         requires { (seen self.old).waiting ≡ [] }

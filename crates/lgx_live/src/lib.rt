@@ -5,7 +5,7 @@
 #![tactic(auto)]
 
 mod console;
-mod follow;
+mod followed;
 mod laws;
 mod piped;
 mod reading;
@@ -14,7 +14,7 @@ mod session;
 mod turns;
 
 pub use console::{AskFault, Console};
-pub use follow::Follow;
+pub use followed::Followed;
 pub use laws::law_of_sessions;
 pub use piped::Piped;
 pub use session::talk;

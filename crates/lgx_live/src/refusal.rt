@@ -1,4 +1,4 @@
-// The line that tells why a line wasn't done.
+// The line that says why a line wasn't done.
 ghost use Rattle.std.specs.Prelude.{◌≡◌, OnOk};
 ghost use Rattle.lgx_judge.specs.CauseLines.{journal_code};
 ghost use Rattle.lgx_live.specs.Output.{refusal_line};

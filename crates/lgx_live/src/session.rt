@@ -3,11 +3,12 @@ ghost use Rattle.std.specs.Prelude.{◌≡◌, [], ◌<◌};
 ghost use Rattle.spec_machine.specs.Project.{Project};
 ghost use Rattle.lgx_answer.specs.declared.status.Verdict.{Verdict};
 ghost use Rattle.lgx_answer.specs.Endings.{ending_of, after_puts};
+ghost use Rattle.lgx_record.specs.IsRunOf.{IsRunOf};
 ghost use Rattle.lgx_live.specs.Talks.{Talks, IsAt};
 ghost use Rattle.lgx_live.specs.Session.{no_line_yet};
 
 use crate::console::{AskFault, Console};
-use crate::follow::Follow;
+use crate::followed::Followed;
 use crate::turns::{Pad, end, exchange};
 use lgx_answer::Status;
 use lgx_io::SinkFault;
@@ -27,15 +28,15 @@ fn status_of(done: Result<(), SinkFault>) -> Status
 }
 
 /// Lines and answers in turn, up to the end of the session.
-fn take_turns<C: Console, F: Follow>(
+fn take_turns<C: Console>(
     alloc: Global,
     console: &mut C,
-    follow: &mut F,
+    follow: &mut Followed,
     pad: &mut Pad,
 ) -> Status
     requires written { (C.seen console.old).waiting ≡ [] }
-    requires some { (project : Project) × IsAt (F.follows follow.old) pad.old.events pad.old.lines project no_line_yet }
-    ensures { (project : Project) → IsAt (F.follows follow.old) pad.old.events pad.old.lines project no_line_yet → Talks project (C.seen console.old) (C.seen console.new) (ending_of result) }
+    requires some { (project : Project) × IsAt (IsRunOf follow.old.run) pad.old.events pad.old.lines project no_line_yet }
+    ensures { (project : Project) → IsAt (IsRunOf follow.old.run) pad.old.events pad.old.lines project no_line_yet → Talks project (C.seen console.old) (C.seen console.new) (ending_of result) }
 {
     let mut line = Vec::new(alloc);
     for _ in 0..u64::MAX - 1 {
@@ -55,7 +56,7 @@ fn take_turns<C: Console, F: Follow>(
             Err(AskFault::Memory) => return Status::Memory,
         }
     }
-    // So many lines don't come: there is no room for their count.
+    // That many lines don't come: there is no room for their count.
     Status::Memory
 }
 
@@ -64,10 +65,10 @@ fn take_turns<C: Console, F: Follow>(
 /// followed no event.
 ///
 /// `Memory` comes if memory runs out, `ReadFault` if a line couldn't be read, `WriteFault` if something couldn't be written.
-pub fn talk<C: Console, F: Follow>(alloc: Global, console: &mut C, follow: &mut F) -> Status
+pub fn talk<C: Console>(alloc: Global, console: &mut C, follow: &mut Followed) -> Status
     requires written { (C.seen console.old).waiting ≡ [] }
-    requires some { (project : Project) × F.follows follow.old project [] }
-    ensures { (project : Project) → F.follows follow.old project [] → Talks project (C.seen console.old) (C.seen console.new) (ending_of result) }
+    requires some { (project : Project) × IsRunOf follow.old.run project [] }
+    ensures { (project : Project) → IsRunOf follow.old.run project [] → Talks project (C.seen console.old) (C.seen console.new) (ending_of result) }
 {
     match Log::new(alloc) {
         Ok(log) => {

@@ -6,13 +6,14 @@ ghost use Rattle.spec_machine.specs.declared.event.Event.{Event as Events};
 ghost use Rattle.spec_machine.specs.Project.{Project};
 ghost use Rattle.spec_text.specs.ReportText.{line_text};
 ghost use Rattle.lgx_journal.specs.Reading.{IfCode};
+ghost use Rattle.lgx_record.specs.IsRunOf.{IsRunOf};
 ghost use Rattle.lgx_live.specs.Session.{Point, run_asked, after};
 ghost use Rattle.lgx_live.specs.Output.{text_with, answer_text, last_line, refusal_line};
 ghost use Rattle.lgx_live.specs.Console.{Says};
 ghost use Rattle.lgx_live.specs.Talks.{IsAt};
 
 use crate::console::Console;
-use crate::follow::Follow;
+use crate::followed::Followed;
 use crate::refusal::refusal_line;
 use lgx_io::SinkFault;
 use lgx_journal::{JournalReader, LineError, is_skipped};
@@ -58,16 +59,16 @@ fn put_log<C: Console>(
 }
 
 /// Takes the event of a run as often as the run says, and puts the report's lines of each.
-fn take_run<C: Console, F: Follow>(
+fn take_run<C: Console>(
     console: &mut C,
-    follow: &mut F,
+    follow: &mut Followed,
     log: &mut Log,
     text: &mut Vec<u8>,
     run: &EventRun,
 ) -> Result<(), SinkFault>
-    requires { (project : Project) × (events : List Events) × F.follows follow.old project events × (length events + run.now.count ≤ MAX_EVENTS) }
-    ensures says { (project : Project) (events : List Events) → F.follows follow.old project events → Says (C.seen console.old) (C.seen console.new) (text_with project events (replicate run.now.count run.now.event)) result }
-    ensures follows { (project : Project) (events : List Events) → F.follows follow.old project events → OnOk result (F.follows follow.new project (events ++ replicate run.now.count run.now.event)) }
+    requires { (project : Project) × (events : List Events) × IsRunOf follow.old.run project events × (length events + run.now.count ≤ MAX_EVENTS) }
+    ensures says { (project : Project) (events : List Events) → IsRunOf follow.old.run project events → Says (C.seen console.old) (C.seen console.new) (text_with project events (replicate run.now.count run.now.event)) result }
+    ensures follows { (project : Project) (events : List Events) → IsRunOf follow.old.run project events → OnOk result (IsRunOf follow.new.run project (events ++ replicate run.now.count run.now.event)) }
 {
     for _ in 0..run.count {
         match follow.take(&run.event, log) {
@@ -96,7 +97,7 @@ fn run_asked(alloc: Global, events: u32, line: &[u8]) -> Result<EventRun, LineEr
     Ok(run)
 }
 
-/// Puts the line that tells why a line wasn't done.
+/// Puts the line that says why a line wasn't done.
 fn put_refusal<C: Console>(
     console: &mut C,
     text: &mut Vec<u8>,
@@ -111,18 +112,18 @@ fn put_refusal<C: Console>(
 }
 
 /// Does a line and puts its answer.
-fn answer_line<C: Console, F: Follow>(
+fn answer_line<C: Console>(
     alloc: Global,
     console: &mut C,
-    follow: &mut F,
+    follow: &mut Followed,
     pad: &mut Pad,
     line: &[u8],
 ) -> Result<(), SinkFault>
     requires clean { has_byte 10 line.now ≡ false }
     requires count { pad.old.lines + 1 < 2 ^ 64 }
-    requires some { (project : Project) × (at : Point) × IsAt (F.follows follow.old) pad.old.events pad.old.lines project at }
-    ensures says { (project : Project) (at : Point) → IsAt (F.follows follow.old) pad.old.events pad.old.lines project at → Says (C.seen console.old) (C.seen console.new) (answer_text project at line.now) result }
-    ensures goes_on { (project : Project) (at : Point) → IsAt (F.follows follow.old) pad.old.events pad.old.lines project at → OnOk result (IsAt (F.follows follow.new) pad.new.events pad.new.lines project (after at line.now)) }
+    requires some { (project : Project) × (at : Point) × IsAt (IsRunOf follow.old.run) pad.old.events pad.old.lines project at }
+    ensures says { (project : Project) (at : Point) → IsAt (IsRunOf follow.old.run) pad.old.events pad.old.lines project at → Says (C.seen console.old) (C.seen console.new) (answer_text project at line.now) result }
+    ensures goes_on { (project : Project) (at : Point) → IsAt (IsRunOf follow.old.run) pad.old.events pad.old.lines project at → OnOk result (IsAt (IsRunOf follow.new.run) pad.new.events pad.new.lines project (after at line.now)) }
 {
     pad.lines += 1;
     if is_skipped(line) {
@@ -142,18 +143,18 @@ fn answer_line<C: Console, F: Follow>(
 }
 
 /// Does a line, and puts its answer and writes it.
-pub(crate) fn exchange<C: Console, F: Follow>(
+pub(crate) fn exchange<C: Console>(
     alloc: Global,
     console: &mut C,
-    follow: &mut F,
+    follow: &mut Followed,
     pad: &mut Pad,
     line: &[u8],
 ) -> Result<(), SinkFault>
     requires clean { has_byte 10 line.now ≡ false }
     requires count { pad.old.lines + 1 < 2 ^ 64 }
-    requires some { (project : Project) × (at : Point) × IsAt (F.follows follow.old) pad.old.events pad.old.lines project at }
-    ensures says { (project : Project) (at : Point) → IsAt (F.follows follow.old) pad.old.events pad.old.lines project at → Says (C.seen console.old) (C.seen console.new) (answer_text project at line.now) result }
-    ensures goes_on { (project : Project) (at : Point) → IsAt (F.follows follow.old) pad.old.events pad.old.lines project at → OnOk result (IsAt (F.follows follow.new) pad.new.events pad.new.lines project (after at line.now)) }
+    requires some { (project : Project) × (at : Point) × IsAt (IsRunOf follow.old.run) pad.old.events pad.old.lines project at }
+    ensures says { (project : Project) (at : Point) → IsAt (IsRunOf follow.old.run) pad.old.events pad.old.lines project at → Says (C.seen console.old) (C.seen console.new) (answer_text project at line.now) result }
+    ensures goes_on { (project : Project) (at : Point) → IsAt (IsRunOf follow.old.run) pad.old.events pad.old.lines project at → OnOk result (IsAt (IsRunOf follow.new.run) pad.new.events pad.new.lines project (after at line.now)) }
     ensures written { OnOk result ((C.seen console.new).waiting ≡ []) }
 {
     match answer_line(alloc, console, follow, pad, line) {
@@ -163,17 +164,21 @@ pub(crate) fn exchange<C: Console, F: Follow>(
 }
 
 /// Puts the end line of the report, and writes it.
-pub(crate) fn end<C: Console, F: Follow>(
+pub(crate) fn end<C: Console>(
     console: &mut C,
-    follow: &F,
+    follow: &Followed,
     pad: &mut Pad,
 ) -> Result<(), SinkFault>
-    ensures says { (project : Project) (events : List Events) → F.follows follow.now project events → Says (C.seen console.old) (C.seen console.new) (last_line project events) result }
+    ensures says { (project : Project) (events : List Events) → IsRunOf follow.now.run project events → Says (C.seen console.old) (C.seen console.new) (last_line project events) result }
     ensures written { OnOk result ((C.seen console.new).waiting ≡ []) }
 {
-    if follow.end_line(&mut pad.log, &mut pad.text).is_err() {
-        return Err(SinkFault::Memory);
+    match follow.end_line(&mut pad.log, &mut pad.text) {
+        Ok(()) => {}
+        Err(_) => return Err(SinkFault::Memory),
     }
-    console.put(&pad.text)?;
+    match console.put(&pad.text) {
+        Ok(()) => {}
+        Err(fault) => return Err(fault),
+    }
     console.flush()
 }

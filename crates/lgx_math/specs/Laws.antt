@@ -32,7 +32,7 @@ StoredIsExact = (op : Op) (kind : Kind) (b exact : ℤ) → IsTrue (is_exact op)
 abbrev pub bit_of : ℤ → ℕ → ℕ
 bit_of v i = bit_at (cast_unsigned w32 v) i
 
--- if the mask has a 1, the bit of the source stands there, and else that of the destination
+-- if the mask has a 1, the bit there is that of the source, and else that of the destination
 abbrev pub MaskedBitsAreMoved : Type 0
 MaskedBitsAreMoved = (source mask dest : ℤ) (i : ℕ) → FitsSigned w32 source → FitsSigned w32 mask → FitsSigned w32 dest → i < 32 → bit_of mask i ≡ 1 → bit_of (masked_move source mask dest) i ≡ bit_of source i
 

@@ -7,8 +7,8 @@ use lgx_image::Image;
 use lgx_num::Kind;
 use spec_scan::Arg;
 
-/// The number that an operand is, or that stands at its place; 0 for any other operand. Most places hold a DINT, so that is
-/// asked first.
+/// The number that an operand is, or that is at its place; 0 for any other operand. Most places hold a DINT, so that is asked
+/// first.
 #[inline(always)]
 pub(crate) fn number(arg: Arg, image: &Image) -> i32
     requires { ArgInBounds arg (length image.now.bytes) }

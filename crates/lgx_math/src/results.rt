@@ -9,7 +9,7 @@ use lgx_image::Image;
 use lgx_num::{Kind, Place, fits};
 use lgx_rung::Op;
 
-/// The exact result of a first and a second source and of what stands at the destination, which MVM alone reads.
+/// The exact result of a first and a second source and of what is at the destination, which MVM alone reads.
 #[inline(always)]
 pub(crate) fn result_of(op: Op, a: i32, b: i32, place: Place, image: &Image) -> i64
     requires family { family_of op ≡ Arithmetic }

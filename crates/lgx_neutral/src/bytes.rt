@@ -6,7 +6,7 @@ ghost use Rattle.lgx_rung.specs.Tokens.{is_blank, is_operand_byte, in_run};
 /// A letter, of which mnemonics are made.
 const LETTER: u8 = 1;
 
-/// A byte that may stand in an operand.
+/// A byte that may be in an operand.
 const OPERAND: u8 = 2;
 
 /// A space, tab, CR or LF.
@@ -31,7 +31,7 @@ pub(crate) fn is_blank(byte: u8) -> bool
     KINDS[byte as usize] & BLANK != 0
 }
 
-/// Whether the byte may stand in an operand.
+/// Whether the byte may be in an operand.
 #[inline(always)]
 fn is_operand_byte(byte: u8) -> bool
     ensures { result ≡ is_operand_byte byte }

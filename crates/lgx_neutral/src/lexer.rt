@@ -32,7 +32,7 @@ pub(crate) struct Placed<'a> {
     pub(crate) token: Token<'a>,
 }
 
-/// A text that is read up to a place, which stands inside parentheses or outside.
+/// A text that is read up to a place, which is inside parentheses or outside.
 #[derive(Drop)]
 pub(crate) struct Lexer<'a> {
     text: &'a [u8],
@@ -85,7 +85,7 @@ impl<'a> Lexer<'a> {
     }
 }
 
-/// The first place, from this one on, at which no blank stands.
+/// The first place, from this one on, at which there is no blank.
 #[inline(always)]
 fn after_blanks(text: &[u8], from: usize) -> usize
     requires { from ≤ length text.now }
@@ -138,7 +138,7 @@ impl<'a> Token<'a> {
         }
     }
 
-    /// The token of a byte that stands in no run.
+    /// The token of a byte that is in no run.
     #[inline(always)]
     fn of_byte(byte: u8) -> Self
         ensures { token_of result ≡ mark byte }

@@ -2,7 +2,7 @@
 //!
 //! [`read_rung`] reads the bytes of a text once, in time that grows with their number alone: the forks that are open wait
 //! in a stack with room for [`spec_base::limits::MAX_FORKS`], and nothing recurses on the text's length. Which texts spell a
-//! rung, which fault of any other comes first and where it stands are definitions of `lgx_rung`.
+//! rung, which fault of any other comes first and where it lies are definitions of `lgx_rung`.
 #![tactic(auto)]
 
 mod bytes;

@@ -9,7 +9,7 @@ use lgx_rung::{Op, OpenFork, SourceRung, TextCode, TextFault, Texts};
 use std::alloc::Global;
 use std::mem;
 
-/// What may stand next.
+/// What may come next.
 #[derive(Clone, Copy)]
 pub(crate) enum Expected {
     /// An element, or the end of the leg or of the rung.
@@ -26,8 +26,8 @@ pub(crate) enum Expected {
     End,
 }
 
-/// The rung as far as it is read: what may stand next, the operands of the instruction that isn't closed yet, the open
-/// forks, and the leg.
+/// The rung as far as it is read: what may come next, the operands of the instruction that isn't closed yet, the open forks, and
+/// the leg.
 #[derive(Drop)]
 pub(crate) struct Reader {
     place: Expected,

@@ -1,5 +1,5 @@
--- What stands at a place of the image, what a write makes of the image, and where subscripts lead. An image is a list of
--- bytes; bit i of byte k has the number 8k + i, and a SINT, INT or DINT stands in 1, 2 or 4 bytes, the lowest first.
+-- What is at a place of the image, what a write makes of the image, and where subscripts lead. An image is a list of bytes; bit i
+-- of byte k has the number 8k + i, and a SINT, INT or DINT lies in 1, 2 or 4 bytes, the lowest first.
 use Rattle.std.specs.Prelude.{◌≡◌, ℕ, zero, suc, ◌+◌, ◌*◌, ◌/◌, ◌%◌, ◌^◌, ◌≤◌, List, [], ◌∷◌, ◌⊎◌, ℤ, pos, negsuc, nat_lt, ◌==◌, if◌then◌else◌, slice_index, slice_set, bit_and, bit_or, Option, Some, None}
 use Rattle.std.specs.Int.{Width, w8, w16, w32, bit_at, bit_not, byte_len}
 use Rattle.lgx_num.specs.declared.number.Kind.{Kind}
@@ -47,7 +47,7 @@ write_of Sint image at v = write_signed w8 image (at / 8) v
 write_of Int image at v = write_signed w16 image (at / 8) v
 write_of Dint image at v = write_signed w32 image (at / 8) v
 
--- the number at a place, and the image in which the low bits of v stand there and all else is as before
+-- the number at a place, and the image in which the low bits of v are there and all else is as before
 abbrev pub number : List ℕ → Place → ℤ
 number image p = number_of p.kind image p.at
 

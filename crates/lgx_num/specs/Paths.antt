@@ -12,16 +12,16 @@ abbrev pub CanReach : List Index → ℕ → ℕ → Type 0
 CanReach [] at to = to ≡ at
 CanReach (i ∷ is) at to = (n : ℕ) × (rest : ℕ) × (n < i.length) × CanReach is at rest × (to ≡ n * i.stride + rest)
 
--- each subscript stands in the image, on a byte
+-- each subscript lies in the image, on a byte
 abbrev pub SubscriptsInBounds : List Index → ℕ → Type 0
 SubscriptsInBounds [] len = Unit {0}
 SubscriptsInBounds (i ∷ is) len = (i.of.at % 8 ≡ 0) × InBounds i.of len × SubscriptsInBounds is len
 
--- a path's subscripts lie in an image of this many bytes, and wherever they lead, what stands there meets a condition
+-- a path's subscripts lie in an image of this many bytes, and wherever they lead, what is there meets a condition
 abbrev pub PathInBounds : Path → ℕ → (ℕ → Type 0) → Type 0
 PathInBounds p len Meets = SubscriptsInBounds p.steps len × ((to : ℕ) → CanReach p.steps p.at to → Meets to)
 
--- so many bytes from bit to on, the first of a byte, end at or before byte end
+-- `size` bytes from bit `to` on, the first of a byte, end at or before byte `end`
 abbrev pub BytesInBounds : ℕ → ℕ → ℕ → Type 0
 BytesInBounds size end to = (to % 8 ≡ 0) × (to + 8 * size ≤ 8 * end)
 

@@ -1,8 +1,8 @@
 //! Numbers, names and places of the image: the words that every other crate speaks in.
 //!
-//! A value of a tag is a bit or a signed number of 8, 16 or 32 bits ([`Kind`]). A [`Place`] says where one stands in the
-//! image, the list of the bytes of all tags, and an [`Operand`] is what a checked instruction names. What stands at a
-//! place and what a write makes of an image are the definitions `number` and `write` of `specs/Image.antt`.
+//! A value of a tag is a bit or a signed number of 8, 16 or 32 bits ([`Kind`]). A [`Place`] says where one lies in the image, the
+//! list of the bytes of all tags, and an [`Operand`] is what a checked instruction names. What is at a place and what a write makes
+//! of an image are the definitions `number` and `write` of `specs/Image.antt`.
 #![tactic(auto)]
 
 mod laws;

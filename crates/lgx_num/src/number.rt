@@ -54,7 +54,7 @@ pub fn fits(kind: Kind, value: i64) -> bool
     }
 }
 
-/// The four bytes of a number in two's complement, the lowest first, as they stand in the image.
+/// The four bytes of a number in two's complement, the lowest first, as they lie in the image.
 pub fn bytes_of(value: i32) -> [u8; 4]
     ensures { result ≡ bytes_of value }
 {

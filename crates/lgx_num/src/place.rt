@@ -189,7 +189,7 @@ pub enum Operand {
     FlagOf(Flag),
     /// A routine of the same program, by its number.
     Routine(u32),
-    /// A label of the same routine, by the number of the rung that it stands in.
+    /// A label of the same routine, by the number of the rung that it is in.
     Label(u64),
     /// A task, by its number.
     Task(u32),

@@ -2,7 +2,7 @@
 ghost use Rattle.std.specs.Prelude.{◌≡◌, ◌++◌, ◌∷◌, [], false, ◌<◌, length, IsNone, IfSome};
 ghost use Rattle.spec_base.specs.Pieces.{pieces, has_byte};
 
-/// What stands before the first byte `mark`, and after it; None if it stands nowhere.
+/// What comes before the first byte `mark`, and after it; None if there is none.
 #[tactic(auto, using(spec_base::proofs::Splits::pieces_at_mark, spec_base::proofs::Splits::pieces_whole, spec_base::proofs::Splits::cut_at_mark, spec_base::proofs::Splits::clean_before, spec_base::proofs::Splits::clean_whole))]
 pub fn split_first(text: &[u8], mark: u8) -> Option<(&[u8], &[u8])>
     ensures some { IfSome result (λ r. pieces mark text.now ≡ r.0.now ∷ pieces mark r.1.now) }

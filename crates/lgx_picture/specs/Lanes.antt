@@ -26,7 +26,7 @@ class_of Faults = codes "fault"
 class_of Replies = codes "reply"
 class_of (Watch place) = codes "watch"
 
--- of a long name the end, since the last parts of a tag's name tell most
+-- of a long name the end, since the last parts of a tag's name say most
 abbrev pub short : List ℕ → List ℕ
 short name =
     if nat_le (length name) NAME_LETTERS then name else codes ".." ++ drop (length name - CUT_LETTERS) name

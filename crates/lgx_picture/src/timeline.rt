@@ -46,9 +46,9 @@ fn drawing_asked(alloc: Global, words: &[String]) -> Result<Option<Drawing>, Mem
 /// The program `logix_timeline`: reads a report, writes it as a drawing by one put, and answers how the program ends. The
 /// report is the one file, and its name is empty.
 ///
-/// Time is the number of processor steps, or with the word `tick` the tick. Further words, by twos, tell the width of the drawing,
-/// the first and the last time that is shown, and watched places, each a BOOL or a number, with its value before the first line.
-/// A text that is no report is answered `Project`, with one line, `report CODE line N`.
+/// Time is the number of processor steps, or with the word `tick` the tick. Further words, by twos, give the width of the drawing,
+/// the first and the last time that is shown, and watched places, each a BOOL or a number, with its value before the first line. A
+/// text that is no report is answered `Project`, with one line, `report CODE line N`.
 pub fn draw_timeline<F: Files, K: Sink>(
     alloc: Global,
     words: &[String],

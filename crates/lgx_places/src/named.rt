@@ -62,8 +62,8 @@ fn program_named(file: &Described, name: &[u8]) -> Option<u32>
     None
 }
 
-/// The name of the program that a text is seen from, and the rest of the text: what stands before and after the first dot
-/// behind `Program:`. None of a text without the prefix, without a dot after it, or with something else than a name between.
+/// The name of the program that a text is seen from, and the rest of the text: what comes before and after the first dot behind
+/// `Program:`. None of a text without the prefix, without a dot after it, or with something else than a name between.
 fn scoped(text: &[u8]) -> Option<(&[u8], &[u8])>
     ensures some { IfSome result (λ r. IsScopedAs text.now r.0.now r.1.now) }
     ensures none { IfNone result (has_scope text.now ≡ false) }
@@ -76,8 +76,8 @@ fn scoped(text: &[u8]) -> Option<(&[u8], &[u8])>
     None
 }
 
-/// What a text names: the controller's tags alone are seen, but from a program if its name stands before the text. P9 if
-/// there is no such program, or it names nothing.
+/// What a text names: the controller's tags alone are seen, but from a program if its name comes before the text. P9 if there is no
+/// such program, or it names nothing.
 pub(crate) fn named(
     alloc: Global,
     tags: &TagTable,

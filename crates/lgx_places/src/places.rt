@@ -185,7 +185,7 @@ fn watches_of(
 }
 
 /// The image at the start, with no mark, and the watched places: P9 or P5 of the first initial value that is refused, and
-/// then of the first watched text. A later initial value of a place stands.
+/// then of the first watched text. A later initial value of a place replaces an earlier one.
 #[tactic(auto, unfolding(spec_project::specs::Places::places_fault))]
 pub fn read_places(alloc: Global, tags: &TagTable, file: &Described) -> Result<Places, ProjectError>
     requires limits { IsWithinLimits file.now }

@@ -14,7 +14,7 @@ abbrev pub words_given : Given → List (List ℕ)
 words_given (Texts arguments) = drop 1 arguments
 words_given NoTexts = replicate 4 []
 
--- These are the words of the arguments, if those are told.
+-- These are the words of the arguments, if those are known.
 abbrev pub AreWords : Option Given → List (List ℕ) → Type 0
 AreWords told words = IfSome told (λ given. words ≡ words_given given)
 

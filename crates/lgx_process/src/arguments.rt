@@ -36,7 +36,7 @@ impl<T: Drop> From<AllocFailed<T>> for ArgumentsFault {
 
 /// What gives the arguments of a process.
 pub trait Arguments {
-    /// The arguments, if they are told.
+    /// The arguments, if they are known.
     ghost told: { Self → Option Given };
 
     /// All of them, if each is text.
@@ -45,7 +45,7 @@ pub trait Arguments {
         ensures no_texts { result ≡ Err NoText → IfSome (told self.now) (λ given. given ≡ NoTexts) };
 }
 
-/// The arguments of the system. They tell nothing.
+/// The arguments of the system. Nothing is known of them.
 #[derive(Drop)]
 pub struct HostArguments<'a, R: Env + AllocGlobal> {
     rt: &'a R,

@@ -14,7 +14,7 @@ pub record Found : Type 0 where
 abbrev pub with_found : Found → ℕ → Found
 with_found s n = if nat_lt n (length s.marks) && not (slice_index_or s.marks n false) then record { marks = slice_set s.marks n true; found = s.found ++ n ∷ [] } else s
 
--- the calls of the routine that was found as number i are found, where so many were found
+-- the calls of the routine that was found as number i are found, where there is one
 abbrev pub examined : List Flat → Found → ℕ → Found
 examined routines s i = go (slice_get s.found i)
   where

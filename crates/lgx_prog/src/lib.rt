@@ -2,8 +2,8 @@
 //!
 //! A rung is a tree of instructions and forks, as an engineer reads it. A routine runs as one list of code: its instructions
 //! in the order of the text, and between them where a rung starts and where a branch starts, goes on to its next leg, and
-//! ends. Which code stands for which rungs is `IsFlat`, and which program for which rungs is `IsFlatProgram`. Beside the code
-//! stands for each piece what its instruction does, in short, and what stands before the next one (`AreQuick`).
+//! ends. Which code stands for which rungs is `IsFlat`, and which program for which rungs is `IsFlatProgram`. Beside the code is
+//! kept for each piece what its instruction does, in short, and what comes before the next one (`AreQuick`).
 #![tactic(auto)]
 
 mod code;

@@ -28,7 +28,7 @@ impl Model for Search {
     ghost view = { λ s. record { marks = s.marks.items; found = s.found.items } };
 }
 
-/// A search among so many routines that has found none.
+/// A search among `routines` routines that has found none.
 fn begin(alloc: Global, routines: usize) -> Result<Search, Memory>
     ensures { IfOk result (λ search. search ≡ record { marks = replicate routines false; found = [] }) }
 {
@@ -81,7 +81,7 @@ fn mark_calls(search: &mut Search, code: &[Code]) -> Result<(), Memory>
     Ok(())
 }
 
-/// The calls of the routine that was found as number i, if so many were found, are marked as found.
+/// The calls of the routine that was found as number i, if there is one, are marked as found.
 fn examine(search: &mut Search, routines: &[FlatRoutine], i: usize) -> Result<(), Memory>
     ensures { OnOk result (search.new ≡ examined routines.now search.old i) }
 {

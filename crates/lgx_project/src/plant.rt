@@ -174,10 +174,10 @@ fn read_plant(alloc: Global, file: &Described) -> Result<Plant, ProjectError>
 
 /// The project that a file gives, or its first refusal.
 ///
-/// The refusals come in passes over the whole file, and the first of the first pass that has one is told: P1 of its text;
-/// P2 to P5 and P11 of its shape; P6 of names, and P5 of main routines; P9 of types, of tags and of aliases; P5 and P8 of tasks,
-/// and then P7 of programs; P9 and P5 of connections; P9 and P5 of initial values and of watched texts; P10 of rungs and of
-/// routines, and last P11 of all instructions.
+/// The refusals come in passes over the whole file, and the first of the first pass that has one is reported: P1 of its text; P2 to
+/// P5 and P11 of its shape; P6 of names, and P5 of main routines; P9 of types, of tags and of aliases; P5 and P8 of tasks, and then
+/// P7 of programs; P9 and P5 of connections; P9 and P5 of initial values and of watched texts; P10 of rungs and of routines, and
+/// last P11 of all instructions.
 #[tactic(auto, unfolding(spec_project::specs::Projects::project_of))]
 pub fn read_project(alloc: Global, bytes: &[u8]) -> Result<Project, ProjectError>
     ensures { AnswersJson (project_of bytes.now) result }

@@ -1,4 +1,4 @@
--- How a reader's answer stands to what its definition says.
+-- How a reader's answer relates to what its definition says.
 use Rattle.std.specs.Prelude.{◌≡◌, ℕ, List, [], ◌∷◌, ◌++◌, map, length, nat_lt, nat_le, ◌&&◌, Bool, Option, Some, None, option_map, if◌then◌else◌, codes, Result, Ok, ⊤}
 use Rattle.std.specs.Str.{bytes_eq}
 use Rattle.spec_explore.specs.declared.question.Test.{Test}

@@ -19,7 +19,7 @@ pub(crate) struct FoundNever {
     pub(crate) program: Option<Option<u32>>,
 }
 
-/// The first test of a text, and what stands after it.
+/// The first test of a text, and what comes after it.
 #[tactic(auto, using(crate::proofs::ReadTests::short_said, crate::proofs::ReadTests::no_test_said))]
 fn next_test<'a>(names: &Names, text: &'a [u8]) -> Option<(Option<Test>, &'a [u8])>
     requires { length names.now.watches < 2 ^ 32 }

@@ -1,5 +1,5 @@
 -- The lines of watched places that changed, one place after another.
-use Rattle.std.proofs.Common.{slice_get, ◌≡◌, ℕ, zero, suc, ◌+◌, ◌-◌, ◌*◌, ◌/◌, ◌<◌, ◌≤◌, inl, inr, Bool, true, false, cond, List, [], ◌∷◌, ◌++◌, length, map, take, get_or, set, ◌≢◌, ℤ, pos, Option, Some, None, is_some, refl, sym, ap, ◌∙◌, subst, arith, append_assoc, add-zero, add-one, length-append}
+use Rattle.std.proofs.Common.{◌≡◌, ℕ, zero, suc, ◌+◌, ◌-◌, ◌*◌, ◌/◌, ◌<◌, ◌≤◌, inl, inr, Bool, true, false, cond, List, [], ◌∷◌, ◌++◌, length, map, take, get_or, set, ◌≢◌, ℤ, pos, refl, sym, ap, ◌∙◌, subst, arith, append_assoc, add-zero, add-one, length-append}
 use Rattle.std.proofs.lemmas.Bool.{cases_lt, false≢true}
 use Rattle.std.proofs.lemmas.Bool.Decides.{Decides-int_eq}
 use Rattle.std.proofs.lemmas.List.{append-nil, map-append, take_more, take_all, ext_get_or, get_or-map, length-map, get_or-set_same, get_or-set_other}
@@ -11,7 +11,7 @@ use Rattle.lgx_num.specs.Image.{number, bits_of, IsByteAligned, InBounds}
 use Rattle.lgx_num.specs.declared.number.Kind.{Kind}
 use Rattle.lgx_num.specs.declared.number.Kind.TheVariants.{Bool as KBool, Sint, Int, Dint}
 use Rattle.lgx_num.specs.declared.place.Place.{Place}
-use Rattle.lgx_image.specs.Grains.{ImageView, NoneIsHit, is_marked}
+use Rattle.lgx_image.specs.Grains.{ImageView, NoneIsHit}
 use Rattle.lgx_image.proofs.Marks.{word_of-is}
 use Rattle.lgx_watch.specs.Kept.{Kept}
 use Rattle.lgx_watch.specs.Watches.{LiesInWord, LiesInNoHit, is_member}
@@ -22,7 +22,7 @@ use Rattle.spec_machine.specs.Report.{set_lines}
 use Rattle.lgx_record.specs.declared.lines.Stamp.{Stamp}
 use Rattle.lgx_record.specs.EventLines.{with_event_lines, Compared}
 use Rattle.lgx_record.proofs.Logs.{with_event_lines-append}
-use Rattle.lgx_record.specs.Changes.{numbers_at, change_line, change_lines, AreWatched, AreAsCompared, HasWritten}
+use Rattle.lgx_record.specs.Changes.{numbers_at, change_line, change_lines, AreAsCompared, HasWritten}
 
 -- ---- numbers
 

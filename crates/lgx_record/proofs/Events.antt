@@ -1,4 +1,4 @@
--- What each kind of event does to a follower and to the log.
+-- What each kind of event does to a run and to the log.
 use Rattle.std.proofs.Common.{◌≡◌, ℕ, ◌+◌, ◌^◌, ◌<◌, ◌≤◌, List, [], ◌∷◌, length, map, ℤ, sym, ap, ◌∙◌, subst}
 use Rattle.spec_base.specs.declared.limits.TheConstants.{MAX_TASKS}
 use Rattle.lgx_image.specs.Grains.{NoneIsHit}
@@ -23,18 +23,19 @@ use Rattle.lgx_core.specs.ControllerView.{ControllerView}
 use Rattle.lgx_core.specs.Represents.{RepresentsController}
 use Rattle.lgx_core.specs.Gives.{Gives}
 use Rattle.lgx_record.specs.declared.lines.Stamp.{Stamp}
-use Rattle.lgx_record.specs.FollowerView.{FollowerView}
+use Rattle.lgx_record.specs.RunSeen.{RunSeen}
 use Rattle.lgx_record.specs.Faults.{faults_in}
 use Rattle.lgx_record.specs.Changes.{numbers_at, change_lines}
 use Rattle.lgx_record.specs.EventLines.{with_event_lines, Compared}
-use Rattle.lgx_record.specs.FollowsRun.{FollowsRun, TakesEvent}
+use Rattle.lgx_record.specs.IsRunOf.{IsRunOf}
+use Rattle.lgx_record.specs.Extends.{IsExtended}
 use Rattle.lgx_record.proofs.FewLines.{few_defs}
 use Rattle.lgx_record.proofs.Logs.{three-parts}
 use Rattle.lgx_record.proofs.Taking.{has-taken, follows-more}
 
 -- What the last part of an event does, of whatever kind it is: c is the controller before, and log is the log, which end is
 -- after it. The stamp is that of the controller and of the steps.
-pub record Closes (old new : FollowerView) (c : ControllerView) (log end : Kept) (at : Stamp) : Type 0 where
+pub record Closes (old new : RunSeen) (c : ControllerView) (log end : Kept) (at : Stamp) : Type 0 where
   pub tick : (s : State) → RepresentsController c s → at.tick ≡ s.tick
   pub step_is : at.step ≡ new.steps
   pub compared : (s : State) → RepresentsController c s → Compared log end at old.values new.values (numbers_at s.image old.places)
@@ -50,11 +51,11 @@ pub changes-kept : (log next : Kept) (at : Stamp) (before after now : List ℤ) 
 changes-kept log next at before after now h = h.log ∙ ap (λ (ns : List ℤ). with_event_lines log at (change_lines 0 before ns)) (sym h.values)
 
 -- the numbers that are kept are those of the image
-pub kept-values : (old new : FollowerView) (c : ControllerView) (log end : Kept) (at : Stamp) → Closes old new c log end at → (s : State) → RepresentsController c s → new.values ≡ numbers_at s.image new.places
+pub kept-values : (old new : RunSeen) (c : ControllerView) (log end : Kept) (at : Stamp) → Closes old new c log end at → (s : State) → RepresentsController c s → new.values ≡ numbers_at s.image new.places
 kept-values old new c log end at k s h = (k.compared s h).values ∙ ap (numbers_at s.image) (sym k.places)
 
-module _ (old new : FollowerView) (c : ControllerView) (start first second end : Kept) (at : Stamp) (project : Project) (events : List Event) (r : FollowsRun old project events) (k : Closes old new c second end at) (spent : c.spent ≡ old.controller.spent + 1) (same_watched : c.parts.image.watched ≡ old.controller.parts.image.watched) where
-  pub tick-taken : (report : TickReport) → Gives c report (tick (run project events)) → new.steps ≡ old.steps → first ≡ start → ((s : State) → s.tick ≡ at.tick → length s.table.defs ≤ MAX_TASKS → report.overlapped < 2 ^ length s.table.defs → second ≡ with_event_lines first at (map FaultLine (report_faults s report))) → TakesEvent new start end project events Tick
+module _ (old new : RunSeen) (c : ControllerView) (start first second end : Kept) (at : Stamp) (project : Project) (events : List Event) (r : IsRunOf old project events) (k : Closes old new c second end at) (spent : c.spent ≡ old.controller.spent + 1) (same_watched : c.parts.image.watched ≡ old.controller.parts.image.watched) where
+  pub tick-taken : (report : TickReport) → Gives c report (tick (run project events)) → new.steps ≡ old.steps → first ≡ start → ((s : State) → s.tick ≡ at.tick → length s.table.defs ≤ MAX_TASKS → report.overlapped < 2 ^ length s.table.defs → second ≡ with_event_lines first at (map FaultLine (report_faults s report))) → IsExtended new start end project events (Tick ∷ [])
   tick-taken report g steps begun faulted =
       let s = run project events in
       let x = tick s in
@@ -79,7 +80,7 @@ module _ (old new : FollowerView) (c : ControllerView) (start first second end :
         none_hit = k.none_hit;
       })
 
-  pub step-taken : (moment : Moment) → Gives c moment (processor_step (run project events)) → new.steps ≡ old.steps + 1 → first ≡ with_event_lines start at (begin_lines moment.what) → second ≡ with_event_lines first at (map FaultLine (faults_in moment.fault)) → TakesEvent new start end project events Cpu
+  pub step-taken : (moment : Moment) → Gives c moment (processor_step (run project events)) → new.steps ≡ old.steps + 1 → first ≡ with_event_lines start at (begin_lines moment.what) → second ≡ with_event_lines first at (map FaultLine (faults_in moment.fault)) → IsExtended new start end project events (Cpu ∷ [])
   step-taken moment g steps begun faulted =
       let x = processor_step (run project events) in
       let begins = begun ∙ ap (λ (m : Moment). with_event_lines start at (begin_lines m.what)) g.answers in
@@ -98,7 +99,7 @@ module _ (old new : FollowerView) (c : ControllerView) (start first second end :
         none_hit = k.none_hit;
       })
 
-  pub act-taken : (lane : ℕ) (action : Action) (outcome : Outcome) → Gives c outcome (act (run project events) lane action) → new.steps ≡ old.steps → first ≡ with_event_lines start at (Reply lane outcome.reply ∷ []) → second ≡ with_event_lines first at (map FaultLine (faults_in outcome.fault)) → TakesEvent new start end project events (Act lane action)
+  pub act-taken : (lane : ℕ) (action : Action) (outcome : Outcome) → Gives c outcome (act (run project events) lane action) → new.steps ≡ old.steps → first ≡ with_event_lines start at (Reply lane outcome.reply ∷ []) → second ≡ with_event_lines first at (map FaultLine (faults_in outcome.fault)) → IsExtended new start end project events (Act lane action ∷ [])
   act-taken lane action outcome g steps answered faulted =
       let s = run project events in
       let x = act s lane action in

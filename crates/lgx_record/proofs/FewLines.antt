@@ -32,7 +32,7 @@ use Rattle.lgx_record.specs.declared.lines.TheConstants.{MAX_EVENT_LINES}
 use Rattle.lgx_record.specs.Faults.{faults_in, told_faults}
 use Rattle.lgx_record.specs.Changes.{numbers_at}
 use Rattle.lgx_record.specs.EventLines.{EventsHaveFewLines}
-use Rattle.lgx_record.specs.FollowsRun.{KeepsAnEvent, next_lines}
+use Rattle.lgx_record.specs.Extends.{KeepsAnEvent, more_lines}
 use Rattle.lgx_record.proofs.Faults.{answers_tell_faults}
 use Rattle.lgx_record.proofs.Changed.{set_lines-changes, few_changes}
 
@@ -144,6 +144,6 @@ events_have_few_lines project journal valid = few_from project valid [] 0 journa
 
 pub keeps_an_event : KeepsAnEvent
 keeps_an_event project events e valid =
-    let lines = next_lines project events e in
-    let few = few_next project valid events (steps_of events) e in
+    let lines = more_lines project events (e ∷ []) in
+    let few = few_from project valid events (steps_of events) (e ∷ []) in
     keeps_the_first lines ∙ same_kept _ _ _ _ (take_all MAX_REPORT_LINES lines (omega arith)) (omega arith)

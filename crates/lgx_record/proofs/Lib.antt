@@ -10,3 +10,5 @@ pub mod Events
 pub mod Making
 pub mod StepLines
 pub mod Stretched
+pub mod Extending
+pub mod Closing

@@ -1,7 +1,7 @@
--- A follower, or a recording, that was just made.
-use Rattle.std.proofs.Common.{◌≡◌, ℕ, zero, suc, false, List, [], map, replicate, refl, sym, ap, ◌∙◌}
+-- A run that was just made.
+use Rattle.std.proofs.Common.{◌≡◌, ℕ, List, [], map, sym, ap, ◌∙◌}
 use Rattle.std.proofs.lemmas.Simd.{map-map}
-use Rattle.lgx_image.specs.Grains.{NoneIsHit, is_marked}
+use Rattle.lgx_image.specs.Grains.{NoneIsHit}
 use Rattle.spec_machine.specs.Project.{Project, ProgramText as MachineProgram, Watch as MachineWatch}
 use Rattle.spec_machine.specs.declared.event.Event.{Event}
 use Rattle.spec_machine.specs.State.{State, start}
@@ -10,15 +10,11 @@ use Rattle.spec_text.specs.ReportText.{Names, names_of as project_names}
 use Rattle.lgx_edit.specs.declared.plant.PlantParts.TheInside.{Inside}
 use Rattle.lgx_edit.specs.Texts.{program_of}
 use Rattle.lgx_edit.specs.Plants.{project_of, watch_of}
-use Rattle.lgx_watch.specs.Kept.{no_lines}
-use Rattle.lgx_watch.proofs.Pushes.{keeps_the_first}
 use Rattle.lgx_core.specs.ControllerView.{ControllerView}
 use Rattle.lgx_core.specs.Represents.{RepresentsController, StandsFor}
-use Rattle.lgx_record.specs.FollowerView.{FollowerView}
-use Rattle.lgx_record.specs.RecordingView.{RecordingView, follower_of}
+use Rattle.lgx_record.specs.RunSeen.{RunSeen}
 use Rattle.lgx_record.specs.Changes.{numbers_at, AreWatched}
-use Rattle.lgx_record.specs.FollowsRun.{FollowsRun}
-use Rattle.lgx_record.specs.Records.{Records}
+use Rattle.lgx_record.specs.IsRunOf.{IsRunOf}
 
 -- the names of a project's parts are those of the project
 pub same_names : (p : Inside) → (let names : Names = record { tasks = map (λ t. t.name) p.names; programs = map (λ q. q.name) p.texts; watches = map (λ w. w.text) p.watches } in names) ≡ project_names (project_of p)
@@ -49,8 +45,8 @@ still-stands project events old new h represents spent = record {
 }
 
 -- without an event
-pub just-follows : (v : FollowerView) (project : Project) → StandsFor project [] v.controller → v.names ≡ project_names project → v.steps ≡ 0 → v.places ≡ map (λ w. w.place) project.watches → v.values ≡ numbers_at (start project).image v.places → AreWatched v.places v.controller.parts.image.watched → NoneIsHit v.controller.parts.image → FollowsRun v project []
-just-follows v project stands names steps places values watched none = record {
+pub just-made : (v : RunSeen) (project : Project) → StandsFor project [] v.controller → v.names ≡ project_names project → v.steps ≡ 0 → v.places ≡ map (λ w. w.place) project.watches → v.values ≡ numbers_at (start project).image v.places → AreWatched v.places v.controller.parts.image.watched → NoneIsHit v.controller.parts.image → IsRunOf v project []
+just-made v project stands names steps places values watched none = record {
   controller = stands;
   names = names;
   steps = steps;
@@ -59,6 +55,3 @@ just-follows v project stands names steps places values watched none = record {
   watched = watched;
   none_hit = none;
 }
-
-pub just-records : (v : RecordingView) (project : Project) → FollowsRun (follower_of v) project [] → v.journal.events ≡ [] → v.log ≡ no_lines → Records v project []
-just-records v project f journal log = record { journal = journal; follows = f; log = log ∙ keeps_the_first [] }

@@ -1,6 +1,6 @@
 -- The lines of processor steps: those of which nothing is told, and which leave the watched places as they were, have none; and of
 -- begins each has its line.
-use Rattle.std.proofs.Common.{◌≡◌, ℕ, zero, suc, ◌+◌, ◌<◌, ◌≤◌, ◌&&◌, Bool, true, false, not, cond, if◌then◌else◌, List, [], ◌∷◌, ◌++◌, length, map, drop, replicate, ℤ, Option, Some, None, is_none, refl, sym, ap, ◌∙◌, subst, append_assoc, add-one, add-zero, arith, length-append}
+use Rattle.std.proofs.Common.{◌≡◌, ℕ, zero, suc, ◌+◌, ◌<◌, ◌≤◌, ◌&&◌, Bool, true, false, not, cond, if◌then◌else◌, List, [], ◌∷◌, ◌++◌, length, map, drop, replicate, ℤ, Option, Some, None, is_none, refl, sym, ap, ◌∙◌, subst, append_assoc, arith, length-append}
 use Rattle.std.specs.List.{AllByRecursion as Each}
 use Rattle.std.proofs.lemmas.Bool.{and_parts, false≢true}
 use Rattle.std.proofs.lemmas.List.{append-nil, length-replicate, replicate-append-replicate}
@@ -21,20 +21,20 @@ use Rattle.spec_machine.specs.Project.{Project, Watch}
 use Rattle.spec_machine.specs.State.{State, start}
 use Rattle.spec_machine.specs.ProcessorStep.{processor_step}
 use Rattle.spec_machine.specs.Machine.{OfStep, step, run_from, run}
-use Rattle.spec_machine.specs.Report.{Stamped, is_step, steps_of, stamp, begin_lines, set_lines, event_lines, lines_from, report_lines}
+use Rattle.spec_machine.specs.Report.{Stamped, is_step, steps_of, stamp, begin_lines, set_lines, event_lines, lines_from}
 use Rattle.lgx_watch.specs.JournalLines.{lines_of_event}
 use Rattle.lgx_steps.specs.Stretches.{after_steps, moment_after, is_told, is_plain_mark, is_plain, told_steps, plainly}
 use Rattle.lgx_record.specs.EventLines.{begins_lines}
 use Rattle.spec_reach.proofs.Grows.{event_moves}
 use Rattle.lgx_record.specs.Faults.{faults_in}
-use Rattle.lgx_record.specs.Changes.{numbers_at, change_line, change_lines, AreWatched}
-use Rattle.lgx_record.specs.FollowsRun.{step_lines}
+use Rattle.lgx_record.specs.Changes.{numbers_at, change_lines, AreWatched}
+use Rattle.lgx_record.specs.Extends.{more_lines}
 use Rattle.lgx_record.proofs.FewLines.{new_faults}
 use Rattle.lgx_record.proofs.Changed.{set_lines-changes, change_line-same}
 
 -- ---- so many steps more
 
-run_on : (s : State) (xs ys : List Event) → run_from s (xs ++ ys) ≡ run_from (run_from s xs) ys
+pub run_on : (s : State) (xs ys : List Event) → run_from s (xs ++ ys) ≡ run_from (run_from s xs) ys
 run_on s [] ys = refl
 run_on s (x ∷ xs) ys = run_on (step s x).state xs ys
 
@@ -64,6 +64,10 @@ steps-join events n m = append_assoc events (replicate n Cpu) (replicate m Cpu) 
 
 -- ---- their lines
 
+-- the lines that the report has of so many more processor steps
+abbrev pub step_lines : Project → List Event → ℕ → List Stamped
+step_lines project events n = more_lines project events (replicate n Cpu)
+
 -- an event and then the others are counted as all of them are
 counted : (n : ℕ) (x : Event) (es : List Event) → cond (is_step x) (n + 1) n + steps_of es ≡ n + steps_of (x ∷ es)
 counted n x es = by_test (is_step x) ∙ ap (λ m. n + m) (sym (steps-cons x es))
@@ -72,7 +76,7 @@ counted n x es = by_test (is_step x) ∙ ap (λ m. n + m) (sym (steps-cons x es)
     by_test true = omega arith
     by_test false = omega arith
 
-lines-append : (watches : List Watch) (s : State) (n : ℕ) (xs ys : List Event) → lines_from watches s n (xs ++ ys) ≡ lines_from watches s n xs ++ lines_from watches (run_from s xs) (n + steps_of xs) ys
+pub lines-append : (watches : List Watch) (s : State) (n : ℕ) (xs ys : List Event) → lines_from watches s n (xs ++ ys) ≡ lines_from watches s n xs ++ lines_from watches (run_from s xs) (n + steps_of xs) ys
 lines-append watches s n [] ys = ap (λ m. lines_from watches s m ys) (omega arith)
 lines-append watches s n (x ∷ xs) ys =
     let after = (step s x).state in
@@ -91,12 +95,6 @@ lines-join project events n m =
     ∙ ap (λ i. before ++ lines_from project.watches (after_steps n s) i (replicate m Cpu)) (more-steps events n ∙ ap (λ k. steps_of events + k) (sym (all-steps n)))
     ∙ sym (lines-append project.watches s (steps_of events) (replicate n Cpu) (replicate m Cpu))
     ∙ ap (λ (es : List Event). lines_from project.watches s (steps_of events) es) (replicate-append-replicate n m Cpu)
-
--- the lines of a journal with so many steps more
-pub lines-of-steps : (project : Project) (events : List Event) (n : ℕ) → report_lines project (events ++ replicate n Cpu) ≡ report_lines project events ++ step_lines project events n
-lines-of-steps project events n =
-    lines-append project.watches (start project) 0 events (replicate n Cpu)
-    ∙ ap (λ m. report_lines project events ++ lines_from project.watches (run project events) m (replicate n Cpu)) (omega arith)
 
 -- ---- a step without a line
 

@@ -1,5 +1,5 @@
--- A follower, or a recording, that takes so many processor steps.
-use Rattle.std.proofs.Common.{◌≡◌, ℕ, zero, suc, ◌+◌, ◌-◌, ◌*◌, ◌^◌, ◌<◌, ◌≤◌, Bool, List, [], ◌∷◌, ◌++◌, length, map, take, get_or, replicate, refl, sym, ap, ◌∙◌, subst, append-nil, add-one, arith}
+-- A run that takes so many processor steps.
+use Rattle.std.proofs.Common.{◌≡◌, ℕ, suc, ◌+◌, ◌-◌, ◌<◌, ◌≤◌, Bool, List, ◌++◌, length, map, take, get_or, replicate, sym, ap, ◌∙◌, subst, arith}
 use Rattle.std.specs.List.{AllByRecursion as Each}
 use Rattle.lgx_image.specs.Grains.{SameInWatched}
 use Rattle.spec_machine.specs.declared.answer.What.{What}
@@ -10,9 +10,9 @@ use Rattle.spec_machine.specs.declared.event.Event.TheVariants.{Cpu}
 use Rattle.spec_machine.specs.Project.{Project}
 use Rattle.spec_machine.specs.State.{State}
 use Rattle.spec_machine.specs.ProcessorStep.{processor_step}
-use Rattle.spec_machine.specs.Machine.{step, run}
-use Rattle.spec_machine.specs.Report.{Stamped, stamp, begin_lines, steps_of, report_lines}
-use Rattle.lgx_watch.specs.Kept.{Kept, kept_of, with_lines}
+use Rattle.spec_machine.specs.Machine.{run}
+use Rattle.spec_machine.specs.Report.{stamp, begin_lines, steps_of}
+use Rattle.lgx_watch.specs.Kept.{Kept, with_lines}
 use Rattle.lgx_steps.specs.declared.begins.Begins.{Begins}
 use Rattle.lgx_steps.specs.declared.stretch.Stretch.{Stretch}
 use Rattle.lgx_steps.specs.Stretches.{IsStretch, after_steps, moment_after, told_steps}
@@ -20,20 +20,17 @@ use Rattle.lgx_core.specs.ControllerView.{ControllerView}
 use Rattle.lgx_core.specs.Represents.{RepresentsController}
 use Rattle.lgx_core.specs.Gives.{StretchGives}
 use Rattle.lgx_record.specs.declared.lines.Stamp.{Stamp}
-use Rattle.lgx_record.specs.FollowerView.{FollowerView}
-use Rattle.lgx_record.specs.RecordingView.{RecordingView, follower_of}
+use Rattle.lgx_record.specs.RunSeen.{RunSeen}
 use Rattle.lgx_record.specs.Faults.{faults_in}
 use Rattle.lgx_record.specs.Changes.{numbers_at, change_lines, AreInside, AreWatched}
 use Rattle.lgx_record.specs.EventLines.{begins_lines, with_event_lines}
-use Rattle.lgx_record.specs.FollowsRun.{FollowsRun, IsFollower, TakesSteps, next_lines, step_lines}
-use Rattle.lgx_record.specs.Records.{Records}
-use Rattle.std.proofs.lemmas.List.{length-replicate, take_more}
-use Rattle.lgx_record.specs.declared.lines.TheConstants.{MAX_EVENT_LINES}
-use Rattle.lgx_record.proofs.FewLines.{few_from}
-use Rattle.lgx_record.proofs.Logs.{few-more-lost, three-parts, with_lines-append, kept_of-more}
+use Rattle.lgx_record.specs.IsRunOf.{IsRunOf, IsRun}
+use Rattle.lgx_record.specs.Extends.{IsExtended}
+use Rattle.std.proofs.lemmas.List.{take_more}
+use Rattle.lgx_record.proofs.Logs.{three-parts, with_lines-append}
 use Rattle.lgx_record.proofs.Taking.{HasTaken, Takes, follows-more, are_inside}
 use Rattle.lgx_record.proofs.Events.{Closes, changes-kept, kept-values}
-use Rattle.lgx_record.proofs.StepLines.{run-steps, last-step, more-steps, more-events, steps-join, lines-join, lines-of-steps, numbers-stay, told-lines, told-few, told-below, begins-more}
+use Rattle.lgx_record.proofs.StepLines.{step_lines, run-steps, last-step, more-steps, more-events, steps-join, lines-join, numbers-stay, told-lines, told-few, told-below, begins-more}
 
 -- ---- the begins of a stretch
 
@@ -46,7 +43,7 @@ module _ (watched : List Bool) (b : Begins) (x : Stretch) (s : State) (h : IsStr
 
 -- ---- a stretch of steps
 
-module _ (old new : FollowerView) (c : ControllerView) (base start first second end : Kept) (from at : Stamp) (project : Project) (events : List Event) (r : FollowsRun old project events) (k : Closes old new c second end at) (same_watched : c.parts.image.watched ≡ old.controller.parts.image.watched) (b : Begins) (x : Stretch) (m : ℕ) (many : x.steps ≡ suc m) (g : StretchGives c b x (run project events)) where
+module _ (old new : RunSeen) (c : ControllerView) (base start first second end : Kept) (from at : Stamp) (project : Project) (events : List Event) (r : IsRunOf old project events) (k : Closes old new c second end at) (same_watched : c.parts.image.watched ≡ old.controller.parts.image.watched) (b : Begins) (x : Stretch) (m : ℕ) (many : x.steps ≡ suc m) (g : StretchGives c b x (run project events)) where
   abbrev s : State
   s = run project events
 
@@ -68,8 +65,8 @@ module _ (old new : FollowerView) (c : ControllerView) (base start first second 
       told-lines project events old.places c.parts.image.watched r.places lie b.began m (λ i below. g.is_stretch.began i (omega (arith, many))) same
       ∙ ap (begins_lines s.tick (steps_of events) b.began) (sym begins)
 
-  -- what the follower would be after these
-  abbrev middle : FollowerView
+  -- what the run would be after these
+  abbrev middle : RunSeen
   middle = record old { controller = record old.controller { spent = old.controller.spent + m }; steps = old.steps + m }
 
   has_taken : HasTaken middle project before
@@ -99,7 +96,7 @@ module _ (old new : FollowerView) (c : ControllerView) (base start first second 
   represents : RepresentsController c (processor_step (run project before)).state
   represents = subst (λ (t : State). RepresentsController c t) last g.represents
 
-  pub stretch-taken : from.tick ≡ s.tick → from.step ≡ old.steps → start ≡ with_lines base (begins_lines from.tick from.step b.began b.steps.items) → c.spent ≡ old.controller.spent + x.steps → new.steps ≡ old.steps + x.steps → first ≡ with_event_lines start at (begin_lines x.last.what) → second ≡ with_event_lines first at (map FaultLine (faults_in x.last.fault)) → TakesSteps new base end project events x.steps
+  pub stretch-taken : from.tick ≡ s.tick → from.step ≡ old.steps → start ≡ with_lines base (begins_lines from.tick from.step b.began b.steps.items) → c.spent ≡ old.controller.spent + x.steps → new.steps ≡ old.steps + x.steps → first ≡ with_event_lines start at (begin_lines x.last.what) → second ≡ with_event_lines first at (map FaultLine (faults_in x.last.fault)) → IsExtended new base end project events (replicate x.steps Cpu)
   stretch-taken tick_is step_is started spent steps begun faulted =
       let y = processor_step (run project before) in
       let begins = begun ∙ ap (λ (w : Moment). with_event_lines start at (begin_lines w.what)) told in
@@ -119,10 +116,8 @@ module _ (old new : FollowerView) (c : ControllerView) (base start first second 
       } in
       let one = follows-more middle new start end project before Cpu at has_taken takes in
       let all : m + 1 ≡ x.steps = omega (arith, many) in
-      let lines : step_lines project events m ++ next_lines project before Cpu ≡ step_lines project events x.steps =
-      ap (λ (ls : List Stamped). step_lines project events m ++ ls) (sym (append-nil (next_lines project before Cpu)))
-      ∙ lines-join project events m 1
-      ∙ ap (step_lines project events) all in
+      let lines : step_lines project events m ++ step_lines project before 1 ≡ step_lines project events x.steps =
+      lines-join project events m 1 ∙ ap (step_lines project events) all in
       let starts : start ≡ with_lines base (step_lines project events m) =
       started
       ∙ ap (with_lines base)
@@ -130,63 +125,18 @@ module _ (old new : FollowerView) (c : ControllerView) (base start first second 
       ∙ ap (λ n. begins_lines s.tick n b.began b.steps.items) (step_is ∙ r.steps)
       ∙ sym begin_lines_of) in
       record {
-        follows = subst (λ (es : List Event). FollowsRun new project es) (steps-join events m 1 ∙ ap (λ n. events ++ replicate n Cpu) all) one.follows;
-        lines =
-            one.lines
-            ∙ ap (λ (k : Kept). with_lines k (next_lines project before Cpu)) starts
-            ∙ sym (with_lines-append base (step_lines project events m) (next_lines project before Cpu))
+        run = subst (λ (es : List Event). IsRunOf new project es) (steps-join events m 1 ∙ ap (λ n. events ++ replicate n Cpu) all) one.run;
+        log =
+            one.log
+            ∙ ap (λ (k : Kept). with_lines k (step_lines project before 1)) starts
+            ∙ sym (with_lines-append base (step_lines project events m) (step_lines project before 1))
             ∙ ap (with_lines base) lines;
       }
 
 -- before the watched places are compared
-pub stretch-inside : (v : FollowerView) (i : IsFollower v) (n : ℕ) (c : ControllerView) → RepresentsController c (after_steps n (run i.project i.events)) → AreInside v.places c.parts.image.bytes
+pub stretch-inside : (v : RunSeen) (i : IsRun v) (n : ℕ) (c : ControllerView) → RepresentsController c (after_steps n (run i.project i.events)) → AreInside v.places c.parts.image.bytes
 stretch-inside v i n c r =
-    are_inside i.project i.follows.controller.valid v.places (i.events ++ replicate n Cpu) c i.follows.places (subst (λ (t : State). RepresentsController c t) (sym (run-steps i.project i.events n)) r)
-
--- ---- stretch by stretch
-
-pub no-steps : (v : FollowerView) (log : Kept) (project : Project) (events : List Event) → FollowsRun v project events → TakesSteps v log log project events 0
-no-steps v log project events f = record { follows = subst (λ (es : List Event). FollowsRun v project es) (sym (append-nil events)) f; lines = refl }
-
-pub steps-go-on : (then_on new : FollowerView) (start between after : Kept) (project : Project) (events : List Event) (n m : ℕ) → TakesSteps then_on start between project events n → (FollowsRun then_on project (events ++ replicate n Cpu) → TakesSteps new between after project (events ++ replicate n Cpu) m) → TakesSteps new start after project events (n + m)
-steps-go-on then_on new start between after project events n m one two =
-    let more = two one.follows in
-    record {
-      follows = subst (λ (es : List Event). FollowsRun new project es) (steps-join events n m) more.follows;
-      lines =
-          more.lines
-          ∙ ap (λ (log : Kept). with_lines log (step_lines project (events ++ replicate n Cpu) m)) one.lines
-          ∙ sym (with_lines-append start (step_lines project events n) (step_lines project (events ++ replicate n Cpu) m))
-          ∙ ap (with_lines start) (lines-join project events n m);
-    }
-
--- few lines are lost by so many steps
-pub few-lost-by-steps : (old new : FollowerView) (start after : Kept) (i : IsFollower old) (n : ℕ) → TakesSteps new start after i.project i.events n → after.lost ≤ start.lost + MAX_EVENT_LINES * n
-few-lost-by-steps old new start after i n t =
-    let lines = step_lines i.project i.events n in
-    let few = few_from i.project i.follows.controller.valid i.events (steps_of i.events) (replicate n Cpu) in
-    let many = length-replicate n Cpu in
-    let lost = ap (λ (k : Kept). k.lost) t.lines in
-    let more = few-more-lost start lines in
-    omega arith
-
--- it is followed still
-pub follows-still : (old new : FollowerView) (start after : Kept) (i : IsFollower old) (n : ℕ) → TakesSteps new start after i.project i.events n → IsFollower new
-follows-still old new start after i n t = record { project = i.project; events = i.events ++ replicate n Cpu; follows = t.follows }
-
--- ---- a recording
-
--- a recording whose follower took the steps, and whose journal has them
-pub records-steps : (old new : RecordingView) (project : Project) (events : List Event) (n : ℕ) → Records old project events → TakesSteps (follower_of new) old.log new.log project events n → new.journal.events ≡ old.journal.events ++ replicate n Cpu → Records new project (events ++ replicate n Cpu)
-records-steps old new project events n r t journal = record {
-  journal = journal ∙ ap (λ (es : List Event). es ++ replicate n Cpu) r.journal;
-  follows = t.follows;
-  log =
-      t.lines
-      ∙ ap (λ (k : Kept). with_lines k (step_lines project events n)) r.log
-      ∙ kept_of-more (report_lines project events) (step_lines project events n)
-      ∙ ap kept_of (sym (lines-of-steps project events n));
-}
+    are_inside i.project i.run.controller.valid v.places (i.events ++ replicate n Cpu) c i.run.places (subst (λ (t : State). RepresentsController c t) (sym (run-steps i.project i.events n)) r)
 
 -- ---- the lines of begins, one after another
 

@@ -1,6 +1,6 @@
--- A follower, or a recording, that takes one more event.
-use Rattle.std.proofs.Common.{◌≡◌, ℕ, ◌+◌, ◌*◌, ◌^◌, ◌<◌, ◌≤◌, Bool, true, false, cond, List, [], ◌∷◌, ◌++◌, length, map, drop, get_or, ℤ, pos, Some, slice_get, sym, ap, ◌∙◌, subst, arith, length-append}
-use Rattle.std.specs.Prelude.{if◌then◌else◌, Result, Ok, Err, OnOk, OnErr}
+-- A run that takes one more event.
+use Rattle.std.proofs.Common.{◌≡◌, ℕ, ◌+◌, ◌*◌, ◌^◌, ◌<◌, ◌≤◌, Bool, true, false, cond, List, [], ◌∷◌, ◌++◌, length, map, drop, get_or, ℤ, pos, Some, slice_get, sym, ap, ◌∙◌, subst, arith, append-nil, length-append}
+use Rattle.std.specs.Prelude.{if◌then◌else◌}
 use Rattle.std.specs.List.{AllByRecursion as Each}
 use Rattle.std.proofs.lemmas.List.{length-map, get_or-map}
 use Rattle.std.proofs.lemmas.List.Sums.{sum_by-append, sum_by-cons, count_by-le-length}
@@ -19,39 +19,31 @@ use Rattle.spec_machine.specs.Project.{Project, Watch}
 use Rattle.spec_machine.specs.ValidProject.{IsValidProject, IsWatchable}
 use Rattle.spec_machine.specs.State.{State}
 use Rattle.spec_machine.specs.Machine.{step, run}
-use Rattle.spec_machine.specs.Report.{Stamped, is_step, steps_of, stamp, answer_lines, set_lines, event_lines, report_lines}
+use Rattle.spec_machine.specs.Report.{is_step, steps_of, stamp, answer_lines, set_lines, event_lines}
 use Rattle.spec_reach.proofs.Reached.{run_more}
 use Rattle.spec_reach.proofs.Images.{images_keep_length}
 use Rattle.spec_text.specs.ReportText.{names_of}
-use Rattle.lgx_watch.specs.Kept.{Kept, kept_of, with_lines}
-use Rattle.lgx_watch.proofs.EventLines.{one_more_event}
+use Rattle.lgx_watch.specs.JournalLines.{lines_of_event}
+use Rattle.lgx_watch.specs.Kept.{Kept, with_lines}
 use Rattle.lgx_watch.proofs.Spanned.{unhit_watches_stay}
 use Rattle.lgx_core.specs.ControllerView.{ControllerView}
 use Rattle.lgx_core.specs.Represents.{RepresentsController}
 use Rattle.lgx_record.specs.declared.lines.TheConstants.{MAX_EVENT_LINES}
 use Rattle.lgx_record.specs.declared.lines.Stamp.{Stamp}
-use Rattle.lgx_record.specs.FollowerView.{FollowerView}
-use Rattle.lgx_record.specs.RecordingView.{RecordingView, follower_of}
+use Rattle.lgx_record.specs.RunSeen.{RunSeen}
+use Rattle.lgx_record.specs.RecordingView.{RecordingView}
 use Rattle.lgx_record.specs.Faults.{told_faults}
 use Rattle.lgx_record.specs.Changes.{numbers_at, change_lines, AreInside, AreWatched, AreAsCompared}
 use Rattle.lgx_record.specs.EventLines.{with_event_lines}
-use Rattle.lgx_record.specs.FollowsRun.{FollowsRun, IsFollower, TakesEvent, next_lines}
-use Rattle.lgx_record.specs.Records.{Records, IsRecording}
+use Rattle.lgx_record.specs.IsRunOf.{IsRunOf, IsRun}
+use Rattle.lgx_record.specs.Extends.{IsExtended}
+use Rattle.lgx_record.specs.Records.{IsRecording}
 use Rattle.lgx_record.proofs.FewLines.{new_faults, events_have_few_lines}
-use Rattle.lgx_record.proofs.Logs.{kept_of-more}
 use Rattle.lgx_record.proofs.Changed.{set_lines-changes}
 
 -- ---- before the event
 
--- the log has counted few lines
-pub few_lost : (v : RecordingView) → IsRecording v → v.controller.spent < MAX_EVENTS → v.log.lost + MAX_EVENT_LINES < 2 ^ 63
-few_lost v i l =
-    let few = events_have_few_lines i.project i.events i.records.controller.valid in
-    let lost = ap (λ (k : Kept). k.lost) i.records.log in
-    let many = i.records.controller.counted in
-    omega arith
-
--- the same for so many steps
+-- a log has counted few lines
 pub few_lost_by : (v : RecordingView) (n : ℕ) → IsRecording v → v.controller.spent + n ≤ MAX_EVENTS → v.log.lost + MAX_EVENT_LINES * n < 2 ^ 63
 few_lost_by v n i l =
     let few = events_have_few_lines i.project i.events i.records.controller.valid in
@@ -63,17 +55,9 @@ few_lost_by v n i l =
 pub few_events_by : (v : RecordingView) (n : ℕ) → IsRecording v → v.controller.spent + n ≤ MAX_EVENTS → length v.journal.events + n ≤ MAX_EVENTS
 few_events_by v n i l = let e = ap length i.records.journal in let many = i.records.controller.counted in omega arith
 
--- the journal has room for its number of events
-pub few_events : (v : RecordingView) → IsRecording v → v.controller.spent < MAX_EVENTS → length v.journal.events < MAX_EVENTS
-few_events v i l = let e = ap length i.records.journal in let many = i.records.controller.counted in omega arith
-
--- what is recorded is followed
-pub is_follower : (v : RecordingView) → IsRecording v → IsFollower (follower_of v)
-is_follower v i = record { project = i.project; events = i.events; follows = i.records.follows }
-
 -- steps are at most the events
-pub few_steps : (v : FollowerView) → IsFollower v → v.steps ≤ v.controller.spent
-few_steps v i = let most = count_by-le-length is_step i.events in let steps = i.follows.steps in let many = i.follows.controller.counted in omega arith
+pub few_steps : (v : RunSeen) → IsRun v → v.steps ≤ v.controller.spent
+few_steps v i = let most = count_by-le-length is_step i.events in let steps = i.run.steps in let many = i.run.controller.counted in omega arith
 
 -- ---- after the event
 
@@ -92,7 +76,7 @@ module _ (project : Project) (valid : IsValidProject project) where
       }
 
 -- a place that lies in no word that is hit has the number last compared
-pub as_compared : (v : FollowerView) (project : Project) (events : List Event) (now : ImageView) → FollowsRun v project events → ChangesOnlyMarked v.controller.parts.image now → AreAsCompared v.places v.values now
+pub as_compared : (v : RunSeen) (project : Project) (events : List Event) (now : ImageView) → IsRunOf v project events → ChangesOnlyMarked v.controller.parts.image now → AreAsCompared v.places v.values now
 as_compared v project events now r changes = record {
   many = ap length r.values ∙ length-map v.places (number (run project events).image);
   same = λ w p got none. (
@@ -107,15 +91,15 @@ as_compared v project events now r changes = record {
 }
 
 -- before the watched places are compared
-pub next_inside : (v : FollowerView) (i : IsFollower v) (e : Event) (c : ControllerView) → RepresentsController c (step (run i.project i.events) e).state → AreInside v.places c.parts.image.bytes
+pub next_inside : (v : RunSeen) (i : IsRun v) (e : Event) (c : ControllerView) → RepresentsController c (step (run i.project i.events) e).state → AreInside v.places c.parts.image.bytes
 next_inside v i e c r =
-    are_inside i.project i.follows.controller.valid v.places (i.events ++ e ∷ []) c i.follows.places (subst (λ (y : State). RepresentsController c y) (sym (run_more i.project i.events e)) r)
+    are_inside i.project i.run.controller.valid v.places (i.events ++ e ∷ []) c i.run.places (subst (λ (y : State). RepresentsController c y) (sym (run_more i.project i.events e)) r)
 
-pub next_compared : (v : FollowerView) (i : IsFollower v) (now : ImageView) → ChangesOnlyMarked v.controller.parts.image now → AreAsCompared v.places v.values now
-next_compared v i now changes = as_compared v i.project i.events now i.follows changes
+pub next_compared : (v : RunSeen) (i : IsRun v) (now : ImageView) → ChangesOnlyMarked v.controller.parts.image now → AreAsCompared v.places v.values now
+next_compared v i now changes = as_compared v i.project i.events now i.run changes
 
--- What is known of a follower after these events, but for what its controller represents.
-pub record HasTaken (v : FollowerView) (project : Project) (events : List Event) : Type 0 where
+-- What is known of a run after these events, but for what its controller represents.
+pub record HasTaken (v : RunSeen) (project : Project) (events : List Event) : Type 0 where
   pub valid : IsValidProject project
   pub counted : v.controller.spent ≡ length events
   pub names : v.names ≡ names_of project
@@ -124,7 +108,7 @@ pub record HasTaken (v : FollowerView) (project : Project) (events : List Event)
   pub values : v.values ≡ numbers_at (run project events).image v.places
   pub watched : AreWatched v.places v.controller.parts.image.watched
 
-pub has-taken : (v : FollowerView) (project : Project) (events : List Event) → FollowsRun v project events → HasTaken v project events
+pub has-taken : (v : RunSeen) (project : Project) (events : List Event) → IsRunOf v project events → HasTaken v project events
 has-taken v project events r = record {
   valid = r.controller.valid;
   counted = r.controller.counted;
@@ -136,11 +120,11 @@ has-taken v project events r = record {
 }
 
 -- the watched places are watched still
-pub next_watched : (v : FollowerView) (i : IsFollower v) (now : ImageView) → ChangesOnlyMarked v.controller.parts.image now → AreWatched v.places now.watched
-next_watched v i now changes = subst (AreWatched v.places) (sym changes.same_watched) i.follows.watched
+pub next_watched : (v : RunSeen) (i : IsRun v) (now : ImageView) → ChangesOnlyMarked v.controller.parts.image now → AreWatched v.places now.watched
+next_watched v i now changes = subst (AreWatched v.places) (sym changes.same_watched) i.run.watched
 
 -- what was done when an event of state s was taken
-pub record Takes (old new : FollowerView) (before after : Kept) (s : State) (e : Event) (at : Stamp) : Type 0 where
+pub record Takes (old new : RunSeen) (before after : Kept) (s : State) (e : Event) (at : Stamp) : Type 0 where
   pub represents : RepresentsController new.controller (step s e).state
   pub spent : new.controller.spent ≡ old.controller.spent + 1
   pub names : new.names ≡ old.names
@@ -164,7 +148,7 @@ counted events e n is =
     by_test true = omega arith
     by_test false = omega arith
 
-pub follows-more : (old new : FollowerView) (start end : Kept) (project : Project) (events : List Event) (e : Event) (at : Stamp) → HasTaken old project events → Takes old new start end (run project events) e at → TakesEvent new start end project events e
+pub follows-more : (old new : RunSeen) (start end : Kept) (project : Project) (events : List Event) (e : Event) (at : Stamp) → HasTaken old project events → Takes old new start end (run project events) e at → IsExtended new start end project events (e ∷ [])
 follows-more old new start end project events e at r t =
     let s = run project events in
     let x = step s e in
@@ -185,10 +169,10 @@ follows-more old new start end project events e at r t =
     ∙ ap (λ (cs : List Line). answer ++ (map FaultLine (drop (length s.faults) x.state.faults) ++ cs)) sets in
     let same_step : at.step ≡ (if is_step e then steps_of events + 1 else steps_of events) =
     t.step_is ∙ t.steps ∙ ap (λ n. if is_step e then n + 1 else n) r.steps in
-    let stamped : stamp at.tick at.step lines ≡ next_lines project events e =
+    let stamped : stamp at.tick at.step lines ≡ lines_of_event project.watches s (steps_of events) e =
     ap (λ n. stamp n at.step lines) t.tick ∙ ap (λ n. stamp x.state.tick n lines) same_step ∙ ap (stamp x.state.tick (if is_step e then steps_of events + 1 else steps_of events)) same_lines in
     record {
-      follows = record {
+      run = record {
         controller = record {
           valid = r.valid;
           counted = t.spent ∙ ap (λ n. n + 1) r.counted ∙ sym (length-append events (e ∷ []));
@@ -201,30 +185,5 @@ follows-more old new start end project events e at r t =
         watched = subst (λ (ps : List Place). AreWatched ps new.controller.parts.image.watched) (sym t.places) (subst (AreWatched old.places) (sym t.watched) r.watched);
         none_hit = t.none_hit;
       };
-      lines = t.log ∙ ap (λ (more : List Stamped). with_lines start more) stamped;
+      log = t.log ∙ ap (with_lines start) (stamped ∙ sym (append-nil (lines_of_event project.watches s (steps_of events) e)));
     }
-
--- an event that came to want of memory was none, and nothing changed
-pub still_follower : {A E : Type 0} (result : Result A E) (old new : FollowerView) (before after : Kept) (e : Event) → IsFollower old → ((project : Project) (events : List Event) → FollowsRun old project events → OnOk result (TakesEvent new before after project events e)) → OnErr result (new ≡ old) → IsFollower new
-still_follower (Ok x) old new before after e i takes unchanged = record {
-  project = i.project;
-  events = i.events ++ e ∷ [];
-  follows = (takes i.project i.events i.follows).follows;
-}
-still_follower (Err x) old new before after e i takes unchanged = subst IsFollower (sym unchanged) i
-
-pub followed_if : {A E : Type 0} (result : Result A E) (new : FollowerView) (before after : Kept) (project : Project) (events : List Event) (e : Event) → OnOk result (TakesEvent new before after project events e) → OnOk result (FollowsRun new project (events ++ e ∷ []))
-followed_if (Ok x) new before after project events e takes = takes.follows
-followed_if (Err x) new before after project events e takes = tt
-
--- a recording whose follower took the event, and whose journal has it
-pub records-more : (old new : RecordingView) (project : Project) (events : List Event) (e : Event) → Records old project events → TakesEvent (follower_of new) old.log new.log project events e → new.journal.events ≡ old.journal.events ++ e ∷ [] → Records new project (events ++ e ∷ [])
-records-more old new project events e r t journal = record {
-  journal = journal ∙ ap (λ (es : List Event). es ++ e ∷ []) r.journal;
-  follows = t.follows;
-  log =
-      t.lines
-      ∙ ap (λ (k : Kept). with_lines k (next_lines project events e)) r.log
-      ∙ kept_of-more (report_lines project events) (next_lines project events e)
-      ∙ ap kept_of (sym (one_more_event project events e));
-}

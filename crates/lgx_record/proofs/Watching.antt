@@ -1,8 +1,7 @@
 -- Places whose words are watched, one after another.
-use Rattle.std.proofs.Common.{◌≡◌, ℕ, zero, suc, ◌+◌, ◌<◌, ◌≤◌, Bool, true, List, [], ◌∷◌, length, take, get_or, Some, None, slice_get, refl, sym, ap, ◌∙◌, subst, add-one, arith}
+use Rattle.std.proofs.Common.{◌≡◌, ℕ, zero, suc, ◌<◌, Bool, true, List, [], ◌∷◌, length, take, get_or, Some, slice_get, subst, arith}
 use Rattle.lgx_num.specs.declared.number.Kind.TheVariants.{Bool as KBool}
 use Rattle.lgx_num.specs.declared.place.Place.{Place}
-use Rattle.lgx_num.specs.Number.{bytes_in}
 use Rattle.lgx_image.specs.Grains.{is_marked, word_of}
 use Rattle.lgx_image.specs.Laws.{AllWatched}
 use Rattle.lgx_record.specs.Changes.{AreWatched}

@@ -1,4 +1,4 @@
--- How recordings and followers are told apart: each is stored as its fields.
+-- How recordings and runs are told apart: each is stored as its fields.
 use Rattle.std.specs.Prelude.{ℕ, List, ℤ, refl}
 use Rattle.std.specs.Coded.{Coded, code_by, coded×}
 use Rattle.lgx_num.specs.declared.place.Place.{Place}
@@ -6,7 +6,7 @@ use Rattle.spec_text.specs.ReportText.{Names}
 use Rattle.lgx_journal.specs.Journals.{JournalView}
 use Rattle.lgx_watch.specs.Kept.{Kept}
 use Rattle.lgx_core.specs.ControllerView.{ControllerView}
-use Rattle.lgx_record.specs.FollowerView.{FollowerView}
+use Rattle.lgx_record.specs.RunSeen.{RunSeen}
 use Rattle.lgx_record.specs.RecordingView.{RecordingView}
 
 -- the parts but for the controller
@@ -28,13 +28,13 @@ recording_code controller rest =
     })
     (λ _. refl)
 
--- a follower's parts but for the controller
-abbrev pub FollowerRest : Type 0
-FollowerRest = (Names × ℕ) × (List Place × List ℤ)
+-- a run's parts but for the controller
+abbrev pub RunRest : Type 0
+RunRest = (Names × ℕ) × (List Place × List ℤ)
 
-abbrev pub follower_code : Coded ControllerView → Coded FollowerRest → Coded FollowerView
-follower_code controller rest =
-    code_by (ControllerView × FollowerRest) (coded× controller rest)
+abbrev pub run_code : Coded ControllerView → Coded RunRest → Coded RunSeen
+run_code controller rest =
+    code_by (ControllerView × RunRest) (coded× controller rest)
     (λ f. (f.controller, ((f.names, f.steps), (f.places, f.values))))
     (λ p. record {
       controller = p.0;

@@ -36,7 +36,7 @@ EventsHaveFewLines = (project : Project) (journal : List Event) → IsValidProje
 
 -- ---- the begins of a stretch
 
--- the lines of steps that began the same, where so many steps were made before the first, which is number 0
+-- the lines of steps that began the same, where `step` steps were made before the first, which is number 0
 abbrev pub begins_lines : ℕ → ℕ → What → List ℕ → List Stamped
 begins_lines tick step began [] = []
 begins_lines tick step began (k ∷ ks) = stamp tick (step + k + 1) (begin_lines began) ++ begins_lines tick step began ks

@@ -1,4 +1,4 @@
--- The faults that an event records are told by its answer.
+-- The faults that an event records are reported by its answer.
 use Rattle.std.specs.Prelude.{◌≡◌, List, [], ◌∷◌, ◌++◌, Option, Some, None}
 use Rattle.spec_tables.specs.declared.fault.Fault.{Fault}
 use Rattle.spec_machine.specs.declared.event.Event.{Event}

@@ -1,8 +1,9 @@
-pub mod FollowerView
+pub mod RunSeen
 pub mod RecordingView
 pub mod Codes
 pub mod Faults
 pub mod Changes
 pub mod EventLines
-pub mod FollowsRun
+pub mod IsRunOf
+pub mod Extends
 pub mod Records

@@ -5,8 +5,7 @@ use Rattle.spec_text.specs.ReportText.{Names}
 use Rattle.lgx_journal.specs.Journals.{JournalView}
 use Rattle.lgx_watch.specs.Kept.{Kept}
 use Rattle.lgx_core.specs.ControllerView.{ControllerView}
-use Rattle.lgx_record.specs.declared.parts.RecordingParts.{RecordingParts}
-use Rattle.lgx_record.specs.FollowerView.{FollowerView}
+use Rattle.lgx_record.specs.RunSeen.{RunSeen}
 
 -- Its controller, the journal of what the controller did, the log of the report's lines, the names that they are written
 -- with, the number of processor steps, and the watched places with the numbers that they had when they were last compared.
@@ -19,20 +18,21 @@ pub record RecordingView : Type 0 where
   pub places : List Place
   pub values : List ℤ
 
-abbrev pub view_of : RecordingParts → RecordingView
-view_of r = record {
-  controller = r.follower.controller;
-  journal = r.journal;
-  log = r.log;
-  names = r.follower.names;
-  steps = r.follower.steps;
-  places = r.follower.watches;
-  values = r.follower.values.items;
+-- a run with a journal and a log
+abbrev pub recording_of : RunSeen → JournalView → Kept → RecordingView
+recording_of run journal log = record {
+  controller = run.controller;
+  journal = journal;
+  log = log;
+  names = run.names;
+  steps = run.steps;
+  places = run.places;
+  values = run.values;
 }
 
 -- all but its journal and its log
-abbrev pub follower_of : RecordingView → FollowerView
-follower_of r = record {
+abbrev pub run_of : RecordingView → RunSeen
+run_of r = record {
   controller = r.controller;
   names = r.names;
   steps = r.steps;

@@ -1,9 +1,9 @@
 // Laws of the report, over the definitions alone. Each is the contract of a function that does nothing.
 ghost use Rattle.lgx_record.specs.EventLines.{EventsHaveFewLines};
 ghost use Rattle.lgx_record.specs.Faults.{AnswersTellFaults};
-ghost use Rattle.lgx_record.specs.FollowsRun.{KeepsAnEvent};
+ghost use Rattle.lgx_record.specs.Extends.{KeepsAnEvent};
 
-/// Whatever the event, its answer tells the faults that it recorded.
+/// Whatever the event, its answer reports the faults that it recorded.
 pub fn law_of_faults()
     ensures { AnswersTellFaults }
 {}

@@ -1,21 +1,31 @@
 // The recording of a run.
-use crate::parts::RecordingParts;
+use crate::run::Run;
 use lgx_core::Controller;
 use lgx_edit::Plant;
-use lgx_journal::{Action, Event, Journal};
+use lgx_journal::{Event, Journal, RunView};
 use lgx_num::Memory;
 use lgx_watch::{Log, Names};
+use spec_text::EventRun;
 use std::alloc::Global;
 use std::marker::Model;
 
-/// A controller with the journal of its events, the log of their report and what the report's lines are written with.
+/// A run with the journal of its events and the log of their report.
 pub struct Recording {
-    parts: Box<RecordingParts>,
+    /// What the journal takes memory for an accept's texts from.
+    alloc: Global,
+    run: Run,
+    journal: Journal,
+    log: Log,
 }
 
 impl Drop for Recording {
     fn drop(self) {
-        let Recording { parts: _ } = self;
+        let Recording {
+            alloc: _,
+            run: _,
+            journal: _,
+            log: _,
+        } = self;
     }
 }
 
@@ -30,163 +40,175 @@ impl Model for Recording {
 
     ghost coded = { recording_code (controller_code (coded_list (view_code (Prim.hlevel codes) (Prim.hlevel codes) (Prim.hlevel codes))) (Prim.hlevel codes)) (Prim.hlevel codes) };
 
-    ghost use Rattle.lgx_record.specs.RecordingView.{view_of};
+    ghost use Rattle.lgx_record.specs.RecordingView.{recording_of};
     ghost use Rattle.lgx_record.specs.Records.{IsRecording};
 
-    ghost view = { λ r. view_of r.parts.value };
+    ghost view = { λ r. recording_of r.run r.journal r.log };
 
-    ghost invariant = { λ r. IsRecording (view_of r.parts.value) };
+    ghost invariant = { λ r. IsRecording (recording_of r.run r.journal r.log) };
 }
 
 impl Recording {
-    ghost use Rattle.std.specs.Prelude.{◌≡◌, ◌+◌, ◌≤◌, ◌<◌, List, [], ◌∷◌, ◌++◌, replicate, IfOk, OnOk, OnErr, IsTrue};
+    ghost use Rattle.std.specs.Prelude.{◌≡◌, ◌+◌, ◌≤◌, ◌<◌, [], IfOk, OnOk, OnErr, IsTrue};
     ghost use Rattle.spec_base.specs.declared.limits.TheConstants.{MAX_EVENTS};
-    ghost use Rattle.spec_machine.specs.declared.event.Event.{Event as Events};
-    ghost use Rattle.spec_machine.specs.declared.event.Event.TheVariants.{Cpu, Tick, Act};
-    ghost use Rattle.spec_machine.specs.Events.{is_accept};
-    ghost use Rattle.spec_machine.specs.Project.{Project};
-    ghost use Rattle.lgx_record.specs.Records.{Records, IsRecording, IsUnchanged};
+    ghost use Rattle.lgx_journal.specs.Runs.{seen_run};
+    ghost use Rattle.lgx_record.specs.Extends.{events_in, is_accept_in};
+    ghost use Rattle.lgx_record.specs.Records.{Records, IsRecording, RecordsMore, HasCounted, IsUnchanged};
 
     /// A recording of a project's run without an event. It takes the room for all lines that the log keeps; that of the journal is
     /// taken as events come. Out of memory is the one fault.
-    pub fn of_journal(alloc: Global, project: Plant) -> Result<Recording, Memory>
+    pub fn of_project(alloc: Global, project: Plant) -> Result<Recording, Memory>
         ensures { IfOk result (λ recording. Records recording project []) }
     {
-        let parts = RecordingParts::of_project(alloc, project)?;
-        let boxed = Box::new(alloc, parts)?;
-        Ok(Recording { parts: boxed })
+        let log = Log::new(alloc)?;
+        let run = Run::of_project(alloc, project)?;
+        Ok(Recording {
+            alloc,
+            run,
+            journal: Journal::new(alloc),
+            log,
+        })
     }
 
     /// Every recording records some journal of some project.
     pub fn law_of_recordings(&self)
         ensures { IsRecording self.now }
     {
-        let _ = &self.parts;
+        let _ = &self.run;
     }
 
-    /// Takes one more event: the controller makes it, and the journal and the log are those with it. The journal's room is
-    /// taken before anything changes; out of memory comes if there is none, and at an accept that has none.
-    pub fn apply(&mut self, event: &Event) -> Result<(), Memory>
-        requires { self.old.controller.spent < MAX_EVENTS }
-        ensures records { (project : Project) (events : List Events) → Records self.old project events → OnOk result (Records self.new project (events ++ event.now ∷ [])) }
-        ensures unchanged { OnErr result (IsUnchanged self.old self.new) }
-        ensures room { OnErr result (self.old.journal.spare ≤ self.new.journal.spare) }
-    {
-        self.parts.journal.reserve(1)?;
-        match event {
-            Event::Cpu => {
-                self.parts.step();
-                Ok(())
-            }
-            Event::Tick => {
-                self.parts.tick();
-                Ok(())
-            }
-            Event::Act(lane, action) => self.parts.act(*lane, action),
-        }
-    }
-
-    /// Takes so many more processor steps. Whatever their number, the journal wants room for one run, which is taken before
-    /// anything changes; out of memory comes if there is none.
-    pub fn apply_steps(&mut self, count: u32) -> Result<(), Memory>
-        requires { self.old.controller.spent + count ≤ MAX_EVENTS }
-        ensures records { (project : Project) (events : List Events) → Records self.old project events → OnOk result (Records self.new project (events ++ replicate count Cpu)) }
-        ensures unchanged { OnErr result (IsUnchanged self.old self.new) }
-        ensures room { OnErr result (self.old.journal.spare ≤ self.new.journal.spare) }
-    {
-        if count == 0 {
-            return Ok(());
-        }
-        self.parts.journal.reserve(1)?;
-        self.parts.steps(count);
-        Ok(())
-    }
-
-    /// Takes the journal's room for so many more runs of events. Nothing else changes; at out of memory some of the room may
-    /// have been taken.
+    /// Takes the journal's room for `runs` more runs of events. Nothing else changes; at out of memory some of the room may have
+    /// been taken.
     pub fn reserve(&mut self, runs: u32) -> Result<(), Memory>
         ensures room { OnOk result (runs ≤ self.new.journal.spare) }
         ensures kept { self.old.journal.spare ≤ self.new.journal.spare }
         ensures unchanged { IsUnchanged self.old self.new }
     {
-        self.parts.journal.reserve(runs)?;
+        self.journal.reserve(runs)?;
         Ok(())
     }
 
-    /// One processor step, for which the journal has room. It takes no memory.
-    #[inline]
-    pub fn step(&mut self)
-        requires room { self.old.controller.spent < MAX_EVENTS }
+    /// Takes equal events, for which the journal has room: processor steps or ticks, of which at least one, or an action. Out of
+    /// memory comes at an accept alone; then nothing changes.
+    pub fn take(&mut self, run: RunView<'_>) -> Result<(), Memory>
+        requires some { 0 < (seen_run run).count }
+        requires room { self.old.controller.spent + (seen_run run).count ≤ MAX_EVENTS }
         requires spare { 0 < self.old.journal.spare }
-        ensures records { (project : Project) (events : List Events) → Records self.old project events → Records self.new project (events ++ Cpu ∷ []) }
-        ensures counts { (self.new.steps ≡ self.old.steps + 1) × (self.new.controller.spent ≡ self.old.controller.spent + 1) }
+        ensures records { OnOk result (RecordsMore self.old self.new (events_in run.entry)) }
+        ensures counts { OnOk result (HasCounted self.old self.new (events_in run.entry)) }
         ensures spare { self.old.journal.spare ≤ self.new.journal.spare + 1 }
-    {
-        self.parts.step();
-    }
-
-    /// One tick, for which the journal has room. It takes no memory.
-    #[inline]
-    pub fn tick(&mut self)
-        requires room { self.old.controller.spent < MAX_EVENTS }
-        requires spare { 0 < self.old.journal.spare }
-        ensures records { (project : Project) (events : List Events) → Records self.old project events → Records self.new project (events ++ Tick ∷ []) }
-        ensures spare { self.old.journal.spare ≤ self.new.journal.spare + 1 }
-    {
-        self.parts.tick();
-    }
-
-    /// An action of a lane, for which the journal has room. Out of memory comes at an accept alone; then nothing changes.
-    pub fn act(&mut self, lane: u32, action: &Action) -> Result<(), Memory>
-        requires room { self.old.controller.spent < MAX_EVENTS }
-        requires spare { 0 < self.old.journal.spare }
-        ensures records { (project : Project) (events : List Events) → Records self.old project events → OnOk result (Records self.new project (events ++ Act lane action.now ∷ [])) }
-        ensures spare { self.old.journal.spare ≤ self.new.journal.spare + 1 }
-        ensures memory { OnErr result (IsTrue (is_accept action.now)) }
+        ensures memory { OnErr result (IsTrue (is_accept_in run.entry)) }
         ensures unchanged { OnErr result (self.new ≡ self.old) }
     {
-        self.parts.act(lane, action)
+        let copy = copied(self.alloc, run)?;
+        self.run.take(run, &mut self.log)?;
+        add_run(&mut self.journal, copy);
+        Ok(())
+    }
+
+    /// The same of events for which the journal may have no room, and which may be none. It is taken before anything changes; out
+    /// of memory comes if there is none, and at an accept that has none. No event takes no room.
+    pub fn apply(&mut self, run: RunView<'_>) -> Result<(), Memory>
+        requires room { self.old.controller.spent + (seen_run run).count ≤ MAX_EVENTS }
+        ensures records { OnOk result (RecordsMore self.old self.new (events_in run.entry)) }
+        ensures counts { OnOk result (HasCounted self.old self.new (events_in run.entry)) }
+        ensures unchanged { OnErr result (IsUnchanged self.old self.new) }
+        ensures room { OnErr result (self.old.journal.spare ≤ self.new.journal.spare) }
+    {
+        if is_none(&run) {
+            return Ok(());
+        }
+        self.reserve(1)?;
+        self.take(run)
     }
 
     /// The events that were taken.
     pub fn journal(&self) -> &Journal
         ensures { result.now ≡ self.now.journal }
     {
-        &self.parts.journal
+        &self.journal
     }
 
     /// The lines of their report.
     pub fn log(&self) -> &Log
         ensures { result.now ≡ self.now.log }
     {
-        &self.parts.log
+        &self.log
     }
 
     /// The controller, after the events that were taken.
     pub fn controller(&self) -> &Controller
         ensures { result.now ≡ self.now.controller }
     {
-        &self.parts.follower.controller
+        self.run.controller()
     }
 
     /// The names that the report's lines are written with.
     pub fn names(&self) -> &Names
         ensures { result.now ≡ self.now.names }
     {
-        &self.parts.follower.names
-    }
-
-    /// The numbers at the watched places, in their order, as they were after the last event.
-    pub fn values(&self) -> &[i32]
-        ensures { result.now ≡ self.now.values }
-    {
-        &self.parts.follower.values
+        self.run.names()
     }
 
     /// The number of processor steps so far.
     pub fn steps(&self) -> u32
         ensures { result ≡ self.now.steps }
     {
-        self.parts.follower.steps
+        self.run.steps()
+    }
+}
+
+ghost use Rattle.std.specs.Prelude.{◌≡◌, ◌+◌, ◌≤◌, ◌<◌, ◌==◌, ◌++◌, length, replicate, IfOk, OnErr, IsTrue};
+ghost use Rattle.spec_base.specs.declared.limits.TheConstants.{MAX_EVENTS};
+ghost use Rattle.lgx_journal.specs.Runs.{seen_run};
+ghost use Rattle.lgx_record.specs.Extends.{is_accept_in, StandsInARun};
+
+/// Whether it is no event at all.
+fn is_none(run: &RunView<'_>) -> bool
+    ensures { result ≡ ((seen_run run.now).count == 0) }
+{
+    match run {
+        RunView::Cpu(count) | RunView::Tick(count) => *count == 0,
+        RunView::Act(_, _) => false,
+    }
+}
+
+/// The same events, to be kept. Out of memory comes at an accept alone.
+fn copied(alloc: Global, run: RunView<'_>) -> Result<EventRun, Memory>
+    ensures same { IfOk result (λ copy. copy ≡ seen_run run.entry) }
+    ensures memory { OnErr result (IsTrue (is_accept_in run.entry)) }
+{
+    match run {
+        RunView::Cpu(count) => Ok(EventRun {
+            event: Event::Cpu,
+            count,
+        }),
+        RunView::Tick(count) => Ok(EventRun {
+            event: Event::Tick,
+            count,
+        }),
+        RunView::Act(lane, action) => {
+            let copy = action.copied(alloc)?;
+            Ok(EventRun {
+                event: Event::Act(lane, copy),
+                count: 1,
+            })
+        }
+    }
+}
+
+/// Puts equal events last into a journal that has room for them.
+fn add_run(journal: &mut Journal, run: EventRun)
+    requires form { StandsInARun run.event run.count }
+    requires room { 0 < journal.old.spare }
+    requires few { length journal.old.events + run.count ≤ MAX_EVENTS }
+    ensures events { journal.new.events ≡ journal.old.events ++ replicate run.count run.event }
+    ensures spare { journal.old.spare ≤ journal.new.spare + 1 }
+{
+    let EventRun { event, count } = run;
+    match event {
+        Event::Cpu => journal.add_steps(count),
+        Event::Tick => journal.add_ticks(count),
+        Event::Act(lane, action) => journal.add_act(lane, action),
     }
 }

@@ -1,10 +1,10 @@
--- The tokens of a text in plain words, beside the loop of `Tokens` that tells them: blanks, a token's bytes, and so on to blanks
+-- The tokens of a text in plain words, beside the loop of `Tokens` that gives them: blanks, a token's bytes, and so on to blanks
 -- alone at the end.
 use Rattle.std.specs.Prelude.{◌≡◌, ℕ, ◌+◌, ◌<◌, ◌⊎◌, Bool, false, IsTrue, List, [], ◌∷◌, ◌++◌, length}
 use Rattle.std.specs.List.{list_all}
 use Rattle.lgx_rung.specs.Tokens.{is_blank, in_run, run_token, mark, inside_after, Token, Placed}
 
--- the text doesn't continue a run: it has no first byte, or one that stands in no run
+-- the text doesn't continue a run: it has no first byte, or one that is in no run
 abbrev pub EndsRun : (inside : Bool) → List ℕ → Type 0
 EndsRun inside [] = Unit {0}
 EndsRun inside (b ∷ bs) = in_run inside b ≡ false
@@ -13,7 +13,7 @@ EndsRun inside (b ∷ bs) = in_run inside b ≡ false
 abbrev pub IsRun : (inside : Bool) → List ℕ → (rest : List ℕ) → Type 0
 IsRun inside bytes rest = (0 < length bytes) × IsTrue (list_all (in_run inside) bytes) × EndsRun inside rest
 
--- a single byte that stands in no run and is no blank
+-- a single byte that is in no run and is no blank
 abbrev pub IsSingle : (inside : Bool) → ℕ → Type 0
 IsSingle inside b = (in_run inside b ≡ false) × (is_blank b ≡ false)
 

@@ -65,16 +65,16 @@ fixed_kinds Event = EventTask ∷ []
 
 -- ---- the operands that may follow them
 
--- the number of inputs that a number tells, if a call may have so many
+-- the number of inputs that a number gives, if a call may have as many
 abbrev pub as_count : ℤ → Option ℕ
 as_count (pos n) = if nat_le n MAX_PARAMETERS then Some n else None
 as_count (negsuc n) = None
 
--- so many of a kind, if an instruction may have so many
+-- `given` of a kind, if an instruction may have as many
 abbrev pub parameters : OperandKind → ℕ → Option (List OperandKind)
 parameters kind given = if nat_le given MAX_PARAMETERS then Some (replicate given kind) else None
 
--- what follows a count of inputs: as many inputs, and then returns. Without a count nothing tells which are which.
+-- what follows a count of inputs: as many inputs, and then returns. Without a count nothing says which are which.
 abbrev pub handed_kinds : (count : Option ℕ) → ℕ → Option (List OperandKind)
 handed_kinds (Some n) given =
     if nat_le n given
@@ -103,8 +103,8 @@ further_kinds (Parameters kind) count given = parameters kind given
 further_kinds HandedOver count zero = Some []
 further_kinds HandedOver count (suc given) = option_map (λ kinds. ParameterCount ∷ kinds) (handed_kinds count given)
 
--- The kinds of so many operands, in order, unless an instruction has more or fewer. `second` is the number that the
--- second operand is, if it is one: it tells the inputs of a JSR.
+-- The kinds of `given` operands, in order, unless an instruction has more or fewer. `second` is the number that the second operand
+-- is, if it is one: of a JSR it is the count of the inputs.
 abbrev pub operand_kinds : Op → (second : Option ℤ) → (given : ℕ) → Option (List OperandKind)
 operand_kinds op second given =
     let always = fixed_kinds op in

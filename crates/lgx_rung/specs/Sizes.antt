@@ -1,4 +1,4 @@
--- A rung is larger than what stands in it.
+-- A rung is larger than what is in it.
 use Rattle.std.specs.Prelude.{ℕ, ◌+◌, ◌≤◌, List, [], ◌∷◌}
 use Rattle.std.proofs.Common.{arith}
 use denote.Param.Weighed.{most}

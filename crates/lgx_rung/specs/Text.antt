@@ -61,7 +61,7 @@ IsWritten text (t ∷ ts) =
     (blanks : List ℕ) × (bytes : List ℕ) × (rest : List ℕ) × (
     (text ≡ blanks ++ (bytes ++ rest)) × IsTrue (list_all is_blank blanks) × IsSpelling t bytes × IsWritten rest ts)
 
--- no more forks stand in one another than may
+-- no more forks are nested in one another than may be
 abbrev pub IsNested : Source → Type 0
 IsNested r = depth r ≤ MAX_FORKS
 
@@ -116,7 +116,7 @@ MayFollow before t = Begins (before ++ t ∷ [])
 abbrev pub InElementPlace : List Token → Type 0
 InElementPlace before = MayFollow before (Mnemonic Nop)
 
--- the forks that are open after these tokens, if so many are open before them
+-- the forks that are open after these tokens, if n are open before them
 abbrev pub open_forks : ℕ → List Token → ℕ
 open_forks n [] = n
 open_forks n (OpenFork ∷ ts) = open_forks (n + 1) ts
@@ -131,7 +131,7 @@ in_parentheses inside (t ∷ ts) = in_parentheses (inside_after inside t) ts
 abbrev pub EndsByMnemonic : List Token → Type 0
 EndsByMnemonic ts = (before : List Token) × (op : Op) × (ts ≡ before ++ Mnemonic op ∷ [])
 
--- a fork or a parenthesis is open, or a mnemonic stands last
+-- a fork or a parenthesis is open, or a mnemonic comes last
 abbrev pub IsOpen : List Token → Type 0
 IsOpen ts = (0 < open_forks 0 ts) ⊎ (IsTrue (in_parentheses false ts) ⊎ EndsByMnemonic ts)
 

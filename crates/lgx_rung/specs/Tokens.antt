@@ -92,7 +92,7 @@ tokens text = tokens_from text false 0 []
 
 -- ---- the reading
 
--- what may stand next
+-- what may come next
 pub data Expected : Type 0 where
   -- an element, or the end of the leg or of the rung
   Element : Expected

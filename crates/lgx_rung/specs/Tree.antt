@@ -23,7 +23,7 @@ abbrev mutual
   leg_instructions last = []
   leg_instructions (leg t legs) = instructions t ++ leg_instructions legs
 
--- how many forks stand in one another at most
+-- how many forks are nested in one another at most
 abbrev mutual
   pub depth : {A : Type 0} → Tree A → ℕ
   depth end = 0
@@ -44,7 +44,7 @@ abbrev pub legs_of : {A : Type 0} → List (Tree A) → Legs A
 legs_of [] = last
 legs_of (t ∷ ts) = leg t (legs_of ts)
 
--- a fork of these legs, and the rest of the leg that it stands in; there is at least one, and none count as an empty one
+-- a fork of these legs, and the rest of the leg that it is in; there is at least one, and none count as an empty one
 abbrev pub fork_of : {A : Type 0} → List (Tree A) → Tree A → Tree A
 fork_of [] rest = fork end last rest
 fork_of (t ∷ ts) rest = fork t (legs_of ts) rest

@@ -29,7 +29,7 @@ pub enum CheckCode {
     C1,
     /// An operand isn't of the kind that is wanted, is no name where one is, or no count of inputs.
     C2,
-    /// A number or a flag stands where a place is wanted.
+    /// There is a number or a flag where a place is wanted.
     C3,
     /// No tag has the name.
     C4,

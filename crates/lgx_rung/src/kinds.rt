@@ -42,7 +42,7 @@ impl OperandKinds {
         OperandKinds { list }
     }
 
-    /// Adds so many of a kind after the others.
+    /// Adds `count` of a kind after the others.
     fn add(&mut self, kind: OperandKind, count: usize)
         requires { length self.old + count ≤ MAX_OPERANDS }
         ensures { self.new ≡ self.old ++ replicate count kind }
@@ -62,7 +62,7 @@ impl OperandKinds {
 }
 
 impl Op {
-    /// The kinds of its operands if so many are given, in order; none if it has more or fewer.
+    /// The kinds of its operands if there are `given`, in order; none if it has more or fewer.
     ///
     /// `second` is the number that the second operand is, if it is one: of a JSR it is the count of the inputs. A JSR
     /// whose second operand is no such count may have up to 18 operands; that one is at fault then, whatever the others
@@ -79,7 +79,7 @@ impl Op {
     }
 }
 
-/// These kinds, if so many are given.
+/// These kinds, if there are `given` of them.
 fn exactly(kinds: &[OperandKind], given: usize) -> Option<OperandKinds>
     requires { length kinds.now ≤ MAX_OPERANDS }
     ensures { result ≡ (if length kinds.now == given then Some kinds.now else None) }
@@ -91,7 +91,7 @@ fn exactly(kinds: &[OperandKind], given: usize) -> Option<OperandKinds>
     }
 }
 
-/// So many parameters of a kind.
+/// `given` parameters of a kind.
 fn parameters(kind: OperandKind, given: usize) -> Option<OperandKinds>
     ensures { result ≡ parameters kind given }
 {
@@ -103,7 +103,7 @@ fn parameters(kind: OperandKind, given: usize) -> Option<OperandKinds>
     Some(kinds)
 }
 
-/// The kinds of so many operands of a JSR.
+/// The kinds of `given` operands of a JSR.
 fn call_kinds(second: Option<i32>, given: usize) -> Option<OperandKinds>
     ensures { result ≡ operand_kinds Jsr second given }
 {
@@ -132,7 +132,7 @@ fn counted_kinds(inputs: usize, given: usize) -> Option<OperandKinds>
     Some(kinds)
 }
 
-/// A routine and what is no count, and so many others.
+/// A routine and what is no count, and `given` others.
 fn uncounted_kinds(given: usize) -> Option<OperandKinds>
     ensures { result ≡ option_map (λ kinds. RoutineName ∷ ParameterCount ∷ kinds) (handed_kinds None given) }
 {
@@ -144,7 +144,7 @@ fn uncounted_kinds(given: usize) -> Option<OperandKinds>
     Some(kinds)
 }
 
-/// The number of inputs that a number tells, if a call may have so many.
+/// The number of inputs that a number gives, if a call may have as many.
 pub fn as_count(number: i32) -> Option<usize>
     ensures { result ≡ as_count number }
 {

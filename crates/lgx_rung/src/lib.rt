@@ -1,7 +1,7 @@
 //! Ladder rungs (1756-PM008): mnemonics, rungs as lists of elements, and the neutral text that spells them.
 //!
 //! A rung is a list of elements and a semicolon; an element is an instruction or a fork, a branch of legs between brackets.
-//! How deep forks nest, where blanks may stand and which fault comes first is our own profile.
+//! How deep forks nest, where blanks may be and which fault comes first is our own profile.
 #![tactic(auto)]
 
 mod fault;

@@ -23,7 +23,7 @@ pub enum Family {
     ProgramControl,
 }
 
-/// What stands in an operand's place.
+/// What is in an operand's place.
 #[derive(Clone, Copy, Default, PartialEq, Eq, Debug)]
 pub enum OperandKind {
     /// A BOOL place.
@@ -55,7 +55,7 @@ pub enum OperandKind {
     ParameterCount,
     /// The name of a label of the routine.
     JumpLabel,
-    /// The name of the label that stands here.
+    /// The name of the label that is here.
     OwnLabel,
     /// The name of an event task.
     EventTask,

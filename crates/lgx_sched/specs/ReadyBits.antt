@@ -1,4 +1,4 @@
--- A word that tells which queues have a task.
+-- A word that says which queues have a task.
 use Rattle.std.specs.Prelude.{◌≡◌, ℕ, ◌<◌, List, [], ◌∷◌, length, Option, Some, None, slice_index_or}
 use Rattle.std.specs.Int.{bit_at}
 use Rattle.spec_base.specs.declared.limits.TheConstants.{LEAST_PRIORITY}

@@ -1,4 +1,4 @@
--- What the table of tasks keeps. It has no ranks: the order of each queue tells them.
+-- What the table of tasks keeps. It has no ranks: the order of each queue gives them.
 use Rattle.std.specs.Prelude.{ℕ, ◌-◌, Bool, false, not, ◌&&◌, ◌||◌, nat_lt, nat_le, nat_eq, List, [], ◌∷◌, ◌++◌, length, map, drop, replicate, slice_get, Option, Some, None, is_some, is_none, slice_set, slice_index_or, if◌then◌else◌}
 use Rattle.spec_tables.specs.declared.task.TaskDef.{TaskDef}
 use Rattle.spec_tables.specs.declared.task.Release.{Release}
@@ -111,7 +111,7 @@ task_if_open t u = if has_open (Some u) then Some t else None
 abbrev pub with_active : ℕ → ActiveTask → TableView → TableView
 with_active t u v = record v { ups = slice_set v.ups t (Some u); open_task = task_if_open t u }
 
--- the task that is to run starts once more, where it stands in its queue
+-- the task that is to run starts once more, where it is in its queue
 abbrev pub restarted : ℕ → ℕ → TableView → TableView
 restarted t now v = record v { ups = slice_set v.ups t (Some (record { start = now; region_count = 0; cps_open = false })) }
 

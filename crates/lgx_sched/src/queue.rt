@@ -268,7 +268,7 @@ impl Queues {
     }
 }
 
-/// The front of the first queue that has a task; the word tells which queues have one.
+/// The front of the first queue that has a task; the word says which queues have one.
 fn front_of(queues: &[Queue], ready: u32) -> Option<u32>
     requires { AreReady queues.now ready }
     ensures { result ≡ front_of queues.now }

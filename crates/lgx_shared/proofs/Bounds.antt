@@ -61,7 +61,7 @@ module _ (project : Project) (script : Script) (v : RecorderView) (f : Follows p
         spent = spent_below (most_events script) (length (journal_of v)) v.recording.controller.spent MAX_EVENTS few_now f.records.controller.counted many;
         spare = room_for_one v.recording.journal.spare room_for_turn;
         few = count_below (get_or v.counts lane 0) (done_by lane (journal_of v)) (length (lane_of script lane)) MAX_ACTIONS
-            (counts_tell project script v.counts (journal_of v) lane f.served within).0
+            (counts_tell project script v.counts (journal_of v) lane f.served within).count
             (slice_get_within (lane_of script lane) (done_by lane (journal_of v)) n.timed n.next)
             (few_in_lane script lane (proper_of script f.served.proper));
       }

@@ -39,8 +39,8 @@ use Rattle.lgx_shared.specs.contracts.recorder.Recorder as Recorder
 use Rattle.lgx_shared.specs.contracts.recorder.Recorder.TheInside as recorder
 use Rattle.lgx_record.specs.contracts.recording.Recording as Recording
 use Rattle.lgx_record.specs.contracts.recording.Recording.TheInside as recording
-use Rattle.lgx_record.specs.contracts.follower_parts.FollowerParts as Followed
-use Rattle.lgx_record.specs.contracts.parts.RecordingParts as Recorded
+use Rattle.lgx_record.specs.contracts.run.Run as Run
+use Rattle.lgx_record.specs.contracts.run.Run.TheInside as run
 use Rattle.lgx_history.proofs.history.History.TheSendSync as history
 use Rattle.lgx_rung.proofs.ins.Ins.TheSendSync as ins
 
@@ -156,16 +156,39 @@ controller_fields =
 pub controller_send : IsSend Controller.the_row
 controller_send = view_send _ _ _ _ _ controller_fields
 
--- the parts of a follower
-pub followed_send : IsSend (Followed.the_field).row
-followed_send = struct_send (shape Followed.the_type) (
-  controller_send,
-  (
-    search (sendable, crosses) depth 200 fits 100000,
-    (
-      search (sendable, crosses) depth 200 fits 100000,
+run_fields : IsSend run.the_row
+run_fields =
+    of_fields (run.the_field).row _ _ (run.the_type).to_one
+    (struct_send (shape run.the_type) (
+      controller_send,
       (
         search (sendable, crosses) depth 200 fits 100000,
+        (
+          search (sendable, crosses) depth 200 fits 100000,
+          (
+            search (sendable, crosses) depth 200 fits 100000,
+            (
+              search (sendable, crosses) depth 200 fits 100000,
+              (
+                search (sendable, crosses) depth 200 fits 100000,
+                tt,
+              ),
+            ),
+          ),
+        ),
+      ),
+    ))
+
+pub run_send : IsSend Run.the_row
+run_send = view_send _ _ _ _ _ run_fields
+
+recording_fields : IsSend recording.the_row
+recording_fields =
+    of_fields (recording.the_field).row _ _ (recording.the_type).to_one
+    (struct_send (shape recording.the_type) (
+      search (sendable, crosses) depth 200 fits 100000,
+      (
+        run_send,
         (
           search (sendable, crosses) depth 200 fits 100000,
           (
@@ -174,34 +197,7 @@ followed_send = struct_send (shape Followed.the_type) (
           ),
         ),
       ),
-    ),
-  ),
-)
-
--- the parts of a recording
-pub recorded_send : IsSend (Recorded.the_field).row
-recorded_send = struct_send (shape Recorded.the_type) (
-  search (sendable, crosses) depth 200 fits 100000,
-  (
-    followed_send,
-    (
-      search (sendable, crosses) depth 200 fits 100000,
-      (
-        search (sendable, crosses) depth 200 fits 100000,
-        tt,
-      ),
-    ),
-  ),
-)
-
--- as they lie in its box
-pub boxed_recorded_send : IsSend Recorded.the_row
-boxed_recorded_send = of_fields (Recorded.the_field).row _ _ (Recorded.the_type).to_one recorded_send
-
-recording_fields : IsSend recording.the_row
-recording_fields =
-    of_fields (recording.the_field).row _ _ (recording.the_type).to_one
-    (struct_send (shape recording.the_type) (search (sendable, crosses, boxed_recorded_send) depth 200 fits 20000, tt))
+    ))
 
 pub recording_send : IsSend Recording.the_row
 recording_send = view_send _ _ _ _ _ recording_fields

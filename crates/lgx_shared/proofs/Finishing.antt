@@ -107,7 +107,7 @@ pub completes : (project : Project) (script : Script) (v : RecorderView) → Fol
 completes project script v f each spent =
     let counts : (i : ℕ) → i < length script.lanes → get_or v.counts i 0 ≡ length (lane_of script i) =
     λ i l. (let tell = counts_tell project script v.counts (journal_of v) i f.served l in
-    all_of_them (get_or v.counts i 0) (done_by i (journal_of v)) (length (lane_of script i)) tell.0 tell.1 (none_past (lane_of script i) (done_by i (journal_of v)) (each i l))) in
+    all_of_them (get_or v.counts i 0) (done_by i (journal_of v)) (length (lane_of script i)) tell.count tell.few (none_past (lane_of script i) (done_by i (journal_of v)) (each i l))) in
     all_is_complete project script v.counts (journal_of v) f.served
     (whole_counts v.counts script.lanes (did_long (journal_of v) v.counts script.lanes f.served.partial.lanes) counts) spent
 

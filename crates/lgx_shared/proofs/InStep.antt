@@ -19,7 +19,7 @@ use Rattle.lgx_shared.specs.Serves.{IsInStep}
 pub all_counted : (project : Project) (script : Script) (v : RecorderView) (lane actions : ℕ) → Follows project script v → IsInStep script (journal_of v) lane actions → due_action project script (journal_of v) lane ≡ None → is_spent project script (journal_of v) ≡ true → actions ≡ length (lane_of script lane)
 all_counted project script v lane actions f step none spent =
     elim (cases_lt lane (length script.lanes)) [
-      | inl lt ↦ step.0 lt ∙ (none_is_left project script v.counts (journal_of v) lane f.served none spent).1 lt
+      | inl lt ↦ step.0 lt ∙ (none_is_left project script v.counts (journal_of v) lane f.served none spent).all_made lt
       | inr ge ↦ step.1 ge ∙ sym (ap (λ (list : List Timed). length list) (get_or_past script.lanes lane [] ge))
     ]
 

@@ -1,6 +1,6 @@
 -- Recorders that were just made, and one that takes an event as it is given.
 use Rattle.std.proofs.Common.{◌≡◌, ℕ, ◌+◌, ◌<◌, ◌≤◌, false, List, [], ◌++◌, length, replicate, Option, Some, None, refl, sym, ◌∙◌, ap, subst}
-use Rattle.std.specs.Prelude.{sum, IsTrue}
+use Rattle.std.specs.Prelude.{sum, Result, Ok, Err, OnOk, OnErr, IsTrue}
 use Rattle.spec_base.specs.declared.limits.TheConstants.{MAX_EVENTS}
 use Rattle.spec_machine.specs.declared.event.Event.{Event}
 use Rattle.spec_machine.specs.Events.{steps_of}
@@ -11,18 +11,13 @@ use Rattle.spec_lanes.specs.Laws.{opening}
 use Rattle.spec_lanes.specs.Served.{IsServed}
 use Rattle.spec_lanes.proofs.Serving.{opening_is_served}
 use Rattle.lgx_record.specs.RecordingView.{RecordingView}
-use Rattle.lgx_record.specs.Records.{Records, IsUnchanged}
+use Rattle.lgx_record.specs.Records.{Records, RecordsMore, IsUnchanged}
+use Rattle.lgx_record.proofs.Extending.{still-records}
 use Rattle.lgx_history.specs.Histories.{HistoryView}
 use Rattle.lgx_shared.specs.RecorderView.{RecorderView, view_of}
 use Rattle.lgx_shared.specs.Follows.{journal_of, IsRecorder, IsNew}
 use Rattle.lgx_shared.proofs.Numbers.{room_at_first, one_more, only_one, below_limit, some_room}
 use Rattle.lgx_shared.proofs.Turns.{recorder_of}
-
--- what it records doesn't hang on the room of its journal
-pub still_records : (old new : RecordingView) (project : Project) (events : List Event) → IsUnchanged old new → Records old project events → Records new project events
-still_records old new project events same r =
-    subst (λ (v : RecordingView). Records v project events) (sym same)
-    (record { journal = r.journal; follows = r.follows; log = r.log })
 
 -- without a script it is a recorder whatever it records
 pub of_events : (r : RecordingView) (counts : List ℕ) (project : Project) (events : List Event) → Records r project events → IsRecorder (view_of r None counts false None)
@@ -31,6 +26,17 @@ of_events r counts project events records = record {
   records = subst (λ (es : List Event). Records r project es) (sym records.journal) records;
   follows = tt;
 }
+
+-- nor what it takes
+pub applied : {A E : Type 0} (result : Result A E) (v : RecorderView) (new : RecordingView) (more : List Event) → IsRecorder v → v.script ≡ None → OnOk result (RecordsMore v.recording new more) → OnErr result (IsUnchanged v.recording new) → IsRecorder (view_of new v.script v.counts v.ran v.history)
+applied {A = A} {E = E} result v new more i none records unchanged =
+    let P : Option Script → Type 0 = λ o. IsRecorder (view_of new o v.counts v.ran v.history) in
+    let r = recorded result records unchanged in
+    subst P (sym none) (record { project = i.project; records = subst (λ (es : List Event). Records new i.project es) (sym r.1.journal) r.1; follows = tt })
+  where
+    recorded : (o : Result A E) → OnOk o (RecordsMore v.recording new more) → OnErr o (IsUnchanged v.recording new) → (es : List Event) × Records new i.project es
+    recorded (Ok x) a b = (journal_of v ++ more, a i.project (journal_of v) i.records)
+    recorded (Err e) a b = (journal_of v, still-records v.recording new i.project (journal_of v) b i.records)
 
 is_new : (project : Project) (script : Script) (r : RecordingView) (history : Option HistoryView) → IsTrue (is_script script) → Records r project opening → most_events script + 2 ≤ 1 + r.journal.spare → IsNew project script (view_of r (Some script) (replicate (length script.lanes) 0) false history)
 is_new project script r history proper records room =
@@ -50,11 +56,11 @@ is_new project script r history proper records room =
 -- before its `mode run` it may be made
 pub room_to_open : (project : Project) (first r : RecordingView) (room : ℕ) → Records first project [] → IsUnchanged first r → 0 < room → room ≤ r.journal.spare → (r.controller.spent < MAX_EVENTS) × (0 < r.journal.spare)
 room_to_open project first r room records same some enough =
-    let h = still_records first r project [] same records in
+    let h = still-records first r project [] same records in
     (below_limit r.controller.spent h.controller.counted, some_room room r.journal.spare some enough)
 
 pub just_opened : (project : Project) (first r next : RecordingView) → Records first project [] → IsUnchanged first r → ((p : Project) (es : List Event) → Records r p es → Records next p (es ++ opening)) → Records next project opening
-just_opened project first r next records same opens = opens project [] (still_records first r project [] same records)
+just_opened project first r next records same opens = opens project [] (still-records first r project [] same records)
 
 -- after it
 pub just_made : (project : Project) (script : Script) (r : RecordingView) (counts : List ℕ) (history : Option HistoryView) (room lanes : ℕ) → IsTrue (is_script script) → Records r project opening → room ≤ r.journal.spare + 1 → room ≡ most_events script + 2 → counts ≡ replicate lanes 0 → lanes ≡ length script.lanes → IsNew project script (view_of r (Some script) counts false history)

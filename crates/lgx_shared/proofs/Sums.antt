@@ -30,9 +30,9 @@ module _ (project : Project) (script : Script) (lane : ℕ) (old new : RecorderV
   by_action (Some a) due m =
       let laws = due_actions_serve project script old.counts (journal_of old) lane a f.served due in
       let steps = steps_on (journal_of old) (Act lane a ∷ []) in (
-        ap sum m.counts ∙ laws.1,
+        ap sum m.counts ∙ laws.one_more,
         ap steps_of m.journal ∙ (steps ∙ plus_none (steps_of (journal_of old))),
-        λ spent. ap (is_spent project script) m.journal ∙ laws.2 spent,
+        λ spent. ap (is_spent project script) m.journal ∙ laws.still_spent spent,
       )
 
   pub adds : (turn : Turn) → Serves project script lane old turn new → Adds project script old turn new

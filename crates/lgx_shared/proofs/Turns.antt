@@ -80,7 +80,7 @@ module _ (project : Project) (script : Script) (v : RecorderView) (f : Follows p
   pub acted : (turn : Turn) (lane : ℕ) (a : Action) (r : RecordingView) (counts : List ℕ) → due_action project script (journal_of v) lane ≡ Some a → MatchTurn turn (Recorded r (Act lane a ∷ []) × (counts ≡ with_one_more v.counts lane)) ⊥ ⊥ (IsTrue (is_accept a) × (r ≡ v.recording) × (counts ≡ v.counts)) → v.recording.journal.spare ≤ r.journal.spare + 1 → IsServedTurn lane turn (after r counts)
   acted Did lane a r counts due m spare =
       let events = Act lane a ∷ [] in
-      let served = (due_actions_serve project script v.counts (journal_of v) lane a f.served due).0 in
+      let served = (due_actions_serve project script v.counts (journal_of v) lane a f.served due).served in
       let records = m.0 project (journal_of v) f.records in
       subst (λ (ns : List ℕ). IsServedTurn lane Did (after r ns)) (sym m.1)
       (record {
@@ -123,5 +123,5 @@ module _ (project : Project) (script : Script) (v : RecorderView) (f : Follows p
       let spent = m.0 project (journal_of v) f.records in
       let left = none_is_left project script v.counts (journal_of v) lane f.served due spent in
       subst (λ (x : RecordingView). IsServedTurn lane Done (after x v.counts)) (sym m.1)
-      (record { follows = f; serves = (due, spent, left.0, refl) })
+      (record { follows = f; serves = (due, spent, left.none_left, refl) })
   helped Memory lane r due m spare = absurd m

@@ -1,4 +1,4 @@
--- What a pass has seen of the journal, and what a turn tells it.
+-- What a pass has seen of the journal, and what a turn shows it.
 use Rattle.std.specs.Prelude.{◌≡◌, ℕ, ◌+◌, List, [], ◌∷◌, ◌++◌, slice_index_or, Option, Some, None, IsSomeAnd, IsTrue, refl}
 use Rattle.std.specs.Coded.{Coded, code_by}
 use mathlib.Core.List.{IsPrefix}
@@ -26,8 +26,8 @@ front_view lane actions events = record { lane = lane; actions = actions; events
 abbrev pub front_code : Coded (ℕ × (ℕ × List Event)) → Coded FrontView
 front_code parts = code_by (ℕ × (ℕ × List Event)) parts (λ f. (f.lane, (f.actions, f.events))) (λ p. front_view p.0 p.1.0 p.1.1) (λ _. refl)
 
--- What was seen is a journal that turns of the script's lanes make, so a partial one; in it the lane made just so many
--- actions: the first of its list, in order, each in time. A lane that the script hasn't got made none.
+-- What was seen is a journal that turns of the script's lanes make, so a partial one; in it the lane made just `actions` actions:
+-- the first of its list, in order, each in time. A lane that the script hasn't got made none.
 pub record HasSeen (project : Project) (script : Script) (f : FrontView) : Type 0 where
   pub counts : List ℕ
   pub served : IsServed project script counts f.events
@@ -48,8 +48,8 @@ Appends project script lane found turn events =
     ((due ≡ None) × (events ≡ found))
     (IsSomeAnd due (λ action. IsTrue (is_accept action)) × (events ≡ found))
 
--- What a turn of a lane tells a pass that had seen some of the journal: the journal that it found goes on from that, and
--- what is seen now is that journal with what the turn appended.
+-- What a turn of a lane shows a pass that had seen some of the journal: the journal that it found goes on from that, and what is
+-- seen now is that journal with what the turn appended.
 pub record Tells (project : Project) (script : Script) (lane : ℕ) (seen : List Event) (turn : Turn) (events : List Event) : Type 0 where
   pub found : List Event
   pub goes_on : IsPrefix seen found

@@ -41,6 +41,6 @@ Adds project script old turn new =
     ((new ≡ old) × HasSpent project script old)
     (new ≡ old)
 
--- so many actions of the lane stand in the journal; a lane that the script hasn't got has none
+-- the journal has `actions` actions of the lane; a lane that the script hasn't got has none
 abbrev pub IsInStep : Script → List Event → ℕ → ℕ → Type 0
 IsInStep script journal lane actions = (lane < length script.lanes → actions ≡ done_by lane journal) × (length script.lanes ≤ lane → actions ≡ 0)

@@ -10,8 +10,8 @@ use crate::recorder_of::RecorderOf;
 use lgx_history::{History, SeenToken};
 use std::marker::{Model, PhantomData};
 
-/// A lane, how many of its actions were made, and the journal that was seen then. It keeps no event: what was seen stands in
-/// proofs alone.
+/// A lane, how many of its actions were made, and the journal that was seen then. It keeps no event: what was seen exists in proofs
+/// alone.
 #[derive(Drop)]
 pub(crate) struct LaneFront<I: Input> {
     lane: u32,
@@ -35,7 +35,7 @@ impl<I: Input> Model for LaneFront<I> {
 }
 
 impl<I: Input> LaneFront<I> {
-    /// The front of a lane that sees the journal as it stands.
+    /// The front of a lane that sees the journal as it is.
     pub(crate) fn new(lane: u32, history: &mut History, named: &RecorderOf<I>) -> LaneFront<I>
         requires { history.old ≡ history_view I.history (journal_of named.now) }
         ensures same { history.new ≡ history.old }
@@ -65,7 +65,7 @@ impl<I: Input> LaneFront<I> {
         self.lane
     }
 
-    /// Sees the journal as it stands, on which the history goes on; and the history began with what was seen before.
+    /// Sees the journal as it is, on which the history goes on; and the history began with what was seen before.
     pub(crate) fn see(&mut self, history: &mut History, named: &RecorderOf<I>)
         requires name { history.old.name ≡ I.history }
         requires ahead { IsPrefix history.old.events (journal_of named.now) }
@@ -77,7 +77,7 @@ impl<I: Input> LaneFront<I> {
         self.actions = named.made(self.lane);
     }
 
-    /// Gives back its sight of the history, which stands at the journal: so the journal began with what was seen.
+    /// Gives back its sight of the history, whose events are the journal's: so the journal began with what was seen.
     pub(crate) fn give_back(self, history: &mut History, named: &RecorderOf<I>)
         requires { history.old ≡ history_view I.history (journal_of named.now) }
         ensures same { history.new ≡ history.old }

@@ -18,8 +18,8 @@ use std::thread::Threads;
 pub trait Gate {
     ghost use Rattle.std.specs.Prelude.{ℕ};
 
-    /// That `before` was called for a lane with so many actions made. It holds by itself, so an `impl` needs no word of it; but
-    /// code over any gate learns it from a call alone.
+    /// That `before` was called for a lane with this number of its actions made. It holds by itself, so an `impl` needs no word of
+    /// it; but code over any gate learns it from a call alone.
     ghost asked: { Self → ℕ → ℕ → Type 0 } = { λ _ _ _. Unit {0} };
 
     /// Called without the lock, with the lane and the number of its actions that were made; for the processor's pass with

@@ -106,7 +106,7 @@ impl<I: Input, A: Ledger, S: Ledger, E: Ledger> LockedRun<I, A, S, E> {
     }
 
     /// A turn of the pass's lane, which is counted; none where the lock is to be waited for again, and then nothing changed. That
-    /// comes only if the pass has counted another number of actions than stand in the journal.
+    /// comes only if the pass has counted another number of actions than are in the journal.
     pub(crate) fn turn(&mut self, pass: &mut Pass<I, A, S, E>) -> Option<Turn>
         requires room { (pass.old.actions + 1 < 2 ^ 32) × (pass.old.steps + 1 < 2 ^ 32) × (pass.old.ends ≡ 0) }
         ensures serves { IfSome result (λ turn. Serves I.project I.script pass.old.lane self.old.named turn self.new.named) }

@@ -94,7 +94,7 @@ impl<I: Input, A: Ledger, S: Ledger, E: Ledger> Pass<I, A, S, E> {
         }
     }
 
-    /// Gives back its sight of the history, which stands at the journal, and its shares of the ledgers of actions, of processor
+    /// Gives back its sight of the history, whose events are the journal's, and its shares of the ledgers of actions, of processor
     /// steps and of ends.
     fn give_back(
         self,
@@ -162,7 +162,7 @@ pub(crate) fn all_came<I: Input, A: Ledger, S: Ledger, E: Ledger>(
     true
 }
 
-/// The shares of all passes as one of each ledger. Each pass gives back its sight of the history, which stands at the journal.
+/// The shares of all passes as one of each ledger. Each pass gives back its sight of the history, whose events are the journal's.
 pub(crate) fn merged<I: Input, A: Ledger, S: Ledger, E: Ledger>(
     passes: Vec<Pass<I, A, S, E>>,
     history: &mut History,

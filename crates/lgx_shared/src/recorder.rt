@@ -19,9 +19,9 @@ use crate::turn::Turn;
 use lgx_core::Controller;
 use lgx_edit::Plant;
 use lgx_history::History;
-use lgx_journal::{Action, Event, Journal, Script};
+use lgx_journal::{Action, Event, Journal, RunView, Script};
 use lgx_num::Memory;
-use lgx_record::Recording;
+use lgx_record::{Recording, alone};
 use lgx_watch::{Log, Names};
 use spec_base::limits::OWN_LANE;
 use std::alloc::Global;
@@ -70,15 +70,15 @@ impl Model for Recorder {
     ghost invariant = { λ r. IsRecorder (view_of r.recording r.script r.counts.items r.ran r.history) };
 }
 
-/// A recording of a project with its `mode run` as the one event, and with the journal's room for so many events.
+/// A recording of a project with its `mode run` as the one event, and with the journal's room for `room` events.
 fn opened(alloc: Global, project: Plant, room: u32) -> Result<Recording, Memory>
     requires { 0 < room }
     ensures records { IfOk result (λ recording. Records recording project opening) }
     ensures room { IfOk result (λ recording. room ≤ recording.journal.spare + 1) }
 {
-    let mut recording = Recording::of_journal(alloc, project)?;
+    let mut recording = Recording::of_project(alloc, project)?;
     recording.reserve(room)?;
-    recording.act(OWN_LANE, &Action::ModeRun)?;
+    recording.take(RunView::Act(OWN_LANE, &Action::ModeRun))?;
     Ok(recording)
 }
 
@@ -108,7 +108,7 @@ impl Recorder {
         ensures script { IfOk result (λ recorder. recorder.script ≡ None) }
         ensures ran { IfOk result (λ recorder. recorder.ran ≡ false) }
     {
-        let recording = Recording::of_journal(alloc, project)?;
+        let recording = Recording::of_project(alloc, project)?;
         Ok(Recorder {
             recording,
             script: None,
@@ -137,7 +137,7 @@ impl Recorder {
         ensures unchanged { OnErr result (IsUnchanged self.old.recording self.new.recording) }
         ensures room { OnErr result (self.old.recording.journal.spare ≤ self.new.recording.journal.spare) }
     {
-        self.recording.apply(event)
+        self.recording.apply(alone(event))
     }
 
     /// A turn of a lane: its next action, if the tick of it has come and it wouldn't be answered Held; else, until the steps are

@@ -10,13 +10,15 @@ ghost use Rattle.spec_lanes.specs.Turns.{done_by, is_due, due_action, is_spent, 
 ghost use Rattle.spec_lanes.specs.Held.{is_holdable};
 ghost use Rattle.spec_lanes.specs.Laws.{with_one_more};
 ghost use Rattle.lgx_core.specs.Represents.{StandsFor};
-ghost use Rattle.lgx_record.specs.Records.{Records};
+ghost use Rattle.lgx_journal.specs.Runs.{seen_run};
+ghost use Rattle.lgx_record.specs.Extends.{events_in, is_accept_in};
+ghost use Rattle.lgx_record.specs.Records.{Records, RecordsMore, HasCounted};
 ghost use Rattle.lgx_shared.specs.Turns.{MatchTurn};
 
 use crate::plan::action_at;
 use crate::turn::Turn;
 use lgx_core::Controller;
-use lgx_journal::{Action, Script, Timed};
+use lgx_journal::{Action, RunView, Script, Timed};
 use lgx_record::Recording;
 
 /// Whether an action is answered Held while a CPS is open: an I/O word, or a command on the mode.
@@ -64,17 +66,33 @@ fn is_spent(recording: &Recording, script: &Script) -> bool
     recording.steps() >= script.steps && !recording.controller().copy_open()
 }
 
+/// Takes equal events, for which the journal has room, and none of which is an accept: so they take no memory.
+fn take_freely(recording: &mut Recording, run: RunView<'_>)
+    requires free { is_accept_in run ≡ false }
+    requires some { 0 < (seen_run run).count }
+    requires room { recording.old.controller.spent + (seen_run run).count ≤ MAX_EVENTS }
+    requires spare { 0 < recording.old.journal.spare }
+    ensures records { RecordsMore recording.old recording.new (events_in run.entry) }
+    ensures counts { HasCounted recording.old recording.new (events_in run.entry) }
+    ensures spare { recording.old.journal.spare ≤ recording.new.journal.spare + 1 }
+{
+    match recording.take(run) {
+        Ok(()) => {}
+        Err(_) => unreachable!(),
+    }
+}
+
 /// A processor step, and a tick after it if the pace divides its number.
 fn make_step(recording: &mut Recording, pace: u32)
     requires pace { 0 < pace }
     requires room { recording.old.controller.spent + 2 ≤ MAX_EVENTS }
     requires spare { 2 ≤ recording.old.journal.spare }
-    ensures records { (project : Project) (events : List Events) → Records recording.old project events → Records recording.new project (events ++ paced_step pace (recording.old.steps + 1)) }
+    ensures records { RecordsMore recording.old recording.new (paced_step pace (recording.old.steps + 1)) }
     ensures spare { recording.old.journal.spare ≤ recording.new.journal.spare + length (paced_step pace (recording.old.steps + 1)) }
 {
-    recording.step();
+    take_freely(recording, RunView::Cpu(1));
     if recording.steps() % pace == 0 {
-        recording.tick();
+        take_freely(recording, RunView::Tick(1));
     }
 }
 
@@ -107,12 +125,12 @@ pub(crate) fn make_action(
     requires spare { 0 < recording.old.journal.spare }
     requires few { slice_index counts.old.items lane < MAX_ACTIONS }
     ensures answer { MatchTurn result
-        (((project : Project) (events : List Events) → Records recording.old project events → Records recording.new project (events ++ Act lane action.now ∷ [])) × (counts.new.items ≡ with_one_more counts.old.items lane))
+        (RecordsMore recording.old recording.new (Act lane action.now ∷ []) × (counts.new.items ≡ with_one_more counts.old.items lane))
         ⊥ ⊥
         (IsTrue (is_accept action.now) × (recording.new ≡ recording.old) × (counts.new.items ≡ counts.old.items)) }
     ensures spare { recording.old.journal.spare ≤ recording.new.journal.spare + 1 }
 {
-    if recording.act(lane, action).is_err() {
+    if recording.take(RunView::Act(lane, action)).is_err() {
         return Turn::Memory;
     }
     counts[lane as usize] += 1;

@@ -108,9 +108,9 @@ impl<I: Input, A: Ledger, S: Ledger, E: Ledger> Shared<I, A, S, E> {
 
     /// One turn of the pass's lane under the lock: at `Did` the pass's count of actions rises by one, at `Helped` that of its
     /// processor steps, at `Done` that of its ends, and at `Memory`, which comes where its next action is an accept, it is
-    /// short. It may wait for the lock, and waits again only if the pass counted another number of actions than stand in the
-    /// journal. The pass sees the journal that the turn found, which begins with all that the pass had seen, and what the turn
-    /// appended to it; of its lane this has just the actions that the pass made.
+    /// short. It may wait for the lock, and waits again only if the pass counted another number of actions than are in the journal.
+    /// The pass sees the journal that the turn found, which begins with all that the pass had seen, and what the turn appended to
+    /// it; of its lane this has just the actions that the pass made.
     pub fn turn<R: Wait>(&self, rt: &R, pass: &mut Pass<I, A, S, E>) -> Turn
         requires room { (pass.old.actions + 1 < 2 ^ 32) × (pass.old.steps + 1 < 2 ^ 32) × (pass.old.ends ≡ 0) }
         ensures tells { Tells I.project I.script pass.old.lane pass.old.front.events result pass.new.front.events }

@@ -14,6 +14,7 @@ use Rattle.spec_board.specs.declared.snapshot.Snapshot.{Snapshot}
 use Rattle.spec_board.specs.Stories.{with_next}
 use Rattle.spec_story.specs.Snapshots.{snapshot, snapshots_from, snapshots}
 use Rattle.spec_story.proofs.Stories.{ticks_add_one, ticks_are_numbers}
+use Rattle.lgx_stations.specs.declared.reported.Reported.{Reported}
 use Rattle.lgx_stations.specs.Asking.{ForPublishes}
 use Rattle.lgx_stations.specs.Telling.{IsAt, IsFirstOf, first_kept}
 
@@ -39,7 +40,7 @@ one_published Asked n m at most is asked k from to =
     subst Asked same asked
 
 -- The tick of what is published is its number in the story: so the gate was asked for this publish.
-module _ {V : Type 0} (records : V → Project → List Event → Type 0) (p : Project) (journal : List Event) (v : V) (board : List Snapshot) (left : List Event) (h : IsAt records p journal v board (Tick ∷ left)) (x : Snapshot) (is : x ≡ snapshot p (run p (h.made ++ Tick ∷ []))) (after : List Snapshot) (added : after ≡ with_next board x) where
+module _ (p : Project) (journal : List Event) (r : Reported) (board : List Snapshot) (left : List Event) (h : IsAt p journal r board (Tick ∷ left)) (x : Snapshot) (is : x ≡ snapshot p (run p (h.made ++ Tick ∷ []))) (after : List Snapshot) (added : after ≡ with_next board x) where
   one_more : length board < MAX_SNAPSHOTS → after ≡ board ++ x ∷ []
   one_more less = added ∙ ap (λ (b : Bool). if b then board ++ x ∷ [] else board) (lt-ltb (length board) MAX_SNAPSHOTS less)
 

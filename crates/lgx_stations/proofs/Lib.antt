@@ -1,3 +1,3 @@
 pub mod Tells
-pub mod Recordings
+pub mod Showing
 pub mod Asked

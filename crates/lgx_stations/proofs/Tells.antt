@@ -1,4 +1,4 @@
--- How far a replay comes with one event.
+-- How far a run comes with one event.
 use Rattle.std.proofs.Common.{◌≡◌, ℕ, zero, suc, ◌+◌, ◌-◌, ◌≤◌, ◌<◌, replicate, Bool, false, List, [], ◌∷◌, ◌++◌, length, drop, refl, sym, ◌∙◌, ap, subst, inl, inr, ◌⊎◌, ⊎_elim, arith}
 use Rattle.std.specs.Prelude.{if◌then◌else◌, slice_index_or}
 use Rattle.std.proofs.lemmas.Bool.{cases_lt, lt-ltb}
@@ -18,23 +18,25 @@ use Rattle.spec_board.specs.declared.snapshot.Snapshot.{Snapshot}
 use Rattle.spec_board.specs.Stories.{IsPrefix, with_next}
 use Rattle.spec_story.specs.Snapshots.{snapshot, snapshots_from, snapshots}
 use Rattle.spec_story.proofs.Stories.{stories_go_on, ticks_add_one, others_add_none}
+use Rattle.lgx_stations.specs.declared.reported.Reported.{Reported}
+use Rattle.lgx_stations.specs.Reports.{Reports}
 use Rattle.lgx_stations.specs.Telling.{IsAt}
 
 short : (p : Project) (journal : List Event) → length (snapshots p journal) ≤ MAX_SNAPSHOTS
 short p journal = let l = length-take MAX_SNAPSHOTS (snapshot p (start p) ∷ snapshots_from p (start p) journal) in omega arith
 
 -- there is room for an event of the journal that is left
-pub has_room : {V : Type 0} (records : V → Project → List Event → Type 0) (p : Project) (journal : List Event) (v : V) (board : List Snapshot) (e : Event) (left : List Event)
-    → (h : IsAt records p journal v board (e ∷ left)) → length h.made < MAX_EVENTS
-has_room records p journal v board e left h =
+pub has_room : (p : Project) (journal : List Event) (r : Reported) (board : List Snapshot) (e : Event) (left : List Event)
+    → (h : IsAt p journal r board (e ∷ left)) → length h.made < MAX_EVENTS
+has_room p journal r board e left h =
     let all = ap (λ (l : List Event). length l) h.whole in
     let parts = length-append h.made (e ∷ left) in
     let few = h.few in
     omega arith
 
 -- what may be published before the tick is made
-module _ {V : Type 0} (records : V → Project → List Event → Type 0) (p : Project) (journal : List Event) (old new : V) (board : List Snapshot) (left : List Event) where
-  pub may_publish : (h : IsAt records p journal old board (Tick ∷ left)) (x : Snapshot) → x ≡ snapshot p (run p (h.made ++ Tick ∷ [])) → (length board ≡ MAX_SNAPSHOTS) ⊎ IsPrefix (board ++ x ∷ []) (snapshots p journal)
+module _ (p : Project) (journal : List Event) (old new : Reported) (board : List Snapshot) (left : List Event) where
+  pub may_publish : (h : IsAt p journal old board (Tick ∷ left)) (x : Snapshot) → x ≡ snapshot p (run p (h.made ++ Tick ∷ [])) → (length board ≡ MAX_SNAPSHOTS) ⊎ IsPrefix (board ++ x ∷ []) (snapshots p journal)
   may_publish h x is =
       ⊎_elim
       (λ (less : length (snapshots p h.made) < MAX_SNAPSHOTS).
@@ -46,7 +48,7 @@ module _ {V : Type 0} (records : V → Project → List Event → Type 0) (p : P
       (λ (full : MAX_SNAPSHOTS ≤ length (snapshots p h.made)). inl (let e = ap (λ (b : List Snapshot). length b) h.told in let s = short p h.made in omega arith))
       (cases_lt (length (snapshots p h.made)) MAX_SNAPSHOTS)
 
-  pub after_tick : (h : IsAt records p journal old board (Tick ∷ left)) (x : Snapshot) (after : List Snapshot) → x ≡ snapshot p (run p (h.made ++ Tick ∷ [])) → after ≡ with_next board x → records new p (h.made ++ Tick ∷ []) → IsAt records p journal new after left
+  pub after_tick : (h : IsAt p journal old board (Tick ∷ left)) (x : Snapshot) (after : List Snapshot) → x ≡ snapshot p (run p (h.made ++ Tick ∷ [])) → after ≡ with_next board x → Reports new p (h.made ++ Tick ∷ []) → IsAt p journal new after left
   after_tick h x after is added recorded =
       record {
         made = h.made ++ Tick ∷ [];
@@ -56,7 +58,7 @@ module _ {V : Type 0} (records : V → Project → List Event → Type 0) (p : P
         few = h.few;
       }
 
-  pub after_other : (e : Event) (h : IsAt records p journal old board (e ∷ left)) → is_tick e ≡ false → records new p (h.made ++ e ∷ []) → IsAt records p journal new board left
+  pub after_other : (e : Event) (h : IsAt p journal old board (e ∷ left)) → is_tick e ≡ false → Reports new p (h.made ++ e ∷ []) → IsAt p journal new board left
   after_other e h other recorded =
       record {
         made = h.made ++ e ∷ [];
@@ -86,9 +88,9 @@ next_run runs i event count less named counted =
     ∙ ap (λ m. replicate m event ++ events_of (drop (i + 1) runs)) (sym counted)))
 
 -- with nothing left all was made, and told
-module _ {V : Type 0} (records : V → Project → List Event → Type 0) (p : Project) (journal : List Event) (v : V) (board : List Snapshot) (h : IsAt records p journal v board []) where
-  pub all_made : records v p journal
-  all_made = subst (records v p) (sym (append-nil h.made) ∙ h.whole) h.recorded
+module _ (p : Project) (journal : List Event) (r : Reported) (board : List Snapshot) (h : IsAt p journal r board []) where
+  pub all_made : Reports r p journal
+  all_made = subst (Reports r p) (sym (append-nil h.made) ∙ h.whole) h.recorded
 
   pub all_told : board ≡ snapshots p journal
   all_told = h.told ∙ ap (snapshots p) (sym (append-nil h.made) ∙ h.whole)

@@ -1,3 +1,4 @@
+pub mod Reports
 pub mod Telling
 pub mod Asking
 pub mod Watching

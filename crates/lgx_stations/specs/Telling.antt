@@ -1,16 +1,19 @@
--- How far a replay has come that tells a board, and what its stations gave.
+-- How far a run has come that publishes to a board, and what its stations gave.
 use Rattle.std.specs.Prelude.{◌≡◌, ◌≤◌, ◌-◌, ◌++◌, ℕ, List, Option, Some, None, length, slice_get}
 use Rattle.spec_base.specs.declared.limits.TheConstants.{MAX_EVENTS}
 use Rattle.spec_machine.specs.declared.event.Event.{Event}
 use Rattle.spec_machine.specs.Project.{Project}
 use Rattle.spec_board.specs.declared.snapshot.Snapshot.{Snapshot}
 use Rattle.spec_story.specs.Snapshots.{snapshots}
+use Rattle.lgx_stations.specs.declared.reported.Reported.{Reported}
 use Rattle.lgx_stations.specs.declared.watcher.Readings.{Readings}
+use Rattle.lgx_stations.specs.Reports.{Reports}
 
--- The events that were made are recorded, and their story is published; with those that are left they are the journal.
-pub record IsAt {V : Type 0} (records : V → Project → List Event → Type 0) (p : Project) (journal : List Event) (v : V) (board : List Snapshot) (left : List Event) : Type 0 where
+-- It is the run of the events that were made, with their report, and their story is published; with those that are left they are the
+-- journal.
+pub record IsAt (p : Project) (journal : List Event) (r : Reported) (board : List Snapshot) (left : List Event) : Type 0 where
   pub made : List Event
-  pub recorded : records v p made
+  pub recorded : Reports r p made
   pub told : board ≡ snapshots p made
   pub whole : made ++ left ≡ journal
   pub few : length journal ≤ MAX_EVENTS

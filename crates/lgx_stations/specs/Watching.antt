@@ -5,7 +5,7 @@ use Rattle.lgx_hmi.specs.Sights.{Sight}
 use Rattle.lgx_stations.specs.declared.watcher.TheConstants.{READS}
 use Rattle.lgx_stations.specs.Telling.{IsFirstOf}
 
--- the watcher at this place among so many, which are numbered from the last one on, before it reads
+-- the watcher at this place among `count`, which are numbered from the last one on, before it reads
 abbrev pub IsUnread : ℕ → ℕ → ℕ → Sight → Option Snapshot → Type 0
 IsUnread count place lane station first = (lane + place + 1 ≡ count) × (station.reads ≡ 0) × (first ≡ None)
 

@@ -3,12 +3,13 @@ ghost use Rattle.std.specs.Prelude.{◌≡◌, ℕ, ◌<◌, ◌≤◌, [], All,
 ghost use Rattle.spec_base.specs.declared.limits.TheConstants.{MAX_EVENTS};
 ghost use Rattle.spec_story.specs.Snapshots.{snapshots};
 ghost use Rattle.lgx_stations.specs.Asking.{ForReads, ForPublishes, ForAll};
+ghost use Rattle.lgx_stations.specs.Reports.{Reports};
 ghost use Rattle.lgx_stations.specs.Telling.{IsAt, AreReadingsOf};
 ghost use Rattle.lgx_stations.specs.Watching.{IsUnread, HasRead};
 ghost use Rattle.lgx_stations.specs.declared.stations.TheConstants.{MAX_STATIONS};
 
 use crate::input::{Input, Tells};
-use crate::replay::Replay;
+use crate::reported::Reported;
 use crate::telling::tell_journal;
 use crate::watcher::{READS, Readings, Watcher};
 use lgx_hmi::{Board, Station, Story};
@@ -66,19 +67,19 @@ fn watch_all<S: Story + Send, G: Gate + Sync, R: Threads + Sync>(
     for_each_mut(rt, watchers, threads, &|_, watcher| watch(gate, watcher));
 }
 
-/// The journal is replayed and told, while the stations read, each on a thread of its own.
-fn run_beside<I: Input + Send, V: Replay, G: Gate + Sync, R: Threads + Wait + Sync>(
+/// The journal is replayed and published, while the stations read, each on a thread of its own.
+fn run_beside<I: Input + Send, G: Gate + Sync, R: Threads + Wait + Sync>(
     rt: &R,
     gate: &G,
-    replay: &mut V,
+    reported: &mut Reported,
     board: &mut Board<Tells<I>>,
     watchers: &mut [Watcher<Tells<I>>],
     journal: &Journal,
 ) -> Result<(), Memory>
-    requires so_far { IsAt V.records I.project I.journal replay.old board.old journal.now.events }
+    requires so_far { IsAt I.project I.journal reported.old board.old journal.now.events }
     requires some { (0 < length watchers.old) × (length watchers.old ≤ MAX_STATIONS) }
     requires new { (i : ℕ) (d : _) → i < length watchers.old → let w = slice_index_or watchers.old i d in IsUnread (length watchers.old) i w.lane w.station w.first }
-    ensures records { OnOk result (V.records replay.new I.project I.journal) }
+    ensures records { OnOk result (Reports reported.new I.project I.journal) }
     ensures told { OnOk result (board.new ≡ snapshots I.project I.journal) }
     ensures read { All (λ w. HasRead (snapshots I.project I.journal) w.station w.first) watchers.new }
     ensures reads { ForReads (λ lane n. G.asked gate.now lane n) (length watchers.old) }
@@ -96,16 +97,16 @@ fn run_beside<I: Input + Send, V: Replay, G: Gate + Sync, R: Threads + Wait + Sy
             ensures len { length watchers.exit.now ≡ length watchers.entry.now }
         { watch_all(rt, gate, watchers) },
         &mut || -> Result<(), Memory>
-            requires { IsAt V.records I.project I.journal replay.now board.now journal.now.events }
-            ensures records { OnOk result (V.records replay.exit.now I.project I.journal) }
+            requires { IsAt I.project I.journal reported.now board.now journal.now.events }
+            ensures records { OnOk result (Reports reported.exit.now I.project I.journal) }
             ensures told { OnOk result (board.exit.now ≡ snapshots I.project I.journal) }
             ensures publishes { ForPublishes (λ k. G.asked gate.entry.now lane k) (length board.entry.now) (length board.exit.now) }
-        { tell_journal(rt, gate, lane, replay, board, journal) },
+        { tell_journal(rt, gate, lane, reported, board, journal) },
     );
     told
 }
 
-/// Tells each station of the whole story, and reads it once more; the last one first.
+/// Shows each station the whole story, and reads it once more; the last one first.
 fn finish_all<S: Story>(
     alloc: Global,
     board: &Board<S>,
@@ -125,26 +126,26 @@ fn finish_all<S: Story>(
 }
 
 /// The replay with its stations, to each station's last read.
-fn watch_through<I: Input + Send, V: Replay, G: Gate + Sync, R: Threads + Wait + Sync>(
+fn watch_through<I: Input + Send, G: Gate + Sync, R: Threads + Wait + Sync>(
     rt: &R,
     alloc: Global,
     gate: &G,
-    replay: &mut V,
+    reported: &mut Reported,
     board: &mut Board<Tells<I>>,
     watchers: Vec<Watcher<Tells<I>>>,
     journal: &Journal,
 ) -> Result<Vec<Readings>, Memory>
-    requires so_far { IsAt V.records I.project I.journal replay.old board.old journal.now.events }
+    requires so_far { IsAt I.project I.journal reported.old board.old journal.now.events }
     requires some { (0 < vec_len watchers) × (vec_len watchers ≤ MAX_STATIONS) }
     requires new { (i : ℕ) (d : _) → i < vec_len watchers → let w = slice_index_or watchers.items i d in IsUnread (vec_len watchers) i w.lane w.station w.first }
-    ensures records { OnOk result (V.records replay.new I.project I.journal) }
+    ensures records { OnOk result (Reports reported.new I.project I.journal) }
     ensures count { IfOk result (λ readings. vec_len readings ≡ vec_len watchers) }
     ensures readings { IfOk result (λ readings. All (λ r. AreReadingsOf (snapshots I.project I.journal) r) readings.items) }
     ensures reads { IfOk result (λ _. ForReads (λ lane n. G.asked gate.now lane n) (vec_len watchers)) }
     ensures publishes { IfOk result (λ _. ForPublishes (λ k. G.asked gate.now (vec_len watchers) k) (length board.old) (length (snapshots I.project I.journal))) }
 {
     let mut watchers = watchers;
-    run_beside(rt, gate, replay, board, watchers.as_mut_slice(), journal)?;
+    run_beside(rt, gate, reported, board, watchers.as_mut_slice(), journal)?;
     finish_all(alloc, board, watchers)
 }
 
@@ -152,27 +153,27 @@ fn watch_through<I: Input + Send, V: Replay, G: Gate + Sync, R: Threads + Wait +
 /// Each reads 1,000 times while the journal is replayed, and once more when all is published. Where no thread can be made they
 /// read before it. The gate is called before each of the 1,000 reads with the station's number and the read's, both counted from
 /// 0, and before each tick is published with the number of stations and that of what is published. Out of memory is the one fault.
-pub fn watch_journal<I: Input + Send, V: Replay, G: Gate + Sync, R: Threads + Wait + Sync>(
+pub fn watch_journal<I: Input + Send, G: Gate + Sync, R: Threads + Wait + Sync>(
     rt: &R,
     alloc: Global,
     gate: &G,
-    replay: &mut V,
+    reported: &mut Reported,
     journal: &Journal,
     stations: u32,
 ) -> Result<Vec<Readings>, Memory>
     requires stations { (0 < stations) × (stations ≤ MAX_STATIONS) }
-    requires new { V.records replay.old I.project [] }
+    requires new { Reports reported.old I.project [] }
     requires journal { journal.now.events ≡ I.journal }
     requires few { length I.journal ≤ MAX_EVENTS }
-    ensures records { OnOk result (V.records replay.new I.project I.journal) }
+    ensures records { OnOk result (Reports reported.new I.project I.journal) }
     ensures count { IfOk result (λ readings. vec_len readings ≡ stations) }
     ensures readings { IfOk result (λ readings. All (λ r. AreReadingsOf (snapshots I.project I.journal) r) readings.items) }
     ensures asked { IfOk result (λ _. ForAll (λ lane n. G.asked gate.now lane n) stations (snapshots I.project I.journal)) }
 {
     let mut watchers = Vec::with_capacity(alloc, stations as usize)?;
-    let (mut board, list) = Board::<Tells<I>>::open(alloc, &replay.snapshot(), stations)?;
+    let (mut board, list) = Board::<Tells<I>>::open(alloc, &reported.snapshot(), stations)?;
     number_all(list, &mut watchers);
-    let readings = watch_through(rt, alloc, gate, replay, &mut board, watchers, journal);
+    let readings = watch_through(rt, alloc, gate, reported, &mut board, watchers, journal);
     board.close(rt);
     readings
 }

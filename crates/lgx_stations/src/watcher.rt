@@ -24,7 +24,7 @@ impl Readings {
         &self.first
     }
 
-    /// After the replay, when it had been told of all that was published.
+    /// After the replay, when it had been shown all that was published.
     pub fn last(&self) -> &Snapshot
         ensures { result.now ≡ self.now.last }
     {
@@ -80,7 +80,7 @@ impl<S: Story> Watcher<S> {
         }
     }
 
-    /// The first snapshot, and that which the station gives when it was told of the whole story.
+    /// The first snapshot, and that which the station gives when it was shown the whole story.
     pub(crate) fn finish(self, board: &Board<S>) -> Readings
         requires reads { self.station.reads ≡ READS }
         requires first { IsFirstOf S.story self.first }

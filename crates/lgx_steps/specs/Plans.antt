@@ -22,18 +22,18 @@ pub record IsList (programs : ℕ) (list : List ℕ) : Type 0 where
   pub some : 0 < length list
   pub known : (i : ℕ) → i < length list → slice_index list i < programs
 
--- no program stands at two places of the lists
+-- no program is at two places of the lists
 abbrev pub EachOnce : List (List ℕ) → Type 0
 EachOnce schedule = (t u i j : ℕ) → i < length (list_at schedule t) → j < length (list_at schedule u) → slice_index (list_at schedule t) i ≡ slice_index (list_at schedule u) j → (t ≡ u) × (i ≡ j)
 
 -- ---- connections
 
--- a task, if there is one, is one of so many
+-- a task, if there is one, is one of `tasks` tasks
 abbrev pub IsKnown : ℕ → Option ℕ → Type 0
 IsKnown tasks None = Unit {0}
 IsKnown tasks (Some t) = t < tasks
 
--- a connection's words lie in an image of so many bytes, and what it triggers is one of so many tasks
+-- a connection's words lie in an image of `len` bytes, and what it triggers is one of `tasks` tasks
 pub record ConnFits (len tasks : ℕ) (c : ConnDef) : Type 0 where
   pub inside : c.byte + 4 * c.words ≤ len
   pub trigger : IsKnown tasks c.trigger
@@ -54,7 +54,7 @@ pub record IsSoundPlan (p : Plan) : Type 0 where
 
 -- ---- rungs
 
--- the rungs of these routines can be executed over an image of so many bytes, and trigger some of so many tasks
+-- the rungs of these routines can be executed over an image of `len` bytes, and trigger some of `tasks` tasks
 pub record AreReady (len tasks : ℕ) (routines : List RoutineText) : Type 0 where
   pub executable : Each (λ r. AreExecutable len r.checked) routines
   pub know : Each (λ r. KnowsTasks tasks r.checked) routines

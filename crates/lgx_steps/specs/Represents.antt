@@ -29,8 +29,8 @@ abbrev pub progress_at : List KeptProgress → ℕ → KeptProgress
 progress_at all t = slice_index_or all t idle
 
 module _ (held : List (Option Version)) (len tasks : ℕ) where
-  -- A scan in progress is of the program that is next. A version of this program is held; it runs, over an image of so many
-  -- bytes, as the rungs that the scan took, from its position; and these trigger some of so many tasks.
+  -- A scan in progress is of the program that is next. A version of this program is held; it runs, over an image of `len` bytes, as
+  -- the rungs that the scan took, from its position; and these trigger some of `tasks` tasks.
   pub record RepresentsScan (next : ℕ) (v : KeptScan) (place : PositionView) (s : Scan) : Type 0 where
     pub program : v.program ≡ s.program
     pub is_next : s.program ≡ next

@@ -5,10 +5,11 @@ ghost use Rattle.lgx_steps.specs.Stretches.{IsRefused, Noted};
 use arrayvec::ArrayVec;
 use spec_machine::What;
 
-/// How many begins a stretch tells at most before its last step.
+/// How many begins a stretch notes at most before its last step.
 pub const MAX_BEGINS: usize = lgx_engine::MAX_BEGINS;
 
-/// The steps before the last of a stretch of which something is told. All of them began the same version of the same program.
+/// The steps before the last of a stretch of which there is something to report. All of them began the same version of the same
+/// program.
 #[derive(Drop)]
 pub struct Begins {
     /// What each of them did.

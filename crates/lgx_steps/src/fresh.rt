@@ -22,7 +22,7 @@ use spec_machine::Mode;
 use spec_tables::{ConnDef, TaskDef};
 use std::alloc::Global;
 
-/// The progress of so many tasks that have begun nothing.
+/// The progress of `tasks` tasks that have begun nothing.
 fn idle(alloc: Global, book: &EditBook, tasks: usize) -> Result<Vec<Progress>, Memory>
     requires { 0 < length book.now }
     ensures many { IfOk result (λ all. length all.items ≡ tasks) }
@@ -128,7 +128,7 @@ pub(crate) struct Scans {
     pub(crate) firsts: Vec<bool>,
 }
 
-/// What tells of the scans of these programs in so many tasks: none has begun.
+/// What is kept of the scans of these programs in `tasks` tasks: none has begun.
 fn scans_of(alloc: Global, texts: Vec<ProgramText>, tasks: usize) -> Result<Scans, Memory>
     requires mains { All (λ q. q.main < length q.routines) texts.items }
     requires some { 0 < length texts.items }

@@ -42,7 +42,7 @@ pub(crate) fn mask_of(task: Option<u32>) -> u32
     }
 }
 
-/// The prescan of every program by its selected rungs; there are so many.
+/// The prescan of every program by its selected rungs; there are `programs`.
 fn prescan_all(book: &EditBook, programs: usize, image: &mut Image)
     requires many { length book.now ≡ programs }
     requires few { programs ≤ MAX_PROGRAMS }

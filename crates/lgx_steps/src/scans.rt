@@ -11,7 +11,7 @@ ghost use Rattle.lgx_steps.specs.Represents.{RepresentsParts, IsLive};
 use crate::parts::ControllerParts;
 use lgx_sched::TaskTable;
 
-/// Takes down the chosen task after its last program. The continuous task runs again at once, and mostly where it stands.
+/// Takes down the chosen task after its last program. The continuous task runs again at once, and mostly where it is in its queue.
 #[inline(always)]
 fn finish(table: &mut TaskTable, t: u32, now: u32)
     requires chosen { next_task table.old ≡ Some t }
@@ -27,7 +27,7 @@ fn finish(table: &mut TaskTable, t: u32, now: u32)
 }
 
 impl ControllerParts {
-    /// A task has no scan from now on, and so many of its programs ended. What its scan held is held no more.
+    /// A task has no scan from now on, and `ended` of its programs ended. What its scan held is held no more.
     #[inline(always)]
     pub(crate) fn leave_scan(&mut self, t: u32, ended: usize)
         requires live { IsLive self.old }

@@ -47,9 +47,9 @@ answer_of known (Some i) = answer_at known i
 abbrev pub named_by : List Entry → List Resolved → Scope → List ℕ → Answer
 named_by entries known scope name = answer_of known (seen_number entries scope name)
 
--- ---- chains of at most so many aliases
+-- ---- chains of at most a given number of aliases
 
--- what a target names where at most so many aliases follow one another, this one counted
+-- what a target names where at most the given number of aliases follow one another, this one counted
 abbrev pub target_in : ℕ → Declarations → Scope → List ℕ → Answer
 target_in zero d s text = Err G7
 target_in (suc n) d s text = in_form numbers_alone d.types (named_within n d s) text
@@ -89,8 +89,8 @@ is_open (Err code) = is_g7 code
 abbrev pub open_in : List Resolved → ℕ
 open_in known = count_by is_open known
 
--- What is known so far: each tag; and of aliases those whose chains are walked. So many are known as chains may be long,
--- so what is known is what the definition gives.
+-- What is known so far: each tag; and of aliases those whose chains are walked. As many are known as chains may be long, so what is
+-- known is what the definition gives.
 pub record PartlyResolved (d : Declarations) (known : List Resolved) : Type 0 where
   pub long : length known ≡ length d.entries
   pub few : open_in known ≤ length (aliases d)

@@ -1,4 +1,4 @@
--- Whether a text is an operand form, by what may stand next.
+-- Whether a text is an operand form, by what may come next.
 use Rattle.std.specs.Prelude.{ℕ, zero, suc, ◌+◌, Bool, true, false, ◌==◌, List, Option, Some, None, if◌then◌else◌}
 use Rattle.lgx_num.specs.Name.{is_name}
 use Rattle.spec_language.specs.OperandForm.{is_tag_name, are_digits, Token}

@@ -52,7 +52,7 @@ place_tags_end types at (t ∷ ts) = place_tags_end types (round_up 4 (at + size
 abbrev pub placed_tags : Declarations → List PlacedTag
 placed_tags d = place_tags d.types 0 (order_of d)
 
--- a tag's entry is one of so many, and its first bit's number is a small one
+-- a tag's entry is one of `count` entries, and its first bit's number is a small one
 abbrev pub IsOfEntries : ℕ → PlacedTag → Type 0
 IsOfEntries count l = (l.entry < count) × (8 * l.start < 2 ^ 32)
 

@@ -50,11 +50,11 @@ over_parts step end bad _ s = bad s
 
 -- ---- words
 
--- a byte that stands between words
+-- a byte that comes between words
 abbrev pub is_mark : ℕ → Bool
 is_mark c = (c == 46) || (c == 91) || (c == 93)
 
--- what may stand after a word
+-- what may come after a word
 abbrev pub begins_marked : List ℕ → Bool
 begins_marked [] = true
 begins_marked (c ∷ cs) = is_mark c

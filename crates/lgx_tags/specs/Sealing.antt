@@ -1,4 +1,4 @@
--- A sealed table, and the tags that it tells of.
+-- A sealed table, and the tags that it knows.
 use Rattle.std.specs.Prelude.{◌^◌, ◌≡◌, ◌<◌, List, length, None}
 use Rattle.spec_language.specs.Declarations.{Declarations}
 use Rattle.spec_language.specs.Resolution.{seal_fault}

@@ -34,8 +34,7 @@ keys_of entries = map (λ e. key_of e.scope e.name) entries
 abbrev pub has_own : List Entry → Bool
 has_own entries = list_any (λ e. is_own e.scope) entries
 
--- the entries' keys stand beside them, in the same order, their bytes are counted, and it is known whether any is a
--- program's
+-- the entries' keys are kept beside them, in the same order, their bytes are counted, and it is known whether any is a program's
 pub record RepresentsDeclarations (d : Declarations) (keys : List Key) (count : ℕ) (any_own : Bool) : Type 0 where
   pub admitted : Each (IsAdmitted d.types d.programs) d.entries
   pub keyed : keys ≡ keys_of d.entries

@@ -2,7 +2,7 @@
 use Rattle.std.specs.Prelude.{ℕ, zero, suc, Bool, false, ◌&&◌, List, [], ◌∷◌}
 use Rattle.spec_language.specs.OperandForm.{is_part}
 
--- one part or more, at most so many
+-- one part or more, at most the given number
 abbrev pub are_parts : ℕ → List (List ℕ) → Bool
 are_parts zero ps = false
 are_parts (suc most) [] = false

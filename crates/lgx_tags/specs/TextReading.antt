@@ -56,7 +56,7 @@ abbrev pub may_open : meaning.Subscripts → Bool
 may_open meaning.operands = true
 may_open meaning.numbers_alone = false
 
--- a bracket at what is no array is met before what stands in it
+-- a bracket at what is no array is met before what is in it
 abbrev pub open_at : meaning.Subscripts → (List ℕ → Result Found TagCode) → List ℕ → Reading → Result Reading TagCode
 open_at s named name k = do
   _ ← unless (is_array k.found.of) G5

@@ -32,7 +32,7 @@ pub fn is_integer(of: DataType) -> bool
     !is_array(of) && integer_bits(of.base) > 0
 }
 
-/// What stands at a place of the type: its bit or its number; a place of another type is spoken of by its first DINT.
+/// What is at a place of the type: its bit or its number; a place of another type is spoken of by its first DINT.
 pub fn kind_of(base: Base) -> Kind
     ensures { result ≡ kind_of base }
 {

@@ -70,8 +70,8 @@ fn push_within(entries: &mut Vec<Entry>, entry: Entry)
     let _ = entries.push(entry);
 }
 
-/// The types, the number of programs, and the tags and aliases in order of declaration. Their keys stand beside them,
-/// in the same order, and the length of the image is counted as they come, since it doesn't depend on their order.
+/// The types, the number of programs, and the tags and aliases in order of declaration. Their keys are kept beside them, in the
+/// same order, and the length of the image is counted as they come, since it doesn't depend on their order.
 #[derive(Drop)]
 pub(crate) struct Declared {
     pub(crate) alloc: Global,
@@ -148,7 +148,7 @@ impl Declared {
         self.bytes + round_up(self.types.size_of(of))
     }
 
-    /// Adds an entry after the others, with which the image has so many bytes.
+    /// Adds an entry after the others, with which the image has `count` bytes.
     fn add(&mut self, entry: Entry, count: u32) -> Result<(), Memory>
         requires admitted { IsAdmitted self.old.types self.old.programs entry }
         requires free { position (is_named entry.scope entry.name) self.old.entries ≡ None }
@@ -251,7 +251,7 @@ impl Declared {
         ensures admitted { Each (IsAdmitted self.now.types self.now.programs) self.now.entries }
         ensures room { bytes self.now ≤ MAX_IMAGE_BYTES }
     {
-        // the table of types tells here that they are sound
+        // the table of types shows here that they are sound
         self.types.structures();
         &self.types
     }

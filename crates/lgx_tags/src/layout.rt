@@ -181,7 +181,7 @@ pub(crate) fn place_tags(
     Ok(laid)
 }
 
-/// What is known of so many entries when these tags are laid.
+/// What is known of `count` entries when these tags are laid.
 pub(crate) fn known_from(
     alloc: Global,
     count: usize,

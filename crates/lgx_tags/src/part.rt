@@ -41,14 +41,14 @@ pub(crate) fn are_digits(word: &[u8]) -> bool
     !word.is_empty() && all_digits(word)
 }
 
-/// Whether the byte stands between words.
+/// Whether the byte comes between words.
 fn is_mark(byte: u8) -> bool
     ensures { result ≡ is_mark byte }
 {
     byte == b'.' || byte == b'[' || byte == b']'
 }
 
-/// The word with which a text begins, and what stands after it. The word may be empty.
+/// The word with which a text begins, and what comes after it. The word may be empty.
 #[tactic(auto, using(crate::proofs::OperandParts::whole_at, crate::proofs::OperandParts::ended_at, crate::proofs::OperandParts::tokens_at, crate::proofs::OperandParts::tokens_whole))]
 pub(crate) fn split_word(text: &[u8]) -> (&[u8], &[u8])
     ensures whole { text.now ≡ result.0.now ++ result.1.now }
@@ -63,7 +63,7 @@ pub(crate) fn split_word(text: &[u8]) -> (&[u8], &[u8])
     (text, &[])
 }
 
-/// The part with which a text begins, and what stands after it, or none if no part stands there.
+/// The part with which a text begins, and what comes after it, or none if it begins with no part.
 pub(crate) fn first_part(text: &[u8]) -> Option<(OperandPart<'_>, &[u8])>
     ensures part { IfSome result (λ r. first_part (tokens text.now) ≡ Some (part_of r.0, tokens r.1.now)) }
     ensures none { IsNone result → first_part (tokens text.now) ≡ None }

@@ -73,7 +73,7 @@ impl Reading {
         }
     }
 
-    /// A bracket and the name of the tag after it: G5 if it stands at no array.
+    /// A bracket and the name of the tag after it: G5 if it is at no array.
     fn open_bracket<N: Names>(
         self,
         subscripts: Subscripts,
@@ -203,7 +203,7 @@ fn resolve_form<N: Names>(
 /// What an operand's text names, or the first cause why it names nothing.
 ///
 /// G10, that the text is no operand form, comes before all others; these come as they are met from left to right. Memory is
-/// taken for brackets that stand open alone, and nothing recurses on how deep they are.
+/// taken for open brackets alone, and nothing recurses on how deep they are.
 pub(crate) fn resolve_text<N: Names>(
     alloc: Global,
     text: &[u8],

@@ -82,7 +82,7 @@ fn sealed(declared: &Declared) -> Result<Seal, SealError>
 }
 
 impl TagTable {
-    /// A table with no entries, not sealed, over these types and so many programs.
+    /// A table with no entries, not sealed, over these types and `programs` programs.
     pub fn new(alloc: Global, types: TypeTable, programs: u32) -> Result<TagTable, Memory>
         ensures { IfOk result (λ table. table ≡ record { declarations = record { types = types; programs = programs; entries = [] }; sealed = false }) }
     {

@@ -10,7 +10,7 @@ ghost use Rattle.lgx_tags.specs.TagNames.{are_parts};
 use lgx_num::{is_name, is_name_byte, same, split_first};
 use spec_base::limits::{MAX_NAME_BYTES, MAX_TAG_NAME_BYTES, MAX_TAG_NAME_PARTS};
 
-/// The parts that may stand after the first.
+/// The parts that may come after the first.
 const MAX_FURTHER_PARTS: usize = MAX_TAG_NAME_PARTS - 1;
 
 /// Whether a text is a tag name: a name, or 2 to 4 parts joined by colons (profile).
@@ -32,14 +32,14 @@ fn is_joined(text: &[u8]) -> bool
     }
 }
 
-/// A name that may stand before a colon: `S` begins flags, and `Program` a text's scope.
+/// A name that may come before a colon: `S` begins flags, and `Program` a text's scope.
 fn may_lead(part: &[u8]) -> bool
     ensures { result ≡ may_lead part.now }
 {
     is_name(part) && !same(part, b"S") && !same(part, b"Program")
 }
 
-/// What stands after the first colon: one to three parts.
+/// What comes after the first colon: one to three parts.
 fn are_parts(text: &[u8]) -> bool
     ensures { result ≡ are_parts (MAX_TAG_NAME_PARTS - 1) (pieces 58 text.now) }
 {

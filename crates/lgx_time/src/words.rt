@@ -1,4 +1,4 @@
-//! What stands in a timer or a counter: bits of its status word, and its numbers. `at` is the first byte of either.
+//! What is in a timer or a counter: bits of its status word, and its numbers. `at` is the first byte of either.
 ghost use Rattle.std.specs.Prelude.{◌≡◌, ◌+◌, ◌*◌, ◌<◌, ◌≤◌, if◌then◌else◌, length};
 ghost use Rattle.spec_base.specs.declared.limits.TheConstants.{TIMER_BYTES, COUNTER_BYTES};
 ghost use Rattle.spec_scan.specs.StatusWords.{status, put_status, dint, put_dint, pre, acc, put_acc, last_tick, put_last_tick, is_reached, reset};
@@ -72,7 +72,7 @@ pub fn put_status(at: u32, number: u32, on: bool, image: &mut Image)
     image.put_bit_at(status_bit(at, number, image), on);
 }
 
-/// The number that begins so many bytes after the first one.
+/// The number that begins `offset` bytes after the first one.
 #[inline(always)]
 fn number(at: u32, offset: u32, image: &Image) -> i32
     requires lies { at + offset + 4 ≤ length image.now.bytes }
@@ -83,7 +83,7 @@ fn number(at: u32, offset: u32, image: &Image) -> i32
     image.dint(at + offset)
 }
 
-/// Stores a number so many bytes after the first one.
+/// Stores a number `offset` bytes after the first one.
 #[inline(always)]
 fn put_number(at: u32, offset: u32, value: i32, image: &mut Image)
     requires lies { at + offset + 4 ≤ length image.old.bytes }

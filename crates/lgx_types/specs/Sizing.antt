@@ -24,7 +24,7 @@ sized_by element base zero = element
 sized_by element OneBit (suc n) = suc n / 8
 sized_by element base (suc n) = suc n * element
 
--- the byte after members of these types, if what stands before them ends at this byte
+-- the byte after members of these types, if what comes before them ends at this byte
 abbrev pub end_of : List ℕ → ℕ → List DataType → ℕ
 end_of sizes at [] = at
 end_of sizes at (t ∷ ts) = end_of sizes (begin_after at t + size_in sizes t) ts
@@ -78,7 +78,7 @@ pub record AreVisits (types : List TypeDecl) (visits : List Visit) : Type 0 wher
   pub many : length visits ≡ length types
   pub sized : (i size : ℕ) → slice_get visits i ≡ Some (Sized size) → IsSized types i size
 
--- a stack of structures that are being worked out, each inside the one before it; those that are open stand in it
+-- a stack of structures that are being worked out, each inside the one before it; those that are open are in it
 pub record IsSizing (types : List TypeDecl) (visits : List Visit) (stack : List Frame) : Type 0 where
   pub known : AreVisits types visits
   pub begun : (p : ℕ) (f : Frame) → slice_get stack p ≡ Some f → IsBegun types f

@@ -14,7 +14,7 @@ use Rattle.spec_language.specs.TypeFaults.{type_fault}
 use Rattle.lgx_types.specs.declared.error.TypeError.{TypeError}
 use Rattle.lgx_types.specs.declared.error.TypeError.TheVariants.{Fault, Memory}
 
--- a structure is one of so many
+-- a structure is one of n structures
 abbrev pub IsNumbered : ℕ → Base → Type 0
 IsNumbered n (User i) = i < n
 IsNumbered n OneBit = ⊤
@@ -43,7 +43,7 @@ abbrev pub fault : TypeError → Option TypeFault
 fault (Fault f) = Some f
 fault Memory = None
 
--- the places of members of these types, in order, if what stands before them ends at this byte
+-- the places of members of these types, in order, if what comes before them ends at this byte
 abbrev pub places_from : List ℕ → ℕ → List DataType → List Member
 places_from sizes at [] = []
 places_from sizes at (t ∷ ts) = record { of = t; at = 8 * begin_after at t } ∷ places_from sizes (begin_after at t + size_in sizes t) ts

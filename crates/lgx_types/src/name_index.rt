@@ -12,8 +12,7 @@ use std::marker::Model;
 
 /// Names in the order in which they were added, seen as a list of their bytes.
 ///
-/// The spellings are the names in lower case, each once; beside them stand the numbers of the first names that are
-/// spelled so.
+/// The spellings are the names in lower case, each once; beside them are the numbers of the first names that are spelled so.
 pub struct NameIndex {
     alloc: Global,
     names: Vec<Name>,
@@ -116,7 +115,7 @@ fn lowered(text: &[u8]) -> [u8; MAX_NAME_BYTES]
     room
 }
 
-/// The number that stands at a place.
+/// The number at a place.
 fn number(firsts: &[u32], place: Option<usize>) -> Option<u32>
     requires { IfSome place (λ k. k < length firsts.now) }
     ensures { result ≡ option_map (λ k. slice_index firsts.now k) place }

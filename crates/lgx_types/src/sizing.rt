@@ -91,7 +91,7 @@ fn sized(element: u32, of: DataType) -> u64
     }
 }
 
-/// The byte after a member, if what stands before it ends at byte `at` and the member's elements have this size.
+/// The byte after a member, if what comes before it ends at byte `at` and the member's elements have this size.
 fn end_after(at: u32, of: DataType, element: u32) -> u32
     requires { at ≤ MAX_STRUCTURE_BYTES + 1 }
     ensures { result ≡ capped (begin_after at of + sized_by element of.base of.dim) }

@@ -20,11 +20,11 @@ number_of version = option_map (λ v. v.number) version
 abbrev pub HasRole : Roles → ℕ → Type 0
 HasRole r n = (r.base.number ≡ n) ⊎ ((number_of r.merged ≡ Some n) ⊎ (number_of r.held ≡ Some n))
 
--- no number stands in two slots
+-- no number is in two slots
 abbrev pub NoneTwice : List (Option ℕ) → Type 0
 NoneTwice slots = (i j n : ℕ) → number_at slots i ≡ Some n → number_at slots j ≡ Some n → i ≡ j
 
--- Each program that has a role lies in a slot, and nothing else does. No number stands in two slots.
+-- Each program that has a role lies in a slot, and nothing else does. No number is in two slots.
 pub record AreSlotsOf (roles : Roles) (slots : List (Option ℕ)) : Type 0 where
   pub count : length slots ≡ SLOTS
   pub kept : (n : ℕ) → HasRole roles n → (i : ℕ) × (number_at slots i ≡ Some n)

@@ -59,7 +59,7 @@ stays_in_window within script counts journal e tick window are now none =
 module _ (p : Project) (script : Script) (counts : List ℕ) (journal : List Event) (served : IsServed p script counts journal) (within : Option ℕ) where
   module _ (lane : ℕ) (action : Action) (due : due_action p script journal lane ≡ Some action) where
     acted_counts : CountsAre script (with_one_more counts lane) (journal ++ Act lane action ∷ [])
-    acted_counts = counts_are p script (with_one_more counts lane) (journal ++ Act lane action ∷ []) (due_actions_serve p script counts journal lane action served due).0.partial
+    acted_counts = counts_are p script (with_one_more counts lane) (journal ++ Act lane action ∷ []) (due_actions_serve p script counts journal lane action served due).served.partial
 
     acted_ticks : ticks_of journal ≡ ticks_of (journal ++ Act lane action ∷ [])
     acted_ticks = sym (ticks_on journal (Act lane action ∷ []) ∙ (let e : ticks_of journal + 0 ≡ ticks_of journal = omega arith in e))

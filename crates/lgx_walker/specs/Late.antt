@@ -1,4 +1,4 @@
--- Whether an action would be late, told by the counts of the lanes' actions and a tick.
+-- Whether an action would be late, by the counts of the lanes' actions and a tick.
 use Rattle.std.specs.Prelude.{◌≡◌, ℕ, List, Bool, true, false, Option, Some, None, slice_get, slice_index_or}
 use Rattle.spec_text.specs.Scripts.{Script}
 use Rattle.spec_lanes.specs.Turns.{lane_of}

@@ -1,4 +1,4 @@
-// Tells of all journals of a script.
+// Answers for all journals of a script.
 ghost use Rattle.std.specs.Prelude.{◌≡◌, ℕ, [], length, replicate, IfOk, IsTrue};
 ghost use Rattle.spec_machine.specs.Project.{Project};
 ghost use Rattle.spec_machine.specs.ValidProject.{IsValidProject};
@@ -69,7 +69,7 @@ fn tell_from<P: Progress>(
 
 /// What is said of all journals of a script within the question's window: whether a line of the question ever holds, and after
 /// which journal of the least processor steps. A layer, the states after one number of steps, may have at most `most`.
-/// Out of memory is the one fault. `progress` is told how far it is.
+/// Out of memory is the one fault. How far it is, is reported to `progress`.
 pub fn tell<P: Progress>(
     alloc: Global,
     project: Plant,

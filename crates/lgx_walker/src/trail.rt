@@ -17,7 +17,7 @@ pub struct Placed {
 }
 
 /// How many actions each lane made, and all of them in order; how many processor steps were made, and how many of them since
-/// the last action. With the script this tells the journal.
+/// the last action. With the script this gives the journal.
 #[derive(Drop)]
 pub struct Trail {
     pub counts: Items<u32>,

@@ -84,7 +84,7 @@ fn add_placed(
     add_act(alloc, journal, script, placed.lane, placed.index)
 }
 
-/// The journal that a trail tells. Out of memory is the one fault.
+/// The journal that a trail describes. Out of memory is the one fault.
 pub(crate) fn journal_of(alloc: Global, script: &Script, trail: &Trail) -> Result<Journal, Memory>
     requires { length (journal_of script.now trail.now.placed trail.now.since) + 2 ≤ MAX_EVENTS }
     ensures { IfOk result (λ journal. journal.events ≡ journal_of script.now trail.now.placed trail.now.since) }
@@ -100,7 +100,7 @@ pub(crate) fn journal_of(alloc: Global, script: &Script, trail: &Trail) -> Resul
     Ok(journal)
 }
 
-/// The journal that a trail tells, with what may be made next.
+/// The journal that a trail describes, with what may be made next.
 pub(crate) fn journal_with(
     alloc: Global,
     script: &Script,

@@ -22,7 +22,7 @@ pub(crate) fn push_number(text: &mut Vec<u8>, number: u64) -> Result<(), Memory>
     Ok(())
 }
 
-/// Writes a space before the bytes from `end` on, and answers where it stands.
+/// Writes a space before the bytes from `end` on, and answers where it is.
 #[inline(always)]
 pub(crate) fn write_space(bytes: &mut [u8], end: usize) -> usize
     requires { (0 < end) × (end ≤ length bytes.old) }
@@ -33,8 +33,8 @@ pub(crate) fn write_space(bytes: &mut [u8], end: usize) -> usize
     end - 1
 }
 
-/// Adds two numbers with a space between them, and what stands in the bytes after the first [`PAIR_ROOM`]. The numbers are
-/// written over those, so that all is added at once.
+/// Adds two numbers with a space between them, and what is in the bytes after the first [`PAIR_ROOM`]. The numbers are written over
+/// those, so that all is added at once.
 #[inline]
 pub(crate) fn push_pair(
     text: &mut Vec<u8>,

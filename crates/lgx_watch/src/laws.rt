@@ -13,8 +13,8 @@ pub fn law_of_events()
     ensures { OneMoreEvent }
 {}
 
-/// While an image changes as its marks tell, a watched place that lies in no marked grain has the number last compared, and
-/// so has one that lies in no word that is hit.
+/// While an image changes as its marks say, a watched place that lies in no marked grain has the number last compared, and so has
+/// one that lies in no word that is hit.
 pub fn law_of_watches()
     ensures marked { UnmarkedWatchesStay }
     ensures hit { UnhitWatchesStay }

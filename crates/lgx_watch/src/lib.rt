@@ -1,8 +1,8 @@
 //! The log of a run, the texts of its lines, and the watched places of each word of the image.
 //!
 //! A [`Log`] has room for `MAX_REPORT_LINES` lines from the start and counts the others, so it takes no memory while a run goes on.
-//! A text is made of a line when it is asked for, with the names of a project. A [`WatchIndex`] tells which watched places have
-//! a byte in a word or a grain, so that only those are compared whose bytes changed.
+//! A text is made of a line when it is asked for, with the names of a project. A [`WatchIndex`] says which watched places have a
+//! byte in a word or a grain, so that only those are compared whose bytes changed.
 #![tactic(auto)]
 
 mod answers;

@@ -210,7 +210,7 @@ pub fn line_text(alloc: Global, log: &Log, i: u32, names: &Names) -> Result<Vec<
     Ok(text)
 }
 
-/// The end line of a report, which tells how many lines the log lost.
+/// The end line of a report, which says how many lines the log lost.
 pub fn end_text(
     alloc: Global,
     tick: u32,

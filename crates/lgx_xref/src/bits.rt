@@ -15,7 +15,7 @@ pub(crate) enum Access {
     Read,
 }
 
-/// Whether something is written where an operand of this kind stands.
+/// Whether something is written where an operand of this kind is.
 fn is_written(kind: OperandKind) -> bool
     ensures { result ≡ is_written kind }
 {

@@ -64,7 +64,7 @@ impl TagUses {
     }
 }
 
-/// So many tags without a use.
+/// `count` tags without a use.
 pub(crate) fn no_uses(alloc: Global, count: usize) -> Result<Vec<TagUses>, Memory>
     ensures { IfOk result (λ lists. lists.items ≡ replicate count []) }
 {

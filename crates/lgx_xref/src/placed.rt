@@ -14,7 +14,7 @@ use spec_uses::Use;
 use std::alloc::Global;
 use std::marker::Model;
 
-/// An instruction, and where it stands.
+/// An instruction, and where it is.
 #[derive(Drop)]
 pub(crate) struct Placed<'p> {
     at: Use,
@@ -30,7 +30,7 @@ impl<'p> Model for Placed<'p> {
 }
 
 impl<'p> Placed<'p> {
-    /// Where it stands.
+    /// Where it is.
     pub(crate) fn at(&self) -> Use
         ensures { result ≡ self.now.at }
     {
@@ -45,7 +45,7 @@ impl<'p> Placed<'p> {
     }
 }
 
-/// A rung by its numbers, and how many instructions of its program stand before it.
+/// A rung by its numbers, and how many instructions of its program come before it.
 #[derive(Clone, Copy)]
 struct Spot {
     program: u32,

@@ -24,7 +24,7 @@ fn called(ins: &Ins) -> Option<u32>
     }
 }
 
-/// So many sets without a tag.
+/// `count` sets without a tag.
 fn no_tags(alloc: Global, count: usize) -> Result<Vec<TagSet>, Memory>
     ensures { IfOk result (λ sets. sets.items ≡ replicate count []) }
 {
@@ -57,7 +57,7 @@ fn add_returns(
     returns[routine].add_bits(spans, &bits)
 }
 
-/// For each of so many routines the tags to which its calls among these instructions return values.
+/// For each of `routines` routines the tags to which its calls among these instructions return values.
 pub(crate) fn returns_in(
     alloc: Global,
     spans: &[TagSpan],

@@ -1,4 +1,4 @@
-//! `logix_cover`: tells how often each instruction was executed by the run of a journal on a project.
+//! `logix_cover`: says how often each instruction was executed by the run of a journal on a project.
 #![tactic(auto)]
 
 use lgx_cover::CoverProgram;

@@ -1,4 +1,4 @@
-//! `logix_explore`: tells whether any journal of a script shows what a question says is never to be.
+//! `logix_explore`: says whether any journal of a script shows what a question says is never to be.
 #![tactic(auto)]
 
 mod process;

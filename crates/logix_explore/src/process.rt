@@ -43,7 +43,7 @@ fn process_over<A: Arguments, P: Progress + Drop, F: Files, W: Write + Drop>(
 }
 
 /// What [`process_over`] does, with the arguments and the files of the system and standard output. If lines are wanted, standard
-/// error tells how far it is: at most one a second, from two seconds on.
+/// error shows how far it is: at most one a second, from two seconds on.
 pub fn process<R: Env + AllocGlobal + FileAccess + Print + Eprint + Clock>(
     rt: &R,
     are_lines_wanted: bool,

@@ -1,4 +1,4 @@
-//! `logix_laws`: tells whether a trace keeps the laws that the audit leaves out.
+//! `logix_laws`: says whether a trace keeps the laws that the audit leaves out.
 #![tactic(auto)]
 
 use cmd_laws::LawsProgram;

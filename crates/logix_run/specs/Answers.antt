@@ -18,7 +18,7 @@ pub record KeepsLaws (p : Project) : Type 0 where
 abbrev pub MakeLawful : List ℕ → Type 0
 MakeLawful bytes = IfOk (project_of bytes) KeepsLaws
 
--- The call follows the plan; and every text that is a project, whether a file tells it or not, is one that keeps the laws. So each
+-- The call follows the plan; and every text that is a project, whether a file has it or not, is one that keeps the laws. So each
 -- run that a plan speaks of keeps them.
 pub record IsAnswered (plan : Plan) (call : Call) : Type 0 where
   pub follows : FollowsPlan plan call

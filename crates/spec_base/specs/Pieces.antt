@@ -2,7 +2,7 @@
 use Rattle.std.specs.Prelude.{ℕ, List, [], ◌∷◌, Bool, true, false, nat_eq}
 use Rattle.std.specs.List.{list_any}
 
--- what stands before, between and behind the marks of a text
+-- what comes before, between and behind the marks of a text
 abbrev pub cut : Bool → ℕ → List (List ℕ) → List (List ℕ)
 cut true c ps = [] ∷ ps
 cut false c [] = (c ∷ []) ∷ []
@@ -16,6 +16,6 @@ abbrev pub is_empty : List ℕ → Bool
 is_empty [] = true
 is_empty (c ∷ cs) = false
 
--- whether a mark stands in a text
+-- whether a mark is in a text
 abbrev pub has_byte : ℕ → List ℕ → Bool
 has_byte mark text = list_any (λ c. nat_eq c mark) text

@@ -1,4 +1,4 @@
-// Limits, each told once. What Rockwell's publications leave open is our own profile.
+// Limits, each stated once. What Rockwell's publications leave open is our own profile.
 
 /// The bytes of a name (1756-PM004).
 pub const MAX_NAME_BYTES: usize = 40;
@@ -12,7 +12,7 @@ pub const MAX_TAG_NAME_PARTS: usize = 4;
 /// The variable subscripts of an operand (profile).
 pub const MAX_SUBSCRIPTS: usize = 4;
 
-/// The forks of a rung that stand in one another (profile).
+/// The forks of a rung that are nested in one another (profile).
 pub const MAX_FORKS: usize = 16;
 
 /// The operands of an instruction: a routine, a count, and the most inputs and returns.

@@ -1,4 +1,4 @@
--- Where the frames of a scan stand: each in the rungs of its own routine, and with returns that a call of this routine wants.
+-- Where the frames of a scan are: each in the rungs of its own routine, and with returns that a call of this routine wants.
 use Rattle.std.specs.Prelude.{◌≡◌, ℕ, Bool, List, Some}
 use Rattle.std.specs.List.{AllByRecursion as Each}
 use Rattle.lgx_num.specs.declared.place.Flags.{Flags}

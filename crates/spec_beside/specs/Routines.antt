@@ -14,7 +14,7 @@ use Rattle.spec_beside.specs.Frames.{CallsReturn, FramesStand, RoutinesHave}
 use Rattle.spec_beside.specs.Misses.{PlaceMisses}
 use Rattle.spec_beside.specs.Sites.{CallsBeside}
 
--- an instruction that stands in routine r of program number g, and has operands such as its mnemonic wants
+-- an instruction that is in routine r of program number g, and has operands such as its mnemonic wants
 pub record StandsIn (g : ℕ) (program : ProgramText) (r : ℕ) (i : Ins) : Type 0 where
   pub site : Site
   pub number : ℕ
@@ -29,7 +29,7 @@ IsReturnTo program r place = (b : ℕ) → CallsBeside b program r → PlaceMiss
 
 -- ---- in a valid project's programs
 
--- each routine's instructions stand in it
+-- each routine's instructions are in it
 abbrev pub RoutinesStand : Type 0
 RoutinesStand =
     (p : Project) (g : ℕ) (program : ProgramText) → IsValidProject p → slice_get p.programs g ≡ Some program
@@ -41,7 +41,7 @@ CallsStand =
     (p : Project) (g : ℕ) (program : ProgramText) → IsValidProject p → slice_get p.programs g ≡ Some program
     → CallsReturn (StandsIn g program) (IsReturnTo program)
 
--- each frame of a scan stands in its own routine, and wants returns at such places
+-- each frame of a scan is in its own routine, and wants returns at such places
 abbrev pub ScanStands : ℕ → ProgramText → Position → Type 0
 ScanStands g program position = FramesStand (StandsIn g program) (IsReturnTo program) position
 

@@ -37,7 +37,7 @@ pub fn prescan_writes_beside()
     ensures { PrescanWritesBeside }
 {}
 
-/// The frames of a scan stand in their own routines, and want returns where calls of these want them.
+/// The frames of a scan are in their own routines, and want returns where calls of these want them.
 pub fn scans_keep_frames()
     ensures routines { RoutinesStand }
     ensures calls { CallsStand }

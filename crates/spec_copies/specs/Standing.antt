@@ -1,4 +1,4 @@
--- Where a scan stands, in every state that a journal leads to: in its own rungs, with what it copies in the image.
+-- Where a scan is, in every state that a journal leads to: in its own rungs, with what it copies in the image.
 use Rattle.std.specs.Prelude.{◌≡◌, ℕ, ◌<◌, ◌≤◌, true, List, length, Option, Some, None}
 use Rattle.spec_scan.specs.CopyBounds.{CopyInBounds}
 use Rattle.spec_scan.specs.declared.bound.Copying.{Copying}
@@ -23,8 +23,8 @@ abbrev pub CopiesIn : ℕ → Option Copying → Type 0
 CopiesIn len None = Unit {0}
 CopiesIn len (Some c) = IsCopyIn len c
 
--- every instruction to come can be executed over an image of so many bytes, the places of returns lie in it, and so does the
--- copy in progress
+-- every instruction to come can be executed over an image of `len` bytes, the places of returns lie in it, and so does the copy in
+-- progress
 pub record StandsIn (len : ℕ) (position : Position) : Type 0 where
   pub instructions : PositionHas (IsExecutable len) position
   pub returns : ReturnsInBounds len position

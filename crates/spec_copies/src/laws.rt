@@ -2,7 +2,7 @@
 ghost use Rattle.spec_copies.specs.Standing.{ScansStandIn};
 ghost use Rattle.spec_copies.specs.WholeCopies.{RunsCopyWhole};
 
-/// A scan stands in rungs that can be executed, and its copy in progress lies in the image.
+/// A scan is in rungs that can be executed, and its copy in progress lies in the image.
 pub fn scans_stand_in()
     ensures { ScansStandIn }
 {}

@@ -1,4 +1,4 @@
-//! Where scans stand and what synchronous copies leave, in every run of a valid project, over the definitions alone.
+//! Where scans are and what synchronous copies leave, in every run of a valid project, over the definitions alone.
 #![tactic(auto)]
 
 mod laws;

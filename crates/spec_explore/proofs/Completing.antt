@@ -41,7 +41,7 @@ module _ (p : Project) (script : Script) where
         | inl before ↦ done lane before
         | inr last ↦
             (let same : n ≡ lane = omega arith in
-            subst (λ i. done_by i es ≡ length (lane_of script i)) same ((none_is_left p script counts es n h e spent).1 lt))
+            subst (λ i. done_by i es ≡ length (lane_of script i)) same ((none_is_left p script counts es n h e spent).all_made lt))
       ])
 
   find_due : (counts : List ℕ) (es : List Event) (n : ℕ) → IsServed p script counts es → is_spent p script es ≡ true → n ≤ length script.lanes → AreDone es n ⊎ HasDue es
@@ -64,7 +64,7 @@ module _ (p : Project) (script : Script) where
       ext_get_or 0 counts (map (λ (list : List Timed). length list) script.lanes) (long ∙ sym (length-map script.lanes (λ (list : List Timed). length list)))
       (λ i lt.
       let within : i < length script.lanes = omega arith in
-      (counts_tell p script counts es i h within).0
+      (counts_tell p script counts es i h within).count
       ∙ (done i within ∙ sym (get_or-map (λ (list : List Timed). length list) script.lanes i [] 0 within))) in
       record {
         partial = subst (λ (ns : List ℕ). IsPartial p script ns es) all h.partial;
@@ -98,8 +98,8 @@ module _ (p : Project) (script : Script) where
         | inl done ↦ ([], subst (λ (xs : List Event). IsComplete p script xs) (sym (append-nil es)) (whole counts es h e done))
         | inr due ↦
             absurd (let k = due_actions_serve p script counts es due.0 due.1 h due.2 in
-            let few = few_counts (es ++ Act due.0 due.1 ∷ []) 0 (with_one_more counts due.0) script.lanes k.0.partial.lanes in
-            let more = k.1 in
+            let few = few_counts (es ++ Act due.0 due.1 ∷ []) 0 (with_one_more counts due.0) script.lanes k.served.partial.lanes in
+            let more = k.one_more in
             omega arith)
       ]
   complete_from (suc n) counts es h le true e =
@@ -108,10 +108,10 @@ module _ (p : Project) (script : Script) where
         | inr due ↦
             (let made : List Event = Act due.0 due.1 ∷ [] in
             let k = due_actions_serve p script counts es due.0 due.1 h due.2 in
-            let few = few_counts (es ++ made) 0 (with_one_more counts due.0) script.lanes k.0.partial.lanes in
-            let more = k.1 in
+            let few = few_counts (es ++ made) 0 (with_one_more counts due.0) script.lanes k.served.partial.lanes in
+            let more = k.one_more in
             let s = steps_on es made in
-            go_on es made (complete_from n (with_one_more counts due.0) (es ++ made) k.0 (omega arith) (is_spent p script (es ++ made)) refl))
+            go_on es made (complete_from n (with_one_more counts due.0) (es ++ made) k.served (omega arith) (is_spent p script (es ++ made)) refl))
       ]
 
 pub partial_journals_complete : PartialJournalsComplete

@@ -30,7 +30,7 @@ module _ (p : Project) (script : Script) (valid : IsValidProject p) (proper : Is
   from_last zero _ _ le (Acted counts es lane a h due) = absurd (let l = length-append es (Act lane a ∷ []) in omega arith)
   from_last (suc n) _ _ le (Acted counts es lane a h due) =
       let l = length-append es (Act lane a ∷ []) in
-      (due_actions_serve p script counts es lane a (from_last n counts es (omega arith) (partial_journals_grow p script counts es valid proper h)) due).0
+      (due_actions_serve p script counts es lane a (from_last n counts es (omega arith) (partial_journals_grow p script counts es valid proper h)) due).served
   from_last zero _ _ le (Stepped counts es h unspent) =
       absurd (let l = length-append es (paced_step script.pace (steps_of es + 1)) in let s = paced_some script.pace (steps_of es + 1) in omega arith)
   from_last (suc n) _ _ le (Stepped counts es h unspent) =

@@ -98,7 +98,7 @@ pub actions_witness : ActionsWitness
 actions_witness p script q counts es lane a line h due window before first =
     let same : steps_of (es ++ Act lane a ∷ []) ≡ steps_of es = steps_on es (Act lane a ∷ []) ∙ (let e : steps_of es + 0 ≡ steps_of es = omega arith in e) in
     record {
-      moment = record { after = []; counts = with_one_more counts lane; partial = (due_actions_serve p script counts es lane a h due).0.partial; window = window };
+      moment = record { after = []; counts = with_one_more counts lane; partial = (due_actions_serve p script counts es lane a h due).served.partial; window = window };
       first = first;
       shortest = subst (λ n. IsNeverBefore p script q n) (sym same) before;
     }

@@ -1,5 +1,5 @@
 -- Nodes that stand for journals, and what it takes that they stand for all of a layer: for all partial journals within the
--- window that have so many processor steps.
+-- window that have a given number of processor steps.
 use Rattle.std.specs.Prelude.{◌≡◌, ℕ, ◌+◌, ◌<◌, List, [], ◌∷◌, ◌++◌, length, replicate, false, Some, IsTrue, ⊤}
 use Rattle.std.specs.List.{Contains}
 use Rattle.spec_machine.specs.declared.event.Action.{Action}
@@ -26,7 +26,7 @@ AreClear p q s (e ∷ es) = (holds_some p q (step s e) ≡ false) × AreClear p 
 abbrev pub Standing : Type 0 → Type 1
 Standing Node = Node → List ℕ → List Event → Type 0
 
--- a partial journal within the window that has so many processor steps
+-- a partial journal within the window that has k processor steps
 pub record IsOfLayer (p : Project) (script : Script) (q : Question) (k : ℕ) (counts : List ℕ) (journal : List Event) : Type 0 where
   pub partial : IsPartial p script counts journal
   pub window : InWindow q.within script journal
@@ -85,12 +85,12 @@ abbrev pub LayersGoOn : Type 0
 LayersGoOn =
     (p : Project) (script : Script) (q : Question) (k : ℕ) (nodes next : List Node) → IsValidProject p → IsTrue (is_script script) → IsDone p script q (LeadsTo p) k nodes → Steps p script q (LeadsTo p) k nodes next → Acts p script q (LeadsTo p) (k + 1) next → IsDone p script q (LeadsTo p) (k + 1) next
 
--- at an empty layer all is told
+-- at an empty layer all is known
 abbrev pub LayersEnd : Type 0
 LayersEnd =
     (p : Project) (script : Script) (q : Question) (k : ℕ) → IsValidProject p → IsTrue (is_script script) → IsDone p script q (LeadsTo p) k [] → (n : ℕ) → IsNeverBefore p script q n
 
--- no partial journal has so many steps, so layers end
+-- no partial journal has more steps than `most_steps`, so layers end
 abbrev pub LayersAreFew : Type 0
 LayersAreFew =
     (p : Project) (script : Script) (q : Question) (k : ℕ) (nodes : List Node) → IsValidProject p → IsTrue (is_script script) → most_steps script < k → IsDone p script q (LeadsTo p) k nodes → IsDone p script q (LeadsTo p) k []

@@ -69,7 +69,7 @@ pub record IsFirstLine (p : Project) (q : Question) (x : Answered TraceEntry) (l
 
 -- ---- the window
 
--- here the lane's next action is late: its time is more than so many ticks ago
+-- here the lane's next action is late: its time is more than `most` ticks ago
 abbrev pub is_late_at : ℕ → ℕ → Option Timed → Bool
 is_late_at most now None = false
 is_late_at most now (Some t) = nat_lt (t.at + most) now

@@ -27,7 +27,7 @@ WindowsGrow =
 abbrev pub StepsAreInTime : Type 0
 StepsAreInTime = (script : Script) (within : Option ℕ) (journal : List Event) (lane : ℕ) → is_late within script (journal ++ Cpu ∷ []) lane ≡ is_late within script journal lane
 
--- so an action is made at most so many ticks after its time
+-- so an action is made at most `most` ticks after its time
 abbrev pub ActionsAreInTime : Type 0
 ActionsAreInTime =
     (script : Script) (most : ℕ) (before after : List Event) (lane : ℕ) (action : Action) (t : Timed) → InWindow (Some most) script (before ++ Act lane action ∷ after) → next_of script before lane ≡ Some t → ticks_of before ≤ t.at + most

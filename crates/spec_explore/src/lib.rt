@@ -1,4 +1,4 @@
-//! Journals of a script told by how they grow, and what a question asks of all of them.
+//! Journals of a script described by how they grow, and what a question asks of all of them.
 #![tactic(auto)]
 
 mod laws;

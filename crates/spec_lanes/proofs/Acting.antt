@@ -22,7 +22,7 @@ use Rattle.spec_schedule.specs.Partial.{LaneDid, LanesDid, is_of_lane, is_held_a
 use Rattle.spec_reach.proofs.Reached.{IsReached, run_more}
 use Rattle.spec_lanes.specs.Turns.{lane_of, done_by, ticks_of, next_of, would_be_held, is_spent}
 use Rattle.spec_lanes.specs.Served.{HasOpenCps, IsServed}
-use Rattle.spec_lanes.specs.Laws.{with_one_more, DueActionsServe}
+use Rattle.spec_lanes.specs.Laws.{with_one_more, HasActed, DueActionsServe}
 use Rattle.spec_lanes.proofs.Ranges.{each_in, all_in}
 use Rattle.spec_lanes.proofs.LaneLists.{did_long, did_from}
 use Rattle.spec_lanes.proofs.Appended.{steps_on, ticks_on, made_other, did_same, did_next, answers_on, opens_on, lanes_on}
@@ -160,8 +160,9 @@ pub due_actions_serve : DueActionsServe
 due_actions_serve p script counts es lane a h due =
     let n = next_due p script es lane a due in
     let t = n.timed in
-    subst (λ (x : Action). IsServed p script (with_one_more counts lane) (es ++ Act lane x ∷ []) × (sum (with_one_more counts lane) ≡ sum counts + 1) × (is_spent p script es ≡ true → is_spent p script (es ++ Act lane x ∷ []) ≡ true)) n.is (
-      served_more p script counts es lane t h n.next n.come (not_from_false _ n.free),
-      one_more p script counts es lane t h n.next n.come,
-      still_spent p script counts es lane t h n.next n.come,
-    )
+    subst (λ (x : Action). HasActed p script counts es lane x) n.is
+    (record {
+      served = served_more p script counts es lane t h n.next n.come (not_from_false _ n.free);
+      one_more = one_more p script counts es lane t h n.next n.come;
+      still_spent = still_spent p script counts es lane t h n.next n.come;
+    })

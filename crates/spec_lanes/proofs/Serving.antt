@@ -96,7 +96,7 @@ pub counts_tell : CountsTell
 counts_tell p script counts es lane h lt =
     let count = count_is p script counts es h lane lt in
     let enough = (lane_did p script counts es h lane lt).enough in
-    (sym count, omega arith)
+    record { count = sym count; few = omega arith }
 
 div_less : (m n k : ℕ) → 0 < k → m ≤ n → m / k ≤ n / k
 div_less m n k some le = le-div (m / k) n k some (let a = div-mul-le_self m k in omega arith)
@@ -150,12 +150,12 @@ module _ (p : Project) (script : Script) (counts : List ℕ) (es : List Event) (
 
   all_made : lane < length script.lanes → done_by lane es ≡ length (lane_of script lane)
   all_made lt =
-      let few = (counts_tell p script counts es lane h lt).1 in
+      let few = (counts_tell p script counts es lane h lt).few in
       let past = none_past (lane_of script lane) (done_by lane es) no_next in
       omega arith
 
 pub none_is_left : NoneIsLeft
-none_is_left p script counts es lane h none spent = (no_next p script counts es lane h none spent, all_made p script counts es lane h none spent)
+none_is_left p script counts es lane h none spent = record { none_left = no_next p script counts es lane h none spent; all_made = all_made p script counts es lane h none spent }
 
 -- ---- complete
 

@@ -20,9 +20,9 @@ pub record HasOpenCps (s : State) (t : ℕ) (c : Copying) : Type 0 where
   pub stands : (progress_of s t).scan ≡ Some scan
   pub copy : scan.position.copy ≡ Some c
 
--- The journal is partial for the counts. Its actions but the first are as many as the counts together. So many ticks were
--- made as the pace divides the processor steps. A CPS that is open was so after the last processor step and its tick, and
--- each step beyond the script's took an element from it. So there are few of these.
+-- The journal is partial for the counts. Its actions but the first are as many as the counts together. The ticks are the processor
+-- steps divided by the pace, cut. A CPS that is open was so after the last processor step and its tick, and each step beyond the
+-- script's took an element from it. So there are few of these.
 pub record IsServed (project : Project) (script : Script) (counts : List ℕ) (journal : List Event) : Type 0 where
   pub valid : IsValidProject project
   pub proper : IsTrue (is_script script)

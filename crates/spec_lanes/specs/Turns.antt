@@ -1,4 +1,4 @@
--- What a turn of a lane is to do, told by the project, the script and the journal so far.
+-- What a turn of a lane is to do, by the project, the script and the journal so far.
 use Rattle.std.specs.Prelude.{ℕ, ◌+◌, ◌/◌, ◌%◌, List, [], ◌∷◌, length, count_by, slice_get, slice_index_or, Bool, not, ◌&&◌, nat_le, nat_eq, if◌then◌else◌, Option, Some, None, IsSomeAnd, IsTrue}
 use Rattle.spec_base.specs.declared.limits.TheConstants.{MAX_IMAGE_BYTES}
 use Rattle.spec_machine.specs.declared.event.Action.{Action}
@@ -17,7 +17,7 @@ use Rattle.spec_schedule.specs.Partial.{is_held_after, is_held, made_by}
 abbrev pub lane_of : Script → ℕ → List Timed
 lane_of script lane = slice_index_or script.lanes lane []
 
--- how many actions of a lane stand in a journal
+-- how many actions of a lane are in a journal
 abbrev pub done_by : ℕ → List Event → ℕ
 done_by lane journal = length (made_by lane 0 journal)
 

@@ -29,8 +29,8 @@ pub record CheckScope : Type 0 where
   pub routines : List (List ℕ)
   pub tasks : List TaskName
 
--- where an instruction stands: its rung, its number in the rung, how many instructions of the routine stand before it, and
--- whether it is its rung's first element
+-- where an instruction is: its rung, its number in the rung, how many instructions of the routine come before it, and whether it is
+-- its rung's first element
 pub record Spot : Type 0 where
   pub rung : ℕ
   pub ins : ℕ
@@ -148,7 +148,7 @@ instruction_of s ls spot i = settled ls spot i (operands_of s ls spot (paired i.
 
 -- ---- rungs
 
--- the spot after so many instructions
+-- the spot after n more instructions
 abbrev pub spot_after : ℕ → Spot → Spot
 spot_after n spot = record { rung = spot.rung; ins = spot.ins + n; before = spot.before + n; leads = false }
 
@@ -172,7 +172,7 @@ abbrev mutual
       checked_legs check (spot_after (length (instructions t)) spot) legs >>= λ legs'.
       Ok (leg t' legs')
 
--- the rungs from this one on, after so many instructions
+-- the rungs from this one on, after `before` instructions
 abbrev pub checked_from : (Spot → SourceIns → Result Ins CheckFault) → ℕ → ℕ → List Source → Result (List (Tree Ins)) CheckFault
 checked_from check rung before [] = Ok []
 checked_from check rung before (r ∷ rs) =

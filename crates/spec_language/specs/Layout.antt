@@ -71,7 +71,7 @@ sized_in sizes base (suc n) = suc n * element_in sizes base
 abbrev pub size_in : List ℕ → DataType → ℕ
 size_in sizes t = sized_in sizes t.base t.dim
 
--- where a member or tag of a type begins, if what stands before it ends at this byte
+-- where a member or tag of a type begins, if what comes before it ends at this byte
 abbrev pub begin_after : ℕ → DataType → ℕ
 begin_after at t = round_up (alignment t) at
 

@@ -40,7 +40,7 @@ integer_bits (User i) = 0
 abbrev pub is_integer : DataType → Bool
 is_integer t = not (is_array t) && nat_lt 0 (integer_bits t.base)
 
--- what stands at a place of a type: its bit or its number; a place of another type is spoken of by its first DINT
+-- what is at a place of a type: its bit or its number; a place of another type is spoken of by its first DINT
 abbrev pub kind_of : Base → Kind
 kind_of OneBit = KBool
 kind_of Sint = KSint
@@ -64,7 +64,7 @@ find_member types f name = do
   m ← some_or (member_of types f.of.base name) G4
   Ok (record f { at = f.at + m.at; of = m.of })
 
--- G5: a subscript stands at what is no array, or it is out of range
+-- G5: a subscript is at what is no array, or it is out of range
 abbrev pub find_element : List TypeDecl → Found → ℕ → Result Found TagCode
 find_element types f n = do
   _ ← unless (is_array f.of) G5
@@ -106,8 +106,7 @@ abbrev pub subscript_by : Subscripts → Result Found TagCode → Result Found T
 subscript_by operands found = found
 subscript_by numbers_alone found = Err G6
 
--- what a form names, where tags' names stand for what `named` says; a `[` at what is no array is met before what stands
--- after it
+-- what a form names, where tags' names stand for what `named` says; a `[` at what is no array is met before what comes after it
 abbrev pub resolved : Subscripts → List TypeDecl → (List ℕ → Result Found TagCode) → Form → Result Found TagCode
 resolved s types named (tag name) = named name
 resolved s types named (member form name) = resolved s types named form >>= λ f. find_member types f name
@@ -139,8 +138,8 @@ meant types target_found e = go e.1.meaning
 abbrev pub in_form : Subscripts → List TypeDecl → (List ℕ → Result Found TagCode) → List ℕ → Result Found TagCode
 in_form s types named text = some_or (form text) G10 >>= resolved s types named
 
--- what a name stands for if at most so many aliases follow one another, and G7 if more do; numbers alone are
--- subscripts in an alias's target
+-- what a name stands for if at most the given number of aliases follow one another, and G7 if more do; numbers alone are subscripts
+-- in an alias's target
 abbrev pub named_within : ℕ → Declarations → Scope → List ℕ → Result Found TagCode
 named_within zero d scope name = some_or (seen_from d scope name) G3 >>= meant d.types (λ _ _. Err G7)
 named_within (suc chain) d scope name = some_or (seen_from d scope name) G3 >>= meant d.types (λ s target. in_form numbers_alone d.types (named_within chain d s) target)

@@ -38,7 +38,7 @@ abbrev pub EndsBy : List TypeDecl → DataType → ℕ → ℕ → Type 0
 EndsBy types of stop at = IsByteAligned (kind_of of.base) at × (at + width types of ≤ 8 * stop)
 
 pub record LiesIn (types : List TypeDecl) (len : ℕ) (f : Found) : Type 0 where
-  -- each subscript stands in the image, on a byte, and there are not too many
+  -- each subscript lies in the image, on a byte, and there are not too many
   pub subscripts : SubscriptsInBounds f.steps len
   pub few : length f.steps ≤ MAX_SUBSCRIPTS
   -- wherever they lead, the place ends within its tag, and the tag within the image

@@ -1,6 +1,6 @@
 -- The law of releases by actions: in Run the last word of an input releases the task that its connection triggers, and the
--- change to Run releases the continuous task. No other action releases anybody. The answers of a trace don't tell which word
--- came in, so this is told of the states.
+-- change to Run releases the continuous task. No other action releases anybody. The answers of a trace don't say which word came
+-- in, so this is a law of the states.
 use Rattle.std.specs.Prelude.{◌≡◌, ℕ, ◌+◌, List, length, find, Bool, false, not, ◌&&◌, ◌||◌, nat_eq, Option, None, option_map, ⊤}
 use Rattle.std.specs.List.{AllByRecursion, range_with_len}
 use Rattle.spec_tables.specs.declared.fault.TheConstants.{TASK_FAULT, EVENT_OVERLAP}
@@ -53,7 +53,7 @@ stays_up s ModeProgram Done t = false
 stays_up s _ _ t = is_up s.table t
 
 pub record IsReleasedRightly (before : State) (a : Action) (o : Outcome) (after : State) : Type 0 where
-  -- its mask tells who comes up
+  -- its mask says who comes up
   pub released : o.released ≡ mask_where before (comes_up_by before a o.reply)
   -- and its fault who overlaps
   pub fault : o.fault ≡ option_map (overlap_of before) (first_task before (overlaps_by before a o.reply))

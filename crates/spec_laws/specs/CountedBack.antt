@@ -1,5 +1,5 @@
 -- What is counted back along a trace: for how many ticks a task has been up, and for how many the controller has been in
--- Run. The places of the past stand with the latest first.
+-- Run. The places of the past come with the latest first.
 use Rattle.std.specs.Prelude.{ℕ, ◌+◌, List, [], ◌∷◌, slice_index_or, Bool, true, false, ◌&&◌, nat_eq, if◌then◌else◌, Option, Some, None, option_map}
 use Rattle.spec_schedule.specs.declared.trace.Verb.TheVariants.{Run}
 use Rattle.spec_schedule.specs.declared.trace.TraceAnswer.TheVariants.{Done}

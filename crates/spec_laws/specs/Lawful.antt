@@ -1,6 +1,6 @@
 -- What each run of a project keeps, whatever its events are. First the laws of the schedule, then what a controller owes to its
--- tasks: laws that one breaks which does too little. Each is a proposition with a name; what it asks of a place stands in the file
--- of its own from which it is taken here.
+-- tasks: laws that one breaks which does too little. Each is a proposition with a name; what it asks of a place is in the file of
+-- its own from which it is taken here.
 use Rattle.std.specs.Prelude.{List, [], IsTrue}
 use Rattle.std.specs.List.{list_all}
 use Rattle.spec_machine.specs.declared.event.Event.{Event}
@@ -38,11 +38,11 @@ ScheduleIsLegal p = (events : List Event) → Legal (table_of p) (view p events)
 abbrev pub RegionsAreKept : Project → Type 0
 RegionsAreKept p = (events : List Event) → KeepsRegions (table_of p) (view p events)
 
--- A tick tells the first task that has been up for as many ticks as its watchdog has, and none where there is none.
+-- A tick reports the first task that has been up for as many ticks as its watchdog has, and none where there is none.
 abbrev pub WatchdogsRunOut : Project → Type 0
 WatchdogsRunOut p = (events : List Event) → IsTrue (each_with_past (keeps_watchdogs p.tasks) [] (counted_run p events))
 
--- A tick at which no watchdog runs out releases each periodic task that is due and down, and tells each that is due and up.
+-- A tick at which no watchdog runs out releases each periodic task that is due and down, and reports each that is due and up.
 abbrev pub TicksRelease : Project → Type 0
 TicksRelease p = (events : List Event) → IsTrue (each_with_past (keeps_releases p.tasks) [] (counted_run p events))
 

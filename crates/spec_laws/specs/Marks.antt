@@ -22,7 +22,7 @@ use Rattle.spec_machine.specs.State.{State}
 use Rattle.spec_schedule.specs.Stages.{Stage, stages, scan_in_progress, copy_in}
 use Rattle.spec_uses.specs.Changes.{next_of}
 
--- the condition before the instruction at which the scan of task t stands
+-- the condition before the next instruction of the scan of task t
 abbrev pub condition_in : List Frame → Bool
 condition_in [] = false
 condition_in (f ∷ outer) = f.cursor.on
@@ -32,7 +32,7 @@ condition_at s t = elim (scan_in_progress s t) [ None ↦ false | Some scan ↦ 
 
 -- ---- copies
 
--- there is room for one element of so many bytes up to the end of the operand's tag
+-- there is room for one element of `size` bytes up to the end of the operand's tag
 abbrev pub has_room : ℕ → Arg → Bool
 has_room size a = nat_lt 0 size && nat_le size (room_of a)
 
@@ -71,7 +71,7 @@ abbrev pub shown_if : Bool → Op → List Operand → List ℕ → Mark
 shown_if true op args image = shown op args image
 shown_if false op args image = Plain
 
--- there is an instruction before which the scan of the task stands, and the mark is what it shows
+-- the scan of the task has a next instruction, and the mark is what that shows
 pub record ShowsMark (s : State) (t : ℕ) (mark : Mark) : Type 0 where
   pub ins : Ins
   pub next : next_of s t ≡ Some ins

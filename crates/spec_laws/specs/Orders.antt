@@ -60,8 +60,8 @@ is_aside (Some i) on = leads_aside i.op && on
 abbrev pub goes_aside : ℕ → Stage → Bool
 goes_aside t x = is_aside (executed_at t x) (condition_at x.before t)
 
--- A scan of task t in a list of stages, from its begin to its end. No other begin of the task stands between the two, and it
--- never goes aside.
+-- A scan of task t in a list of stages, from its begin to its end. No other begin of the task comes between the two, and it never
+-- goes aside.
 pub record StraightScan (t : ℕ) (xs : List Stage) : Type 0 where
   pub before : List Stage
   pub begin : Stage

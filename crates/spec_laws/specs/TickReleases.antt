@@ -15,7 +15,7 @@ abbrev pub mask_below : (ℕ → Bool) → ℕ → ℕ
 mask_below test zero = 0
 mask_below test (suc n) = mask_below test n + (if test n then 2 ^ n else 0)
 
--- so many ticks are a multiple of the task's period
+-- the ticks are a multiple of the task's period
 abbrev pub are_periods : ℕ → TaskKind → Bool
 are_periods ticks (Periodic period) = nat_eq (ticks % period) 0
 are_periods ticks _ = false
@@ -35,7 +35,7 @@ comes_up tasks past x t = is_due_at tasks past t && not (at x t).up
 abbrev pub overlaps : List TaskDef → List CountedEvent → CountedEvent → ℕ → Bool
 overlaps tasks past x t = is_due_at tasks past t && (at x t).up
 
--- a tick that tells a watchdog's task releases nobody
+-- a tick that reports a watchdog's task releases nobody
 abbrev pub keeps_releases : List TaskDef → List CountedEvent → CountedEvent → Bool
 keeps_releases tasks past x = check x.event
   where

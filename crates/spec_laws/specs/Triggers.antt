@@ -14,7 +14,7 @@ use Rattle.spec_schedule.specs.Legal.{at}
 abbrev pub overlaps_at : List TaskDef → CountedEvent → ℕ → Bool
 overlaps_at tasks x t = (at x t).up && not (slice_index_or tasks t no_task).inhibited
 
--- the fault that tells it is minor
+-- the fault that reports it is minor
 abbrev pub tells_overlap : StepFault → Bool → Bool
 tells_overlap fault.Plain overlaps = not overlaps
 tells_overlap fault.Minor overlaps = overlaps

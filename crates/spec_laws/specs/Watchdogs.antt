@@ -1,4 +1,4 @@
--- The law of watchdogs: a tick tells the first task that has been up for as many ticks as its watchdog has.
+-- The law of watchdogs: a tick reports the first task that has been up for as many ticks as its watchdog has.
 use Rattle.std.specs.Prelude.{ℕ, ◌+◌, List, length, slice_index_or, Bool, true, not, ◌&&◌, nat_le, Option, Some, None}
 use Rattle.std.specs.List.{list_all, range_with_len}
 use Rattle.spec_tables.specs.declared.task.TaskDef.{TaskDef}
@@ -18,7 +18,7 @@ runs_out tasks past x t =
 abbrev pub none_below : List TaskDef → List CountedEvent → CountedEvent → ℕ → Bool
 none_below tasks past x n = list_all (λ t. not (runs_out tasks past x t)) (range_with_len 0 n)
 
--- it is told if it ran out and none before it did; none is told if none ran out
+-- it is reported if it ran out and none before it did; none is reported if none ran out
 abbrev pub is_first_out : List TaskDef → List CountedEvent → CountedEvent → Option ℕ → Bool
 is_first_out tasks past x None = none_below tasks past x (length tasks)
 is_first_out tasks past x (Some t) = runs_out tasks past x t && none_below tasks past x t

@@ -3,8 +3,8 @@ use Rattle.std.specs.Prelude.{◌≡◌, ℕ, zero, suc, List, [], ◌∷◌, �
 use Rattle.lgx_rung.specs.Tree.{Source}
 use Rattle.spec_machine.specs.Edits.{Change, Replaced, Inserted, Deleted, merged}
 
--- What stands at a rung of the base: the rungs inserted before it, the one inserted first on top; the rung itself, until an
--- edit takes it; and what replaces it.
+-- What is at a rung of the base: the rungs inserted before it, the one inserted first on top; the rung itself, until an edit takes
+-- it; and what replaces it.
 pub record Spot : Type 0 where
   pub inserted : List Source
   pub rung : Option Source
@@ -13,12 +13,12 @@ pub record Spot : Type 0 where
 abbrev pub untouched : Option Source → Spot
 untouched rung = record { inserted = []; rung = rung; replacement = None }
 
--- a spot for each rung of the base, and one past the last, where no rung stands
+-- a spot for each rung of the base, and one past the last, where there is no rung
 abbrev pub spots : List Source → List Spot
 spots [] = untouched None ∷ []
 spots (rung ∷ base) = untouched (Some rung) ∷ spots base
 
--- the rung is taken, and this comes in its place; where none stands any more, nothing changes
+-- the rung is taken, and this comes in its place; where there is none any more, nothing changes
 abbrev pub taken : Option Source → Spot → Spot
 taken new s = go s.rung
   where

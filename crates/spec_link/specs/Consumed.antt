@@ -20,7 +20,7 @@ use Rattle.spec_link.specs.LinkText.{connection, link_of}
 use Rattle.spec_link.specs.Links.{Pair, Link, opened, link_run, words_out, words_answered}
 use Rattle.spec_link.specs.LinkOutput.{pair_of, linked_journals}
 
--- ---- what stands in a tag
+-- ---- what is in a tag
 
 -- this many words from byte at on
 abbrev pub dints : List ℕ → ℕ → ℕ → List ℤ

@@ -58,7 +58,7 @@ read_header a b line = do
 
 -- ---- the other lines
 
--- what stands in a text so far: the events of each controller, the sendings and the deliveries
+-- what is in a text so far: the events of each controller, the sendings and the deliveries
 pub record Counts : Type 0 where
   pub a : Tally
   pub b : Tally

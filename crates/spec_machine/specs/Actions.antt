@@ -92,11 +92,11 @@ prescan_all books image = fold (λ i b. prescan (selected b) i) image books
 abbrev pub to_run : State → State
 to_run s = record s { mode = Run; table = start s.tick s.table; progress = map (λ p. no_progress) s.progress; firsts = map (λ b. true) s.firsts; image = prescan_all s.books s.image }
 
--- In Program no task is up, and none goes on later where it stood.
+-- In Program no task is up, and none goes on later where it was.
 abbrev pub to_program : State → State
 to_program s = record s { mode = Program; table = stop s.table; progress = map dropped s.progress }
 
--- Its outcome tells the continuous task, if it was released.
+-- Its outcome reports the continuous task, if it was released.
 abbrev pub ran : State → Answered Outcome
 ran s = record { state = to_run s; answer = record { reply = reply.Done; fault = None; released = mask_of (released_at_run s.table) } }
 

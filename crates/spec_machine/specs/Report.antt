@@ -58,7 +58,7 @@ lines_from watches s n (e ∷ es) =
 abbrev pub report_lines : Project → List Event → List Stamped
 report_lines project journal = lines_from project.watches (start project) 0 journal
 
--- the kept lines, and what the end line tells
+-- the kept lines, and what the end line says
 pub record Report : Type 0 where
   pub lines : List Stamped
   pub tick : ℕ

@@ -15,7 +15,7 @@ use Rattle.spec_machine.specs.Edits.{Book, book_of}
 use Rattle.spec_machine.specs.Project.{Project}
 
 -- A program scan in progress: the number of its program, whether it is the first since the change to Run, the rungs that
--- it took at its beginning, and where it stands in them.
+-- it took at its beginning, and where it is in them.
 pub record Scan : Type 0 where
   pub program : ℕ
   pub first : Bool

@@ -1,4 +1,4 @@
--- Laws of the tick: its report tells the faults that it recorded, and its masks are of tasks.
+-- Laws of the tick: its report gives the faults that it recorded, and its masks are of tasks.
 use Rattle.std.specs.Prelude.{◌≡◌, ℕ, zero, suc, ◌^◌, ◌<◌, List, [], ◌∷◌, ◌++◌, map, length, nat_eq, if◌then◌else◌, Option, Some, None}
 use Rattle.std.specs.Int.{bit_at}
 use Rattle.spec_tables.specs.declared.fault.TheConstants.{WATCHDOG, PERIODIC_OVERLAP}

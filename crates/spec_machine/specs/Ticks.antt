@@ -12,8 +12,8 @@ use Rattle.spec_tables.specs.Tasks.{rotate, expired, due}
 use Rattle.spec_machine.specs.State.{State, Answered}
 use Rattle.spec_machine.specs.Releases.{AfterRelease, task_fault, major_fault, release_task}
 
--- a report tells the task whose watchdog ran out, and masks of the tasks that were released and of those that
--- overlapped, bit t standing for task t
+-- a report gives the task whose watchdog ran out, and masks of the tasks that were released and of those that overlapped, bit t
+-- standing for task t
 abbrev pub quiet : TickReport
 quiet = record { watchdog = None; released = 0; overlapped = 0 }
 

@@ -46,7 +46,7 @@ IsChecked p (n, program) =
 abbrev pub IsExecutableOver : ℕ → ProgramText → Type 0
 IsExecutableOver len program = Each (λ r. AreExecutable len r.checked) program.routines
 
--- an operand that names a routine or a task names one of so many
+-- an operand that names a routine or a task names one of `routines` routines or of `tasks` tasks
 abbrev pub is_known : ℕ → ℕ → Operand → Bool
 is_known routines tasks (operand.Routine r) = nat_lt r routines
 is_known routines tasks (operand.Task t) = nat_lt t tasks

@@ -1,4 +1,4 @@
--- Refusals of a file, and the paths to where they stand.
+-- Refusals of a file, and the paths to where they are.
 use Rattle.std.specs.Prelude.{ℕ, Bool, true, false, List, [], ◌∷◌, ◌++◌, ◌+◌, Option, Some, None, option_map, decimal}
 -- the first of two that is there
 pub use Rattle.std.specs.Option.{option_or as or_else}
@@ -21,7 +21,7 @@ abbrev pub joined : List ℕ → List ℕ → List ℕ
 joined part [] = part
 joined part (c ∷ path) = part ++ 46 ∷ c ∷ path
 
--- a refusal of what stands in this field, or at this place of a list
+-- a refusal of what is in this field, or at this place of a list
 abbrev pub under : List ℕ → ProjectFault → ProjectFault
 under part f = record f { path = joined part f.path }
 
@@ -37,7 +37,7 @@ abbrev pub refused_if : Bool → ProjectFault → Option ProjectFault
 refused_if true fault = Some fault
 refused_if false fault = None
 
--- of what stands in a list, where the first has this number
+-- of what is in a list, where the first has this number
 abbrev pub first_from : {A : Type 0} → (ℕ → A → Option ProjectFault) → ℕ → List A → Option ProjectFault
 first_from judge i [] = None
 first_from judge i (x ∷ xs) = or_else (judge i x) (first_from judge (i + 1) xs)

@@ -1,5 +1,5 @@
--- What may stand in a field: each kind of value, of numbers, of texts, of lists and of objects, as the first refusal of any
--- other value.
+-- What may be in a field: each kind of value, of numbers, of texts, of lists and of objects, as the first refusal of any other
+-- value.
 use Rattle.std.specs.Prelude.{ℕ, ℤ, pos, int_le, Bool, true, false, not, ◌&&◌, nat_lt, nat_le, List, [], ◌∷◌, length, Option, Some, None, is_some, option_and_then}
 use Rattle.std.specs.List.{list_any, list_all}
 use Rattle.std.specs.Str.{bytes_eq}
@@ -86,7 +86,7 @@ list least most judge d = list_such least most judge (as_array d)
 
 -- ---- objects
 
--- a field that an object may have: its key, whether the object must have it, and what may stand there
+-- a field that an object may have: its key, whether the object must have it, and what may be there
 pub record Field : Type 0 where
   pub key : List ℕ
   pub is_needed : Bool
@@ -98,7 +98,7 @@ needed key judge = record { key = key; is_needed = true; judge = judge }
 abbrev pub optional : List ℕ → Judge → Field
 optional key judge = record { key = key; is_needed = false; judge = judge }
 
--- P2: it is missing; and then what stands there
+-- P2: it is missing; and then what is there
 abbrev pub value_such : Field → Option Data → Option ProjectFault
 value_such f None = refused_if f.is_needed (here P2)
 value_such f (Some d) = f.judge d

@@ -15,7 +15,7 @@ use Rattle.spec_project.specs.declared.described.DescribedRoutine.{DescribedRout
 use Rattle.spec_project.specs.declared.described.DescribedTag.{DescribedTag}
 use Rattle.spec_project.specs.declared.described.DescribedTask.{DescribedTask}
 
--- so many elements at least, at most so many, and of each a fact
+-- at least `least` elements, at most `most`, and of each a fact
 pub record IsListOf {A : Type 0} (least most : ℕ) (P : A → Type 0) (xs : List A) : Type 0 where
   pub enough : least ≤ length xs
   pub few : length xs ≤ most

@@ -102,7 +102,7 @@ is_prefixed text = starts_with nat_eq text prefix && list_any (λ c. c == 46) (d
 abbrev pub scope_name : List ℕ → List ℕ
 scope_name text = before_first (λ c. c == 46) (drop (length prefix) text)
 
--- a text with the prefix, a name and a dot is seen from the program of this name; what stands there otherwise is no scope
+-- a text with the prefix, a name and a dot is seen from the program of this name; what is there otherwise is no scope
 abbrev pub has_scope : List ℕ → Bool
 has_scope text = is_prefixed text && is_name (scope_name text)
 

@@ -1,4 +1,4 @@
--- What a project file describes, if its shape is right: its names, texts and numbers as they stand there.
+-- What a project file describes, if its shape is right: its names, texts and numbers as they are there.
 use Rattle.std.specs.Prelude.{ℕ, Bool, false, ◌&&◌, List, Option, None, option_map, unwrap_or, if◌then◌else◌, codes}
 use Rattle.std.specs.Str.{bytes_eq, is_utf8}
 use Rattle.serde_json.specs.Data.{Data}

@@ -45,7 +45,7 @@ tags_in scope tags = map (λ e. record { scope = scope; number = e.0; tag = e.1 
 abbrev pub scoped_tags : Described → List ScopedTag
 scoped_tags p = tags_in Controller p.tags ++ flat_map (λ e. tags_in (Program e.0) e.1.tags) (enumerate_from 0 p.programs)
 
--- a refusal of what stands in the list of a scope's tags
+-- a refusal of what is in the list of a scope's tags
 abbrev pub in_tags_of : Scope → Option ProjectFault → Option ProjectFault
 in_tags_of Controller fault = in_field (codes "tags") fault
 in_tags_of (Program n) fault = in_field (codes "programs") (at_place n (in_field (codes "tags") fault))

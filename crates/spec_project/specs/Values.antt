@@ -1,4 +1,4 @@
--- What a value of a file is, and what stands in a field: some value of that type, if it is another one or missing.
+-- What a value of a file is, and what is in a field: some value of that type, if it is another one or missing.
 use Rattle.std.specs.Prelude.{ℕ, ℤ, pos, unsigned_abs, Bool, false, List, [], map, Option, option_map, unwrap_or, is_some}
 use Rattle.serde_json.specs.Data.{Data, no_items}
 use Rattle.serde_json.specs.Find.{get, as_str, as_bool, as_array}
@@ -21,7 +21,7 @@ truth_of d = unwrap_or (as_bool d) false
 abbrev pub elements_of : Data → List Data
 elements_of d = listed (unwrap_or (as_array d) no_items)
 
--- ---- what stands in a field
+-- ---- what is in a field
 
 abbrev pub has_field : List ℕ → Data → Bool
 has_field key d = is_some (get key d)

@@ -9,7 +9,7 @@ pub const MAX_RUNG_BYTES: usize = 4096;
 /// The initial values.
 pub const MAX_INITIAL_VALUES: usize = 10000;
 
-/// The ticks of a watchdog that isn't told (1756-PM005: 500 ms).
+/// The ticks of a watchdog that isn't given (1756-PM005: 500 ms).
 pub const DEFAULT_WATCHDOG: u32 = 500;
 
 /// The lowest priority of a task that isn't continuous (1756-PM005).

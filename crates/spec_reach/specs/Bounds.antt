@@ -1,4 +1,4 @@
--- How large the numbers of a state are after so many events.
+-- How large the numbers of a state are after n events.
 use Rattle.std.specs.Prelude.{◌≡◌, ℕ, ◌+◌, ◌*◌, ◌≤◌, List, length, Some}
 use Rattle.spec_machine.specs.declared.event.Event.{Event}
 use Rattle.spec_machine.specs.Edits.{book_at}

@@ -16,8 +16,8 @@ abbrev pub syncs : Option Scan → Bool
 syncs None = false
 syncs (Some scan) = is_syncing scan.position.copy
 
--- A task that is down has no program begun; one without a scan has no open region; and the table tells an open CPS exactly
--- if a synchronous copy is in progress.
+-- A task that is down has no program begun; one without a scan has no open region; and the table shows an open CPS exactly if a
+-- synchronous copy is in progress.
 pub record Agree (state : Option TaskState) (progress : Progress) : Type 0 where
   pub down : state ≡ None → (progress.scan ≡ None) × (progress.ended ≡ 0)
   pub closed : progress.scan ≡ None → region_count state ≡ 0

@@ -11,7 +11,7 @@ use Rattle.spec_machine.specs.Project.{Project, RoutineText}
 use Rattle.spec_machine.specs.State.{Scan, progress_of}
 use Rattle.spec_machine.specs.ValidProject.{IsValidProject}
 
--- a routine's rungs can be executed over an image of so many bytes, and trigger some of so many tasks
+-- a routine's rungs can be executed over an image of `len` bytes, and trigger some of `count` tasks
 pub record IsText (len count : ℕ) (r : RoutineText) : Type 0 where
   pub executable : AreExecutable len r.checked
   pub tasks : KnowsTasks count r.checked

@@ -39,7 +39,7 @@ pub fn words_lie_in_image()
     ensures { SlotsAreInImage }
 {}
 
-/// All of this of a state that so many events lead to, in one record; the start is one, and each event leads to one.
+/// All of this of a state that some number of events leads to, in one record; the start is one, and each event leads to one.
 pub fn states_are_reachable()
     ensures start { StartIsAfter }
     ensures next { EventsLeadOn }

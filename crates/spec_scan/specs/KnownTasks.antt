@@ -1,4 +1,4 @@
--- Which tasks rungs name: what an EVENT triggers is one of so many.
+-- Which tasks rungs name: what an EVENT triggers is one of a given number of tasks.
 use Rattle.std.specs.Prelude.{ℕ, ◌<◌}
 use Rattle.std.specs.List.{AllByRecursion as Each}
 use Rattle.lgx_num.specs.declared.place.Operand.{Operand}
@@ -9,7 +9,7 @@ use Rattle.spec_scan.specs.declared.bound.Effect.{Effect}
 use Rattle.spec_scan.specs.declared.bound.Effect.TheVariants.{Trigger}
 use Rattle.spec_scan.specs.Position.{ProgramRungs, Rungs}
 
--- an operand that names a task names one of so many
+-- an operand that names a task names one of `count` tasks
 abbrev pub KnowsTask : ℕ → Operand → Type 0
 KnowsTask count (operand.Task t) = t < count
 KnowsTask count _ = Unit {0}
@@ -26,7 +26,7 @@ KnowsTasks count rungs = Each (λ r. Each (NamesKnownTasks count) (instructions 
 abbrev pub ProgramKnowsTasks : ℕ → ProgramRungs → Type 0
 ProgramKnowsTasks count program = Each (KnowsTasks count) program.routines
 
--- what a step triggers is one of so many tasks
+-- what a step triggers is one of `count` tasks
 abbrev pub TriggersKnownTask : ℕ → Effect → Type 0
 TriggersKnownTask count (Trigger t) = t < count
 TriggersKnownTask count _ = Unit {0}

@@ -18,14 +18,14 @@ abbrev pub called_by : Op → List Operand → List ℕ
 called_by Jsr (Routine n ∷ _) = n ∷ []
 called_by _ _ = []
 
--- the routines that these rungs call by JSR, whatever stands before it
+-- the routines that these rungs call by JSR, whatever comes before it
 abbrev pub calls : Rungs → List ℕ
 calls rungs = flat_map (λ r. flat_map (λ i. called_by i.op i.args) (instructions r)) rungs
 
 abbrev pub is_called : ProgramRungs → List ℕ → ℕ → Bool
 is_called program callers n = list_any (λ r. list_any (nat_eq n) (calls (routine_rungs program r))) callers
 
--- The routines that the main routine reaches by at most so many calls, itself among them: each once, in the program's
+-- The routines that the main routine reaches by at most a given number of calls, itself among them: each once, in the program's
 -- order.
 abbrev pub reached_by : ℕ → ProgramRungs → List ℕ
 reached_by zero program = program.main ∷ []

@@ -9,15 +9,15 @@ use Rattle.spec_scan.specs.Next.{NextHas}
 use Rattle.spec_scan.specs.Executable.{IsExecutable}
 use Rattle.spec_scan.specs.Scan.{advance}
 
--- the places of the returns that the position's frames want lie in an image of so many bytes, each on a byte
+-- the places of the returns that the position's frames want lie in an image of `len` bytes, each on a byte
 abbrev pub ReturnsInBounds : ℕ → Position → Type 0
 ReturnsInBounds len position = Each (λ (f : Frame). Each (λ (p : Place). InBounds p len) f.returns) position.frames
 
--- the instruction before which the innermost frame stands, if there is one, can be executed over an image of so many bytes
+-- the next instruction of the innermost frame, if there is one, can be executed over an image of `len` bytes
 abbrev pub NextIsExecutable : ℕ → List Frame → Type 0
 NextIsExecutable len = NextHas (IsExecutable len)
 
--- a step keeps the places of returns in an image of so many bytes
+-- a step keeps the places of returns in an image of `len` bytes
 abbrev pub StepsKeepReturns : Type 0
 StepsKeepReturns =
     (program : ProgramRungs) (position : Position) (image : List ℕ) (now : ℕ) (first : Bool) (flags : Flags) (len : ℕ) →

@@ -44,7 +44,7 @@ abbrev pub with_done_off : ℕ → List ℕ → List ℕ
 with_done_off at image =
     if is_reached image at then put_status at dn_bit false (put_status at tt_bit false image) else put_status at tt_bit true image
 
--- Where the timer isn't done it stands still, and its numbers aren't looked at.
+-- Where the timer isn't done it doesn't run, and its numbers aren't looked at.
 abbrev pub count_off : ℕ → ℕ → List ℕ → Option (List ℕ)
 count_off at now image =
     if not (status image at dn_bit) then Some (put_status at en_bit false (put_status at tt_bit false image)) else

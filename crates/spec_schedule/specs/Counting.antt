@@ -39,7 +39,7 @@ gone_down c = record { up = false; ended = 0; region_count = 0; cps_open = false
 abbrev pub released : Counted → Counted
 released c = record c { up = true; ended = 0 }
 
--- the region grows by 1 at an Up and falls by 1 at a Down, unless it is 0; a CPS stands from its start to its end
+-- the region grows by 1 at an Up and falls by 1 at a Down, unless it is 0; a CPS is open from its start to its end
 abbrev pub marked : TraceMark → Counted → Counted
 marked Up c = record c { region_count = c.region_count + 1 }
 marked Down c = record c { region_count = c.region_count - 1 }

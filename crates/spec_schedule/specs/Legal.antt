@@ -30,7 +30,7 @@ higher_up table x t = some_up (λ u. nat_lt u.task.priority (priority_of table t
 abbrev pub may_step : Table → CountedEvent → ℕ → Bool
 may_step table x t = (at x t).up && (is_open (at x t) || not (higher_up table x t))
 
--- an idle step stands only if no task is counted up
+-- an idle step comes only if no task is counted up
 abbrev pub keeps_priority : Table → CountedEvent → Bool
 keeps_priority table x = check x.event
   where
@@ -65,7 +65,7 @@ abbrev pub is_tick : TraceEvent → Bool
 is_tick (Tick _ _ _) = true
 is_tick _ = false
 
--- the places from here on that stand before the next tick
+-- the places from here on that come before the next tick
 abbrev pub before_tick : List CountedEvent → List CountedEvent
 before_tick xs = take_while (λ x. not (is_tick x.event)) xs
 
@@ -111,7 +111,7 @@ gives_turn table t k ys = list_all (λ y. not (steps_here y.event t) || others_w
 abbrev pub is_turn : Table → ℕ → CountedEvent → CountedEvent → Bool
 is_turn table t x k = stays_up t x k && not (is_open (at k t)) && not (higher_up table k t)
 
--- what stands after actions alone
+-- what comes after actions alone
 abbrev pub is_action : TraceEvent → Bool
 is_action (Act _ _ _ _ _) = true
 is_action _ = false

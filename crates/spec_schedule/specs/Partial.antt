@@ -35,20 +35,20 @@ abbrev pub made_if : Bool → Action → ℕ → List Made → List Made
 made_if true a ticks made = record { action = a; ticks = ticks } ∷ made
 made_if false a ticks made = made
 
--- what a lane does in a journal, after so many ticks
+-- what a lane does in a journal, after `ticks` ticks
 abbrev pub made_by : ℕ → ℕ → List Event → List Made
 made_by lane ticks [] = []
 made_by lane ticks (Cpu ∷ es) = made_by lane ticks es
 made_by lane ticks (Tick ∷ es) = made_by lane (ticks + 1) es
 made_by lane ticks (Act l a ∷ es) = made_if (nat_eq l lane) a ticks (made_by lane ticks es)
 
--- a lane's actions in the journal are the first of its list, so many, in order, and each stands after at least `at` ticks
+-- a lane's actions in the journal are the first `count` of its list, in order, and each comes after at least `at` ticks
 pub record LaneDid (journal : List Event) (lane count : ℕ) (list : List Timed) : Type 0 where
   pub enough : count ≤ length list
   pub order : map (λ m. m.action) (made_by lane 0 journal) ≡ map (λ t. t.action) (take count list)
   pub due : AllZip (λ m t. t.at ≤ m.ticks) (made_by lane 0 journal) (take count list)
 
--- there is one count for each lane, and each lane did so many
+-- there is one count for each lane, and each lane did as many
 abbrev pub LanesDid : List Event → List ℕ → List (List Timed) → Type 0
 LanesDid journal counts lists = AllZip (λ count lane. LaneDid journal lane.0 count lane.1) counts (enumerate_from 0 lists)
 
@@ -58,7 +58,7 @@ is_held _ = false
 
 -- ---- ticks and steps
 
--- the test of what stands before and after each place of a journal, its two ends too
+-- the test of what comes before and after each place of a journal, its two ends too
 abbrev pub each_place : (List Event → List Event → Bool) → List Event → List Event → Bool
 each_place test before [] = test before []
 each_place test before (e ∷ es) = test before (e ∷ es) && each_place test (before ++ e ∷ []) es
@@ -98,8 +98,8 @@ is_held_over project steps journal = list_all (λ k. is_held_after project (thro
 -- ---- partial and complete
 
 -- A journal is partial for the counts, one a lane, if it begins with its own lane's `mode run`; the rest is of the
--- script's lanes; each lane did the first of its actions, in order and in time; none was answered Held; the ticks stand
--- at the pace; and processor steps beyond the script's stand only while a CPS is open.
+-- script's lanes; each lane did the first of its actions, in order and in time; none was answered Held; the ticks come at the pace;
+-- and processor steps beyond the script's come only while a CPS is open.
 pub record IsPartial (project : Project) (script : Script) (counts : List ℕ) (journal : List Event) : Type 0 where
   pub opening : take 1 journal ≡ Act OWN_LANE ModeRun ∷ []
   pub rest : IsTrue (list_all (is_of_lane (length script.lanes)) (drop 1 journal))

@@ -1,5 +1,5 @@
--- The causes for which an action is held or refused, in their order. Each stands beside its sentence; the first that
--- applies is the answer.
+-- The causes for which an action is held or refused, in their order. Each is beside its sentence; the first that applies is the
+-- answer.
 use Rattle.std.specs.Prelude.{ℕ, List, [], ◌∷◌, ◌++◌, length, Bool, true, false, not, nat_lt, nat_le, nat_eq, Option, Some, None, option_map, is_none, unwrap_or, Result, Ok, Err, slice_set, slice_index_or, flat_map}
 use Rattle.std.specs.Bool.{beq as agree}
 use Rattle.std.specs.List.{position_from}

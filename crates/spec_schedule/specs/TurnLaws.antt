@@ -12,7 +12,7 @@ pub record IsSameTurn (t : ℕ) (x y : CountedEvent) : Type 0 where
   pub no_tick : is_tick y.event ≡ false
   pub up : stays_up t x y ≡ true
 
--- t steps, then u, and then t again; up to there t stays up, and no tick stands
+-- t steps, then u, and then t again; up to there t stays up, and no tick comes
 pub record StepsBetween (xs : List CountedEvent) (t u : ℕ) : Type 0 where
   pub before : List CountedEvent
   pub first : CountedEvent

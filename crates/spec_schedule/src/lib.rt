@@ -1,4 +1,4 @@
-//! The legal schedule of tasks, told by counting along a trace, and the journals that a run of a script may write.
+//! The legal schedule of tasks, defined by counting along a trace, and the journals that a run of a script may write.
 #![tactic(auto)]
 
 mod trace;

@@ -1,4 +1,4 @@
-// What a trace tells of each event, as numbers alone: the laws of the schedule are told over it by counting.
+// What a trace says of each event, as numbers alone: the laws of the schedule are defined over it by counting.
 use lgx_num::Items;
 
 /// What the instruction or the copied element of a step did: a region count up or down, a trigger of a task, and

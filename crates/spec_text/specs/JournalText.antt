@@ -56,7 +56,7 @@ is_end line = bytes_eq (spaced (words line)) (codes "end")
 
 -- ---- limits
 
--- how many processor steps, ticks and actions stand in a text so far
+-- how many processor steps, ticks and actions are in a text so far
 pub record Tally : Type 0 where
   pub steps : ℕ
   pub ticks : ℕ

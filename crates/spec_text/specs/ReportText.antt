@@ -78,7 +78,7 @@ text_fault f = text_code f.code ∷ decimal f.at ∷ []
 abbrev pub check_fault : CheckFault → List (List ℕ)
 check_fault f = check_code f.code ∷ decimal f.rung ∷ decimal f.ins ∷ []
 
--- E3 tells the owner, E5 to E7 the edit's place in the list, and E7 and E8 the inner fault
+-- E3 gives the owner, E5 to E7 the edit's place in the list, and E7 and E8 the inner fault
 abbrev pub edit_cause : EditFault → List (List ℕ)
 edit_cause E1 = codes "E1" ∷ []
 edit_cause E2 = codes "E2" ∷ []

@@ -16,7 +16,7 @@ use Rattle.spec_text.specs.JournalText.{lane_of, is_end, is_line, refused}
 
 -- ---- the first line: `run STEPS PACE LANES`
 
--- a script that has so many steps, such a pace and so many lanes, and no action yet
+-- a script of `steps` steps, with pace `pace` and `lanes` lanes, and no action yet
 abbrev pub bare : ℕ → ℕ → ℕ → Script
 bare steps pace lanes = script steps pace (replicate lanes [])
 
@@ -65,7 +65,7 @@ abbrev pub last_at : Script → ℕ → ℕ
 last_at s lane = at_or_zero (last_or None (lane_at s lane))
 
 -- The script with the line's action last in its lane, or the line's first cause. A script has not too many actions;
--- no action waits for a tick that doesn't come, and none stands after one of its lane that waits longer.
+-- no action waits for a tick that doesn't come, and none comes after one of its lane that waits longer.
 abbrev pub read_lane_line : Script → List ℕ → Result Script JournalCode
 read_lane_line s line = do
   _ ← unless (is_line line) J1

@@ -4,7 +4,7 @@ use Rattle.std.specs.List.{list_all}
 use Rattle.spec_base.specs.declared.limits.TheConstants.{MAX_SCRIPT_STEPS, OWN_LANE, MAX_ACTIONS}
 use Rattle.spec_text.specs.declared.script.Timed.{Timed}
 
--- at least so many processor steps, a tick after every pace-th of them, and for each lane its actions in order
+-- at least `steps` processor steps, a tick after every pace-th of them, and for each lane its actions in order
 pub record Script : Type 0 where
   pub steps : ℕ
   pub pace : ℕ

@@ -10,8 +10,8 @@ use Rattle.spec_base.specs.Pieces.{pieces, is_empty}
 abbrev pub without_return : List ℕ → List ℕ
 without_return line = take (length line - (if nat_eq (suffix_len (λ c. nat_eq c 13) line) 0 then 0 else 1)) line
 
--- Lines end with a line feed, and a carriage return right before it is dropped. What stands after the last line feed
--- is a line if it has a byte.
+-- Lines end with a line feed, and a carriage return right before it is dropped. What comes after the last line feed is a line if it
+-- has a byte.
 abbrev pub lines_of_pieces : List (List ℕ) → List (List ℕ)
 lines_of_pieces [] = []
 lines_of_pieces (p ∷ []) = if is_empty p then [] else p ∷ []
@@ -34,7 +34,7 @@ is_space c = nat_eq c 32
 abbrev pub words : List ℕ → List (List ℕ)
 words line = filter (λ w. not (is_empty w)) (pieces 32 line)
 
--- the first word, or nothing if there is none, and what stands after it
+-- the first word, or nothing if there is none, and what comes after it
 abbrev pub from_word : List ℕ → List ℕ
 from_word line = drop (prefix_len is_space line) line
 

@@ -10,16 +10,16 @@ pub struct Timed {
     pub action: Action,
 }
 
-/// An event and how often it stands there; an action stands there once.
+/// An event and how often it comes; an action comes once.
 #[derive(Drop)]
 pub struct EventRun {
     pub event: Event,
     pub count: u32,
 }
 
-/// What a run has to do: at least so many processor steps, a tick after every `pace`-th of them, and for each lane
-/// its actions in order. Steps and pace are 1 to `MAX_SCRIPT_STEPS`; there are at most `OWN_LANE` lanes and `MAX_ACTIONS` actions; and
-/// no action waits for a tick after the last, which is `steps` divided by `pace`, cut.
+/// What a run has to do: at least `steps` processor steps, a tick after every `pace`-th of them, and for each lane its actions in
+/// order. Steps and pace are 1 to `MAX_SCRIPT_STEPS`; there are at most `OWN_LANE` lanes and `MAX_ACTIONS` actions; and no action
+/// waits for a tick after the last, which is `steps` divided by `pace`, cut.
 #[derive(Drop)]
 pub struct Script {
     pub steps: u32,

@@ -36,12 +36,12 @@ NoneAccepted p journal = IsTrue (list_all (λ x. not (is_accepted x)) (trace p j
 
 -- ---- the instruction that acts in a step
 
--- the instruction before which a scan stands
+-- the next instruction of a scan
 abbrev pub first_of : List Frame → Option Ins
 first_of [] = None
 first_of (f ∷ outer) = elim f.cursor.rest [ one i rest ↦ Some i | _ ↦ None ]
 
--- the instruction before which the scan of task t stands
+-- the next instruction of the scan of task t
 abbrev pub next_of : State → ℕ → Option Ins
 next_of s t = elim (progress_of s t).scan [ None ↦ None | Some scan ↦ first_of scan.position.frames ]
 

@@ -28,7 +28,7 @@ holds_bit s bit = nat_le (8 * s.start) bit && nat_lt bit (8 * s.end)
 
 -- ---- instructions by place
 
--- an instruction, and where it stands
+-- an instruction, and where it is
 pub record Site : Type 0 where
   pub at : Use
   pub ins : Ins
@@ -62,7 +62,7 @@ abbrev pub with_returns : Op → List ℕ → List ℕ
 with_returns Ret returns = returns
 with_returns _ returns = []
 
--- what an instruction writes where it stands: a RET also writes the returns of its routine's calls
+-- what an instruction writes where it is: a RET also writes the returns of its routine's calls
 abbrev pub site_writes : ProgramText → Site → List ℕ
 site_writes program s = bits_written s.ins ++ with_returns s.ins.op (returns_to program s.at.routine)
 

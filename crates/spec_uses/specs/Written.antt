@@ -1,4 +1,4 @@
--- What an instruction may write and what it reads, by the table of operands: nothing else tells it.
+-- What an instruction may write and what it reads, by the table of operands: nothing else says it.
 use Rattle.std.specs.Prelude.{ℕ, Bool, true, false, ◌||◌, not, if◌then◌else◌, List, [], ◌∷◌, ◌++◌, length, map, filter_map, flat_map, unwrap_or, Option, Some, None}
 use Rattle.lgx_num.specs.declared.place.Path.{Path}
 use Rattle.lgx_num.specs.declared.place.Operand.{Operand}
@@ -11,7 +11,7 @@ use Rattle.lgx_rung.specs.declared.operands.OperandKind.TheVariants.{BoolPlace, 
 use Rattle.lgx_rung.specs.OperandTable.{operand_kinds}
 use Rattle.spec_scan.specs.Fits.{operand_at, number_told}
 
--- what is wanted where something is written: no number and no flag may stand there
+-- what is wanted where something is written: no number and no flag may be there
 abbrev pub is_written : OperandKind → Bool
 is_written BoolPlace = true
 is_written IntegerPlace = true

@@ -1,4 +1,4 @@
-// Where an instruction stands in a project.
+// Where an instruction is in a project.
 use lgx_rung::Op;
 
 /// An instruction by its place: the numbers of the program, of its routine, of the rung and of the instruction in the rung, each

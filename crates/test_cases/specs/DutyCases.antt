@@ -79,7 +79,7 @@ never_releases = mode_run 1 ∷ quiet ∷ quiet ∷ turn_of_continuous ++ quiet 
 abbrev pub releases_early : List TraceEvent
 releases_early = mode_run 1 ∷ Tick 2 0 None ∷ []
 
--- it is up when it is due, and overlaps; a lazy controller doesn't tell
+-- it is up when it is due, and overlaps; a lazy controller doesn't report it
 abbrev pub overlaps : List TraceEvent
 overlaps = mode_run 1 ∷ quiet ∷ Tick 2 0 None ∷ quiet ∷ Tick 0 2 None ∷ []
 
@@ -140,7 +140,7 @@ abbrev pub in_turn : List TraceEvent
 in_turn =
     mode_run 1 ∷ Began 0 0 0 ∷ Step 0 0 Unmarked NoFault ∷ Left 0 0 false ∷ Left 0 0 true ∷ Began 0 1 0 ∷ Left 0 1 true ∷ Began 0 0 0 ∷ []
 
--- a scan is begun anew at a change of mode, and left where it stood
+-- a scan is begun anew at a change of mode, and left where it was
 abbrev pub begins_anew : List TraceEvent
 begins_anew = mode_run 1 ∷ Began 0 0 0 ∷ Left 0 0 true ∷ Began 0 1 0 ∷ Act OWN_LANE Program None Done 0 ∷ mode_run 1 ∷ Began 0 0 0 ∷ []
 

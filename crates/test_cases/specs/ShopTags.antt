@@ -29,8 +29,8 @@ own_tag program name of = record { scope = Program program; name = name; meaning
 abbrev pub own_alias : ℕ → List ℕ → List ℕ → Entry
 own_alias program name target = record { scope = Program program; name = name; meaning = alias target }
 
--- arr stands at byte 0, i at 16, s at 20, bits at 24, cells at 28, t at 244, c at 260, deep at 272; of program 0 i stands at
--- 400 and only at 404; of program 1 far stands at 408
+-- arr is at byte 0, i at 16, s at 20, bits at 24, cells at 28, t at 244, c at 260, deep at 272; of program 0 i is at 400 and only
+-- at 404; of program 1 far is at 408
 abbrev pub shop : Declarations
 shop = record {
   types = shop_types;

@@ -6,7 +6,7 @@ use Rattle.spec_tables.specs.declared.task.TaskKind.TheVariants.{Continuous, Per
 use Rattle.spec_machine.specs.Project.{Project}
 use Rattle.test_cases.specs.Samples.{array, bool, continuous, program, task, with_watchdog, inhibited, plain, with_words, with_trigger, input, is_initially, lines, replay}
 
--- A periodic task goes before the continuous one, which then goes on where it stood.
+-- A periodic task goes before the continuous one, which then goes on where it was.
 abbrev pub preemption : Project
 preemption = plain (bool (codes "a") ∷ bool (codes "b") ∷ bool (codes "q") ∷ []) (continuous (codes "XIC(a)OTE(b);" ∷ []) ∷ task (codes "F") (Periodic 2) 5 (program (codes "Q") (codes "OTL(q);" ∷ []) ∷ []) ∷ []) (is_initially (codes "a") (pos 1) ∷ []) (codes "b" ∷ codes "q" ∷ [])
 

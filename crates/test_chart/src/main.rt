@@ -1,7 +1,7 @@
 //! Judges the rows of a table of reports and their pictures on standard input.
 //!
 //! A row is `KIND | REPORT | STATUS / TEXT`: how the program ends, and what it writes. After KIND, further words of the call may
-//! stand. A report, and what is written, may be the name of a text. What differs is printed, and at the end how many rows there
+//! come. A report, and what is written, may be the name of a text. What differs is printed, and at the end how many rows there
 //! were.
 //!
 //! | kind | the call | TEXT |

@@ -21,8 +21,8 @@
 //!
 //! - `check | KEYS = VALUES | ANSWER`: the answer of `check` to a small project, in which the field of each key has its value, or
 //!   is left out if the value is `-`; between values is ` ~ `. With the key `file` the value is the whole text. `N*TEXT`
-//!   inside braces, as in `{{3*1,}}`, is the text N times. VALUES may be the name of a text. A refusal stands
-//!   without its first word.
+//!   inside braces, as in `{{3*1,}}`, is the text N times. VALUES may be the name of a text. A refusal is given without its first
+//!   word.
 //! - `cuts | TEXT | ANSWER`: the answer of `check` to each shorter beginning of a text.
 //! - `migrate | TEXT | ANSWER`: the answer of `migrate`, likewise.
 //!

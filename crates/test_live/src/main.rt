@@ -4,8 +4,8 @@
 //! with a `?` wherever the first byte of a line was asked for, or a `!` if something was written then that wasn't flushed. `-` is
 //! nothing: no line was asked for.
 //!
-//! - `session`: the project is the text `PROJECT`, and GIVEN is what comes in, in which `{{N*TEXT}}` stands for the text so many
-//!   times, and `\s`, `\r`, `\n` and `\p` for a blank, CR, LF and the bar.
+//! - `session`: the project is the text `PROJECT`, and GIVEN is what comes in, in which `{{N*TEXT}}` stands for the text N times,
+//!   and `\s`, `\r`, `\n` and `\p` for a blank, CR, LF and the bar.
 //! - `call`: GIVEN is `WORDS` or `WORDS / SETTING`, and what comes in is the text `INPUT`. Each word that is the name of a text is
 //!   the name of a file with this text. With the setting `read` the file can't be read; with `blanks=N` it has N blanks; with
 //!   `write=N` the Nth write or flush fails.

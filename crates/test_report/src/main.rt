@@ -9,8 +9,8 @@
 //! - `reply | TICK STEP LANE WORD NUMBERS | LINE`: WORD is `done`, `word`, `version`, `held`, or a code.
 //! - `end | TICK STEP MODE | LINE`.
 //! - `log | COUNT | KEPT kept, LOST lost`: how many of COUNT lines a log keeps.
-//! - `watches | GRAIN GRAIN .. | WATCHES`: which of five watched places have a byte in one of these grains of 64 bytes. They
-//!   stand at the bytes 0, 60, 64 and 60, and over the bytes 190 to 193.
+//! - `watches | GRAIN GRAIN .. | WATCHES`: which of five watched places have a byte in one of these grains of 64 bytes. They are at
+//!   the bytes 0, 60, 64 and 60, and over the bytes 190 to 193.
 //! - `words | WORD WORD .. | WATCHES`: the same of words of 4 bytes.
 //!
 //! What differs is printed, and at the end how many rows there were.

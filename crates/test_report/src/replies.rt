@@ -1,4 +1,4 @@
-// Replies, as rows tell them.
+// Replies, as rows give them.
 use crate::words::{number_at, value_at, word_at};
 use lgx_rung::{CheckCode, CheckFault, TextCode, TextFault};
 use lgx_watch::{ConnFault, EditFault, ForceFault, ModeFault, Reply};

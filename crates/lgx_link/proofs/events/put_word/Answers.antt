@@ -1,5 +1,5 @@
 use mir.Val.{of_z, to_z}
-use Rattle.std.proofs.Common.{◌≡◌, [], ◌∷◌, ◌++◌, ℕ, List, subst}
+use Rattle.std.proofs.Common.{◌≡◌, [], ◌∷◌, ◌++◌, ℕ, List, subst, arith}
 use Rattle.std.specs.Prelude.{ℤ}
 use Rattle.std.specs.Int.{w32}
 use Rattle.std.proofs.lemmas.Int.{to_z-of_z}
@@ -8,6 +8,9 @@ use Rattle.spec_machine.specs.declared.event.Event.TheVariants.{Act}
 use Rattle.spec_machine.specs.declared.event.Action.TheVariants.{WordIn}
 use Rattle.lgx_record.specs.Records.{Records}
 use Rattle.lgx_link.proofs.events.put_word.Goals as goal
+
+pub apply-requires : goal.apply-requires
+apply-requires c = let few = c.requires in omega arith
 
 pub returns : goal.returns
 returns c = λ project events h.

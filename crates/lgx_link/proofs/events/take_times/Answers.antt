@@ -1,35 +1,37 @@
-use Rattle.std.proofs.Common.{ℕ, ◌≡◌, ◌++◌, List, replicate, subst, arith}
+use Rattle.std.proofs.Common.{◌≡◌, ◌+◌, ◌++◌, length, replicate, sym, subst, arith}
 use Rattle.std.proofs.lemmas.List.{length-replicate}
+use Rattle.std.proofs.lemmas.Result.{on_ok_weaker}
 use Rattle.spec_machine.specs.declared.event.Event.{Event}
-use Rattle.lgx_record.specs.Records.{Records}
-use Rattle.lgx_link.proofs.WordsCounted.{times_more, spent_after}
+use Rattle.spec_machine.specs.declared.event.Event.TheVariants.{Cpu, Tick, Act}
+use Rattle.lgx_record.specs.Records.{Records, RecordsMore, HasCounted}
 use Rattle.lgx_link.proofs.events.take_times.Goals as goal
 
-pub apply-requires : goal.apply-requires
-apply-requires c =
-    let some = c.loop.invariant.some in
-    let now = c.loop.invariant.records some.project some.events some.records in
-    let spent = spent_after c.args.recording.now c.loop.recording some.project some.events (replicate c.loop.counter c.args.event.now) some.records now in
-    omega (arith, spent, length-replicate c.loop.counter c.args.event.now)
+pub returns-in-Cpu-clause-records : goal.returns-in-Cpu-clause-records
+returns-in-Cpu-clause-records c = λ project events h.
+    on_ok_weaker c.apply.result
+    (λ (more : RecordsMore c.args.recording.now c.apply.new.self (replicate c.args.count Cpu)). subst (λ (e : Event). Records c.apply.new.self project (events ++ replicate c.args.count e)) (sym c.in-Cpu.is) (more project events h))
+    c.apply.ensures.records
 
-pub loop-preserved : goal.loop-preserved
-loop-preserved c = record {
-  some = c.loop.invariant.some;
-  records = λ project events h.
-      let P : List Event → Type 0 = λ es. Records c.apply.new.self project es in
-      subst P (times_more events c.args.event.now c.loop.counter) (c.in_ok-apply.ensures.records project (events ++ replicate c.loop.counter c.args.event.now) (c.loop.invariant.records project events h));
-}
+pub returns-in-Cpu-clause-spent : goal.returns-in-Cpu-clause-spent
+returns-in-Cpu-clause-spent c =
+    on_ok_weaker c.apply.result
+    (λ (more : HasCounted c.args.recording.now c.apply.new.self (replicate c.args.count Cpu)). let spent = more.spent in let many = length-replicate c.args.count Cpu in omega arith)
+    c.apply.ensures.counts
 
-pub returns-clause-records : goal.returns-clause-records
-returns-clause-records c = λ project events h.
-    let all : c.loop.counter ≡ c.args.count = omega arith in
-    let P : ℕ → Type 0 = λ n. Records c.loop.recording project (events ++ replicate n c.args.event.now) in
-    subst P all (c.loop.invariant.records project events h)
+pub returns-in-Tick-clause-records : goal.returns-in-Tick-clause-records
+returns-in-Tick-clause-records c = λ project events h.
+    on_ok_weaker c.apply-in-Tick.result
+    (λ (more : RecordsMore c.args.recording.now c.apply-in-Tick.new.self (replicate c.args.count Tick)). subst (λ (e : Event). Records c.apply-in-Tick.new.self project (events ++ replicate c.args.count e)) (sym c.in-Tick.is) (more project events h))
+    c.apply-in-Tick.ensures.records
 
-pub returns-clause-spent : goal.returns-clause-spent
-returns-clause-spent c =
-    let some = c.loop.invariant.some in
-    let all : c.loop.counter ≡ c.args.count = omega arith in
-    let now = c.loop.invariant.records some.project some.events some.records in
-    let spent = spent_after c.args.recording.now c.loop.recording some.project some.events (replicate c.loop.counter c.args.event.now) some.records now in
-    omega (arith, spent, length-replicate c.loop.counter c.args.event.now)
+pub returns-in-Tick-clause-spent : goal.returns-in-Tick-clause-spent
+returns-in-Tick-clause-spent c =
+    on_ok_weaker c.apply-in-Tick.result
+    (λ (more : HasCounted c.args.recording.now c.apply-in-Tick.new.self (replicate c.args.count Tick)). let spent = more.spent in let many = length-replicate c.args.count Tick in omega arith)
+    c.apply-in-Tick.ensures.counts
+
+pub returns-in-Act-clause-records : goal.returns-in-Act-clause-records
+returns-in-Act-clause-records c = λ project events h.
+    on_ok_weaker c.act_times.result
+    (λ (more : RecordsMore c.args.recording.now c.act_times.new.recording (replicate c.args.count (Act c.in-Act.lane c.in-Act.action))). subst (λ (e : Event). Records c.act_times.new.recording project (events ++ replicate c.args.count e)) (sym c.in-Act.is) (more project events h))
+    c.act_times.ensures.records

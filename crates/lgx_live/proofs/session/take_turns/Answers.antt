@@ -1,5 +1,6 @@
 use Rattle.std.proofs.Common.{◌≡◌, ◌+◌, ℕ, List, [], ◌∷◌, ◌++◌, Bool, true, false, Ok, Err, sym, ap, ◌∙◌, subst}
 use Rattle.lgx_answer.specs.Endings.{Ending}
+use Rattle.lgx_record.specs.IsRunOf.{IsRunOf}
 use Rattle.lgx_live.specs.declared.console.AskFault.{AskFault}
 use Rattle.lgx_live.specs.Session.{Point, no_line_yet, after, after_all, is_last}
 use Rattle.lgx_live.specs.Output.{answer_text}
@@ -7,8 +8,14 @@ use Rattle.lgx_live.specs.Console.{Asks, Says}
 use Rattle.lgx_live.specs.Talks.{Talks, IsAt}
 use Rattle.lgx_live.proofs.Saying.{done}
 use Rattle.lgx_live.proofs.Points.{after_all_more}
-use Rattle.lgx_live.proofs.Talking.{over_ended, over_last, talk_ends, talk_misses, talk_lacks, talk_stops, talk_cut, talk_goes_on}
+use Rattle.lgx_live.proofs.Talking.{over_ended, over_last, talk_ends, talk_misses, talk_lacks, talk_stops, talk_cut, talk_begins, talk_goes_on}
 use Rattle.lgx_live.proofs.session.take_turns.Goals as goal
+
+pub loop-init : goal.loop-init
+loop-init g c = record {
+  count = c.requires.some.1.lines;
+  all = λ project at. ([], talk_begins project _ c.requires.written, at);
+}
 
 pub returns-then-is_last : goal.returns-then-is_last
 returns-then-is_last g c = λ project h.
@@ -92,7 +99,7 @@ loop-preserved g c =
           let is : is_last line ≡ false = ap is_last (sym c.as_slice-came.ensures.value) ∙ sym c.is_last.ensures ∙ c.if-is_last.false in
           let A : Bool → Type 0 = λ r. Asks b k line (Ok r) in
           let S : List ℕ → Type 0 = λ t. Says k d (answer_text project at t) done in
-          let P : Point → Type 0 = λ p. IsAt (g.F.Follow.follows c.exchange.new.follow) c.exchange.new.pad.events c.exchange.new.pad.lines project p in (
+          let P : Point → Type 0 = λ p. IsAt (IsRunOf c.exchange.new.follow.run) c.exchange.new.pad.events c.exchange.new.pad.lines project p in (
             so_far.0 ++ line ∷ [],
             talk_goes_on project a b k d so_far.0 line so_far.1 (subst A c.in-Ok-true.field-0-test c.in-Ok-true.ensures) is (subst S c.as_slice-came.ensures.value (c.in-Ok.ensures.says project at so_far.2)) c.in-Ok.ensures.written,
             subst P (ap (after at) c.as_slice-came.ensures.value ∙ sym (after_all_more no_line_yet so_far.0 line)) (c.in-Ok.ensures.goes_on project at so_far.2),

@@ -1,5 +1,6 @@
 use Rattle.std.proofs.Common.{◌≡◌, ◌+◌, ◌∙◌, List, length, Err, sym, ap, subst, refl, arith}
 use Rattle.spec_machine.specs.declared.event.Event.{Event}
+use Rattle.lgx_record.specs.IsRunOf.{IsRunOf}
 use Rattle.lgx_live.specs.Session.{run_asked}
 use Rattle.lgx_live.specs.Console.{Says}
 use Rattle.lgx_live.specs.Output.{refusal_line}
@@ -31,7 +32,7 @@ returns-in-Ok g c =
           subst (λ t. Says (g.C.Console.seen c.args.console.now) (g.C.Console.seen c.take_run.new.console) t c.take_run.result) (sym (answer_done project at line _ m)) (c.take_run.ensures.says project at.events h.follows);
       goes_on = λ project at h.
           let m = done_by at.events line _ unskipped (c.in-Ok.ensures.run at.events h.events) in
-          if_done c.take_run.result _ _ (λ f. at_done _ (g.F.Follow.follows c.take_run.new.follow) _ _ _ _ project at line _ m refl refl h f) (c.take_run.ensures.follows project at.events h.follows);
+          if_done c.take_run.result _ _ (λ f. at_done _ (IsRunOf c.take_run.new.follow.run) _ _ _ _ project at line _ m refl refl h f) (c.take_run.ensures.follows project at.events h.follows);
     }
 
 pub returns-in-Err-Code : goal.returns-in-Err-Code

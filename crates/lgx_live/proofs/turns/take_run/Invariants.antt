@@ -2,6 +2,7 @@ use Rattle.std.proofs.Common.{◌≤◌, ◌+◌, ◌++◌, List, length, replic
 use Rattle.spec_base.specs.declared.limits.TheConstants.{MAX_EVENTS}
 use Rattle.spec_machine.specs.declared.event.Event.{Event}
 use Rattle.spec_machine.specs.Project.{Project}
+use Rattle.lgx_record.specs.IsRunOf.{IsRunOf}
 use Rattle.lgx_live.specs.Console.{Says}
 use Rattle.lgx_live.specs.Output.{text_with}
 use Rattle.lgx_live.proofs.Saying.{done}
@@ -9,7 +10,7 @@ use Rattle.lgx_live.proofs.turns.take_run.Given as goal
 
 abbrev pub invariant-loop : goal.invariant-loop
 invariant-loop g l = record {
-  some : (project : Project) × (events : List Event) × g.F.Follow.follows l.initial.follow project events × (length events + l.run.count ≤ MAX_EVENTS);
-  follows : (project : Project) (events : List Event) → g.F.Follow.follows l.initial.follow project events → g.F.Follow.follows l.follow project (events ++ replicate l.counter l.run.event);
-  says : (project : Project) (events : List Event) → g.F.Follow.follows l.initial.follow project events → Says (g.C.Console.seen l.initial.console) (g.C.Console.seen l.console) (text_with project events (replicate l.counter l.run.event)) done;
+  some : (project : Project) × (events : List Event) × IsRunOf l.initial.follow.run project events × (length events + l.run.count ≤ MAX_EVENTS);
+  follows : (project : Project) (events : List Event) → IsRunOf l.initial.follow.run project events → IsRunOf l.follow.run project (events ++ replicate l.counter l.run.event);
+  says : (project : Project) (events : List Event) → IsRunOf l.initial.follow.run project events → Says (g.C.Console.seen l.initial.console) (g.C.Console.seen l.console) (text_with project events (replicate l.counter l.run.event)) done;
 }

@@ -1,4 +1,4 @@
-use Rattle.std.proofs.Common.{◌≡◌, ◌/◌, ◌<◌, ◌≤◌, Bool, true, List, length, take, get_or, refl, sym, ap, ◌∙◌, subst, add-one, take_all, arith}
+use Rattle.std.proofs.Common.{◌≡◌, ◌/◌, ◌<◌, Bool, true, List, length, take, get_or, refl, sym, ap, ◌∙◌, subst, add-one, take_all, arith}
 use Rattle.std.proofs.lemmas.Option.{slice_get-get_or}
 use Rattle.lgx_num.specs.Image.{InBounds}
 use Rattle.lgx_num.specs.Number.{bytes_in}

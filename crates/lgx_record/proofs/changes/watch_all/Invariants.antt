@@ -1,4 +1,4 @@
-use Rattle.std.proofs.Common.{◌≡◌, ℕ, List, length, take}
+use Rattle.std.proofs.Common.{◌≡◌, take}
 use Rattle.spec_machine.specs.State.{State}
 use Rattle.lgx_core.specs.Represents.{RepresentsController}
 use Rattle.lgx_record.specs.Changes.{AreWatched}

@@ -1,4 +1,4 @@
-use Rattle.std.proofs.Common.{◌+◌, ◌≤◌, arith}
+use Rattle.std.proofs.Common.{arith}
 use Rattle.lgx_record.proofs.Stretched.{begin-logged}
 use Rattle.lgx_record.proofs.lines.log_begins.Goals as goal
 
