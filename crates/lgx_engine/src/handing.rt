@@ -13,7 +13,7 @@ ghost use Rattle.spec_scan.specs.Instructions.{row};
 ghost use Rattle.lgx_image.specs.Args.{OperandsInBounds};
 ghost use Rattle.lgx_image.specs.Grains.{ChangesOnlyMarked};
 ghost use Rattle.lgx_prog.specs.HandsOver.{hands_over};
-ghost use Rattle.lgx_engine.specs.Rows.{handing_control, HasFrame, inputs_of_top, returns_of_top, HandsOver, AreNumbers, ArePlaces, inputs_in};
+ghost use Rattle.lgx_engine.specs.Rows.{handing_control, HasFrame, IsHandingRow, inputs_of_top, returns_of_top, HandsOver, AreNumbers, ArePlaces, inputs_in};
 
 use crate::frame::{Frames, Inputs, Returns};
 use crate::operand::routine_of;
@@ -52,7 +52,7 @@ pub(crate) fn run_handing(
     requires executable { IsExecutable (length image.old.bytes) prepared.now }
     requires hands_over { hands_over prepared.now.op ≡ true }
     requires returns { Each (λ p. InBounds p (length image.old.bytes)) (returns_of_top frames.now) }
-    ensures row { (now : ℕ) (first : Bool) (fs : List MachineFrame) (flags : Flags) → length fs ≡ length frames.now → inputs_handed fs ≡ inputs_of_top frames.now → returns_wanted fs ≡ returns_of_top frames.now → row prepared.now.op prepared.now.args on now first fs flags image.old.bytes ≡ record { on = on; image = image.new.bytes; flags = flags; control = handing_control result } }
+    ensures row { IsHandingRow prepared.now on frames.now image.old.bytes image.new.bytes result }
     ensures has_frame { HasFrame result (length frames.now) }
     ensures only_marked { ChangesOnlyMarked image.old image.new }
 {
