@@ -9,7 +9,7 @@ use Rattle.spec_machine.specs.declared.event.Event.{Event}
 use Rattle.spec_machine.specs.Project.{Project}
 use Rattle.spec_story.specs.Snapshots.{snapshots}
 use Rattle.spec_text.specs.ReportText.{report}
-use Rattle.lgx_watch.specs.Kept.{Kept, no_lines}
+use Rattle.lgx_watch.specs.Kept.{KeptLines, no_lines}
 use Rattle.lgx_watch.proofs.Pushes.{keeps_the_first}
 use Rattle.lgx_record.specs.RunSeen.{RunSeen}
 use Rattle.lgx_record.specs.IsRunOf.{IsRunOf}
@@ -49,7 +49,7 @@ one_line xs shown front line at n same empty is cut =
     is ∙ (ap (λ f. f ++ take n (take (length shown - at) (drop at shown))) empty ∙ (cut ∙ (ap (λ l. take_through 10 l) whole ∙ ap (λ l. take_through 10 (drop at l)) same)))
 
 -- a run without an event has an empty report
-pub just_begun : (run : RunSeen) (log : Kept) (p q : Project) → p ≡ q → IsRunOf run p [] → log ≡ no_lines → Reports (record { run = run; log = log }) q []
+pub just_begun : (run : RunSeen) (log : KeptLines) (p q : Project) → p ≡ q → IsRunOf run p [] → log ≡ no_lines → Reports (record { run = run; log = log }) q []
 just_begun run log p q same h empty =
     subst (λ (x : Project). Reports (record { run = run; log = log }) x []) same (record { run = h; log = empty ∙ keeps_the_first [] })
 

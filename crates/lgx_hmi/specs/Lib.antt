@@ -1,1 +1,1 @@
-pub mod Sights
+pub mod StationViews

@@ -1,6 +1,6 @@
 // The board that publishes a story.
 ghost use Rattle.std.specs.Prelude.{◌≡◌, ◌≤◌, ◌<◌, ◌-◌, ◌⊎◌, ◌↔◌, List, [], ◌∷◌, ◌++◌, length, drop, fold, IsOk, vec_len, vec_capacity, slice_index_or, slice_get, All, IfOk, OnOk, OnErr, IsTrue, Some, true, false};
-ghost use Rattle.lgx_hmi.specs.Sights.{opening_sight};
+ghost use Rattle.lgx_hmi.specs.StationViews.{opening_view};
 ghost use Rattle.spec_board.specs.Stories.{IsPrefix, longer, with_next};
 ghost use Rattle.spec_board.specs.declared.snapshot.TheConstants.{MAX_SNAPSHOTS};
 
@@ -44,7 +44,7 @@ fn seat<S: Story>(
     requires room { stations ≤ vec_capacity list.old }
     requires empty { list.old.items ≡ [] }
     ensures len { vec_len list.new ≡ stations }
-    ensures seen { All (λ s. s ≡ opening_sight first.now) list.new.items }
+    ensures seen { All (λ s. s ≡ opening_view first.now) list.new.items }
 {
     for _ in 0..stations {
         let reader = writer.factory().reader().ok();
@@ -100,7 +100,7 @@ impl<S: Story> Board<S> {
         requires first { slice_get S.story 0 ≡ Some first.now }
         ensures published { IfOk result (λ r. r.0 ≡ first.now ∷ []) }
         ensures stations { IfOk result (λ r. vec_len r.1 ≡ stations) }
-        ensures seen { IfOk result (λ r. All (λ s. s ≡ opening_sight first.now) r.1.items) }
+        ensures seen { IfOk result (λ r. All (λ s. s ≡ opening_view first.now) r.1.items) }
     {
         let mut list = Vec::with_capacity(alloc, stations as usize)?;
         let one = Published::new(alloc, first.copied())?;

@@ -1,7 +1,7 @@
 // A station that reads what a board published.
 ghost use Rattle.std.specs.Prelude.{◌≡◌, ◌≤◌, ◌<◌, ◌+◌, ◌-◌, length, min, slice_get, Some};
 ghost use Rattle.spec_board.specs.Stories.{IsPrefix, longer};
-ghost use Rattle.lgx_hmi.specs.Sights.{opening_sight};
+ghost use Rattle.lgx_hmi.specs.StationViews.{opening_view};
 
 use crate::published::Published;
 use crate::story::{Finds, Follows, Story};
@@ -24,9 +24,9 @@ pub struct Station<S: Story> {
 
 impl<S: Story> Model for Station<S> {
     ghost use Rattle.std.specs.Prelude.{◌≡◌, ◌≤◌, ◌<◌, ◌-◌, length, take, slice_get, Some};
-    ghost use Rattle.lgx_hmi.specs.Sights.{Sight};
+    ghost use Rattle.lgx_hmi.specs.StationViews.{StationView};
 
-    ghost Value = { Sight };
+    ghost Value = { StationView };
 
     ghost view = { λ s. record { seen = take s.seen S.story; reads = s.reads } };
 
@@ -40,7 +40,7 @@ impl<S: Story> Station<S> {
         reader: Option<Reader<Published, (), Follows<S>>>,
     ) -> Station<S>
         requires { slice_get S.story 0 ≡ Some first }
-        ensures { result ≡ opening_sight first }
+        ensures { result ≡ opening_view first }
     {
         Station {
             reader,

@@ -6,7 +6,7 @@ use Rattle.spec_machine.specs.Project.{Project}
 use Rattle.spec_machine.specs.Machine.{run}
 use Rattle.spec_machine.specs.Report.{Stamped, steps_of}
 use Rattle.spec_text.specs.ReportText.{Names, line_text, end_text}
-use Rattle.lgx_watch.specs.Kept.{Kept}
+use Rattle.lgx_watch.specs.Kept.{KeptLines}
 use Rattle.lgx_judge.specs.declared.ends.End.{End}
 
 -- what the end line of a journal's report says
@@ -19,17 +19,17 @@ abbrev pub line_at : Names → List Stamped → ℕ → List ℕ
 line_at names lines i = unwrap_or (option_map (line_text names) (slice_get lines i)) []
 
 -- the text of the end line
-abbrev pub end_line : Kept → End → List ℕ
+abbrev pub end_line : KeptLines → End → List ℕ
 end_line log end = end_text end.tick end.steps end.mode log.lost
 
 -- the texts of all lines: those of the log, and the end line
-abbrev pub all_lines : Names → Kept → End → List (List ℕ)
+abbrev pub all_lines : Names → KeptLines → End → List (List ℕ)
 all_lines names log end = map (line_text names) log.lines ++ end_line log end ∷ []
 
 -- the report from line number i on
-abbrev pub report_from : Names → Kept → End → ℕ → List ℕ
+abbrev pub report_from : Names → KeptLines → End → ℕ → List ℕ
 report_from names log end i = concat (drop i (all_lines names log end))
 
 -- the whole report
-abbrev pub ended_report : Names → Kept → End → List ℕ
+abbrev pub ended_report : Names → KeptLines → End → List ℕ
 ended_report names log end = flat_map (line_text names) log.lines ++ end_line log end

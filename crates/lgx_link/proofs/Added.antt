@@ -6,7 +6,7 @@ use Rattle.spec_machine.specs.declared.event.Event.{Event}
 use Rattle.spec_machine.specs.Project.{Project}
 use Rattle.spec_machine.specs.Report.{Stamped, report_lines}
 use Rattle.spec_text.specs.ReportText.{Names, names_of, line_text}
-use Rattle.lgx_watch.specs.Kept.{Kept, kept_of}
+use Rattle.lgx_watch.specs.Kept.{KeptLines, kept_of}
 use Rattle.spec_link.specs.LinkOutput.{OutputLine, OfA, OfB, kept, new_lines, end_line, written}
 use Rattle.spec_link.proofs.Texts.{written_of_a, written_of_b}
 use Rattle.lgx_record.specs.RecordingView.{RecordingView}
@@ -42,8 +42,8 @@ gained : (letter : List ℕ) (v w : RecordingView) (p : Project) (es ds : List E
     → flat_map (λ s. letter ++ line_text w.names s) (drop told w.log.lines) ≡ flat_map (λ s. letter ++ line_text (names_of p) s) (drop (length (kept p es)) (kept p ds))
 gained letter v w p es ds told h g is =
     ap (λ (names : Names). flat_map (λ s. letter ++ line_text names s) (drop told w.log.lines)) g.names
-    ∙ ap (λ (log : Kept). flat_map (λ s. letter ++ line_text (names_of p) s) (drop told log.lines)) g.log
-    ∙ ap (λ n. flat_map (λ s. letter ++ line_text (names_of p) s) (drop n (kept p ds))) (is ∙ ap (λ (log : Kept). length log.lines) h.log)
+    ∙ ap (λ (log : KeptLines). flat_map (λ s. letter ++ line_text (names_of p) s) (drop told log.lines)) g.log
+    ∙ ap (λ n. flat_map (λ s. letter ++ line_text (names_of p) s) (drop n (kept p ds))) (is ∙ ap (λ (log : KeptLines). length log.lines) h.log)
 
 pub gained_of_a : (v w : RecordingView) (p : Project) (es ds : List Event) (told : ℕ) → Records v p es → Records w p ds → told ≡ length v.log.lines
     → flat_map (λ s. codes "a " ++ line_text w.names s) (drop told w.log.lines) ≡ flat_map written (new_lines OfA p es ds)
@@ -69,7 +69,7 @@ added old first second new xs ys zs is_first is_second is_new =
 
 pub end_is : (v : RecordingView) (p : Project) (es : List Event) (end : End) → Records v p es → end ≡ end_of p es → ended v.log end ≡ end_line p es
 end_is v p es end h is =
-    ap (λ (log : Kept). ended log end) h.log ∙ ap (λ (e : End). ended (kept_of (report_lines p es)) e) is
+    ap (λ (log : KeptLines). ended log end) h.log ∙ ap (λ (e : End). ended (kept_of (report_lines p es)) e) is
 
 pub both_ends : (old first new a b : List ℕ) (of_a of_b : List ℕ) → first ≡ old ++ (codes "a " ++ a) → new ≡ first ++ (codes "b " ++ b) → a ≡ of_a → b ≡ of_b
     → new ≡ old ++ flat_map written (OfA of_a ∷ OfB of_b ∷ [])

@@ -7,7 +7,7 @@ use Rattle.spec_machine.specs.declared.event.Event.{Event}
 use Rattle.spec_machine.specs.Project.{Project}
 use Rattle.spec_machine.specs.Report.{Stamped}
 use Rattle.spec_text.specs.ReportText.{Names, names_of, line_text}
-use Rattle.lgx_watch.specs.Kept.{Kept}
+use Rattle.lgx_watch.specs.Kept.{KeptLines}
 use Rattle.lgx_live.specs.Session.{lines_with}
 use Rattle.lgx_live.specs.Output.{text_with}
 use Rattle.lgx_live.specs.Console.{ConsoleSeen, Says}
@@ -38,10 +38,10 @@ log_cut fault a b c names lines i old line shown h none is same k =
 
 -- ---- an event n times
 
-pub text_of_event : (project : Project) (events : List Event) (e : Event) (names : Names) (log : Kept) → names ≡ names_of project → log ≡ record { lines = lines_with project events (e ∷ []); lost = 0 }
+pub text_of_event : (project : Project) (events : List Event) (e : Event) (names : Names) (log : KeptLines) → names ≡ names_of project → log ≡ record { lines = lines_with project events (e ∷ []); lost = 0 }
     → flat_map (line_text names) log.lines ≡ text_with project events (e ∷ [])
 text_of_event project events e names log named kept =
-    ap (λ (n : Names). flat_map (line_text n) log.lines) named ∙ ap (λ (l : Kept). flat_map (line_text (names_of project)) l.lines) kept
+    ap (λ (n : Names). flat_map (line_text n) log.lines) named ∙ ap (λ (l : KeptLines). flat_map (line_text (names_of project)) l.lines) kept
 
 pub run_stops : (a b : ConsoleSeen) (project : Project) (events : List Event) (e : Event) (n k : ℕ) → k < n → Says a b (text_with project events (replicate k e)) done → Says a b (text_with project events (replicate n e)) (Err Memory)
 run_stops a b project events e n k below h =

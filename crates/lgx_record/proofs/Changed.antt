@@ -13,7 +13,7 @@ use Rattle.lgx_num.specs.declared.number.Kind.TheVariants.{Bool as KBool, Sint, 
 use Rattle.lgx_num.specs.declared.place.Place.{Place}
 use Rattle.lgx_image.specs.Grains.{ImageView, NoneIsHit}
 use Rattle.lgx_image.proofs.Marks.{word_of-is}
-use Rattle.lgx_watch.specs.Kept.{Kept}
+use Rattle.lgx_watch.specs.Kept.{KeptLines}
 use Rattle.lgx_watch.specs.Watches.{LiesInWord, LiesInNoHit, is_member}
 use Rattle.spec_machine.specs.declared.line.Line.{Line}
 use Rattle.spec_machine.specs.declared.line.Line.TheVariants.{Set}
@@ -111,20 +111,20 @@ all-lines old new i within many same =
 -- ---- a walk over the places that may have changed
 
 -- the places before from have been compared, and the others are as before
-pub record IsSoFar (old new : Kept) (at : Stamp) (before values now : List ℤ) (from : ℕ) : Type 0 where
+pub record IsSoFar (old new : KeptLines) (at : Stamp) (before values now : List ℤ) (from : ℕ) : Type 0 where
   pub log : new ≡ with_event_lines old at (change_lines 0 (take from before) (take from now))
   pub seen : (k : ℕ) → k < from → get_or values k (pos 0) ≡ get_or now k (pos 0)
   pub rest : (k : ℕ) → from ≤ k → get_or values k (pos 0) ≡ get_or before k (pos 0)
 
-pub walk-starts : (log : Kept) (at : Stamp) (before now : List ℤ) → IsSoFar log log at before before now 0
+pub walk-starts : (log : KeptLines) (at : Stamp) (before now : List ℤ) → IsSoFar log log at before before now 0
 walk-starts log at before now = record { log = refl; seen = λ k l. absurd (omega arith); rest = λ k l. refl }
 
 -- place w is compared, and from place from on, up to it, nothing has changed
-pub walk-goes-on : (old new next : Kept) (at : Stamp) (before values now : List ℤ) (from w : ℕ) → IsSoFar old new at before values now from → from ≤ w → w < length before → length before ≡ length now → length values ≡ length before → ((k : ℕ) → from ≤ k → k < w → get_or before k (pos 0) ≡ get_or now k (pos 0)) → next ≡ with_event_lines new at (change_line w (get_or values w (pos 0)) (get_or now w (pos 0))) → IsSoFar old next at before (set values w (get_or now w (pos 0))) now (suc w)
+pub walk-goes-on : (old new next : KeptLines) (at : Stamp) (before values now : List ℤ) (from w : ℕ) → IsSoFar old new at before values now from → from ≤ w → w < length before → length before ≡ length now → length values ≡ length before → ((k : ℕ) → from ≤ k → k < w → get_or before k (pos 0) ≡ get_or now k (pos 0)) → next ≡ with_event_lines new at (change_line w (get_or values w (pos 0)) (get_or now w (pos 0))) → IsSoFar old next at before (set values w (get_or now w (pos 0))) now (suc w)
 walk-goes-on old new next at before values now from w h past below many kept same is = record {
   log =
       is
-      ∙ ap (λ (k : Kept). with_event_lines k at (change_line w (get_or values w (pos 0)) (get_or now w (pos 0)))) h.log
+      ∙ ap (λ (k : KeptLines). with_event_lines k at (change_line w (get_or values w (pos 0)) (get_or now w (pos 0)))) h.log
       ∙ with_event_lines-append old at (change_lines 0 (take from before) (take from now)) (change_line w (get_or values w (pos 0)) (get_or now w (pos 0)))
       ∙ ap (with_event_lines old at) lines;
   seen = λ k l. elim (cases_lt k w) [ inl under ↦ other k (omega arith) ∙ under_seen k under | inr not_under ↦ here k (omega arith) ];
@@ -154,21 +154,21 @@ walk-goes-on old new next at before values now from w h past below many kept sam
     under_seen : (k : ℕ) → k < w → get_or values k (pos 0) ≡ get_or now k (pos 0)
     under_seen k under = elim (cases_lt k from) [ inl early ↦ h.seen k early | inr late ↦ h.rest k late ∙ same k late under ]
 
-pub walk-compares : (old new next : Kept) (at : Stamp) (before values now : List ℤ) (from w : ℕ) (value : ℤ) → IsSoFar old new at before values now from → from ≤ w → w < length before → length before ≡ length now → length values ≡ length before → ((k : ℕ) → from ≤ k → k < w → get_or before k (pos 0) ≡ get_or now k (pos 0)) → value ≡ get_or now w (pos 0) → next ≡ with_event_lines new at (change_line w (get_or values w (pos 0)) value) → IsSoFar old next at before (set values w value) now (w + 1)
+pub walk-compares : (old new next : KeptLines) (at : Stamp) (before values now : List ℤ) (from w : ℕ) (value : ℤ) → IsSoFar old new at before values now from → from ≤ w → w < length before → length before ≡ length now → length values ≡ length before → ((k : ℕ) → from ≤ k → k < w → get_or before k (pos 0) ≡ get_or now k (pos 0)) → value ≡ get_or now w (pos 0) → next ≡ with_event_lines new at (change_line w (get_or values w (pos 0)) value) → IsSoFar old next at before (set values w value) now (w + 1)
 walk-compares old new next at before values now from w value h past below many kept same e is =
     subst (λ n. IsSoFar old next at before (set values w value) now n) (sym (add-one w))
     (subst (λ v. IsSoFar old next at before (set values w v) now (suc w)) (sym e)
     (walk-goes-on old new next at before values now from w h past below many kept same (is ∙ ap (λ v. with_event_lines new at (change_line w (get_or values w (pos 0)) v)) e)))
 
 -- from place from on nothing has changed
-pub walk-ends : (old new : Kept) (at : Stamp) (before values now : List ℤ) (from : ℕ) → IsSoFar old new at before values now from → from ≤ length before → length before ≡ length now → length values ≡ length before → ((k : ℕ) → from ≤ k → k < length before → get_or before k (pos 0) ≡ get_or now k (pos 0)) → Compared old new at before values now
+pub walk-ends : (old new : KeptLines) (at : Stamp) (before values now : List ℤ) (from : ℕ) → IsSoFar old new at before values now from → from ≤ length before → length before ≡ length now → length values ≡ length before → ((k : ℕ) → from ≤ k → k < length before → get_or before k (pos 0) ≡ get_or now k (pos 0)) → Compared old new at before values now
 walk-ends old new at before values now from h within many kept same = record {
   log = h.log ∙ ap (with_event_lines old at) (all-lines before now from within many same);
   values = ext_get_or (pos 0) values now (kept ∙ many) (λ k l. elim (cases_lt k from) [ inl early ↦ h.seen k early | inr late ↦ h.rest k late ∙ same k late (omega arith) ]);
 }
 
 -- nothing has changed
-pub compared-nothing : (log : Kept) (at : Stamp) (before now : List ℤ) → length before ≡ length now → ((k : ℕ) → k < length before → get_or before k (pos 0) ≡ get_or now k (pos 0)) → Compared log log at before before now
+pub compared-nothing : (log : KeptLines) (at : Stamp) (before now : List ℤ) → length before ≡ length now → ((k : ℕ) → k < length before → get_or before k (pos 0) ≡ get_or now k (pos 0)) → Compared log log at before before now
 compared-nothing log at before now many same = walk-ends log log at before before now 0 (walk-starts log at before now) (omega arith) many refl (λ k above below. same k below)
 
 -- a place that isn't in the set has not changed

@@ -14,7 +14,7 @@ use Rattle.spec_machine.specs.Actions.{act}
 use Rattle.spec_machine.specs.Machine.{run}
 use Rattle.spec_machine.specs.TickLaws.{report_faults}
 use Rattle.spec_machine.specs.Report.{begin_lines}
-use Rattle.lgx_watch.specs.Kept.{Kept, with_lines}
+use Rattle.lgx_watch.specs.Kept.{KeptLines, with_lines}
 use Rattle.lgx_steps.specs.declared.begins.Begins.{Begins}
 use Rattle.lgx_steps.specs.declared.stretch.Stretch.{Stretch}
 use Rattle.lgx_core.specs.ControllerView.{ControllerView}
@@ -29,8 +29,8 @@ use Rattle.lgx_record.proofs.Events.{Closes, step-taken, tick-taken, act-taken}
 use Rattle.lgx_record.proofs.Stretched.{stretch-taken}
 use Rattle.lgx_record.proofs.StepLines.{same-tick}
 
-module _ (old new : RunSeen) (c : ControllerView) (start first second end : Kept) (at : Stamp) (k : Closes old new c second end at) (same_watched : c.parts.image.watched ≡ old.controller.parts.image.watched) where
-  pub stretch-extends : (base : Kept) (from : Stamp) (b : Begins) (x : Stretch) → 0 < x.steps → ((s : State) → RepresentsController old.controller s → StretchGives c b x s) → ((s : State) → RepresentsController c s → from.tick ≡ s.tick) → from.step ≡ old.steps → start ≡ with_lines base (begins_lines from.tick from.step b.began b.steps.items) → c.spent ≡ old.controller.spent + x.steps → new.steps ≡ old.steps + x.steps → first ≡ with_event_lines start at (begin_lines x.last.what) → second ≡ with_event_lines first at (map FaultLine (faults_in x.last.fault)) → Extends old new base end (replicate x.steps Cpu)
+module _ (old new : RunSeen) (c : ControllerView) (start first second end : KeptLines) (at : Stamp) (k : Closes old new c second end at) (same_watched : c.parts.image.watched ≡ old.controller.parts.image.watched) where
+  pub stretch-extends : (base : KeptLines) (from : Stamp) (b : Begins) (x : Stretch) → 0 < x.steps → ((s : State) → RepresentsController old.controller s → StretchGives c b x s) → ((s : State) → RepresentsController c s → from.tick ≡ s.tick) → from.step ≡ old.steps → start ≡ with_lines base (begins_lines from.tick from.step b.began b.steps.items) → c.spent ≡ old.controller.spent + x.steps → new.steps ≡ old.steps + x.steps → first ≡ with_event_lines start at (begin_lines x.last.what) → second ≡ with_event_lines first at (map FaultLine (faults_in x.last.fault)) → Extends old new base end (replicate x.steps Cpu)
   stretch-extends base from b x some gives tick_is step_is started spent steps begun faulted = λ project events r.
       let many : x.steps ≡ suc (x.steps - 1) = omega arith in
       let g = gives (run project events) r.controller.represents in

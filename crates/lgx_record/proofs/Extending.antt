@@ -11,7 +11,7 @@ use Rattle.spec_machine.specs.Report.{is_step, steps_of, lines_from, report_line
 use Rattle.lgx_journal.specs.declared.runs.RunView.{RunView}
 use Rattle.lgx_journal.specs.declared.runs.RunView.TheVariants as view
 use Rattle.lgx_journal.specs.Runs.{seen_run}
-use Rattle.lgx_watch.specs.Kept.{Kept, kept_of, with_lines}
+use Rattle.lgx_watch.specs.Kept.{KeptLines, kept_of, with_lines}
 use Rattle.lgx_record.specs.declared.lines.TheConstants.{MAX_EVENT_LINES}
 use Rattle.lgx_record.specs.RunSeen.{RunSeen}
 use Rattle.lgx_record.specs.IsRunOf.{IsRunOf, IsRun}
@@ -36,41 +36,41 @@ lines-of-both project events xs ys =
 
 -- ---- by no event, and by some after others
 
-pub by-none : (v : RunSeen) (log : Kept) → Extends v v log log []
+pub by-none : (v : RunSeen) (log : KeptLines) → Extends v v log log []
 by-none v log = λ project events r. record { run = subst (λ (es : List Event). IsRunOf v project es) (sym (append-nil events)) r; log = refl }
 
-pub and-then : (old new : RunSeen) (start between end : Kept) (project : Project) (events xs ys : List Event) → IsExtended old start between project events xs → Extends old new between end ys → IsExtended new start end project events (xs ++ ys)
+pub and-then : (old new : RunSeen) (start between end : KeptLines) (project : Project) (events xs ys : List Event) → IsExtended old start between project events xs → Extends old new between end ys → IsExtended new start end project events (xs ++ ys)
 and-then old new start between end project events xs ys a two =
     let b = two project (events ++ xs) a.run in
     record {
       run = subst (λ (es : List Event). IsRunOf new project es) (append_assoc events xs ys) b.run;
       log =
           b.log
-          ∙ ap (λ (log : Kept). with_lines log (more_lines project (events ++ xs) ys)) a.log
+          ∙ ap (λ (log : KeptLines). with_lines log (more_lines project (events ++ xs) ys)) a.log
           ∙ sym (with_lines-append start (more_lines project events xs) (more_lines project (events ++ xs) ys))
           ∙ ap (with_lines start) (lines-of-both project events xs ys);
     }
 
-pub by-both : (old middle new : RunSeen) (start between end : Kept) (xs ys : List Event) → Extends old middle start between xs → Extends middle new between end ys → Extends old new start end (xs ++ ys)
+pub by-both : (old middle new : RunSeen) (start between end : KeptLines) (xs ys : List Event) → Extends old middle start between xs → Extends middle new between end ys → Extends old new start end (xs ++ ys)
 by-both old middle new start between end xs ys one two = λ project events r. and-then middle new start between end project events xs ys (one project events r) two
 
 -- so often, and then so often again
-pub by-more : (old middle new : RunSeen) (start between end : Kept) (e : Event) (n m : ℕ) → Extends old middle start between (replicate n e) → Extends middle new between end (replicate m e) → Extends old new start end (replicate (n + m) e)
+pub by-more : (old middle new : RunSeen) (start between end : KeptLines) (e : Event) (n m : ℕ) → Extends old middle start between (replicate n e) → Extends middle new between end (replicate m e) → Extends old new start end (replicate (n + m) e)
 by-more old middle new start between end e n m one two =
     subst (Extends old new start end) (replicate-append-replicate n m e) (by-both old middle new start between end (replicate n e) (replicate m e) one two)
 
 -- ---- what follows from it
 
 -- few lines are lost
-pub few-lost : (old new : RunSeen) (start end : Kept) (more : List Event) → IsRun old → Extends old new start end more → end.lost ≤ start.lost + MAX_EVENT_LINES * length more
+pub few-lost : (old new : RunSeen) (start end : KeptLines) (more : List Event) → IsRun old → Extends old new start end more → end.lost ≤ start.lost + MAX_EVENT_LINES * length more
 few-lost old new start end more i x =
     let few = few_from i.project i.run.controller.valid i.events (steps_of i.events) more in
-    let lost = ap (λ (k : Kept). k.lost) (x i.project i.events i.run).log in
+    let lost = ap (λ (k : KeptLines). k.lost) (x i.project i.events i.run).log in
     let all = few-more-lost start (more_lines i.project i.events more) in
     omega arith
 
 -- it is a run still
-pub is-run-still : (old new : RunSeen) (start end : Kept) (more : List Event) → IsRun old → Extends old new start end more → IsRun new
+pub is-run-still : (old new : RunSeen) (start end : KeptLines) (more : List Event) → IsRun old → Extends old new start end more → IsRun new
 is-run-still old new start end more i x = record { project = i.project; events = i.events ++ more; run = (x i.project i.events i.run).run }
 
 -- ---- a recording
@@ -82,10 +82,10 @@ lines-of-more project events more =
     ∙ ap (λ n. report_lines project events ++ lines_from project.watches (run project events) n more) (omega arith)
 
 -- so is the log of a report
-pub report-more : (new : RunSeen) (before after : Kept) (project : Project) (events more : List Event) → IsExtended new before after project events more → before ≡ kept_of (report_lines project events) → after ≡ kept_of (report_lines project (events ++ more))
+pub report-more : (new : RunSeen) (before after : KeptLines) (project : Project) (events more : List Event) → IsExtended new before after project events more → before ≡ kept_of (report_lines project events) → after ≡ kept_of (report_lines project (events ++ more))
 report-more new before after project events more x log =
     x.log
-    ∙ ap (λ (k : Kept). with_lines k (more_lines project events more)) log
+    ∙ ap (λ (k : KeptLines). with_lines k (more_lines project events more)) log
     ∙ kept_of-more (report_lines project events) (more_lines project events more)
     ∙ ap kept_of (sym (lines-of-more project events more))
 

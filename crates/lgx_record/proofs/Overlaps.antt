@@ -15,7 +15,7 @@ use Rattle.spec_machine.specs.declared.answer.TickReport.{TickReport}
 use Rattle.spec_machine.specs.State.{State}
 use Rattle.spec_machine.specs.Releases.{task_fault}
 use Rattle.spec_machine.specs.TickLaws.{tasks_in, watchdog_fault, report_faults}
-use Rattle.lgx_watch.specs.Kept.{Kept}
+use Rattle.lgx_watch.specs.Kept.{KeptLines}
 use Rattle.lgx_record.specs.declared.lines.Stamp.{Stamp}
 use Rattle.lgx_record.specs.EventLines.{with_event_lines, overlap_lines}
 use Rattle.lgx_record.proofs.Logs.{with_event_lines-append}
@@ -34,15 +34,15 @@ one-more s mask t =
     by_test true = refl
     by_test false = refl
 
-pub overlap-taken : (s : State) (mask t : ℕ) (start log next : Kept) (at : Stamp) (f : Fault) → log ≡ with_event_lines start at (overlap_lines s mask t) → bit_at mask t ≡ 1 → f ≡ task_fault s Minor PERIODIC_OVERLAP t → next ≡ with_event_lines log at (FaultLine f ∷ []) → next ≡ with_event_lines start at (overlap_lines s mask (t + 1))
+pub overlap-taken : (s : State) (mask t : ℕ) (start log next : KeptLines) (at : Stamp) (f : Fault) → log ≡ with_event_lines start at (overlap_lines s mask t) → bit_at mask t ≡ 1 → f ≡ task_fault s Minor PERIODIC_OVERLAP t → next ≡ with_event_lines log at (FaultLine f ∷ []) → next ≡ with_event_lines start at (overlap_lines s mask (t + 1))
 overlap-taken s mask t start log next at f before bit is put =
     put
-    ∙ ap (λ (k : Kept). with_event_lines k at (FaultLine f ∷ [])) before
+    ∙ ap (λ (k : KeptLines). with_event_lines k at (FaultLine f ∷ [])) before
     ∙ with_event_lines-append start at (overlap_lines s mask t) (FaultLine f ∷ [])
     ∙ ap (λ (g : Fault). with_event_lines start at (overlap_lines s mask t ++ FaultLine g ∷ [])) is
     ∙ ap (with_event_lines start at) (sym (one-more s mask t ∙ ap (λ b. overlap_lines s mask t ++ (if b then FaultLine (task_fault s Minor PERIODIC_OVERLAP t) ∷ [] else [])) (eq-eqb (bit_at mask t) 1 bit)))
 
-pub overlap-skipped : (s : State) (mask t : ℕ) (start log : Kept) (at : Stamp) → log ≡ with_event_lines start at (overlap_lines s mask t) → (bit_at mask t ≡ 1 → ⊥) → log ≡ with_event_lines start at (overlap_lines s mask (t + 1))
+pub overlap-skipped : (s : State) (mask t : ℕ) (start log : KeptLines) (at : Stamp) → log ≡ with_event_lines start at (overlap_lines s mask t) → (bit_at mask t ≡ 1 → ⊥) → log ≡ with_event_lines start at (overlap_lines s mask (t + 1))
 overlap-skipped s mask t start log at before no_bit =
     let none : nat_eq (bit_at mask t) 1 ≡ false = false_from_ne_true (nat_eq (bit_at mask t) 1) (λ is. no_bit (eqb-true (bit_at mask t) 1 is)) in
     before
@@ -67,11 +67,11 @@ pub no-overlaps : (s : State) (n : ℕ) → overlap_lines s 0 n ≡ []
 no-overlaps s n = ap (λ (ts : List ℕ). map FaultLine (map (task_fault s Minor PERIODIC_OVERLAP) ts)) (all-tasks 0 0 n (omega arith) (omega arith))
 
 -- the lines of a tick's faults
-pub tick-lines : (s : State) (r : TickReport) (start first second : Kept) (at : Stamp) → first ≡ with_event_lines start at (map FaultLine (watchdog_fault s r.watchdog)) → second ≡ with_event_lines first at (overlap_lines s r.overlapped MAX_TASKS) → length s.table.defs ≤ MAX_TASKS → r.overlapped < 2 ^ length s.table.defs → second ≡ with_event_lines start at (map FaultLine (report_faults s r))
+pub tick-lines : (s : State) (r : TickReport) (start first second : KeptLines) (at : Stamp) → first ≡ with_event_lines start at (map FaultLine (watchdog_fault s r.watchdog)) → second ≡ with_event_lines first at (overlap_lines s r.overlapped MAX_TASKS) → length s.table.defs ≤ MAX_TASKS → r.overlapped < 2 ^ length s.table.defs → second ≡ with_event_lines start at (map FaultLine (report_faults s r))
 tick-lines s r start first second at a b few mask =
     let overlaps : List Fault = map (task_fault s Minor PERIODIC_OVERLAP) (tasks_in r.overlapped (length s.table.defs)) in
     b
-    ∙ ap (λ (k : Kept). with_event_lines k at (overlap_lines s r.overlapped MAX_TASKS)) a
+    ∙ ap (λ (k : KeptLines). with_event_lines k at (overlap_lines s r.overlapped MAX_TASKS)) a
     ∙ with_event_lines-append start at (map FaultLine (watchdog_fault s r.watchdog)) (overlap_lines s r.overlapped MAX_TASKS)
     ∙ ap (λ (ts : List ℕ). with_event_lines start at (map FaultLine (watchdog_fault s r.watchdog) ++ map FaultLine (map (task_fault s Minor PERIODIC_OVERLAP) ts))) (all-tasks r.overlapped (length s.table.defs) MAX_TASKS mask few)
     ∙ ap (with_event_lines start at) (sym (map-append FaultLine (watchdog_fault s r.watchdog) overlaps))

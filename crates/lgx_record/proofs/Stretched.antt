@@ -12,7 +12,7 @@ use Rattle.spec_machine.specs.State.{State}
 use Rattle.spec_machine.specs.ProcessorStep.{processor_step}
 use Rattle.spec_machine.specs.Machine.{run}
 use Rattle.spec_machine.specs.Report.{stamp, begin_lines, steps_of}
-use Rattle.lgx_watch.specs.Kept.{Kept, with_lines}
+use Rattle.lgx_watch.specs.Kept.{KeptLines, with_lines}
 use Rattle.lgx_steps.specs.declared.begins.Begins.{Begins}
 use Rattle.lgx_steps.specs.declared.stretch.Stretch.{Stretch}
 use Rattle.lgx_steps.specs.Stretches.{IsStretch, after_steps, moment_after, told_steps}
@@ -43,7 +43,7 @@ module _ (watched : List Bool) (b : Begins) (x : Stretch) (s : State) (h : IsStr
 
 -- ---- a stretch of steps
 
-module _ (old new : RunSeen) (c : ControllerView) (base start first second end : Kept) (from at : Stamp) (project : Project) (events : List Event) (r : IsRunOf old project events) (k : Closes old new c second end at) (same_watched : c.parts.image.watched ≡ old.controller.parts.image.watched) (b : Begins) (x : Stretch) (m : ℕ) (many : x.steps ≡ suc m) (g : StretchGives c b x (run project events)) where
+module _ (old new : RunSeen) (c : ControllerView) (base start first second end : KeptLines) (from at : Stamp) (project : Project) (events : List Event) (r : IsRunOf old project events) (k : Closes old new c second end at) (same_watched : c.parts.image.watched ≡ old.controller.parts.image.watched) (b : Begins) (x : Stretch) (m : ℕ) (many : x.steps ≡ suc m) (g : StretchGives c b x (run project events)) where
   abbrev s : State
   s = run project events
 
@@ -128,7 +128,7 @@ module _ (old new : RunSeen) (c : ControllerView) (base start first second end :
         run = subst (λ (es : List Event). IsRunOf new project es) (steps-join events m 1 ∙ ap (λ n. events ++ replicate n Cpu) all) one.run;
         log =
             one.log
-            ∙ ap (λ (k : Kept). with_lines k (step_lines project before 1)) starts
+            ∙ ap (λ (k : KeptLines). with_lines k (step_lines project before 1)) starts
             ∙ sym (with_lines-append base (step_lines project events m) (step_lines project before 1))
             ∙ ap (with_lines base) lines;
       }
@@ -141,12 +141,12 @@ stretch-inside v i n c r =
 -- ---- the lines of begins, one after another
 
 -- the next of them is put into the log
-pub begin-logged : (start log next : Kept) (tick n : ℕ) (began : What) (xs ys : List ℕ) (i : ℕ) → ys ≡ xs → i < length ys → log ≡ with_lines start (begins_lines tick n began (take i xs)) → next ≡ with_lines log (stamp tick (n + get_or ys i 0 + 1) (begin_lines began)) → next ≡ with_lines start (begins_lines tick n began (take (i + 1) xs))
+pub begin-logged : (start log next : KeptLines) (tick n : ℕ) (began : What) (xs ys : List ℕ) (i : ℕ) → ys ≡ xs → i < length ys → log ≡ with_lines start (begins_lines tick n began (take i xs)) → next ≡ with_lines log (stamp tick (n + get_or ys i 0 + 1) (begin_lines began)) → next ≡ with_lines start (begins_lines tick n began (take (i + 1) xs))
 begin-logged start log next tick n began xs ys i same below before put =
     let line = λ (zs : List ℕ). stamp tick (n + get_or zs i 0 + 1) (begin_lines began) in
     let within : i < length xs = subst (λ (zs : List ℕ). i < length zs) same below in
     put
     ∙ ap (λ (zs : List ℕ). with_lines log (line zs)) same
-    ∙ ap (λ (k : Kept). with_lines k (line xs)) before
+    ∙ ap (λ (k : KeptLines). with_lines k (line xs)) before
     ∙ sym (with_lines-append start (begins_lines tick n began (take i xs)) (line xs))
     ∙ ap (with_lines start) (sym (begins-more tick n began (take i xs) (get_or xs i 0)) ∙ ap (begins_lines tick n began) (sym (take_more xs i 0 within)))

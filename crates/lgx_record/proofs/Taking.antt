@@ -24,7 +24,7 @@ use Rattle.spec_reach.proofs.Reached.{run_more}
 use Rattle.spec_reach.proofs.Images.{images_keep_length}
 use Rattle.spec_text.specs.ReportText.{names_of}
 use Rattle.lgx_watch.specs.JournalLines.{lines_of_event}
-use Rattle.lgx_watch.specs.Kept.{Kept, with_lines}
+use Rattle.lgx_watch.specs.Kept.{KeptLines, with_lines}
 use Rattle.lgx_watch.proofs.Spanned.{unhit_watches_stay}
 use Rattle.lgx_core.specs.ControllerView.{ControllerView}
 use Rattle.lgx_core.specs.Represents.{RepresentsController}
@@ -47,7 +47,7 @@ use Rattle.lgx_record.proofs.Changed.{set_lines-changes}
 pub few_lost_by : (v : RecordingView) (n : ℕ) → IsRecording v → v.controller.spent + n ≤ MAX_EVENTS → v.log.lost + MAX_EVENT_LINES * n < 2 ^ 63
 few_lost_by v n i l =
     let few = events_have_few_lines i.project i.events i.records.controller.valid in
-    let lost = ap (λ (k : Kept). k.lost) i.records.log in
+    let lost = ap (λ (k : KeptLines). k.lost) i.records.log in
     let many = i.records.controller.counted in
     omega arith
 
@@ -124,7 +124,7 @@ pub next_watched : (v : RunSeen) (i : IsRun v) (now : ImageView) → ChangesOnly
 next_watched v i now changes = subst (AreWatched v.places) (sym changes.same_watched) i.run.watched
 
 -- what was done when an event of state s was taken
-pub record Takes (old new : RunSeen) (before after : Kept) (s : State) (e : Event) (at : Stamp) : Type 0 where
+pub record Takes (old new : RunSeen) (before after : KeptLines) (s : State) (e : Event) (at : Stamp) : Type 0 where
   pub represents : RepresentsController new.controller (step s e).state
   pub spent : new.controller.spent ≡ old.controller.spent + 1
   pub names : new.names ≡ old.names
@@ -148,7 +148,7 @@ counted events e n is =
     by_test true = omega arith
     by_test false = omega arith
 
-pub follows-more : (old new : RunSeen) (start end : Kept) (project : Project) (events : List Event) (e : Event) (at : Stamp) → HasTaken old project events → Takes old new start end (run project events) e at → IsExtended new start end project events (e ∷ [])
+pub follows-more : (old new : RunSeen) (start end : KeptLines) (project : Project) (events : List Event) (e : Event) (at : Stamp) → HasTaken old project events → Takes old new start end (run project events) e at → IsExtended new start end project events (e ∷ [])
 follows-more old new start end project events e at r t =
     let s = run project events in
     let x = step s e in

@@ -4,14 +4,14 @@ use Rattle.std.specs.Coded.{Coded, code_by, coded×}
 use Rattle.lgx_num.specs.declared.place.Place.{Place}
 use Rattle.spec_text.specs.ReportText.{Names}
 use Rattle.lgx_journal.specs.Journals.{JournalView}
-use Rattle.lgx_watch.specs.Kept.{Kept}
+use Rattle.lgx_watch.specs.Kept.{KeptLines}
 use Rattle.lgx_core.specs.ControllerView.{ControllerView}
 use Rattle.lgx_record.specs.RunSeen.{RunSeen}
 use Rattle.lgx_record.specs.RecordingView.{RecordingView}
 
 -- the parts but for the controller
 abbrev pub Rest : Type 0
-Rest = ((JournalView × Kept) × (Names × ℕ)) × (List Place × List ℤ)
+Rest = ((JournalView × KeptLines) × (Names × ℕ)) × (List Place × List ℤ)
 
 abbrev pub recording_code : Coded ControllerView → Coded Rest → Coded RecordingView
 recording_code controller rest =

@@ -14,11 +14,11 @@ use Rattle.spec_machine.specs.Project.{Project}
 use Rattle.spec_machine.specs.declared.answer.What.{What}
 use Rattle.spec_machine.specs.Report.{Stamped, stamp, begin_lines, report_lines}
 use Rattle.spec_machine.specs.ValidProject.{IsValidProject}
-use Rattle.lgx_watch.specs.Kept.{Kept, with_lines}
+use Rattle.lgx_watch.specs.Kept.{KeptLines, with_lines}
 use Rattle.lgx_record.specs.Changes.{change_lines}
 
 -- a log with more lines of one event
-abbrev pub with_event_lines : Kept → Stamp → List Line → Kept
+abbrev pub with_event_lines : KeptLines → Stamp → List Line → KeptLines
 with_event_lines log at lines = with_lines log (stamp at.tick at.step lines)
 
 -- the lines of the periodic tasks below n that overlapped, by a mask; s is the state after the tick
@@ -26,7 +26,7 @@ abbrev pub overlap_lines : State → ℕ → ℕ → List Line
 overlap_lines s mask n = map FaultLine (map (task_fault s Minor PERIODIC_OVERLAP) (tasks_in mask n))
 
 -- The watched places were compared: those whose numbers before and now differ have lines, and the numbers now are kept.
-pub record Compared (old new : Kept) (at : Stamp) (before after now : List ℤ) : Type 0 where
+pub record Compared (old new : KeptLines) (at : Stamp) (before after now : List ℤ) : Type 0 where
   pub log : new ≡ with_event_lines old at (change_lines 0 before now)
   pub values : after ≡ now
 

@@ -10,7 +10,7 @@ use Rattle.spec_machine.specs.Report.{Stamped, steps_of, lines_from}
 use Rattle.lgx_journal.specs.declared.runs.RunView.{RunView}
 use Rattle.lgx_journal.specs.declared.runs.RunView.TheVariants as view
 use Rattle.lgx_journal.specs.Runs.{seen_run}
-use Rattle.lgx_watch.specs.Kept.{Kept, no_lines, with_lines}
+use Rattle.lgx_watch.specs.Kept.{KeptLines, no_lines, with_lines}
 use Rattle.lgx_record.specs.RunSeen.{RunSeen}
 use Rattle.lgx_record.specs.IsRunOf.{IsRunOf}
 
@@ -19,12 +19,12 @@ abbrev pub more_lines : Project → List Event → List Event → List Stamped
 more_lines project events more = lines_from project.watches (run project events) (steps_of events) more
 
 -- It is the run with these events more, and the log has their lines after those before.
-pub record IsExtended (new : RunSeen) (before after : Kept) (project : Project) (events more : List Event) : Type 0 where
+pub record IsExtended (new : RunSeen) (before after : KeptLines) (project : Project) (events more : List Event) : Type 0 where
   pub run : IsRunOf new project (events ++ more)
   pub log : after ≡ with_lines before (more_lines project events more)
 
 -- whichever run it was, it is that run with these events more now
-abbrev pub Extends : RunSeen → RunSeen → Kept → Kept → List Event → Type 0
+abbrev pub Extends : RunSeen → RunSeen → KeptLines → KeptLines → List Event → Type 0
 Extends old new before after more =
     (project : Project) (events : List Event) → IsRunOf old project events → IsExtended new before after project events more
 

@@ -3,7 +3,7 @@ use Rattle.std.specs.Prelude.{ℕ, List, ℤ}
 use Rattle.lgx_num.specs.declared.place.Place.{Place}
 use Rattle.spec_text.specs.ReportText.{Names}
 use Rattle.lgx_journal.specs.Journals.{JournalView}
-use Rattle.lgx_watch.specs.Kept.{Kept}
+use Rattle.lgx_watch.specs.Kept.{KeptLines}
 use Rattle.lgx_core.specs.ControllerView.{ControllerView}
 use Rattle.lgx_record.specs.RunSeen.{RunSeen}
 
@@ -12,14 +12,14 @@ use Rattle.lgx_record.specs.RunSeen.{RunSeen}
 pub record RecordingView : Type 0 where
   pub controller : ControllerView
   pub journal : JournalView
-  pub log : Kept
+  pub log : KeptLines
   pub names : Names
   pub steps : ℕ
   pub places : List Place
   pub values : List ℤ
 
 -- a run with a journal and a log
-abbrev pub recording_of : RunSeen → JournalView → Kept → RecordingView
+abbrev pub recording_of : RunSeen → JournalView → KeptLines → RecordingView
 recording_of run journal log = record {
   controller = run.controller;
   journal = journal;

@@ -14,7 +14,7 @@ use Rattle.lgx_sched.specs.Represents.{RepresentsTable as RepresentsTable, HasPe
 use Rattle.lgx_edit.specs.declared.texts.ProgramText.{ProgramText as KeptProgram}
 use Rattle.lgx_edit.specs.EditsView.{books, holds}
 use Rattle.lgx_edit.specs.Texts.{program_of}
-use Rattle.lgx_steps.specs.declared.fresh.Kept.{Kept}
+use Rattle.lgx_steps.specs.declared.fresh.OtherParts.{OtherParts}
 use Rattle.lgx_steps.specs.declared.fresh.Opened.{Opened}
 use Rattle.lgx_steps.specs.declared.fresh.Scans.{Scans}
 use Rattle.lgx_steps.specs.declared.fresh.Tables.{Tables}
@@ -32,7 +32,7 @@ pub record AreSmall (conns : List ConnDef) : Type 0 where
   pub small : All IsSmall conns
 
 -- these programs and what is kept beside them are the parts of a valid project
-pub record IsTakenApart (p : Project) (texts : List KeptProgram) (kept : Kept) : Type 0 where
+pub record IsTakenApart (p : Project) (texts : List KeptProgram) (kept : OtherParts) : Type 0 where
   pub valid : IsValidProject p
   pub programs : p.programs ≡ map program_of texts
   pub tags : kept.tags.declarations ≡ p.tags

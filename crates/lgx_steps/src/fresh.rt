@@ -46,7 +46,7 @@ fn idle(alloc: Global, book: &EditBook, tasks: usize) -> Result<Vec<Progress>, M
 
 /// What a controller keeps of its project beside the programs, and what its tables are made of.
 #[derive(Drop)]
-pub(crate) struct Kept {
+pub(crate) struct OtherParts {
     pub(crate) tags: TagTable,
     pub(crate) tasks: TaskDefs,
     pub(crate) names: TaskNames,
@@ -59,7 +59,7 @@ pub(crate) struct Kept {
 #[derive(Drop)]
 pub(crate) struct Opened {
     pub(crate) texts: Vec<ProgramText>,
-    pub(crate) kept: Box<Kept>,
+    pub(crate) kept: Box<OtherParts>,
 }
 
 /// Takes a project apart.
@@ -72,7 +72,7 @@ fn take_apart(alloc: Global, project: Plant) -> Result<Opened, Memory>
 }
 
 /// Takes the parts of a project apart.
-fn take_parts(project: PlantParts) -> (Vec<ProgramText>, Kept)
+fn take_parts(project: PlantParts) -> (Vec<ProgramText>, OtherParts)
     ensures { IsTakenApart project result.0.items result.1 }
 {
     let PlantParts {
@@ -85,7 +85,7 @@ fn take_parts(project: PlantParts) -> (Vec<ProgramText>, Kept)
         image,
         watches: _watches,
     } = project;
-    let kept = Kept {
+    let kept = OtherParts {
         tags,
         tasks,
         names,
@@ -148,7 +148,7 @@ fn scans_of(alloc: Global, texts: Vec<ProgramText>, tasks: usize) -> Result<Scan
 /// The parts of a controller in Program at tick 0, with no task up.
 fn parts_of(
     alloc: Global,
-    kept: Kept,
+    kept: OtherParts,
     tables: Tables,
     scans: Scans,
     faults: FaultLog,
@@ -170,7 +170,7 @@ fn parts_of(
       faults = faults;
     } }
 {
-    let Kept {
+    let OtherParts {
         tags,
         tasks: _tasks,
         names,

@@ -4,16 +4,16 @@ use Rattle.std.proofs.lemmas.Bool.{cases_lt, lt-ltb, le-ltb}
 use Rattle.std.proofs.lemmas.List.{append-nil, take_all, take-append-le, length-take-le}
 use Rattle.spec_base.specs.declared.limits.TheConstants.{MAX_REPORT_LINES}
 use Rattle.spec_machine.specs.Report.{Stamped}
-use Rattle.lgx_watch.specs.Kept.{Kept, kept_of, with_line, with_lines, KeepsTheFirst}
+use Rattle.lgx_watch.specs.Kept.{KeptLines, kept_of, with_line, with_lines, KeepsTheFirst}
 
-pub same_kept : (a b : List Stamped) (m n : ℕ) → a ≡ b → m ≡ n → (let x : Kept = record { lines = a; lost = m } in x) ≡ record { lines = b; lost = n }
+pub same_kept : (a b : List Stamped) (m n : ℕ) → a ≡ b → m ≡ n → (let x : KeptLines = record { lines = a; lost = m } in x) ≡ record { lines = b; lost = n }
 same_kept a b m n p q = rw (p, q) refl
 
 -- a line is kept while there is room, and then it is counted
-with_line-room : (log : Kept) (line : Stamped) → length log.lines < MAX_REPORT_LINES → with_line log line ≡ record { lines = log.lines ++ line ∷ []; lost = log.lost }
+with_line-room : (log : KeptLines) (line : Stamped) → length log.lines < MAX_REPORT_LINES → with_line log line ≡ record { lines = log.lines ++ line ∷ []; lost = log.lost }
 with_line-room log line below = rw (lt-ltb (length log.lines) MAX_REPORT_LINES below) refl
 
-with_line-full : (log : Kept) (line : Stamped) → MAX_REPORT_LINES ≤ length log.lines → with_line log line ≡ record { lines = log.lines; lost = log.lost + 1 }
+with_line-full : (log : KeptLines) (line : Stamped) → MAX_REPORT_LINES ≤ length log.lines → with_line log line ≡ record { lines = log.lines; lost = log.lost + 1 }
 with_line-full log line full = rw (le-ltb (length log.lines) MAX_REPORT_LINES full) refl
 
 -- one line more
@@ -32,7 +32,7 @@ kept_of-push all line =
     ]
 
 -- a log that stands for some lines stands, after further ones, for all of them
-pub stands_after_push : (old new : Kept) (line : Stamped) → new ≡ with_line old line → (all : List Stamped) → old ≡ kept_of all → new ≡ kept_of (all ++ line ∷ [])
+pub stands_after_push : (old new : KeptLines) (line : Stamped) → new ≡ with_line old line → (all : List Stamped) → old ≡ kept_of all → new ≡ kept_of (all ++ line ∷ [])
 stands_after_push old new line is all stood = is ∙ ap (λ log. with_line log line) stood ∙ kept_of-push all line
 
 after_all : (all more : List Stamped) → with_lines (kept_of all) more ≡ kept_of (all ++ more)

@@ -3,23 +3,23 @@ use Rattle.std.specs.Prelude.{◌≡◌, ℕ, ◌+◌, ◌-◌, ◌<◌, ◌≤�
 use Rattle.spec_base.specs.declared.limits.TheConstants.{MAX_REPORT_LINES}
 use Rattle.spec_machine.specs.Report.{Stamped}
 
-pub record Kept : Type 0 where
+pub record KeptLines : Type 0 where
   pub lines : List Stamped
   pub lost : ℕ
 
-abbrev pub no_lines : Kept
+abbrev pub no_lines : KeptLines
 no_lines = record { lines = []; lost = 0 }
 
 -- the log that stands for all these lines
-abbrev pub kept_of : List Stamped → Kept
+abbrev pub kept_of : List Stamped → KeptLines
 kept_of all = record { lines = take MAX_REPORT_LINES all; lost = length all - MAX_REPORT_LINES }
 
 -- a log with one line more
-abbrev pub with_line : Kept → Stamped → Kept
+abbrev pub with_line : KeptLines → Stamped → KeptLines
 with_line kept line =
     if nat_lt (length kept.lines) MAX_REPORT_LINES then record { lines = kept.lines ++ line ∷ []; lost = kept.lost } else record { lines = kept.lines; lost = kept.lost + 1 }
 
-abbrev pub with_lines : Kept → List Stamped → Kept
+abbrev pub with_lines : KeptLines → List Stamped → KeptLines
 with_lines kept [] = kept
 with_lines kept (line ∷ lines) = with_lines (with_line kept line) lines
 

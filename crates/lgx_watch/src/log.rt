@@ -2,7 +2,7 @@
 ghost use Rattle.std.specs.Prelude.{◌≡◌, ℕ, ◌+◌, ◌≤◌, ◌<◌, ◌^◌, List, [], ◌∷◌, ◌++◌, length, slice_get, IfOk, Some};
 ghost use Rattle.spec_base.specs.declared.limits.TheConstants.{MAX_REPORT_LINES};
 ghost use Rattle.spec_machine.specs.Report.{Stamped as StampedLine};
-ghost use Rattle.lgx_watch.specs.Kept.{Kept, no_lines, kept_of, with_line};
+ghost use Rattle.lgx_watch.specs.Kept.{KeptLines, no_lines, kept_of, with_line};
 
 use lgx_num::Memory;
 use spec_base::limits::MAX_REPORT_LINES;
@@ -43,9 +43,9 @@ impl Drop for Log {
 impl Model for Log {
     ghost use Rattle.std.specs.Prelude.{◌≤◌, length, vec_capacity};
     ghost use Rattle.spec_base.specs.declared.limits.TheConstants.{MAX_REPORT_LINES};
-    ghost use Rattle.lgx_watch.specs.Kept.{Kept, KeepsRoom};
+    ghost use Rattle.lgx_watch.specs.Kept.{KeptLines, KeepsRoom};
 
-    ghost Value = { Kept };
+    ghost Value = { KeptLines };
 
     ghost view = { λ l. record { lines = l.lines.items; lost = l.lost } };
 

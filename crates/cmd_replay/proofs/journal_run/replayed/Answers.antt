@@ -5,7 +5,7 @@ use Rattle.spec_text.specs.declared.script.EventRun.{EventRun}
 use Rattle.spec_text.specs.JournalText.{joined, events_of}
 use Rattle.spec_text.proofs.JoinedRuns.{runs_expand}
 use Rattle.lgx_journal.specs.Runs.{seen_run}
-use Rattle.lgx_watch.specs.Kept.{Kept, no_lines}
+use Rattle.lgx_watch.specs.Kept.{KeptLines, no_lines}
 use Rattle.lgx_watch.proofs.Pushes.{keeps_the_first}
 use Rattle.lgx_record.specs.Extends.{IsExtended, events_in}
 use Rattle.lgx_record.proofs.FewLines.{events_have_few_lines}
@@ -27,7 +27,7 @@ take-requires c =
     let count : (seen_run c.run_at.result).count ≡ (slice_index_or (joined es) c.loop-i.i no_run).count = ap (λ (r : EventRun). r.count) (c.run_at.ensures no_run) in
     let room = room_for_run es c.loop-i.i no_run below c.requires.few in
     let few = events_have_few_lines c.args.project before more.run.controller.valid in
-    let lost = ap (λ (k : Kept). k.lost) more.log in
+    let lost = ap (λ (k : KeptLines). k.lost) more.log in
     let all = few-more-lost no_lines (report_lines c.args.project before) in
     record {
       room = omega arith;

@@ -3,7 +3,7 @@ use Rattle.std.specs.Prelude.{flat_map}
 use Rattle.spec_link.specs.declared.script.LinkAnswer.{LinkAnswer}
 use Rattle.spec_link.specs.LinkOutput.{OfA, OfB, answer_lines, new_lines, written}
 use Rattle.spec_link.specs.Links.{link_step}
-use Rattle.lgx_watch.specs.Kept.{Kept}
+use Rattle.lgx_watch.specs.Kept.{KeptLines}
 use Rattle.lgx_link.proofs.Added.{added, gained_of_a, gained_of_b, on_ok}
 use Rattle.lgx_link.proofs.running.Running.follow.Goals as goal
 
@@ -13,8 +13,8 @@ returns-clause-link c = λ l s h.
     let v = c.args.self.now in
     let w = c.step.new.self in
     let g = c.in_ok-answer.ensures.link l s h in
-    let told_a = c.lines-told_of_a.ensures.value ∙ ap (λ (log : Kept). length log.lines) c.log.ensures in
-    let told_b = c.lines-told_of_b.ensures.value ∙ ap (λ (log : Kept). length log.lines) c.log-2.ensures in
+    let told_a = c.lines-told_of_a.ensures.value ∙ ap (λ (log : KeptLines). length log.lines) c.log.ensures in
+    let told_b = c.lines-told_of_b.ensures.value ∙ ap (λ (log : KeptLines). length log.lines) c.log-2.ensures in
     let of_a = gained_of_a v.a w.a l.a s.a y.link.a c.lines-told_of_a.result h.a g.link.a told_a in
     let of_b = gained_of_b v.b w.b l.b s.b y.link.b c.lines-told_of_b.result h.b g.link.b told_b in
     let old = c.args.text.now.items in

@@ -2,7 +2,7 @@ use Rattle.std.proofs.Common.{◌≡◌, List, [], ◌∷◌, ◌++◌, replicat
 use Rattle.std.proofs.lemmas.Result.{on_ok_weaker}
 use Rattle.spec_machine.specs.declared.event.Event.{Event}
 use Rattle.spec_text.specs.declared.script.EventRun.{EventRun}
-use Rattle.lgx_watch.specs.Kept.{Kept}
+use Rattle.lgx_watch.specs.Kept.{KeptLines}
 use Rattle.lgx_record.specs.IsRunOf.{IsRunOf}
 use Rattle.lgx_record.specs.Extends.{Extends, events_in}
 use Rattle.lgx_live.proofs.Events.{event_kept}
@@ -13,7 +13,7 @@ take-requires c =
     let spent = c.requires.2.controller.counted in
     let few = c.requires.3 in
     let once = ap (λ (r : EventRun). r.count) c.alone.ensures in
-    let empty = ap (λ (k : Kept). k.lost) c.clear.ensures in
+    let empty = ap (λ (k : KeptLines). k.lost) c.clear.ensures in
     record { room = omega arith; lost = omega arith }
 
 pub returns-clause-follows : goal.returns-clause-follows

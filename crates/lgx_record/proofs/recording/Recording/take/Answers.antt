@@ -1,7 +1,7 @@
 use Rattle.std.proofs.Common.{◌<◌, ◌++◌, replicate, sym, ap, ◌∙◌, subst, arith}
 use Rattle.spec_text.specs.declared.script.EventRun.{EventRun}
 use Rattle.lgx_journal.specs.Runs.{seen_run}
-use Rattle.lgx_watch.specs.Kept.{Kept}
+use Rattle.lgx_watch.specs.Kept.{KeptLines}
 use Rattle.lgx_record.specs.RunSeen.{RunSeen}
 use Rattle.lgx_record.specs.RecordingView.{RecordingView, recording_of}
 use Rattle.lgx_record.specs.Records.{IsRecording, RecordsMore, HasCounted}
@@ -19,13 +19,13 @@ take-requires-clause-lost c =
 pub invariant_of-self : goal.invariant_of-self
 invariant_of-self c =
     subst (λ (v : RunSeen). IsRecording (recording_of v c.self.inside.journal c.take.new.log)) (sym c.in_err-take.ensures.unchanged)
-    (subst (λ (k : Kept). IsRecording (recording_of c.self.inside.run c.self.inside.journal k)) (sym c.in_err-take.ensures.no_line) c.self.invariant)
+    (subst (λ (k : KeptLines). IsRecording (recording_of c.self.inside.run c.self.inside.journal k)) (sym c.in_err-take.ensures.no_line) c.self.invariant)
 
 pub returns-in_err-take-clause-unchanged : goal.returns-in_err-take-clause-unchanged
 returns-in_err-take-clause-unchanged c =
     when-err c.from_residual-in_err-take.result
     (ap (λ (v : RunSeen). recording_of v c.self.inside.journal c.take.new.log) c.in_err-take.ensures.unchanged
-    ∙ ap (λ (k : Kept). recording_of c.self.inside.run c.self.inside.journal k) c.in_err-take.ensures.no_line
+    ∙ ap (λ (k : KeptLines). recording_of c.self.inside.run c.self.inside.journal k) c.in_err-take.ensures.no_line
     ∙ c.self.view_is)
 
 pub add_run-requires : goal.add_run-requires

@@ -3,7 +3,7 @@ use Rattle.std.proofs.lemmas.Result.{on_ok_weaker}
 use Rattle.spec_machine.specs.declared.event.Event.{Event}
 use Rattle.spec_machine.specs.Report.{report_lines}
 use Rattle.spec_text.specs.declared.script.EventRun.{EventRun}
-use Rattle.lgx_watch.specs.Kept.{Kept, kept_of}
+use Rattle.lgx_watch.specs.Kept.{KeptLines, kept_of}
 use Rattle.lgx_record.specs.IsRunOf.{IsRunOf}
 use Rattle.lgx_record.specs.Extends.{Extends, events_in}
 use Rattle.lgx_record.proofs.FewLines.{events_have_few_lines}
@@ -18,7 +18,7 @@ take-requires c =
     let few = c.requires.3 in
     let once = ap (λ (r : EventRun). r.count) c.alone.ensures in
     let lines = events_have_few_lines c.requires.0 events h.run.controller.valid in
-    let lost = ap (λ (k : Kept). k.lost) h.log in
+    let lost = ap (λ (k : KeptLines). k.lost) h.log in
     record { room = omega arith; lost = omega arith }
 
 pub returns : goal.returns
