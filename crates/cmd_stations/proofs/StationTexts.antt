@@ -1,7 +1,5 @@
 -- The lines of stations, one station more; and the whole text.
-use Rattle.std.proofs.Common.{◌≡◌, ℕ, suc, ◌+◌, ◌-◌, ◌<◌, List, [], ◌++◌, length, drop, take, take_all, length-drop, sym, ap, ◌∙◌, subst, arith}
-use Rattle.std.proofs.lemmas.List.{take-append-drop, drop-drop}
-use Rattle.std.specs.Io.BufRead.{take_through}
+use Rattle.std.proofs.Common.{◌≡◌, ℕ, suc, ◌+◌, ◌<◌, List, [], ◌++◌, length, drop, sym, ap, ◌∙◌, subst, arith}
 use Rattle.std.specs.Prelude.{slice_index_or}
 use Rattle.std.specs.List.{All}
 use Rattle.std.proofs.Math.Seq.{drop-cons}
@@ -32,21 +30,6 @@ next_station rs i r below is =
     ap (lines_from i) (drop-cons rs i r below)
     ∙ (ap (λ x. station_lines i x ++ lines_from (i + 1) (drop (suc i) rs)) (sym is)
     ∙ ap (λ k. station_lines i r ++ lines_from (i + 1) (drop k rs)) n)
-
--- a first line, cut off what stands from a byte on, and what stands behind it
-pub next_line : (xs shown front line : List ℕ) (at n : ℕ) → shown ≡ xs → front ≡ [] → line ≡ front ++ take n (take (length shown - at) (drop at shown))
-    → drop at xs ≡ line ++ drop (at + n) xs
-next_line xs shown front line at n same empty is =
-    let whole : take (length shown - at) (drop at shown) ≡ drop at shown = take_all (length shown - at) (drop at shown) (omega (arith, length-drop at shown)) in
-    let is_front : line ≡ take n (drop at xs) = is ∙ (ap (λ f. f ++ take n (take (length shown - at) (drop at shown))) empty ∙ (ap (λ l. take n l) whole ∙ ap (λ l. take n (drop at l)) same)) in
-    sym (take-append-drop n (drop at xs)) ∙ (ap (λ t. t ++ drop n (drop at xs)) (sym is_front) ∙ ap (λ t. line ++ t) (drop-drop n at xs))
-
--- and where that many bytes are those up to the first LF, it is one line
-pub one_line : (xs shown front line : List ℕ) (at n : ℕ) → shown ≡ xs → front ≡ [] → line ≡ front ++ take n (take (length shown - at) (drop at shown))
-    → take n (take (length shown - at) (drop at shown)) ≡ take_through 10 (take (length shown - at) (drop at shown)) → line ≡ take_through 10 (drop at xs)
-one_line xs shown front line at n same empty is cut =
-    let whole : take (length shown - at) (drop at shown) ≡ drop at shown = take_all (length shown - at) (drop at shown) (omega (arith, length-drop at shown)) in
-    is ∙ (ap (λ f. f ++ take n (take (length shown - at) (drop at shown))) empty ∙ (cut ∙ (ap (λ l. take_through 10 l) whole ∙ ap (λ l. take_through 10 (drop at l)) same)))
 
 -- a run without an event has an empty report
 pub just_begun : (run : RunSeen) (log : KeptLines) (p q : Project) → p ≡ q → IsRunOf run p [] → log ≡ no_lines → Reports (record { run = run; log = log }) q []

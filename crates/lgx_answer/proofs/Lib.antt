@@ -1,3 +1,4 @@
 pub mod Written
 pub mod Follow
 pub mod Follows
+pub mod TextLines
