@@ -1,4 +1,4 @@
-use Rattle.cmd_link.proofs.NextLine.{next_line, one_line}
+use Rattle.lgx_answer.proofs.TextLines.{next_line, one_line}
 use Rattle.cmd_link.proofs.lines.LinkLines.next_line.Goals as goal
 
 pub returns-clause-one : goal.returns-clause-one
