@@ -1,11 +1,8 @@
 -- Layer by layer, till none is left or one shows a line.
-use Rattle.std.proofs.Common.{◌+◌, List, refl, sym, ◌∙◌, ap, subst, arith}
+use Rattle.std.proofs.Common.{◌+◌, refl, sym, ◌∙◌, ap, subst, arith}
 use Rattle.std.specs.Prelude.{IsTrue, vec_len}
-use Rattle.std.specs.List.{Contains}
 use Rattle.std.proofs.lemmas.Bool.{eqb-true}
 use Rattle.spec_text.specs.Scripts.{Script, is_script}
-use Rattle.lgx_explore.specs.Nodes.{ShowsAt, AllKeep}
-use Rattle.lgx_explore.specs.Shown.{IfShown}
 use Rattle.lgx_explore.proofs.Closing.{first_done, next_done, all_done, empty_done, step_stays, empty}
 use Rattle.lgx_explore.proofs.Telling.{told_action, told_step, first_keeps, none_before, stays_among, pushed_first, ok_more}
 use Rattle.lgx_explore.proofs.layers.explore.Goals as goal
