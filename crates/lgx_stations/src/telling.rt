@@ -1,5 +1,5 @@
 // A journal that is replayed, and published to a board.
-ghost use Rattle.std.specs.Prelude.{◌≡◌, ℕ, List, [], ◌∷◌, ◌++◌, OnOk, length, replicate};
+ghost use Rattle.std.specs.Prelude.{◌≡◌, List, ◌∷◌, ◌++◌, OnOk, length, replicate};
 ghost use Rattle.spec_machine.specs.declared.event.Event.{Event as Events};
 ghost use Rattle.spec_story.specs.Snapshots.{snapshots};
 ghost use Rattle.lgx_stations.specs.Asking.{ForPublishes};

@@ -1,4 +1,4 @@
-use Rattle.std.proofs.Common.{rules, ◌≤◌, ℕ, List, [], length, sym, ◌∙◌, subst}
+use Rattle.std.proofs.Common.{rules, ◌≤◌, ℕ, List, length, sym, ◌∙◌, subst}
 use Rattle.spec_base.specs.declared.limits.TheConstants.{MAX_EVENTS}
 use Rattle.spec_machine.specs.declared.event.Event.{Event}
 use Rattle.spec_machine.specs.Project.{Project}
