@@ -1,4 +1,4 @@
--- What `gen` tells of the log of a run.
+-- What `gen` says of the log of a run.
 use Rattle.std.proofs.Common.{◌≡◌, ℕ, List, ◌++◌, length, ap, ◌∙◌}
 use Rattle.spec_machine.specs.declared.event.Event.{Event}
 use Rattle.spec_machine.specs.Project.{Project}

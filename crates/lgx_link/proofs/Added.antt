@@ -1,5 +1,5 @@
 -- The lines of the text, one by one.
-use Rattle.std.proofs.Common.{◌≡◌, ℕ, zero, suc, ◌+◌, List, [], ◌∷◌, ◌++◌, map, length, drop, Option, Some, None, option_map, Result, Ok, Err, OnOk, add-one, append_assoc, append-nil, refl, sym, ap, ◌∙◌, subst}
+use Rattle.std.proofs.Common.{◌≡◌, ℕ, zero, suc, ◌+◌, List, [], ◌∷◌, ◌++◌, length, drop, Some, option_map, Result, Ok, Err, OnOk, add-one, append_assoc, append-nil, sym, ap, ◌∙◌}
 use Rattle.std.specs.Prelude.{codes, flat_map, slice_get}
 use Rattle.std.proofs.lemmas.Grind.{flat_map-append}
 use Rattle.spec_machine.specs.declared.event.Event.{Event}

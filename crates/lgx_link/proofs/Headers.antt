@@ -1,7 +1,6 @@
 -- The first line of a link script.
 use Rattle.std.proofs.Common.{◌≡◌, ℕ, ◌≤◌, ◌==◌, ◌&&◌, List, [], ◌∷◌, length, Bool, true, false, cond, Option, Some, None, option_map, Result, Ok, Err, refl, ap, sym, ◌∙◌}
 use Rattle.std.specs.Prelude.{codes}
-use Rattle.std.specs.Str.{bytes_eq}
 use Rattle.std.proofs.lemmas.Bool.{le-leb}
 use Rattle.lgx_num.specs.Name.{is_name}
 use Rattle.spec_base.specs.FirstCause.{◌>>=◌, unless, some_or}
@@ -10,7 +9,6 @@ use Rattle.spec_tables.specs.declared.conn.ConnDef.{ConnDef}
 use Rattle.spec_machine.specs.Project.{Project}
 use Rattle.spec_text.specs.TextLines.{words}
 use Rattle.spec_text.specs.ActionText.{name_of}
-use Rattle.spec_text.specs.JournalText.{is_line}
 use Rattle.spec_link.specs.declared.script.LinkCode.{LinkCode}
 use Rattle.spec_link.specs.declared.script.LinkCode.TheVariants.{J1, U1}
 use Rattle.spec_link.specs.declared.script.LinkScript.{LinkScript}

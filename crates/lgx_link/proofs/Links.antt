@@ -1,17 +1,16 @@
 -- What lines do to the state that two controllers under way stand for.
-use Rattle.std.proofs.Common.{◌≡◌, ℕ, zero, suc, ◌+◌, ◌≤◌, ◌<◌, ◌⊎◌, ⊎_elim, Bool, true, false, cond, List, [], ◌∷◌, ◌++◌, map, length, length-append, replicate, Option, Some, None, option_map, refl, sym, ap, ◌∙◌, subst, arith}
-use Rattle.std.specs.Prelude.{ℤ, ◌*◌, ◌&&◌, nat_le, nat_lt, slice_get, slice_index_or, unwrap_or}
+use Rattle.std.proofs.Common.{◌≡◌, ℕ, zero, suc, ◌+◌, ◌≤◌, ⊎_elim, Bool, true, false, cond, List, [], ◌∷◌, ◌++◌, map, length, length-append, Option, Some, None, option_map, refl, sym, ap, ◌∙◌, subst, arith}
+use Rattle.std.specs.Prelude.{ℤ, ◌*◌, nat_le, nat_lt, slice_get, slice_index_or, unwrap_or}
 use Rattle.std.specs.List.{list_all}
 use Rattle.std.proofs.lemmas.Bool.{and_parts, leb-true}
 use Rattle.std.proofs.lemmas.List.{length-map, map-append}
-use Rattle.std.proofs.lemmas.Option.{slice_get-map, slice_get_within, same_Some}
+use Rattle.std.proofs.lemmas.Option.{slice_get-map, same_Some}
 use Rattle.spec_base.specs.declared.limits.TheConstants.{MAX_CONNECTION_WORDS, MAX_IMAGE_BYTES}
 use Rattle.spec_tables.specs.declared.conn.ConnDef.{ConnDef}
 use Rattle.spec_tables.specs.Connections.{conn_named, no_conn}
 use Rattle.spec_machine.specs.declared.event.Event.{Event}
 use Rattle.spec_machine.specs.Project.{Project}
 use Rattle.spec_machine.specs.ValidProject.{IsValidProject, is_small_connection, is_within}
-use Rattle.spec_link.specs.declared.script.LinkAnswer.{LinkAnswer}
 use Rattle.spec_link.specs.declared.script.LinkAnswer.TheVariants.{Stale, New}
 use Rattle.spec_link.specs.declared.script.LinkScript.{LinkScript}
 use Rattle.spec_link.specs.LinkText.{conn_at, connection, in_direction}

@@ -1,5 +1,5 @@
 -- The words of a connection, one more at a time.
-use Rattle.std.proofs.Common.{◌≡◌, ℕ, zero, suc, ◌+◌, ◌<◌, List, [], ◌∷◌, ◌++◌, length, length-append, get_or, take, replicate, true, add-one, append_assoc, append-nil, refl, sym, ap, ◌∙◌, arith}
+use Rattle.std.proofs.Common.{◌≡◌, ℕ, suc, ◌+◌, ◌<◌, List, [], ◌∷◌, ◌++◌, length, length-append, get_or, take, true, append_assoc, append-nil, refl, sym, ap, ◌∙◌, arith}
 use Rattle.std.specs.Prelude.{ℤ, pos, negsuc, ◌≤ℤ◌, flat_map}
 use Rattle.std.proofs.lemmas.Grind.{flat_map-append}
 use Rattle.std.proofs.lemmas.List.{length-take-le, take_more}
@@ -22,15 +22,6 @@ use Rattle.lgx_core.proofs.Runs.{trace-more}
 use Rattle.lgx_record.specs.RecordingView.{RecordingView}
 use Rattle.lgx_record.specs.Records.{Records}
 use Rattle.lgx_link.specs.Running.{AreWords, outs}
-
--- an event once more
-pub times_more : (events : List Event) (e : Event) (n : ℕ) → (events ++ replicate n e) ++ e ∷ [] ≡ events ++ replicate (n + 1) e
-times_more events e n =
-    append_assoc events (replicate n e) (e ∷ []) ∙ ap (λ es. events ++ es) (sym (last n) ∙ ap (λ k. replicate k e) (sym (add-one n)))
-  where
-    last : (n : ℕ) → replicate (suc n) e ≡ replicate n e ++ e ∷ []
-    last zero = refl
-    last (suc n) = ap (λ es. e ∷ es) (last n)
 
 -- a recording has counted the events that came
 pub spent_after : (v w : RecordingView) (p : Project) (es ds : List Event) → Records v p es → Records w p (es ++ ds) → w.controller.spent ≡ v.controller.spent + length ds

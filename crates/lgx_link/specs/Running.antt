@@ -1,5 +1,5 @@
 -- How two controllers under way stand for the state of a link.
-use Rattle.std.specs.Prelude.{◌≡◌, ℕ, zero, suc, ◌+◌, ◌≤◌, List, [], ◌∷◌, ◌++◌, map, flat_map, length, slice_get, sum_by, true, ℤ, Some}
+use Rattle.std.specs.Prelude.{◌≡◌, ℕ, ◌+◌, ◌≤◌, List, ◌++◌, map, flat_map, length, slice_get, sum_by, true, ℤ, Some}
 use Rattle.std.specs.List.{AllByRecursion as Each, range_with_len}
 use Rattle.spec_base.specs.declared.limits.TheConstants.{MAX_EVENTS, OWN_LANE}
 use Rattle.lgx_num.specs.declared.number.Kind.TheVariants.{Dint}

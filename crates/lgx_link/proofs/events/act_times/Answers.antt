@@ -1,8 +1,8 @@
-use Rattle.std.proofs.Common.{◌≡◌, ◌+◌, ◌++◌, ℕ, List, replicate, sym, subst, append-nil, arith}
+use Rattle.std.proofs.Common.{◌≡◌, ◌++◌, ℕ, List, replicate, sym, subst, append-nil, arith}
 use Rattle.spec_machine.specs.declared.event.Event.{Event}
 use Rattle.spec_machine.specs.declared.event.Event.TheVariants.{Act}
 use Rattle.lgx_record.specs.Records.{Records, RecordsMore}
-use Rattle.lgx_link.proofs.WordsCounted.{times_more}
+use Rattle.lgx_judge.proofs.Runs.{one_more}
 use Rattle.lgx_link.proofs.events.act_times.Goals as goal
 
 pub apply-requires : goal.apply-requires
@@ -26,7 +26,7 @@ loop-preserved c =
     record {
       spent = omega (arith, more, spent);
       records = λ project events h.
-          subst (λ (es : List Event). Records c.apply.new.self project es) (times_more events e c.loop.counter)
+          subst (λ (es : List Event). Records c.apply.new.self project es) (one_more events e c.loop.counter)
           (c.in_ok-apply.ensures.records project (events ++ replicate c.loop.counter e) (c.loop.invariant.records project events h));
     }
 

@@ -1,5 +1,5 @@
 use mir.Val.{of_z, to_z}
-use Rattle.std.proofs.Common.{◌≡◌, [], ◌∷◌, ◌++◌, ℕ, List, subst, arith}
+use Rattle.std.proofs.Common.{[], ◌∷◌, ◌++◌, ℕ, List, subst, arith}
 use Rattle.std.specs.Prelude.{ℤ}
 use Rattle.std.specs.Int.{w32}
 use Rattle.std.proofs.lemmas.Int.{to_z-of_z}

@@ -1,4 +1,4 @@
-use Rattle.std.proofs.Common.{◌≡◌, ◌+◌, ◌++◌, length, replicate, sym, subst, arith}
+use Rattle.std.proofs.Common.{◌++◌, replicate, sym, subst, arith}
 use Rattle.std.proofs.lemmas.List.{length-replicate}
 use Rattle.std.proofs.lemmas.Result.{on_ok_weaker}
 use Rattle.spec_machine.specs.declared.event.Event.{Event}

@@ -1,9 +1,9 @@
-use Rattle.std.proofs.Common.{◌≡◌, ◌+◌, List, [], ◌∷◌, ◌++◌, ap, sym, ◌∙◌, arith}
+use Rattle.std.proofs.Common.{◌+◌, List, [], ◌∷◌, ◌++◌, ap, sym, ◌∙◌, arith}
 use Rattle.spec_text.specs.TextLines.{lines}
 use Rattle.spec_link.specs.declared.script.LinkStep.{LinkStep}
-use Rattle.spec_link.specs.LinkText.{Counts, no_counts, steps_from}
+use Rattle.spec_link.specs.LinkText.{Counts, steps_from}
 use Rattle.lgx_link.specs.Reading.{after_steps}
-use Rattle.lgx_link.proofs.ReadSteps.{line_ends, line_read, line_refused, line_skipped, none_before}
+use Rattle.lgx_link.proofs.ReadSteps.{line_ends, line_read, line_skipped, none_before}
 use Rattle.lgx_link.proofs.read.read_steps.Goals as goal
 
 pub loop-line-init : goal.loop-line-init

@@ -1,4 +1,4 @@
-use Rattle.std.proofs.Common.{◌≡◌, ◌∙◌, ℕ, List, ◌++◌, length, Result, Ok, Err, OnOk, ap}
+use Rattle.std.proofs.Common.{◌∙◌, ℕ, List, ◌++◌, length, ap}
 use Rattle.std.specs.Prelude.{flat_map}
 use Rattle.spec_link.specs.declared.script.LinkAnswer.{LinkAnswer}
 use Rattle.spec_link.specs.LinkOutput.{OfA, OfB, answer_lines, new_lines, written}
