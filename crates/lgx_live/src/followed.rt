@@ -38,7 +38,7 @@ impl Followed {
         self.run.names()
     }
 
-    /// Makes the end line of the report, in place of what is in the text, and empties the log.
+    /// Makes the end line of the report, in place of what is in the text. What the log then keeps isn't said.
     pub(crate) fn end_line(&self, log: &mut Log, text: &mut Vec<u8>) -> Result<(), Memory>
         ensures { (project : Project) (events : List Events) → IsRunOf self.now.run project events → OnOk result (text.new.items ≡ last_line project events) }
     {

@@ -1,7 +1,7 @@
 //! A controller that is talked to: lines of a journal come one by one from a console, and each is answered before the next is asked
 //! for, by the report's lines of its events, or by why it wasn't done. A console over a reader and a writer takes lines however long.
 //!
-//! There is no journal and no log of the whole: however long a session is, it takes no more memory.
+//! There is no journal and no log of the whole: only accepted edits take more memory, however long a session is.
 #![tactic(auto)]
 
 mod console;

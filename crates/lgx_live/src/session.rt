@@ -61,8 +61,8 @@ fn take_turns<C: Console>(
 }
 
 /// A session: lines come from the console, one by one, up to the line `end` or to the last. Each is answered, and its answer is
-/// written, before the next is asked for; at the end comes the report's end line. Nothing waits to be written yet, and `follow` has
-/// followed no event.
+/// written, before the next is asked for; at the end comes the report's end line. Nothing waits to be written yet, and the run
+/// has no event.
 ///
 /// `Memory` comes if memory runs out, `ReadFault` if a line couldn't be read, `WriteFault` if something couldn't be written.
 pub fn talk<C: Console>(alloc: Global, console: &mut C, follow: &mut Followed) -> Status

@@ -17,7 +17,7 @@ use Rattle.lgx_record.specs.RunSeen.{RunSeen}
 use Rattle.lgx_record.specs.IsRunOf.{IsRunOf, IsRun}
 use Rattle.lgx_record.specs.RecordingView.{RecordingView, run_of}
 use Rattle.lgx_record.specs.Records.{Records, IsRecording, RecordsMore, HasCounted, IsUnchanged}
-use Rattle.lgx_record.specs.Extends.{Extends, IsExtended, more_lines, StandsInARun}
+use Rattle.lgx_record.specs.Extends.{Extends, IsExtended, more_lines}
 use Rattle.lgx_record.proofs.FewLines.{few_from}
 use Rattle.lgx_record.proofs.Logs.{few-more-lost, with_lines-append, kept_of-more}
 use Rattle.lgx_record.proofs.StepLines.{run_on, lines-append}
@@ -130,13 +130,6 @@ records-none v e n none = λ project events r.
 pub counts-none : (v : RecordingView) (e : Event) (n : ℕ) → n ≡ 0 → HasCounted v v (replicate n e)
 counts-none v e n none =
     subst (λ (m : ℕ). HasCounted v v (replicate m e)) (sym none) (record { steps = omega arith; spent = omega arith })
-
--- ---- what is taken stands in a run of a journal
-
-pub stands-in-a-run : (v : RunView) → 0 < (seen_run v).count → StandsInARun (seen_run v).event (seen_run v).count
-stands-in-a-run (view.Cpu n) some = some
-stands-in-a-run (view.Tick n) some = some
-stands-in-a-run (view.Act lane action) some = refl
 
 -- ---- what holds where a call came to want of memory
 

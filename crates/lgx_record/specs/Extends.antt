@@ -43,9 +43,3 @@ abbrev pub is_accept_in : RunView → Bool
 is_accept_in (view.Cpu n) = false
 is_accept_in (view.Tick n) = false
 is_accept_in (view.Act lane action) = is_accept action.now
-
--- how often an event stands in a run of a journal: an action stands there once
-abbrev pub StandsInARun : Event → ℕ → Type 0
-StandsInARun event.Cpu n = 0 < n
-StandsInARun event.Tick n = 0 < n
-StandsInARun (event.Act lane action) n = n ≡ 1

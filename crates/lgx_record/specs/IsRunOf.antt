@@ -1,4 +1,4 @@
--- What it means that it is the run of these events on a project.
+-- What it means that a run is that of these events on a project.
 use Rattle.std.specs.Prelude.{◌≡◌, List, map}
 use Rattle.lgx_image.specs.Grains.{NoneIsHit}
 use Rattle.spec_machine.specs.declared.event.Event.{Event}
@@ -21,7 +21,7 @@ pub record IsRunOf (v : RunSeen) (project : Project) (events : List Event) : Typ
   pub watched : AreWatched v.places v.controller.parts.image.watched
   pub none_hit : NoneIsHit v.controller.parts.image
 
--- it is some run of some project
+-- it is a run of some project
 pub record IsRun (v : RunSeen) : Type 0 where
   pub project : Project
   pub events : List Event

@@ -2,10 +2,9 @@
 use crate::run::Run;
 use lgx_core::Controller;
 use lgx_edit::Plant;
-use lgx_journal::{Event, Journal, RunView};
+use lgx_journal::{Action, Journal, RunView};
 use lgx_num::Memory;
 use lgx_watch::{Log, Names};
-use spec_text::EventRun;
 use std::alloc::Global;
 use std::marker::Model;
 
@@ -49,8 +48,10 @@ impl Model for Recording {
 }
 
 impl Recording {
-    ghost use Rattle.std.specs.Prelude.{◌≡◌, ◌+◌, ◌≤◌, ◌<◌, [], IfOk, OnOk, OnErr, IsTrue};
+    ghost use Rattle.std.specs.Prelude.{◌≡◌, ◌+◌, ◌≤◌, ◌<◌, [], ◌∷◌, replicate, IfOk, OnOk, OnErr, IsTrue};
     ghost use Rattle.spec_base.specs.declared.limits.TheConstants.{MAX_EVENTS};
+    ghost use Rattle.spec_machine.specs.declared.event.Event.TheVariants.{Cpu, Tick, Act};
+    ghost use Rattle.spec_machine.specs.Events.{is_accept};
     ghost use Rattle.lgx_journal.specs.Runs.{seen_run};
     ghost use Rattle.lgx_record.specs.Extends.{events_in, is_accept_in};
     ghost use Rattle.lgx_record.specs.Records.{Records, IsRecording, RecordsMore, HasCounted, IsUnchanged};
@@ -100,14 +101,65 @@ impl Recording {
         ensures memory { OnErr result (IsTrue (is_accept_in run.entry)) }
         ensures unchanged { OnErr result (self.new ≡ self.old) }
     {
-        let copy = copied(self.alloc, run)?;
-        self.run.take(run, &mut self.log)?;
-        add_run(&mut self.journal, copy);
+        match run {
+            RunView::Cpu(count) => {
+                self.take_steps(count);
+                Ok(())
+            }
+            RunView::Tick(count) => {
+                self.take_ticks(count);
+                Ok(())
+            }
+            RunView::Act(lane, action) => self.act(lane, action),
+        }
+    }
+
+    /// Takes `count` processor steps. They take no memory.
+    #[inline(always)]
+    fn take_steps(&mut self, count: u32)
+        requires some { 0 < count }
+        requires room { self.old.controller.spent + count ≤ MAX_EVENTS }
+        requires spare { 0 < self.old.journal.spare }
+        ensures records { RecordsMore self.old self.new (replicate count Cpu) }
+        ensures counts { HasCounted self.old self.new (replicate count Cpu) }
+        ensures spare { self.old.journal.spare ≤ self.new.journal.spare + 1 }
+    {
+        self.run.take_steps(count, &mut self.log);
+        self.journal.add_steps(count);
+    }
+
+    /// Takes `count` ticks. They take no memory.
+    #[inline(always)]
+    fn take_ticks(&mut self, count: u32)
+        requires some { 0 < count }
+        requires room { self.old.controller.spent + count ≤ MAX_EVENTS }
+        requires spare { 0 < self.old.journal.spare }
+        ensures records { RecordsMore self.old self.new (replicate count Tick) }
+        ensures counts { HasCounted self.old self.new (replicate count Tick) }
+        ensures spare { self.old.journal.spare ≤ self.new.journal.spare + 1 }
+    {
+        self.run.take_ticks(count, &mut self.log);
+        self.journal.add_ticks(count);
+    }
+
+    /// Takes an action of a lane. Out of memory comes at an accept alone; then nothing changes.
+    fn act(&mut self, lane: u32, action: &Action) -> Result<(), Memory>
+        requires room { self.old.controller.spent < MAX_EVENTS }
+        requires spare { 0 < self.old.journal.spare }
+        ensures records { OnOk result (RecordsMore self.old self.new (Act lane action.now ∷ [])) }
+        ensures counts { OnOk result (HasCounted self.old self.new (Act lane action.now ∷ [])) }
+        ensures spare { self.old.journal.spare ≤ self.new.journal.spare + 1 }
+        ensures memory { OnErr result (IsTrue (is_accept action.now)) }
+        ensures unchanged { OnErr result (self.new ≡ self.old) }
+    {
+        let copy = action.copied(self.alloc)?;
+        self.run.act(lane, action, &mut self.log)?;
+        self.journal.add_act(lane, copy);
         Ok(())
     }
 
     /// The same of events for which the journal may have no room, and which may be none. It is taken before anything changes; out
-    /// of memory comes if there is none, and at an accept that has none. No event takes no room.
+    /// of memory comes if there is none, and at an accept that has none. For no event no room is taken.
     pub fn apply(&mut self, run: RunView<'_>) -> Result<(), Memory>
         requires room { self.old.controller.spent + (seen_run run).count ≤ MAX_EVENTS }
         ensures records { OnOk result (RecordsMore self.old self.new (events_in run.entry)) }
@@ -158,10 +210,8 @@ impl Recording {
     }
 }
 
-ghost use Rattle.std.specs.Prelude.{◌≡◌, ◌+◌, ◌≤◌, ◌<◌, ◌==◌, ◌++◌, length, replicate, IfOk, OnErr, IsTrue};
-ghost use Rattle.spec_base.specs.declared.limits.TheConstants.{MAX_EVENTS};
+ghost use Rattle.std.specs.Prelude.{◌≡◌, ◌==◌};
 ghost use Rattle.lgx_journal.specs.Runs.{seen_run};
-ghost use Rattle.lgx_record.specs.Extends.{is_accept_in, StandsInARun};
 
 /// Whether it is no event at all.
 fn is_none(run: &RunView<'_>) -> bool
@@ -170,45 +220,5 @@ fn is_none(run: &RunView<'_>) -> bool
     match run {
         RunView::Cpu(count) | RunView::Tick(count) => *count == 0,
         RunView::Act(_, _) => false,
-    }
-}
-
-/// The same events, to be kept. Out of memory comes at an accept alone.
-fn copied(alloc: Global, run: RunView<'_>) -> Result<EventRun, Memory>
-    ensures same { IfOk result (λ copy. copy ≡ seen_run run.entry) }
-    ensures memory { OnErr result (IsTrue (is_accept_in run.entry)) }
-{
-    match run {
-        RunView::Cpu(count) => Ok(EventRun {
-            event: Event::Cpu,
-            count,
-        }),
-        RunView::Tick(count) => Ok(EventRun {
-            event: Event::Tick,
-            count,
-        }),
-        RunView::Act(lane, action) => {
-            let copy = action.copied(alloc)?;
-            Ok(EventRun {
-                event: Event::Act(lane, copy),
-                count: 1,
-            })
-        }
-    }
-}
-
-/// Puts equal events last into a journal that has room for them.
-fn add_run(journal: &mut Journal, run: EventRun)
-    requires form { StandsInARun run.event run.count }
-    requires room { 0 < journal.old.spare }
-    requires few { length journal.old.events + run.count ≤ MAX_EVENTS }
-    ensures events { journal.new.events ≡ journal.old.events ++ replicate run.count run.event }
-    ensures spare { journal.old.spare ≤ journal.new.spare + 1 }
-{
-    let EventRun { event, count } = run;
-    match event {
-        Event::Cpu => journal.add_steps(count),
-        Event::Tick => journal.add_ticks(count),
-        Event::Act(lane, action) => journal.add_act(lane, action),
     }
 }

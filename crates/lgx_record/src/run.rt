@@ -92,8 +92,8 @@ impl Run {
         let _ = &self.steps;
     }
 
-    /// Takes equal events: `count` processor steps or ticks, or an action. The lines of each go into the log, and are those of
-    /// the report. Out of memory comes at an accept alone; then nothing changes.
+    /// Takes equal events: processor steps, ticks, or an action. The lines of each go into the log, and are those of the report. Out
+    /// of memory comes at an accept alone; then nothing changes.
     #[inline]
     pub fn take(&mut self, run: RunView<'_>, log: &mut Log) -> Result<(), Memory>
         requires room { self.old.controller.spent + (seen_run run).count ≤ MAX_EVENTS }
@@ -116,8 +116,8 @@ impl Run {
         }
     }
 
-    /// So many processor steps. One alone isn't made as a stretch. They take no memory.
-    fn take_steps(&mut self, count: u32, log: &mut Log)
+    /// `count` processor steps. One alone is made as a step, which costs less than a stretch of one. They take no memory.
+    pub(crate) fn take_steps(&mut self, count: u32, log: &mut Log)
         requires room { self.old.controller.spent + count ≤ MAX_EVENTS }
         requires lost { log.old.lost + MAX_EVENT_LINES * count < 2 ^ 63 }
         ensures { Extends self.old self.new log.old log.new (replicate count Cpu) }
@@ -133,8 +133,8 @@ impl Run {
         }
     }
 
-    /// So many ticks. They take no memory.
-    fn take_ticks(&mut self, count: u32, log: &mut Log)
+    /// `count` ticks. They take no memory.
+    pub(crate) fn take_ticks(&mut self, count: u32, log: &mut Log)
         requires room { self.old.controller.spent + count ≤ MAX_EVENTS }
         requires lost { log.old.lost + MAX_EVENT_LINES * count < 2 ^ 63 }
         ensures { Extends self.old self.new log.old log.new (replicate count Tick) }
@@ -145,8 +145,8 @@ impl Run {
         }
     }
 
-    /// Processor steps, up to one of which the report may have lines other than that of a begin; at least one, and at most
-    /// `most`. They take no memory.
+    /// At least one processor step and at most `most`, made by one stretch of the controller; how many were made. They take no
+    /// memory.
     #[inline(always)]
     fn stretch(&mut self, most: u32, log: &mut Log) -> u32
         requires some { 0 < most }
@@ -216,7 +216,7 @@ impl Run {
     }
 
     /// An action of a lane. Out of memory comes at an accept alone; then nothing changes.
-    fn act(&mut self, lane: u32, action: &Action, log: &mut Log) -> Result<(), Memory>
+    pub(crate) fn act(&mut self, lane: u32, action: &Action, log: &mut Log) -> Result<(), Memory>
         requires room { self.old.controller.spent < MAX_EVENTS }
         requires lost { log.old.lost + MAX_EVENT_LINES < 2 ^ 63 }
         ensures takes { OnOk result (Extends self.old self.new log.old log.new (Act lane action.now ∷ [])) }

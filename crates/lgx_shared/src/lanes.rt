@@ -14,16 +14,17 @@ use std::sync::ledger::Ledger;
 use std::thread;
 use std::thread::Threads;
 
-/// What a lane waits for before each of its turns. Nothing is known of what it does.
+/// What a thread waits for: a lane before a turn, a station before a read, a replay before it publishes. Nothing is known of what it
+/// does.
 pub trait Gate {
     ghost use Rattle.std.specs.Prelude.{ℕ};
 
-    /// That `before` was called for a lane with this number of its actions made. It holds by itself, so an `impl` needs no word of
-    /// it; but code over any gate learns it from a call alone.
+    /// That `before` was called with these two numbers. It holds by itself, so an `impl` needs no word of it; but code over any gate
+    /// learns it from a call alone.
     ghost asked: { Self → ℕ → ℕ → Type 0 } = { λ _ _ _. Unit {0} };
 
-    /// Called without the lock, with the lane and the number of its actions that were made; for the processor's pass with
-    /// the script's number of lanes, and 0.
+    /// Called without the lock: by a lane with its number and that of its actions that were made; by the processor's pass with
+    /// the script's number of lanes, and 0. Stations say which numbers they give.
     fn before(&self, lane: u32, index: u32)
         ensures { asked self.now lane index };
 }

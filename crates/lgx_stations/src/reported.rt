@@ -1,4 +1,4 @@
-// A run with the log of its report.
+// What a replay with stations keeps.
 ghost use Rattle.std.specs.Prelude.{◌≡◌, ◌<◌, List, [], ◌∷◌, ◌++◌, OnOk, length};
 ghost use Rattle.spec_base.specs.declared.limits.TheConstants.{MAX_EVENTS};
 ghost use Rattle.spec_machine.specs.declared.event.Event.{Event as Events};

@@ -32,7 +32,7 @@ impl Readings {
     }
 }
 
-/// A station that is read at a gate alone, and what it gave first.
+/// A station that is read at a gate alone, but for its last read in `finish`, and what it gave first.
 #[derive(Drop)]
 pub(crate) struct Watcher<S: Story> {
     station: Station<S>,
