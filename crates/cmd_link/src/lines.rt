@@ -52,7 +52,8 @@ impl LinkLines {
     }
 }
 
-/// What the controllers of two projects do as a link script says.
+/// What the controllers of two projects do as a link script says. Both are large, so they aren't in the frame of what reads files.
+#[inline(never)]
 pub(crate) fn linked(
     alloc: Global,
     a: Project,
