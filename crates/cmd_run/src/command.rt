@@ -71,6 +71,7 @@ fn run_on<F: Files, K: Sink, G: Gate + Sync, R: Threads + Wait + Sync>(
 ///
 /// The whole text, read as a journal, is the journal of the run, if that is within a journal's limits of steps, ticks, actions and
 /// bytes of a line: it ends with its line `end`. As a file it must besides have at most 16,777,216 bytes, its report among them.
+#[inline(never)]
 pub fn run<F: Files, K: Sink, G: Gate + Sync, R: Threads + Wait + Sync>(
     rt: &R,
     alloc: Global,

@@ -78,6 +78,7 @@ fn watch_on<F: Files, K: Sink, G: Gate + Sync, R: Threads + Wait + Sync>(
 /// for at most 4,096 snapshots with the opening one. The gate is called before each of these reads with the station's number
 /// and the read's, both counted from 0, and before each tick is published with the number of stations and that of what is
 /// published. The call may wait for its threads and for the gate; no status says that a thread couldn't be started.
+#[inline(never)]
 pub fn stations<F: Files, K: Sink, G: Gate + Sync, R: Threads + Wait + Sync>(
     rt: &R,
     alloc: Global,
