@@ -7,6 +7,7 @@ import glob
 import json
 import re
 import unittest
+from collections.abc import Iterator
 
 from common import TOP, read_bytes, read_text
 from json_schema import Schema
@@ -21,6 +22,7 @@ from project_rows import file_of, rows
 from refused_projects import CASES, LINE
 
 FILES = ("crates/*/data/**/*.json", "tools/tests/scenarios/*.json")
+REFUSED_FILE = "/runs/refused_"  # projects that the program refuses, some of them for what a schema sees
 MOST_BYTES = 230_000  # of a project; each limit of the shape is met by one as short
 
 # Changes of a project that the schema refuses, and others that the reader alone refuses: where, and what stands there then.
@@ -59,6 +61,10 @@ def at(project: object, path: list | tuple) -> object:
     for key in path:
         project = project[key]
     return project
+
+
+def files() -> Iterator[str]:
+    return (path for pattern in FILES for path in glob.glob(f"{TOP}/{pattern}", recursive=True))
 
 
 def fault_of(contents: bytes) -> Fault | None:
@@ -103,9 +109,14 @@ class Projects(unittest.TestCase):
         self.refused += found != ""
 
     def test_files(self) -> None:
-        for path in (path for files in FILES for path in glob.glob(f"{TOP}/{files}", recursive=True)):
+        for path in (path for path in files() if REFUSED_FILE not in path):
             self.compare(read_bytes(path))
         self.assertEqual((self.taken > 50, self.refused), (True, 0))
+
+    def test_refused_files(self) -> None:
+        for path in (path for path in files() if REFUSED_FILE in path):
+            self.compare(read_bytes(path))
+        self.assertGreater(self.taken + self.refused, 5)
 
     def test_documents(self) -> None:
         for name in ("README.md", "docs/CONTROLLER.md", "docs/FORMATS.md", "tools/tests/worked_runs.md"):
