@@ -1,11 +1,9 @@
 -- What the bytes of the three files lead to, by what a reader tells of them.
-use Rattle.std.proofs.Common.{◌≡◌, ◌++◌, ℕ, List, Result, Ok, refl, ap, sym, ◌∙◌, subst}
+use Rattle.std.proofs.Common.{◌≡◌, ◌++◌, ℕ, List, Result, refl, ap, sym, ◌∙◌, subst}
 use Rattle.spec_machine.specs.Project.{Project}
 use Rattle.spec_project.specs.declared.fault.ProjectFault.{ProjectFault}
-use Rattle.spec_project.specs.Projects.{project_of}
 use Rattle.spec_link.specs.declared.script.LinkFault.{LinkFault}
 use Rattle.spec_link.specs.declared.script.LinkScript.{LinkScript}
-use Rattle.spec_link.specs.LinkText.{link_of}
 use Rattle.lgx_answer.specs.declared.status.Verdict.{Verdict}
 use Rattle.lgx_answer.specs.declared.status.Verdict.TheVariants as verdict
 use Rattle.lgx_answer.specs.Plan.{Plan, Says}

@@ -156,7 +156,7 @@ fn flat_with(
     Ok(flats)
 }
 
-/// The merged program.
+/// The program as it is after the edit: the changed text in its place, each other text and the main routine as they were.
 fn program_with(
     alloc: Global,
     routines: &[EditedRoutine],

@@ -15,3 +15,4 @@ pub mod Advances
 pub mod Shortly
 pub mod KnownOperands
 pub mod WholeScans
+pub mod Elements

@@ -235,7 +235,7 @@ impl Image {
         ensures watched { self.new.watched ≡ self.old.watched }
         ensures hits { HitsWritten self.old self.new }
     {
-        if byte % WORD_BYTES == 0 {
+        if word_of(byte) == word_of(byte.wrapping_add(3)) {
             self.store_word(byte, value);
         } else {
             self.store_bytes(byte, value);

@@ -2,7 +2,7 @@
 use Rattle.std.proofs.Common.{◌≡◌, ℕ, zero, suc, ◌+◌, ◌-◌, ◌*◌, ◌<◌, ◌≤◌, ◌^◌, List, [], ◌∷◌, ◌++◌, length, length-append, take, drop, get_or, Bool, true, false, cond, ◌&&◌, nat_le, nat_lt, Option, Some, None, codes, refl, sym, ap, subst, ◌∙◌, add-one, append_assoc, arith}
 use Rattle.std.specs.Str.{all_ascii_digits}
 use Rattle.std.specs.Char.{is_ascii_digit}
-use Rattle.std.proofs.Math.Seq.{drop-cons, take-length}
+use Rattle.std.proofs.Math.Seq.{drop-cons}
 use Rattle.std.proofs.lemmas.Bool.{and_from, and_parts, le-leb, lt-ltb, leb-true, not_from_false}
 use Rattle.std.proofs.lemmas.List.{take-append-drop, take_more, length-take-le}
 use Rattle.std.proofs.lemmas.List.Sums.{fold_more}
@@ -60,27 +60,6 @@ count_ends text after i count h feed few digits value small some rest =
       number = count_read (take i text) count (omega (arith, size, some_place text i count value some)) (omega (arith, size, few)) digits value small;
       some = some;
     }
-
--- ---- what stands after the first bytes
-
-pub after_four : (text : List ℕ) (a b c d : ℕ) → 4 ≤ length text → get_or text 0 0 ≡ a → get_or text 1 0 ≡ b → get_or text 2 0 ≡ c → get_or text 3 0 ≡ d → text ≡ a ∷ b ∷ c ∷ d ∷ take (length text - 4) (drop 4 text)
-after_four [] a b c d h e f g i = absurd (omega arith)
-after_four (w ∷ []) a b c d h e f g i = absurd (omega arith)
-after_four (w ∷ x ∷ []) a b c d h e f g i = absurd (omega arith)
-after_four (w ∷ x ∷ y ∷ []) a b c d h e f g i = absurd (omega arith)
-after_four (w ∷ x ∷ y ∷ z ∷ ts) a b c d h e f g i =
-    let size : length ts ≡ length (w ∷ x ∷ y ∷ z ∷ ts) - 4 = omega arith in
-    ap (λ k. w ∷ x ∷ y ∷ z ∷ k) (sym (take-length ts) ∙ ap (λ n. take n ts) size)
-    ∙ ap (λ k. k ∷ x ∷ y ∷ z ∷ take (length (w ∷ x ∷ y ∷ z ∷ ts) - 4) ts) e
-    ∙ ap (λ k. a ∷ k ∷ y ∷ z ∷ take (length (w ∷ x ∷ y ∷ z ∷ ts) - 4) ts) f
-    ∙ ap (λ k. a ∷ b ∷ k ∷ z ∷ take (length (w ∷ x ∷ y ∷ z ∷ ts) - 4) ts) g
-    ∙ ap (λ k. a ∷ b ∷ c ∷ k ∷ take (length (w ∷ x ∷ y ∷ z ∷ ts) - 4) ts) i
-
-pub after_five : (text : List ℕ) (a b c d x : ℕ) → 5 ≤ length text → get_or text 0 0 ≡ a → get_or text 1 0 ≡ b → get_or text 2 0 ≡ c → get_or text 3 0 ≡ d → get_or text 4 0 ≡ x → text ≡ a ∷ b ∷ c ∷ d ∷ x ∷ take (length text - 5) (drop 5 text)
-after_five [] a b c d x h e f g i k = absurd (omega arith)
-after_five (v ∷ ts) a b c d x h e f g i k =
-    let size : length ts - 4 ≡ length (v ∷ ts) - 5 = omega arith in
-    ap (λ (zs : List ℕ). v ∷ zs) (after_four ts b c d x (omega arith) f g i k) ∙ ap (λ n. v ∷ b ∷ c ∷ d ∷ x ∷ take n (drop 4 ts)) size ∙ ap (λ n. n ∷ b ∷ c ∷ d ∷ x ∷ take (length (v ∷ ts) - 5) (drop 4 ts)) e
 
 -- ---- the line of a count
 

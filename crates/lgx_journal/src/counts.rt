@@ -38,13 +38,19 @@ fn count_line(text: &[u8]) -> Option<(u32, &[u8])>
     None
 }
 
+/// The bytes of `cpu `, as a number.
+const CPU: u32 = 0x2075_7063;
+
+/// The bytes of `tick`.
+const TICK: u32 = 0x6b63_6974;
+
 /// What comes after `cpu ` where a text begins with it.
 #[inline(always)]
 fn after_cpu(text: &[u8]) -> Option<&[u8]>
     ensures { IfSome result (λ r. text.now ≡ codes "cpu " ++ r.now) }
 {
     match text {
-        [b'c', b'p', b'u', b' ', digits @ ..] => Some(digits),
+        [a, b, c, d, digits @ ..] if u32::from_le_bytes([*a, *b, *c, *d]) == CPU => Some(digits),
         _ => None,
     }
 }
@@ -55,7 +61,9 @@ fn after_tick(text: &[u8]) -> Option<&[u8]>
     ensures { IfSome result (λ r. text.now ≡ codes "tick " ++ r.now) }
 {
     match text {
-        [b't', b'i', b'c', b'k', b' ', digits @ ..] => Some(digits),
+        [a, b, c, d, b' ', digits @ ..] if u32::from_le_bytes([*a, *b, *c, *d]) == TICK => {
+            Some(digits)
+        }
         _ => None,
     }
 }

@@ -39,8 +39,7 @@ pub fn run_math(op: Op, args: &Bound, flags: &mut Flags, image: &mut Image) -> b
 
 /// What [`run_math`] does, by the numbers of the first and second operand (any number for one that the instruction doesn't have)
 /// and by the destination's place.
-///
-/// Each arm knows its instruction, so that it does what that one does and nothing else.
+#[inline(always)]
 pub fn run_math_of(
     op: Op,
     a: i32,
@@ -56,22 +55,52 @@ pub fn run_math_of(
     ensures bytes { image.new.bytes ≡ (step_of op a b place image.old.bytes).image }
     ensures only_marked { ChangesOnlyMarked image.old image.new }
 {
-    match op {
-        Op::Add => store_result(Op::Add, a, b, place, flags, image),
-        Op::Sub => store_result(Op::Sub, a, b, place, flags, image),
-        Op::Mul => store_result(Op::Mul, a, b, place, flags, image),
-        Op::Div => store_result(Op::Div, a, b, place, flags, image),
-        Op::Mod => store_result(Op::Mod, a, b, place, flags, image),
-        Op::Neg => store_result(Op::Neg, a, b, place, flags, image),
-        Op::Abs => store_result(Op::Abs, a, b, place, flags, image),
-        Op::Mov => store_result(Op::Mov, a, b, place, flags, image),
-        Op::And => store_result(Op::And, a, b, place, flags, image),
-        Op::Or => store_result(Op::Or, a, b, place, flags, image),
-        Op::Xor => store_result(Op::Xor, a, b, place, flags, image),
-        Op::Not => store_result(Op::Not, a, b, place, flags, image),
-        Op::Clr => store_result(Op::Clr, a, b, place, flags, image),
-        _ => store_result(op, a, b, place, flags, image),
+    match place.kind {
+        Kind::Dint => run_to_dint(op, a, b, place, flags, image),
+        _ => run_to_narrow(op, a, b, place, flags, image),
     }
+}
+
+/// The same, where the destination is a DINT. Each arm knows its instruction, so that it does what that one does and nothing else.
+#[inline(never)]
+fn run_to_dint(op: Op, a: i32, b: i32, place: Place, flags: &mut Flags, image: &mut Image) -> bool
+    requires family { family_of op ≡ Arithmetic }
+    requires kind { place.kind ≡ Kind.Dint }
+    requires lies { InBounds place (length image.old.bytes) }
+    ensures due { result ≡ (step_of op a b place image.old.bytes).flags.v }
+    ensures flags { flags.new ≡ (step_of op a b place image.old.bytes).flags }
+    ensures bytes { image.new.bytes ≡ (step_of op a b place image.old.bytes).image }
+    ensures only_marked { ChangesOnlyMarked image.old image.new }
+{
+    match op {
+        Op::Add => store_dint_result(Op::Add, a, b, place, flags, image),
+        Op::Sub => store_dint_result(Op::Sub, a, b, place, flags, image),
+        Op::Mul => store_dint_result(Op::Mul, a, b, place, flags, image),
+        Op::Div => store_dint_result(Op::Div, a, b, place, flags, image),
+        Op::Mod => store_dint_result(Op::Mod, a, b, place, flags, image),
+        Op::Neg => store_dint_result(Op::Neg, a, b, place, flags, image),
+        Op::Abs => store_dint_result(Op::Abs, a, b, place, flags, image),
+        Op::Mov => store_dint_result(Op::Mov, a, b, place, flags, image),
+        Op::And => store_dint_result(Op::And, a, b, place, flags, image),
+        Op::Or => store_dint_result(Op::Or, a, b, place, flags, image),
+        Op::Xor => store_dint_result(Op::Xor, a, b, place, flags, image),
+        Op::Not => store_dint_result(Op::Not, a, b, place, flags, image),
+        Op::Clr => store_dint_result(Op::Clr, a, b, place, flags, image),
+        _ => store_dint_result(op, a, b, place, flags, image),
+    }
+}
+
+/// The same, where it is anything but a DINT.
+#[inline(never)]
+fn run_to_narrow(op: Op, a: i32, b: i32, place: Place, flags: &mut Flags, image: &mut Image) -> bool
+    requires family { family_of op ≡ Arithmetic }
+    requires lies { InBounds place (length image.old.bytes) }
+    ensures due { result ≡ (step_of op a b place image.old.bytes).flags.v }
+    ensures flags { flags.new ≡ (step_of op a b place image.old.bytes).flags }
+    ensures bytes { image.new.bytes ≡ (step_of op a b place image.old.bytes).image }
+    ensures only_marked { ChangesOnlyMarked image.old image.new }
+{
+    store_result(op, a, b, place, flags, image)
 }
 
 /// The place of the last operand, to which the result goes.
@@ -97,6 +126,29 @@ fn store_result(op: Op, a: i32, b: i32, place: Place, flags: &mut Flags, image: 
 {
     let exact = result_of(op, a, b, place, image);
     store(op, b, exact, place, flags, image)
+}
+
+/// The same at the place of a DINT.
+#[inline(always)]
+fn store_dint_result(
+    op: Op,
+    a: i32,
+    b: i32,
+    place: Place,
+    flags: &mut Flags,
+    image: &mut Image,
+) -> bool
+    requires family { family_of op ≡ Arithmetic }
+    requires kind { place.kind ≡ Kind.Dint }
+    requires lies { InBounds place (length image.old.bytes) }
+    ensures due { result ≡ (step_of op a b place image.old.bytes).flags.v }
+    ensures flags { flags.new ≡ (step_of op a b place image.old.bytes).flags }
+    ensures bytes { image.new.bytes ≡ (step_of op a b place image.old.bytes).image }
+    ensures only_marked { ChangesOnlyMarked image.old image.new }
+{
+    let exact = result_of(op, a, b, place, image);
+    let overflow = overflows(op, Kind::Dint, b, exact);
+    store_dint(overflow, exact, place, flags, image)
 }
 
 /// Stores the exact result of an instruction, which has this second source, at a place.

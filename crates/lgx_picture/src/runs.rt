@@ -39,7 +39,7 @@ fn last_of<'a>(first: &'a Mark, others: &'a [Mark]) -> &'a Mark
     last
 }
 
-/// `37 begins`
+/// Writes how often the row above begins: `37 begins`.
 fn push_count_text(text: &mut Vec<u8>, alloc: Global, count: usize) -> Result<(), Memory>
     ensures { OnOk result (text.new.items ≡ text.old.items ++ count_text count) }
 {
@@ -47,7 +47,7 @@ fn push_count_text(text: &mut Vec<u8>, alloc: Global, count: usize) -> Result<()
     push(text, b" begins")
 }
 
-/// `37 begins`
+/// The text of that count by itself, as its width is asked for before it is written.
 fn count_text(alloc: Global, count: usize) -> Result<Vec<u8>, Memory>
     ensures { IfOk result (λ text. text.items ≡ count_text count) }
 {

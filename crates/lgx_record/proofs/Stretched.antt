@@ -1,9 +1,11 @@
 -- A run that takes so many processor steps.
-use Rattle.std.proofs.Common.{◌≡◌, ℕ, suc, ◌+◌, ◌-◌, ◌<◌, ◌≤◌, Bool, List, ◌++◌, length, map, take, get_or, replicate, sym, ap, ◌∙◌, subst, arith}
+use Rattle.std.proofs.Common.{◌≡◌, ℕ, suc, ◌+◌, ◌-◌, ◌<◌, ◌≤◌, Bool, List, [], ◌∷◌, ◌++◌, length, map, take, get_or, replicate, refl, sym, ap, ◌∙◌, subst, arith}
 use Rattle.std.specs.List.{AllByRecursion as Each}
 use Rattle.lgx_image.specs.Grains.{SameInWatched}
 use Rattle.spec_machine.specs.declared.answer.What.{What}
+use Rattle.spec_machine.specs.declared.answer.What.TheVariants.{Idle, Began, Ran, Copied, Left}
 use Rattle.spec_machine.specs.declared.answer.Moment.{Moment}
+use Rattle.spec_machine.specs.declared.line.Line.{Line}
 use Rattle.spec_machine.specs.declared.line.Line.TheVariants.{Fault as FaultLine}
 use Rattle.spec_machine.specs.declared.event.Event.{Event}
 use Rattle.spec_machine.specs.declared.event.Event.TheVariants.{Cpu}
@@ -11,8 +13,9 @@ use Rattle.spec_machine.specs.Project.{Project}
 use Rattle.spec_machine.specs.State.{State}
 use Rattle.spec_machine.specs.ProcessorStep.{processor_step}
 use Rattle.spec_machine.specs.Machine.{run}
-use Rattle.spec_machine.specs.Report.{stamp, begin_lines, steps_of}
+use Rattle.spec_machine.specs.Report.{Stamped, stamp, begin_lines, steps_of}
 use Rattle.lgx_watch.specs.Kept.{KeptLines, with_lines}
+use Rattle.lgx_watch.proofs.Pushes.{same_kept, with_lines-full}
 use Rattle.lgx_steps.specs.declared.begins.Begins.{Begins}
 use Rattle.lgx_steps.specs.declared.stretch.Stretch.{Stretch}
 use Rattle.lgx_steps.specs.Stretches.{IsStretch, after_steps, moment_after, told_steps}
@@ -27,6 +30,7 @@ use Rattle.lgx_record.specs.EventLines.{begins_lines, with_event_lines}
 use Rattle.lgx_record.specs.IsRunOf.{IsRunOf, IsRun}
 use Rattle.lgx_record.specs.Extends.{IsExtended}
 use Rattle.std.proofs.lemmas.List.{take_more}
+use Rattle.spec_base.specs.declared.limits.TheConstants.{MAX_REPORT_LINES}
 use Rattle.lgx_record.proofs.Logs.{three-parts, with_lines-append}
 use Rattle.lgx_record.proofs.Taking.{HasTaken, Takes, follows-more, are_inside}
 use Rattle.lgx_record.proofs.Events.{Closes, changes-kept, kept-values}
@@ -150,3 +154,31 @@ begin-logged start log next tick n began xs ys i same below before put =
     ∙ ap (λ (k : KeptLines). with_lines k (line xs)) before
     ∙ sym (with_lines-append start (begins_lines tick n began (take i xs)) (line xs))
     ∙ ap (with_lines start) (sym (begins-more tick n began (take i xs) (get_or xs i 0)) ∙ ap (begins_lines tick n began) (sym (take_more xs i 0 within)))
+
+-- begins for which there is no room are counted
+begins-length : (tick n t p v : ℕ) (xs : List ℕ) → length (begins_lines tick n (Began t p v) xs) ≡ length xs
+begins-length tick n t p v [] = refl
+begins-length tick n t p v (x ∷ xs) = let rest = begins-length tick n t p v xs in omega arith
+
+pub begins-lost : (log new : KeptLines) (tick n : ℕ) (began : What) (t p v : ℕ) (xs ys : List ℕ) → ys ≡ xs → began ≡ Began t p v → length log.lines ≡ MAX_REPORT_LINES → new ≡ record { lines = log.lines; lost = log.lost + length ys } → new ≡ with_lines log (begins_lines tick n began xs)
+begins-lost log new tick n began t p v xs ys same is full put =
+    let lines = begins_lines tick n (Began t p v) xs in
+    put
+    ∙ same_kept _ _ _ _ refl (ap (λ k. log.lost + k) (ap (λ (zs : List ℕ). length zs) same ∙ sym (begins-length tick n t p v xs)))
+    ∙ sym (with_lines-full log lines (omega (arith, full)))
+    ∙ ap (λ (w : What). with_lines log (begins_lines tick n w xs)) (sym is)
+
+-- steps that begin no scan have no line
+no-begins : (tick n : ℕ) (began : What) → begin_lines began ≡ [] → (xs : List ℕ) → begins_lines tick n began xs ≡ []
+no-begins tick n began none [] = refl
+no-begins tick n began none (x ∷ xs) = ap (λ (ls : List Line). stamp tick (n + x + 1) ls ++ begins_lines tick n began xs) none ∙ no-begins tick n began none xs
+
+no-begin : (began : What) → ((t p v : ℕ) → began ≡ Began t p v → ⊥) → begin_lines began ≡ []
+no-begin Idle not = refl
+no-begin (Began t p v) not = absurd (not t p v refl)
+no-begin (Ran t p) not = refl
+no-begin (Copied t p) not = refl
+no-begin (Left t p ended) not = refl
+
+pub none-logged : (log : KeptLines) (tick n : ℕ) (began : What) (xs : List ℕ) → ((t p v : ℕ) → began ≡ Began t p v → ⊥) → log ≡ with_lines log (begins_lines tick n began xs)
+none-logged log tick n began xs not = ap (λ (ls : List Stamped). with_lines log ls) (sym (no-begins tick n began (no-begin began not) xs))

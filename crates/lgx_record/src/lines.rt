@@ -71,6 +71,12 @@ pub(crate) fn log_begins(log: &mut Log, from: Stamp, begins: &Begins)
     ensures lost { log.new.lost ≤ log.old.lost + length begins.now.steps.items }
 {
     let steps = begins.steps.as_slice();
+    if log.is_full() {
+        if let What::Began { .. } = begins.began {
+            log.lose(steps.len() as u64);
+        }
+        return;
+    }
     for i in 0..steps.len() {
         let at = Stamp {
             tick: from.tick,
@@ -82,13 +88,13 @@ pub(crate) fn log_begins(log: &mut Log, from: Stamp, begins: &Begins)
 
 /// Puts the line of a fault into the log, if there is one.
 #[inline(always)]
-pub(crate) fn log_fault(log: &mut Log, at: Stamp, fault: Option<Fault>)
+pub(crate) fn log_fault(log: &mut Log, at: Stamp, fault: &Option<Fault>)
     requires room { log.old.lost + 1 < 2 ^ 63 }
-    ensures log { log.new ≡ with_event_lines log.old at (map FaultLine (faults_in fault)) }
+    ensures log { log.new ≡ with_event_lines log.old at (map FaultLine (faults_in fault.now)) }
     ensures lost { log.new.lost ≤ log.old.lost + 1 }
 {
     if let Some(fault) = fault {
-        log_line(log, at, Line::Fault(fault));
+        log_line(log, at, Line::Fault(*fault));
     }
 }
 

@@ -94,7 +94,7 @@ impl Run {
 
     /// Takes equal events: processor steps, ticks, or an action. The lines of each go into the log, and are those of the report. Out
     /// of memory comes at an accept alone; then nothing changes.
-    #[inline]
+    #[inline(always)]
     pub fn take(&mut self, run: RunView<'_>, log: &mut Log) -> Result<(), Memory>
         requires room { self.old.controller.spent + (seen_run run).count ≤ MAX_EVENTS }
         requires lost { log.old.lost + MAX_EVENT_LINES * (seen_run run).count < 2 ^ 63 }
@@ -117,6 +117,7 @@ impl Run {
     }
 
     /// `count` processor steps. One alone is made as a step, which costs less than a stretch of one. They take no memory.
+    #[inline(always)]
     pub(crate) fn take_steps(&mut self, count: u32, log: &mut Log)
         requires room { self.old.controller.spent + count ≤ MAX_EVENTS }
         requires lost { log.old.lost + MAX_EVENT_LINES * count < 2 ^ 63 }
@@ -124,8 +125,18 @@ impl Run {
     {
         if count == 1 {
             self.step(log);
-            return;
+        } else {
+            self.stretches(count, log);
         }
+    }
+
+    /// `count` processor steps, by stretches. They take no memory.
+    #[inline(never)]
+    fn stretches(&mut self, count: u32, log: &mut Log)
+        requires room { self.old.controller.spent + count ≤ MAX_EVENTS }
+        requires lost { log.old.lost + MAX_EVENT_LINES * count < 2 ^ 63 }
+        ensures { Extends self.old self.new log.old log.new (replicate count Cpu) }
+    {
         self.law_of_runs();
         let mut left = count;
         while left > 0 {
@@ -134,6 +145,7 @@ impl Run {
     }
 
     /// `count` ticks. They take no memory.
+    #[inline(always)]
     pub(crate) fn take_ticks(&mut self, count: u32, log: &mut Log)
         requires room { self.old.controller.spent + count ≤ MAX_EVENTS }
         requires lost { log.old.lost + MAX_EVENT_LINES * count < 2 ^ 63 }
@@ -163,7 +175,7 @@ impl Run {
         self.steps += made.steps;
         let at = stamp(&self.controller, self.steps);
         log_begin(log, at, made.last.what);
-        log_fault(log, at, made.last.fault);
+        log_fault(log, at, &made.last.fault);
         close(
             log,
             &mut self.values,
@@ -175,7 +187,7 @@ impl Run {
     }
 
     /// One processor step. It takes no memory.
-    #[inline(always)]
+    #[inline(never)]
     fn step(&mut self, log: &mut Log)
         requires room { self.old.controller.spent < MAX_EVENTS }
         requires lost { log.old.lost + MAX_EVENT_LINES < 2 ^ 63 }
@@ -185,7 +197,7 @@ impl Run {
         self.steps += 1;
         let at = stamp(&self.controller, self.steps);
         log_begin(log, at, moment.what);
-        log_fault(log, at, moment.fault);
+        log_fault(log, at, &moment.fault);
         close(
             log,
             &mut self.values,
@@ -234,7 +246,7 @@ impl Run {
                 reply: outcome.reply,
             },
         );
-        log_fault(log, at, outcome.fault);
+        log_fault(log, at, &outcome.fault);
         close(
             log,
             &mut self.values,

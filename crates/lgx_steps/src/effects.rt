@@ -30,7 +30,7 @@ impl ControllerParts {
                 task: t,
                 program: n,
             }),
-            _ => self.after_any_effect(t, n, effect),
+            other => self.after_any_effect(t, n, other),
         }
     }
 

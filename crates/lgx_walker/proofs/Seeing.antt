@@ -1,5 +1,5 @@
 -- What the numbers at the watched places tell of an event.
-use Rattle.std.proofs.Common.{◌≡◌, Bool, true, false, ℕ, List, [], ◌∷◌, ◌++◌, ℤ, length, map, get_or, take, ◌+◌, ◌<◌, Option, Some, None, slice_get, refl, sym, ◌∙◌, ap, subst}
+use Rattle.std.proofs.Common.{◌≡◌, Bool, true, false, ℕ, List, [], ◌∷◌, ◌++◌, ℤ, length, map, get_or, take, ◌+◌, ◌<◌, Option, Some, None, refl, sym, ◌∙◌, ap, subst}
 use Rattle.std.specs.Prelude.{position}
 use Rattle.std.specs.List.{AllByRecursion as Each}
 use Rattle.spec_base.proofs.Lists.{each_get}
@@ -13,7 +13,7 @@ use Rattle.spec_machine.specs.declared.event.Event.TheVariants.{Cpu, Tick}
 use Rattle.spec_machine.specs.Machine.{TraceEntry, OfStep, step, run}
 use Rattle.spec_machine.specs.Project.{Project, Watch}
 use Rattle.spec_machine.specs.State.{State, Answered}
-use Rattle.spec_machine.specs.ValidProject.{IsValidProject, IsWatchable}
+use Rattle.spec_machine.specs.ValidProject.{IsWatchable}
 use Rattle.spec_reach.proofs.Images.{images_keep_length}
 use Rattle.spec_reach.proofs.Reached.{run_more}
 use Rattle.spec_explore.specs.declared.question.Question.{Question}

@@ -17,7 +17,7 @@ use Rattle.spec_lanes.specs.Laws.{opening}
 use Rattle.spec_lanes.proofs.Scripts.{proper_of}
 use Rattle.spec_lanes.proofs.Serving.{few_events_serve}
 use Rattle.spec_explore.specs.declared.question.Question.{Question}
-use Rattle.spec_explore.specs.Questions.{IsFirstLine, IsNeverBefore}
+use Rattle.spec_explore.specs.Questions.{IsNeverBefore}
 use Rattle.spec_explore.proofs.Partials.{partial_journals_are_served}
 use Rattle.spec_explore.proofs.Witnesses.{openings_witness}
 use Rattle.lgx_explore.specs.declared.node.Next.{Next}
@@ -25,7 +25,7 @@ use Rattle.lgx_explore.specs.declared.found.Found.{Found}
 use Rattle.lgx_explore.specs.declared.found.Found.TheVariants as found
 use Rattle.lgx_explore.specs.Shown.{MayBeMade, AnAction, AStep, ATick}
 use Rattle.lgx_explore.specs.Nodes.{IsOpened}
-use Rattle.lgx_explore.specs.Found.{GoesOnTo, Tells}
+use Rattle.lgx_explore.specs.Found.{Tells}
 use Rattle.lgx_walker.specs.declared.trail.Trail.{Trail}
 use Rattle.lgx_walker.specs.declared.walker.Walker.{Walker}
 use Rattle.lgx_walker.specs.Lines.{IsLineOf}

@@ -1,16 +1,14 @@
 -- What an action and a step make of a walker.
-use Rattle.std.proofs.Common.{◌≡◌, ℕ, ◌+◌, ◌%◌, ◌<◌, Bool, true, false, cond, List, [], ◌∷◌, ◌++◌, length, get_or, Option, Some, None, refl, sym, ◌∙◌, ap, subst, arith}
+use Rattle.std.proofs.Common.{◌≡◌, ℕ, ◌+◌, ◌%◌, ◌<◌, Bool, true, false, List, [], ◌∷◌, ◌++◌, length, get_or, Option, Some, None, sym, ◌∙◌, ap, subst, arith}
 use Rattle.std.specs.Prelude.{IsTrue, nat_eq, slice_get}
-use Rattle.std.proofs.lemmas.Option.{same_Some}
 use Rattle.spec_machine.specs.declared.event.Action.{Action}
 use Rattle.spec_machine.specs.declared.event.Event.{Event}
 use Rattle.spec_machine.specs.declared.event.Event.TheVariants.{Cpu, Tick, Act}
 use Rattle.spec_machine.specs.Events.{steps_of}
 use Rattle.spec_machine.specs.Machine.{step, run}
 use Rattle.spec_machine.specs.Project.{Project}
-use Rattle.spec_text.specs.declared.script.Timed.{Timed}
 use Rattle.spec_text.specs.Scripts.{Script, is_script}
-use Rattle.spec_lanes.specs.Turns.{lane_of, done_by, next_of, ticks_of, due_action, is_spent, paced_step}
+use Rattle.spec_lanes.specs.Turns.{lane_of, done_by, ticks_of, due_action, is_spent, paced_step}
 use Rattle.spec_lanes.specs.Served.{IsServed}
 use Rattle.spec_lanes.specs.Laws.{with_one_more}
 use Rattle.spec_lanes.proofs.Appended.{steps_on}
@@ -25,12 +23,11 @@ use Rattle.lgx_explore.specs.declared.node.Next.{Next}
 use Rattle.lgx_explore.specs.declared.node.Next.TheVariants as next
 use Rattle.lgx_explore.specs.declared.node.Stop.{Stop}
 use Rattle.lgx_explore.specs.declared.node.Stop.TheVariants as stops
-use Rattle.lgx_explore.specs.Shown.{IfShown, Shows, AnAction, AStep, ATick, IsAction}
-use Rattle.lgx_explore.specs.Nodes.{StandsAlso, NodeShows, NoneIsDue, NoneIsStepped, HasMade, IsActed, IsStepped}
+use Rattle.lgx_explore.specs.Shown.{IfShown, AnAction, AStep, ATick, IsAction}
+use Rattle.lgx_explore.specs.Nodes.{StandsAlso, NodeShows, NoneIsDue, NoneIsStepped, IsActed, IsStepped}
 use Rattle.lgx_walker.specs.declared.trail.Placed.{Placed}
 use Rattle.lgx_walker.specs.declared.trail.Trail.{Trail}
 use Rattle.lgx_walker.specs.declared.walker.Walker.{Walker}
-use Rattle.lgx_walker.specs.declared.watcher.Watcher.{Watcher}
 use Rattle.lgx_walker.specs.Late.{SomeIsLate, NoneIsLate}
 use Rattle.lgx_walker.specs.Lines.{step_events, StepShows}
 use Rattle.lgx_walker.specs.Trails.{trail_of, act_of, with_action, journal_of}

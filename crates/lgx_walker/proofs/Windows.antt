@@ -1,6 +1,6 @@
 -- Lateness told by counts and ticks.
 use Rattle.std.proofs.Common.{◌≡◌, ℕ, ◌+◌, ◌<◌, Bool, true, false, List, [], ◌∷◌, ◌++◌, length, get_or, Option, Some, None, refl, sym, ◌∙◌, ap, subst, arith}
-use Rattle.std.specs.Prelude.{slice_get, IsTrue}
+use Rattle.std.specs.Prelude.{slice_get}
 use Rattle.std.proofs.lemmas.Bool.{false≢true}
 use Rattle.std.proofs.lemmas.List.{append-nil, append_assoc}
 use Rattle.spec_machine.specs.declared.event.Action.{Action}
@@ -8,7 +8,6 @@ use Rattle.spec_machine.specs.declared.event.Event.{Event}
 use Rattle.spec_machine.specs.declared.event.Event.TheVariants.{Cpu, Tick, Act}
 use Rattle.spec_machine.specs.Events.{steps_of}
 use Rattle.spec_machine.specs.Project.{Project}
-use Rattle.spec_text.specs.declared.script.Timed.{Timed}
 use Rattle.spec_text.specs.Scripts.{Script}
 use Rattle.spec_schedule.specs.Partial.{IsPartial}
 use Rattle.spec_lanes.specs.Turns.{lane_of, done_by, ticks_of, due_action, is_spent, paced_step}

@@ -6,7 +6,6 @@ use Rattle.spec_machine.specs.ValidProject.{IsValidProject}
 use Rattle.spec_text.specs.Scripts.{Script, is_script}
 use Rattle.spec_explore.specs.declared.question.Question.{Question}
 use Rattle.spec_explore.specs.Questions.{IsNever, IsNeverBefore, IsWitness}
-use Rattle.lgx_journal.specs.Journals.{JournalView}
 use Rattle.lgx_explore.specs.declared.found.Found.{Found}
 use Rattle.lgx_explore.specs.Found.{Tells}
 use Rattle.lgx_walker.specs.declared.watcher.Watcher.{Watcher}

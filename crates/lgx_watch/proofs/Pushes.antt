@@ -16,6 +16,14 @@ with_line-room log line below = rw (lt-ltb (length log.lines) MAX_REPORT_LINES b
 with_line-full : (log : KeptLines) (line : Stamped) → MAX_REPORT_LINES ≤ length log.lines → with_line log line ≡ record { lines = log.lines; lost = log.lost + 1 }
 with_line-full log line full = rw (le-ltb (length log.lines) MAX_REPORT_LINES full) refl
 
+-- further lines for which there is no room are counted
+pub with_lines-full : (log : KeptLines) (lines : List Stamped) → MAX_REPORT_LINES ≤ length log.lines → with_lines log lines ≡ record { lines = log.lines; lost = log.lost + length lines }
+with_lines-full log [] full = same_kept _ _ _ _ refl (omega arith)
+with_lines-full log (line ∷ lines) full =
+    ap (λ (k : KeptLines). with_lines k lines) (with_line-full log line full)
+    ∙ with_lines-full (record { lines = log.lines; lost = log.lost + 1 }) lines full
+    ∙ same_kept _ _ _ _ refl (omega arith)
+
 -- one line more
 pub kept_of-push : (all : List Stamped) (line : Stamped) → with_line (kept_of all) line ≡ kept_of (all ++ line ∷ [])
 kept_of-push all line =

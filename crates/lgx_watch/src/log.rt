@@ -1,5 +1,5 @@
 // The lines of the report, as far as there is room, and the number of the others.
-ghost use Rattle.std.specs.Prelude.{◌≡◌, ℕ, ◌+◌, ◌≤◌, ◌<◌, ◌^◌, List, [], ◌∷◌, ◌++◌, length, slice_get, IfOk, Some};
+ghost use Rattle.std.specs.Prelude.{◌≡◌, ℕ, ◌+◌, ◌≤◌, ◌<◌, ◌^◌, List, [], ◌∷◌, ◌++◌, length, slice_get, true, false, IfOk, Some};
 ghost use Rattle.spec_base.specs.declared.limits.TheConstants.{MAX_REPORT_LINES};
 ghost use Rattle.spec_machine.specs.Report.{Stamped as StampedLine};
 ghost use Rattle.lgx_watch.specs.Kept.{KeptLines, no_lines, kept_of, with_line};
@@ -74,6 +74,25 @@ impl Log {
         } else {
             self.lost += 1;
         }
+    }
+
+    /// Whether there is no room for another line.
+    #[inline(always)]
+    pub fn is_full(&self) -> bool
+        ensures full { result ≡ true → length self.now.lines ≡ MAX_REPORT_LINES }
+        ensures room { result ≡ false → length self.now.lines < MAX_REPORT_LINES }
+    {
+        self.lines.len() >= MAX_REPORT_LINES
+    }
+
+    /// Counts lines for which there is no room.
+    #[inline(always)]
+    pub fn lose(&mut self, count: u64)
+        requires full { length self.old.lines ≡ MAX_REPORT_LINES }
+        requires room { self.old.lost + count < 2 ^ 63 }
+        ensures { self.new ≡ record { lines = self.old.lines; lost = self.old.lost + count } }
+    {
+        self.lost += count;
     }
 
     /// Takes all lines away, and counts none any more. The room stays, so it takes no memory.

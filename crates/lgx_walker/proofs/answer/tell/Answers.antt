@@ -1,5 +1,5 @@
 -- From the project's start.
-use Rattle.std.proofs.Common.{List, map, ap, ◌∙◌}
+use Rattle.std.proofs.Common.{map, ap, ◌∙◌}
 use Rattle.std.proofs.lemmas.Result.{IfOk-weaker}
 use Rattle.spec_machine.specs.Project.{Project, Watch}
 use Rattle.lgx_walker.proofs.answer.tell.Goals as goal

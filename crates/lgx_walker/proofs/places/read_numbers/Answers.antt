@@ -1,5 +1,5 @@
 -- One number more, till all are read.
-use Rattle.std.proofs.Common.{ap, sym, map, w32, ◌∙◌, arith}
+use Rattle.std.proofs.Common.{ap, map, w32, ◌∙◌, arith}
 use Rattle.std.proofs.lemmas.Int.{to_z-of_z}
 use Rattle.std.proofs.lemmas.List.{get_or_default, take_all}
 use Rattle.std.proofs.lemmas.Option.{slice_get-get_or}

@@ -1,5 +1,5 @@
 -- There are few steps, since there are few events.
-use Rattle.std.proofs.Common.{◌≡◌, ap, length, List, arith}
+use Rattle.std.proofs.Common.{ap, length, List, arith}
 use Rattle.spec_machine.specs.declared.event.Event.{Event}
 use Rattle.lgx_walker.proofs.Trailed.{number_of_step, room_for_step}
 use Rattle.lgx_walker.proofs.witness.add_steps.Goals as goal

@@ -1,5 +1,5 @@
 -- The next action of the trail, with the steps before it.
-use Rattle.std.proofs.Common.{◌≡◌, ◌+◌, ◌≤◌, ◌++◌, List, length, take, get_or, sym, ap, subst, ◌∙◌, arith}
+use Rattle.std.proofs.Common.{◌+◌, ◌≤◌, List, length, take, get_or, sym, ap, subst, ◌∙◌, arith}
 use Rattle.std.proofs.lemmas.List.{get_or_default}
 use Rattle.spec_base.specs.declared.limits.TheConstants.{MAX_EVENTS}
 use Rattle.spec_machine.specs.declared.event.Event.{Event}

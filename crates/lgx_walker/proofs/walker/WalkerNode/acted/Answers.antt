@@ -1,11 +1,6 @@
 -- By the lane's due action.
-use Rattle.std.proofs.Common.{◌≡◌, ℕ, ◌<◌, ◌∷◌, ◌++◌, [], List, length, get_or, refl, sym, ◌∙◌, ap, subst}
+use Rattle.std.proofs.Common.{◌≡◌, ap, subst}
 use Rattle.std.specs.Prelude.{IfSome, option_copied}
-use Rattle.spec_machine.specs.declared.event.Event.{Event}
-use Rattle.spec_machine.specs.declared.event.Event.TheVariants.{Act}
-use Rattle.spec_machine.specs.Project.{Project}
-use Rattle.spec_lanes.specs.Laws.{with_one_more}
-use Rattle.spec_lanes.specs.Turns.{ticks_of}
 use Rattle.lgx_explore.proofs.Closing.{err_on}
 use Rattle.lgx_walker.specs.declared.trail.Trail.{Trail}
 use Rattle.lgx_walker.specs.Trails.{with_action}

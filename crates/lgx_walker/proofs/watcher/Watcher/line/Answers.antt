@@ -2,8 +2,6 @@
 use Rattle.std.proofs.Common.{◌≡◌, List, length, map, ◌∙◌, sym, subst}
 use Rattle.lgx_num.specs.declared.place.Place.{Place}
 use Rattle.lgx_num.specs.Image.{number}
-use Rattle.spec_machine.specs.State.{State}
-use Rattle.lgx_core.specs.Represents.{RepresentsController}
 use Rattle.lgx_walker.specs.Places.{AreInside}
 use Rattle.lgx_walker.proofs.Seeing.{line_after}
 use Rattle.lgx_walker.proofs.watcher.Watcher.line.Goals as goal

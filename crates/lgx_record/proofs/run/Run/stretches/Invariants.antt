@@ -1,7 +1,7 @@
 use Rattle.std.proofs.Common.{◌≡◌, ◌+◌, ◌-◌, ◌≤◌, replicate}
 use Rattle.spec_machine.specs.declared.event.Event.TheVariants.{Cpu}
 use Rattle.lgx_record.specs.Extends.{Extends}
-use Rattle.lgx_record.proofs.run.Run.take_steps.Given as goal
+use Rattle.lgx_record.proofs.run.Run.stretches.Given as goal
 
 abbrev pub invariant-loop-left : goal.invariant-loop-left
 invariant-loop-left l = record {
