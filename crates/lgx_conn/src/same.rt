@@ -2,22 +2,15 @@
 ghost use Rattle.std.specs.Prelude.{◌≡◌, true, IfOk};
 
 use crate::conns::Conns;
-use lgx_num::{Memory, Name};
+use lgx_num::Memory;
 use spec_tables::ConnDef;
 use std::alloc::Global;
-
-/// Whether the names are the same, in case too.
-fn same_name(a: &Name, b: &Name) -> bool
-    ensures { result ≡ true → a.now ≡ b.now }
-{
-    a.bytes() == b.bytes()
-}
 
 /// Whether the connections are defined the same.
 fn same_def(a: &ConnDef, b: &ConnDef) -> bool
     ensures { result ≡ true → a.now ≡ b.now }
 {
-    same_name(&a.name, &b.name)
+    a.name.is_spelled_as(&b.name)
         && a.output == b.output
         && a.byte == b.byte
         && a.words == b.words

@@ -4,7 +4,7 @@ ghost use Rattle.std.specs.Prelude.{◌≡◌, true, IfOk};
 use crate::book::EditBook;
 use crate::changes::{EditedRoutine, KeptEdit, RungChange};
 use crate::edits::ProgramEdits;
-use crate::same_texts::{routine_again, same_name, same_routine, same_rung};
+use crate::same_texts::{routine_again, same_routine, same_rung};
 use crate::texts::RoutineText;
 use lgx_num::Memory;
 use std::alloc::Global;
@@ -175,7 +175,7 @@ impl ProgramEdits {
             && same_edits(&self.accepted, &other.accepted)
             && self.versions.is_same(&other.versions)
             && self.main == other.main
-            && same_name(&self.name, &other.name)
+            && self.name.is_spelled_as(&other.name)
             && same_routines(&self.routines, &other.routines)
     }
 }

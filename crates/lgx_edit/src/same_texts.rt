@@ -2,17 +2,10 @@
 ghost use Rattle.std.specs.Prelude.{◌≡◌, true, IfOk};
 
 use crate::texts::{RoutineText, SourceRungs};
-use lgx_num::{Items, Memory, Name};
+use lgx_num::{Items, Memory};
 use lgx_prog::{rungs_again, same_rungs};
 use lgx_rung::{Element, Legs, Op, SourceRung, Texts};
 use std::alloc::Global;
-
-/// Whether the names are the same, in case too.
-pub fn same_name(a: &Name, b: &Name) -> bool
-    ensures { result ≡ true → a.now ≡ b.now }
-{
-    a.bytes() == b.bytes()
-}
 
 /// Whether the texts are the same, in case too.
 fn same_text(a: &[u8], b: &[u8]) -> bool
@@ -153,7 +146,7 @@ pub fn routine_again(alloc: Global, routine: &RoutineText) -> Result<RoutineText
 pub fn same_routine(a: &RoutineText, b: &RoutineText) -> bool
     ensures { result ≡ true → a.now ≡ b.now }
 {
-    same_name(&a.name, &b.name)
+    a.name.is_spelled_as(&b.name)
         && same_sources(a.source.as_slice(), b.source.as_slice())
         && same_rungs(a.checked.as_slice(), b.checked.as_slice())
 }

@@ -10,7 +10,7 @@ use lgx_engine::Position;
 use lgx_fault::FaultLog;
 use lgx_force::ForceTable;
 use lgx_image::Image;
-use lgx_num::{Flags, Items, Memory, Name};
+use lgx_num::{Flags, Items, Memory};
 use lgx_prog::FlatProgram;
 use lgx_sched::TaskTable;
 use lgx_tags::TagTable;
@@ -20,18 +20,11 @@ use std::alloc::Global;
 
 // ---- what no event changes
 
-/// Whether the names are the same, in case too.
-fn same_name(a: &Name, b: &Name) -> bool
-    ensures { result ≡ true → a.now ≡ b.now }
-{
-    a.bytes() == b.bytes()
-}
-
 /// Whether the names of two tasks are the same, and both or none is an event task.
 fn same_task(a: &TaskName, b: &TaskName) -> bool
     ensures { result ≡ true → a.now ≡ b.now }
 {
-    a.event == b.event && same_name(&a.name, &b.name)
+    a.event == b.event && a.name.is_spelled_as(&b.name)
 }
 
 /// The names of the tasks once more.

@@ -9,23 +9,16 @@ use crate::entry::{Entry, Meaning, copied as text_again};
 use crate::key::Key;
 use crate::table::{Seal, TableParts, TagTable};
 use indexmap::IndexSet;
-use lgx_num::{Memory, Name};
+use lgx_num::Memory;
 use lgx_types::{TypeError, TypeTable};
 use spec_language::{DataType, MemberDecl, Scope, TypeDecl};
 use std::alloc::Global;
-
-/// Whether the names are the same, in case too.
-fn same_name(a: &Name, b: &Name) -> bool
-    ensures { result ≡ true → a.now ≡ b.now }
-{
-    a.bytes() == b.bytes()
-}
 
 /// Whether the members are declared the same.
 fn same_member(a: &MemberDecl, b: &MemberDecl) -> bool
     ensures { result ≡ true → a.now ≡ b.now }
 {
-    a.dim == b.dim && same_name(&a.name, &b.name) && same_name(&a.of, &b.of)
+    a.dim == b.dim && a.name.is_spelled_as(&b.name) && a.of.is_spelled_as(&b.of)
 }
 
 /// Whether the members are declared the same, one by one.
@@ -47,7 +40,7 @@ fn same_members(a: &[MemberDecl], b: &[MemberDecl]) -> bool
 fn same_structure(a: &TypeDecl, b: &TypeDecl) -> bool
     ensures { result ≡ true → a.now ≡ b.now }
 {
-    same_name(&a.name, &b.name) && same_members(a.members.as_slice(), b.members.as_slice())
+    a.name.is_spelled_as(&b.name) && same_members(a.members.as_slice(), b.members.as_slice())
 }
 
 /// Whether the structures are declared the same, one by one.
