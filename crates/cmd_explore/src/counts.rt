@@ -5,7 +5,7 @@ ghost use Rattle.spec_lanes.specs.Turns.{ticks_of};
 ghost use Rattle.lgx_journal.specs.Runs.{seen_run};
 ghost use Rattle.cmd_explore.specs.Counts.{run_count};
 
-use lgx_journal::{Journal, RunView};
+use lgx_journal::{EventsLent, Journal};
 
 /// How many processor steps, and how many ticks.
 #[derive(Clone, Copy)]
@@ -15,22 +15,22 @@ pub(crate) struct Counts {
 }
 
 /// The counts of a run of equal events.
-fn counts_in(run: RunView<'_>) -> Counts
+fn counts_in(run: EventsLent<'_>) -> Counts
     ensures steps { result.steps ≡ run_count is_step (seen_run run.entry) }
     ensures ticks { result.ticks ≡ run_count is_tick (seen_run run.entry) }
     ensures few_steps { result.steps < 2 ^ 32 }
     ensures few_ticks { result.ticks < 2 ^ 32 }
 {
     match run {
-        RunView::Cpu(count) => Counts {
+        EventsLent::Cpu(count) => Counts {
             steps: u64::from(count),
             ticks: 0,
         },
-        RunView::Tick(count) => Counts {
+        EventsLent::Tick(count) => Counts {
             steps: 0,
             ticks: u64::from(count),
         },
-        RunView::Act(_, _) => Counts { steps: 0, ticks: 0 },
+        EventsLent::Act(_, _) => Counts { steps: 0, ticks: 0 },
     }
 }
 

@@ -9,7 +9,7 @@ use Rattle.spec_story.specs.Snapshots.{snapshots}
 use Rattle.spec_text.specs.ReportText.{report}
 use Rattle.lgx_watch.specs.Kept.{KeptLines, no_lines}
 use Rattle.lgx_watch.proofs.Pushes.{keeps_the_first}
-use Rattle.lgx_record.specs.RunSeen.{RunSeen}
+use Rattle.lgx_record.specs.RunView.{RunView}
 use Rattle.lgx_record.specs.IsRunOf.{IsRunOf}
 use Rattle.lgx_judge.specs.declared.ends.End.{End}
 use Rattle.lgx_judge.specs.ReportLines.{end_of}
@@ -32,7 +32,7 @@ next_station rs i r below is =
     ∙ ap (λ k. station_lines i r ++ lines_from (i + 1) (drop k rs)) n)
 
 -- a run without an event has an empty report
-pub just_begun : (run : RunSeen) (log : KeptLines) (p q : Project) → p ≡ q → IsRunOf run p [] → log ≡ no_lines → Reports (record { run = run; log = log }) q []
+pub just_begun : (run : RunView) (log : KeptLines) (p q : Project) → p ≡ q → IsRunOf run p [] → log ≡ no_lines → Reports (record { run = run; log = log }) q []
 just_begun run log p q same h empty =
     subst (λ (x : Project). Reports (record { run = run; log = log }) x []) same (record { run = h; log = empty ∙ keeps_the_first [] })
 

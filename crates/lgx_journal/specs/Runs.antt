@@ -8,11 +8,11 @@ use Rattle.spec_text.specs.declared.script.EventRun.{EventRun}
 use Rattle.spec_text.specs.JournalText.{events_of, joined}
 use Rattle.lgx_journal.specs.declared.runs.Run.{Run}
 use Rattle.lgx_journal.specs.declared.runs.Run.TheVariants.{Cpu, Tick, Act}
-use Rattle.lgx_journal.specs.declared.runs.RunView.{RunView}
-use Rattle.lgx_journal.specs.declared.runs.RunView.TheVariants as view
+use Rattle.lgx_journal.specs.declared.runs.EventsLent.{EventsLent}
+use Rattle.lgx_journal.specs.declared.runs.EventsLent.TheVariants as view
 
 -- what a reader of runs sees: an event, and how often it comes
-abbrev pub seen_run : RunView → EventRun
+abbrev pub seen_run : EventsLent → EventRun
 seen_run (view.Cpu n) = record { event = event.Cpu; count = n }
 seen_run (view.Tick n) = record { event = event.Tick; count = n }
 seen_run (view.Act lane a) = record { event = event.Act lane a.now; count = 1 }

@@ -2,7 +2,7 @@
 ghost use Rattle.std.specs.Prelude.{◌≡◌, ◌≤◌, ◌<◌, ◌-◌, min, vec_len, vec_capacity};
 
 use crate::counts::Counted;
-use crate::runs::{Run, RunView, put_run, single};
+use crate::runs::{EventsLent, Run, put_run, single};
 use lgx_num::Memory;
 use spec_machine::{Action, Event};
 use spec_text::EventRun;
@@ -185,13 +185,13 @@ impl Journal {
 
     /// Run `i`, counted from 0.
     #[inline(always)]
-    pub fn run_at(&self, i: u32) -> RunView<'_>
+    pub fn run_at(&self, i: u32) -> EventsLent<'_>
         requires { i < length (joined self.now.events) }
         ensures { (d : EventRun) → seen_run result ≡ slice_index_or (joined self.now.events) i d }
     {
         match self.runs[i as usize] {
-            Run::Cpu(count) => RunView::Cpu(count),
-            Run::Tick(count) => RunView::Tick(count),
+            Run::Cpu(count) => EventsLent::Cpu(count),
+            Run::Tick(count) => EventsLent::Tick(count),
             Run::Act(number) => single(&self.acts[number as usize]),
         }
     }

@@ -19,7 +19,7 @@ pub use journal::Journal;
 pub use laws::lines_have_one_reading;
 pub use lines::{is_last, is_skipped, next_line};
 pub use read::{JournalReader, read_journal};
-pub use runs::RunView;
+pub use runs::{EventsLent, single};
 pub use script::read_script;
 pub use spec_machine::{Accept, Action, EditFault, Event, Mode, ModeFault, Reply, RungEdit, Text};
 pub use spec_tables::{ConnFault, ForceFault};

@@ -16,21 +16,21 @@ pub(crate) enum Run {
 
 /// A run of equal events: processor steps or ticks with their number, or an action of a lane.
 #[derive(Clone, Copy)]
-pub enum RunView<'a> {
+pub enum EventsLent<'a> {
     Cpu(u32),
     Tick(u32),
     Act(u32, &'a Action),
 }
 
-/// An event alone, as a run.
+/// An event alone, lent as a run of one.
 #[inline]
-pub(crate) fn single(event: &Event) -> RunView<'_>
+pub fn single(event: &Event) -> EventsLent<'_>
     ensures { seen_run result ≡ event_run event.now 1 }
 {
     match event {
-        Event::Cpu => RunView::Cpu(1),
-        Event::Tick => RunView::Tick(1),
-        Event::Act(lane, action) => RunView::Act(*lane, action),
+        Event::Cpu => EventsLent::Cpu(1),
+        Event::Tick => EventsLent::Tick(1),
+        Event::Act(lane, action) => EventsLent::Act(*lane, action),
     }
 }
 

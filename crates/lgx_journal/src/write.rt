@@ -12,7 +12,7 @@ ghost use Rattle.lgx_journal.specs.Runs.{seen_run};
 ghost use Rattle.lgx_journal.specs.Written.{event_run, is_kept_edit, is_kept_action, is_kept_run, is_placed, AreWritten, HasLanes, HasOneReading, IsLineOfOne, IsReadable};
 
 use crate::journal::Journal;
-use crate::runs::RunView;
+use crate::runs::EventsLent;
 use itoa::Buffer;
 use lgx_num::{Memory, Name};
 use spec_base::limits::OWN_LANE;
@@ -253,14 +253,14 @@ fn push_count(text: &mut Vec<u8>, verb: &[u8], count: u32) -> Result<(), Memory>
 }
 
 /// Adds the line of a run, with its line feed.
-fn push_run(text: &mut Vec<u8>, alloc: Global, run: RunView<'_>) -> Result<(), Memory>
+fn push_run(text: &mut Vec<u8>, alloc: Global, run: EventsLent<'_>) -> Result<(), Memory>
     ensures text { OnOk result (text.new.items ≡ text.old.items ++ line_of (event_words (seen_run run.entry).event (seen_run run.entry).count)) }
     ensures kept { OnOk result (IsTrue (is_kept_run (seen_run run.entry))) }
 {
     match run {
-        RunView::Cpu(count) => push_count(text, b"cpu", count)?,
-        RunView::Tick(count) => push_count(text, b"tick", count)?,
-        RunView::Act(lane, action) => push_lane_action(text, alloc, lane, action)?,
+        EventsLent::Cpu(count) => push_count(text, b"cpu", count)?,
+        EventsLent::Tick(count) => push_count(text, b"tick", count)?,
+        EventsLent::Act(lane, action) => push_lane_action(text, alloc, lane, action)?,
     }
     text.push(b'\n')?;
     Ok(())
@@ -277,9 +277,9 @@ pub fn push_event(
     ensures kept { OnOk result (IsTrue (is_kept_run (event_run event.now count))) }
 {
     match event {
-        Event::Cpu => push_run(text, alloc, RunView::Cpu(count)),
-        Event::Tick => push_run(text, alloc, RunView::Tick(count)),
-        Event::Act(lane, action) => push_run(text, alloc, RunView::Act(*lane, action)),
+        Event::Cpu => push_run(text, alloc, EventsLent::Cpu(count)),
+        Event::Tick => push_run(text, alloc, EventsLent::Tick(count)),
+        Event::Act(lane, action) => push_run(text, alloc, EventsLent::Act(*lane, action)),
     }
 }
 

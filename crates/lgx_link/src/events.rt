@@ -11,7 +11,7 @@ ghost use Rattle.lgx_link.specs.declared.packet.TheConstants.{MAX_WORDS};
 ghost use Rattle.lgx_link.specs.Running.{outs, AreWords};
 
 use crate::packet::Words;
-use lgx_journal::{Action, Event, Reply, RunView};
+use lgx_journal::{Action, Event, EventsLent, Reply};
 use lgx_num::{Memory, Name};
 use lgx_record::Recording;
 use spec_base::limits::OWN_LANE;
@@ -28,7 +28,7 @@ fn act_times(
     ensures spent { OnOk result (recording.new.controller.spent ≡ recording.old.controller.spent + count) }
 {
     for _ in 0..count {
-        recording.apply(RunView::Act(lane, action))?;
+        recording.apply(EventsLent::Act(lane, action))?;
     }
     Ok(())
 }
@@ -40,8 +40,8 @@ pub(crate) fn take_times(recording: &mut Recording, event: &Event, count: u32) -
     ensures spent { OnOk result (recording.new.controller.spent ≡ recording.old.controller.spent + count) }
 {
     match event {
-        Event::Cpu => recording.apply(RunView::Cpu(count)),
-        Event::Tick => recording.apply(RunView::Tick(count)),
+        Event::Cpu => recording.apply(EventsLent::Cpu(count)),
+        Event::Tick => recording.apply(EventsLent::Tick(count)),
         Event::Act(lane, action) => act_times(recording, *lane, action, count),
     }
 }
@@ -78,7 +78,7 @@ pub(crate) fn words_out(
         let reply = recording.controller().word_out(output, word);
         let conn = output.copied();
         let ask = Action::WordOut { conn, word };
-        recording.apply(RunView::Act(OWN_LANE, &ask))?;
+        recording.apply(EventsLent::Act(OWN_LANE, &ask))?;
         push_word(&mut words, reply);
     }
     Ok(words)
@@ -91,7 +91,7 @@ fn put_word(recording: &mut Recording, input: &Name, word: u32, value: i32) -> R
 {
     let conn = input.copied();
     let put = Action::WordIn { conn, word, value };
-    recording.apply(RunView::Act(OWN_LANE, &put))?;
+    recording.apply(EventsLent::Act(OWN_LANE, &put))?;
     Ok(())
 }
 

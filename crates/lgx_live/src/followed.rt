@@ -8,9 +8,10 @@ ghost use Rattle.lgx_record.specs.IsRunOf.{IsRunOf};
 ghost use Rattle.lgx_live.specs.Session.{lines_with};
 ghost use Rattle.lgx_live.specs.Output.{last_line};
 
+use lgx_journal::single;
 use lgx_judge::{end_line, end_of};
 use lgx_num::Memory;
-use lgx_record::{Run, alone};
+use lgx_record::Run;
 use lgx_watch::{Log, Names};
 use spec_machine::Event;
 
@@ -28,7 +29,7 @@ impl Followed {
         ensures lines { (project : Project) (events : List Events) → IsRunOf self.old.run project events → OnOk result (log.new ≡ record { lines = lines_with project events (event.now ∷ []); lost = 0 }) }
     {
         log.clear();
-        self.run.take(alone(event), log)
+        self.run.take(single(event), log)
     }
 
     /// The names that the report's lines are written with.

@@ -21,7 +21,7 @@ use Rattle.lgx_core.specs.ControllerView.{ControllerView}
 use Rattle.lgx_core.specs.Represents.{RepresentsController}
 use Rattle.lgx_core.specs.Gives.{Gives, StretchGives}
 use Rattle.lgx_record.specs.declared.lines.Stamp.{Stamp}
-use Rattle.lgx_record.specs.RunSeen.{RunSeen}
+use Rattle.lgx_record.specs.RunView.{RunView}
 use Rattle.lgx_record.specs.Faults.{faults_in}
 use Rattle.lgx_record.specs.EventLines.{begins_lines, with_event_lines}
 use Rattle.lgx_record.specs.Extends.{Extends}
@@ -29,7 +29,7 @@ use Rattle.lgx_record.proofs.Events.{Closes, step-taken, tick-taken, act-taken}
 use Rattle.lgx_record.proofs.Stretched.{stretch-taken}
 use Rattle.lgx_record.proofs.StepLines.{same-tick}
 
-module _ (old new : RunSeen) (c : ControllerView) (start first second end : KeptLines) (at : Stamp) (k : Closes old new c second end at) (same_watched : c.parts.image.watched ≡ old.controller.parts.image.watched) where
+module _ (old new : RunView) (c : ControllerView) (start first second end : KeptLines) (at : Stamp) (k : Closes old new c second end at) (same_watched : c.parts.image.watched ≡ old.controller.parts.image.watched) where
   pub stretch-extends : (base : KeptLines) (from : Stamp) (b : Begins) (x : Stretch) → 0 < x.steps → ((s : State) → RepresentsController old.controller s → StretchGives c b x s) → ((s : State) → RepresentsController c s → from.tick ≡ s.tick) → from.step ≡ old.steps → start ≡ with_lines base (begins_lines from.tick from.step b.began b.steps.items) → c.spent ≡ old.controller.spent + x.steps → new.steps ≡ old.steps + x.steps → first ≡ with_event_lines start at (begin_lines x.last.what) → second ≡ with_event_lines first at (map FaultLine (faults_in x.last.fault)) → Extends old new base end (replicate x.steps Cpu)
   stretch-extends base from b x some gives tick_is step_is started spent steps begun faulted = λ project events r.
       let many : x.steps ≡ suc (x.steps - 1) = omega arith in

@@ -23,7 +23,7 @@ use Rattle.lgx_core.specs.ControllerView.{ControllerView}
 use Rattle.lgx_core.specs.Represents.{RepresentsController}
 use Rattle.lgx_core.specs.Gives.{Gives}
 use Rattle.lgx_record.specs.declared.lines.Stamp.{Stamp}
-use Rattle.lgx_record.specs.RunSeen.{RunSeen}
+use Rattle.lgx_record.specs.RunView.{RunView}
 use Rattle.lgx_record.specs.Faults.{faults_in}
 use Rattle.lgx_record.specs.Changes.{numbers_at, change_lines}
 use Rattle.lgx_record.specs.EventLines.{with_event_lines, Compared}
@@ -35,7 +35,7 @@ use Rattle.lgx_record.proofs.Taking.{has-taken, follows-more}
 
 -- What the last part of an event does, of whatever kind it is: c is the controller before, and log is the log, which end is
 -- after it. The stamp is that of the controller and of the steps.
-pub record Closes (old new : RunSeen) (c : ControllerView) (log end : KeptLines) (at : Stamp) : Type 0 where
+pub record Closes (old new : RunView) (c : ControllerView) (log end : KeptLines) (at : Stamp) : Type 0 where
   pub tick : (s : State) → RepresentsController c s → at.tick ≡ s.tick
   pub step_is : at.step ≡ new.steps
   pub compared : (s : State) → RepresentsController c s → Compared log end at old.values new.values (numbers_at s.image old.places)
@@ -51,10 +51,10 @@ pub changes-kept : (log next : KeptLines) (at : Stamp) (before after now : List 
 changes-kept log next at before after now h = h.log ∙ ap (λ (ns : List ℤ). with_event_lines log at (change_lines 0 before ns)) (sym h.values)
 
 -- the numbers that are kept are those of the image
-pub kept-values : (old new : RunSeen) (c : ControllerView) (log end : KeptLines) (at : Stamp) → Closes old new c log end at → (s : State) → RepresentsController c s → new.values ≡ numbers_at s.image new.places
+pub kept-values : (old new : RunView) (c : ControllerView) (log end : KeptLines) (at : Stamp) → Closes old new c log end at → (s : State) → RepresentsController c s → new.values ≡ numbers_at s.image new.places
 kept-values old new c log end at k s h = (k.compared s h).values ∙ ap (numbers_at s.image) (sym k.places)
 
-module _ (old new : RunSeen) (c : ControllerView) (start first second end : KeptLines) (at : Stamp) (project : Project) (events : List Event) (r : IsRunOf old project events) (k : Closes old new c second end at) (spent : c.spent ≡ old.controller.spent + 1) (same_watched : c.parts.image.watched ≡ old.controller.parts.image.watched) where
+module _ (old new : RunView) (c : ControllerView) (start first second end : KeptLines) (at : Stamp) (project : Project) (events : List Event) (r : IsRunOf old project events) (k : Closes old new c second end at) (spent : c.spent ≡ old.controller.spent + 1) (same_watched : c.parts.image.watched ≡ old.controller.parts.image.watched) where
   pub tick-taken : (report : TickReport) → Gives c report (tick (run project events)) → new.steps ≡ old.steps → first ≡ start → ((s : State) → s.tick ≡ at.tick → length s.table.defs ≤ MAX_TASKS → report.overlapped < 2 ^ length s.table.defs → second ≡ with_event_lines first at (map FaultLine (report_faults s report))) → IsExtended new start end project events (Tick ∷ [])
   tick-taken report g steps begun faulted =
       let s = run project events in

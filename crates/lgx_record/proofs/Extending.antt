@@ -8,12 +8,12 @@ use Rattle.spec_machine.specs.Project.{Project}
 use Rattle.spec_machine.specs.State.{State, start}
 use Rattle.spec_machine.specs.Machine.{run, run_from}
 use Rattle.spec_machine.specs.Report.{is_step, steps_of, lines_from, report_lines}
-use Rattle.lgx_journal.specs.declared.runs.RunView.{RunView}
-use Rattle.lgx_journal.specs.declared.runs.RunView.TheVariants as view
+use Rattle.lgx_journal.specs.declared.runs.EventsLent.{EventsLent}
+use Rattle.lgx_journal.specs.declared.runs.EventsLent.TheVariants as view
 use Rattle.lgx_journal.specs.Runs.{seen_run}
 use Rattle.lgx_watch.specs.Kept.{KeptLines, kept_of, with_lines}
 use Rattle.lgx_record.specs.declared.lines.TheConstants.{MAX_EVENT_LINES}
-use Rattle.lgx_record.specs.RunSeen.{RunSeen}
+use Rattle.lgx_record.specs.RunView.{RunView}
 use Rattle.lgx_record.specs.IsRunOf.{IsRunOf, IsRun}
 use Rattle.lgx_record.specs.RecordingView.{RecordingView, run_of}
 use Rattle.lgx_record.specs.Records.{Records, IsRecording, RecordsMore, HasCounted, IsUnchanged}
@@ -36,10 +36,10 @@ lines-of-both project events xs ys =
 
 -- ---- by no event, and by some after others
 
-pub by-none : (v : RunSeen) (log : KeptLines) → Extends v v log log []
+pub by-none : (v : RunView) (log : KeptLines) → Extends v v log log []
 by-none v log = λ project events r. record { run = subst (λ (es : List Event). IsRunOf v project es) (sym (append-nil events)) r; log = refl }
 
-pub and-then : (old new : RunSeen) (start between end : KeptLines) (project : Project) (events xs ys : List Event) → IsExtended old start between project events xs → Extends old new between end ys → IsExtended new start end project events (xs ++ ys)
+pub and-then : (old new : RunView) (start between end : KeptLines) (project : Project) (events xs ys : List Event) → IsExtended old start between project events xs → Extends old new between end ys → IsExtended new start end project events (xs ++ ys)
 and-then old new start between end project events xs ys a two =
     let b = two project (events ++ xs) a.run in
     record {
@@ -51,18 +51,18 @@ and-then old new start between end project events xs ys a two =
           ∙ ap (with_lines start) (lines-of-both project events xs ys);
     }
 
-pub by-both : (old middle new : RunSeen) (start between end : KeptLines) (xs ys : List Event) → Extends old middle start between xs → Extends middle new between end ys → Extends old new start end (xs ++ ys)
+pub by-both : (old middle new : RunView) (start between end : KeptLines) (xs ys : List Event) → Extends old middle start between xs → Extends middle new between end ys → Extends old new start end (xs ++ ys)
 by-both old middle new start between end xs ys one two = λ project events r. and-then middle new start between end project events xs ys (one project events r) two
 
 -- so often, and then so often again
-pub by-more : (old middle new : RunSeen) (start between end : KeptLines) (e : Event) (n m : ℕ) → Extends old middle start between (replicate n e) → Extends middle new between end (replicate m e) → Extends old new start end (replicate (n + m) e)
+pub by-more : (old middle new : RunView) (start between end : KeptLines) (e : Event) (n m : ℕ) → Extends old middle start between (replicate n e) → Extends middle new between end (replicate m e) → Extends old new start end (replicate (n + m) e)
 by-more old middle new start between end e n m one two =
     subst (Extends old new start end) (replicate-append-replicate n m e) (by-both old middle new start between end (replicate n e) (replicate m e) one two)
 
 -- ---- what follows from it
 
 -- few lines are lost
-pub few-lost : (old new : RunSeen) (start end : KeptLines) (more : List Event) → IsRun old → Extends old new start end more → end.lost ≤ start.lost + MAX_EVENT_LINES * length more
+pub few-lost : (old new : RunView) (start end : KeptLines) (more : List Event) → IsRun old → Extends old new start end more → end.lost ≤ start.lost + MAX_EVENT_LINES * length more
 few-lost old new start end more i x =
     let few = few_from i.project i.run.controller.valid i.events (steps_of i.events) more in
     let lost = ap (λ (k : KeptLines). k.lost) (x i.project i.events i.run).log in
@@ -70,7 +70,7 @@ few-lost old new start end more i x =
     omega arith
 
 -- it is a run still
-pub is-run-still : (old new : RunSeen) (start end : KeptLines) (more : List Event) → IsRun old → Extends old new start end more → IsRun new
+pub is-run-still : (old new : RunView) (start end : KeptLines) (more : List Event) → IsRun old → Extends old new start end more → IsRun new
 is-run-still old new start end more i x = record { project = i.project; events = i.events ++ more; run = (x i.project i.events i.run).run }
 
 -- ---- a recording
@@ -82,7 +82,7 @@ lines-of-more project events more =
     ∙ ap (λ n. report_lines project events ++ lines_from project.watches (run project events) n more) (omega arith)
 
 -- so is the log of a report
-pub report-more : (new : RunSeen) (before after : KeptLines) (project : Project) (events more : List Event) → IsExtended new before after project events more → before ≡ kept_of (report_lines project events) → after ≡ kept_of (report_lines project (events ++ more))
+pub report-more : (new : RunView) (before after : KeptLines) (project : Project) (events more : List Event) → IsExtended new before after project events more → before ≡ kept_of (report_lines project events) → after ≡ kept_of (report_lines project (events ++ more))
 report-more new before after project events more x log =
     x.log
     ∙ ap (λ (k : KeptLines). with_lines k (more_lines project events more)) log

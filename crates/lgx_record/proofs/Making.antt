@@ -12,7 +12,7 @@ use Rattle.lgx_edit.specs.Texts.{program_of}
 use Rattle.lgx_edit.specs.Plants.{project_of, watch_of}
 use Rattle.lgx_core.specs.ControllerView.{ControllerView}
 use Rattle.lgx_core.specs.Represents.{RepresentsController, StandsFor}
-use Rattle.lgx_record.specs.RunSeen.{RunSeen}
+use Rattle.lgx_record.specs.RunView.{RunView}
 use Rattle.lgx_record.specs.Changes.{numbers_at, AreWatched}
 use Rattle.lgx_record.specs.IsRunOf.{IsRunOf}
 
@@ -45,7 +45,7 @@ still-stands project events old new h represents spent = record {
 }
 
 -- without an event
-pub just-made : (v : RunSeen) (project : Project) → StandsFor project [] v.controller → v.names ≡ project_names project → v.steps ≡ 0 → v.places ≡ map (λ w. w.place) project.watches → v.values ≡ numbers_at (start project).image v.places → AreWatched v.places v.controller.parts.image.watched → NoneIsHit v.controller.parts.image → IsRunOf v project []
+pub just-made : (v : RunView) (project : Project) → StandsFor project [] v.controller → v.names ≡ project_names project → v.steps ≡ 0 → v.places ≡ map (λ w. w.place) project.watches → v.values ≡ numbers_at (start project).image v.places → AreWatched v.places v.controller.parts.image.watched → NoneIsHit v.controller.parts.image → IsRunOf v project []
 just-made v project stands names steps places values watched none = record {
   controller = stands;
   names = names;

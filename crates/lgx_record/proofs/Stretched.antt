@@ -23,7 +23,7 @@ use Rattle.lgx_core.specs.ControllerView.{ControllerView}
 use Rattle.lgx_core.specs.Represents.{RepresentsController}
 use Rattle.lgx_core.specs.Gives.{StretchGives}
 use Rattle.lgx_record.specs.declared.lines.Stamp.{Stamp}
-use Rattle.lgx_record.specs.RunSeen.{RunSeen}
+use Rattle.lgx_record.specs.RunView.{RunView}
 use Rattle.lgx_record.specs.Faults.{faults_in}
 use Rattle.lgx_record.specs.Changes.{numbers_at, change_lines, AreInside, AreWatched}
 use Rattle.lgx_record.specs.EventLines.{begins_lines, with_event_lines}
@@ -47,7 +47,7 @@ module _ (watched : List Bool) (b : Begins) (x : Stretch) (s : State) (h : IsStr
 
 -- ---- a stretch of steps
 
-module _ (old new : RunSeen) (c : ControllerView) (base start first second end : KeptLines) (from at : Stamp) (project : Project) (events : List Event) (r : IsRunOf old project events) (k : Closes old new c second end at) (same_watched : c.parts.image.watched ≡ old.controller.parts.image.watched) (b : Begins) (x : Stretch) (m : ℕ) (many : x.steps ≡ suc m) (g : StretchGives c b x (run project events)) where
+module _ (old new : RunView) (c : ControllerView) (base start first second end : KeptLines) (from at : Stamp) (project : Project) (events : List Event) (r : IsRunOf old project events) (k : Closes old new c second end at) (same_watched : c.parts.image.watched ≡ old.controller.parts.image.watched) (b : Begins) (x : Stretch) (m : ℕ) (many : x.steps ≡ suc m) (g : StretchGives c b x (run project events)) where
   abbrev s : State
   s = run project events
 
@@ -70,7 +70,7 @@ module _ (old new : RunSeen) (c : ControllerView) (base start first second end :
       ∙ ap (begins_lines s.tick (steps_of events) b.began) (sym begins)
 
   -- what the run would be after these
-  abbrev middle : RunSeen
+  abbrev middle : RunView
   middle = record old { controller = record old.controller { spent = old.controller.spent + m }; steps = old.steps + m }
 
   has_taken : HasTaken middle project before
@@ -138,7 +138,7 @@ module _ (old new : RunSeen) (c : ControllerView) (base start first second end :
       }
 
 -- before the watched places are compared
-pub stretch-inside : (v : RunSeen) (i : IsRun v) (n : ℕ) (c : ControllerView) → RepresentsController c (after_steps n (run i.project i.events)) → AreInside v.places c.parts.image.bytes
+pub stretch-inside : (v : RunView) (i : IsRun v) (n : ℕ) (c : ControllerView) → RepresentsController c (after_steps n (run i.project i.events)) → AreInside v.places c.parts.image.bytes
 stretch-inside v i n c r =
     are_inside i.project i.run.controller.valid v.places (i.events ++ replicate n Cpu) c i.run.places (subst (λ (t : State). RepresentsController c t) (sym (run-steps i.project i.events n)) r)
 

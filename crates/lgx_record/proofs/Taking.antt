@@ -30,7 +30,7 @@ use Rattle.lgx_core.specs.ControllerView.{ControllerView}
 use Rattle.lgx_core.specs.Represents.{RepresentsController}
 use Rattle.lgx_record.specs.declared.lines.TheConstants.{MAX_EVENT_LINES}
 use Rattle.lgx_record.specs.declared.lines.Stamp.{Stamp}
-use Rattle.lgx_record.specs.RunSeen.{RunSeen}
+use Rattle.lgx_record.specs.RunView.{RunView}
 use Rattle.lgx_record.specs.RecordingView.{RecordingView}
 use Rattle.lgx_record.specs.Faults.{told_faults}
 use Rattle.lgx_record.specs.Changes.{numbers_at, change_lines, AreInside, AreWatched, AreAsCompared}
@@ -56,7 +56,7 @@ pub few_events_by : (v : RecordingView) (n : ℕ) → IsRecording v → v.contro
 few_events_by v n i l = let e = ap length i.records.journal in let many = i.records.controller.counted in omega arith
 
 -- steps are at most the events
-pub few_steps : (v : RunSeen) → IsRun v → v.steps ≤ v.controller.spent
+pub few_steps : (v : RunView) → IsRun v → v.steps ≤ v.controller.spent
 few_steps v i = let most = count_by-le-length is_step i.events in let steps = i.run.steps in let many = i.run.controller.counted in omega arith
 
 -- ---- after the event
@@ -76,7 +76,7 @@ module _ (project : Project) (valid : IsValidProject project) where
       }
 
 -- a place that lies in no word that is hit has the number last compared
-pub as_compared : (v : RunSeen) (project : Project) (events : List Event) (now : ImageView) → IsRunOf v project events → ChangesOnlyMarked v.controller.parts.image now → AreAsCompared v.places v.values now
+pub as_compared : (v : RunView) (project : Project) (events : List Event) (now : ImageView) → IsRunOf v project events → ChangesOnlyMarked v.controller.parts.image now → AreAsCompared v.places v.values now
 as_compared v project events now r changes = record {
   many = ap length r.values ∙ length-map v.places (number (run project events).image);
   same = λ w p got none. (
@@ -91,15 +91,15 @@ as_compared v project events now r changes = record {
 }
 
 -- before the watched places are compared
-pub next_inside : (v : RunSeen) (i : IsRun v) (e : Event) (c : ControllerView) → RepresentsController c (step (run i.project i.events) e).state → AreInside v.places c.parts.image.bytes
+pub next_inside : (v : RunView) (i : IsRun v) (e : Event) (c : ControllerView) → RepresentsController c (step (run i.project i.events) e).state → AreInside v.places c.parts.image.bytes
 next_inside v i e c r =
     are_inside i.project i.run.controller.valid v.places (i.events ++ e ∷ []) c i.run.places (subst (λ (y : State). RepresentsController c y) (sym (run_more i.project i.events e)) r)
 
-pub next_compared : (v : RunSeen) (i : IsRun v) (now : ImageView) → ChangesOnlyMarked v.controller.parts.image now → AreAsCompared v.places v.values now
+pub next_compared : (v : RunView) (i : IsRun v) (now : ImageView) → ChangesOnlyMarked v.controller.parts.image now → AreAsCompared v.places v.values now
 next_compared v i now changes = as_compared v i.project i.events now i.run changes
 
 -- What is known of a run after these events, but for what its controller represents.
-pub record HasTaken (v : RunSeen) (project : Project) (events : List Event) : Type 0 where
+pub record HasTaken (v : RunView) (project : Project) (events : List Event) : Type 0 where
   pub valid : IsValidProject project
   pub counted : v.controller.spent ≡ length events
   pub names : v.names ≡ names_of project
@@ -108,7 +108,7 @@ pub record HasTaken (v : RunSeen) (project : Project) (events : List Event) : Ty
   pub values : v.values ≡ numbers_at (run project events).image v.places
   pub watched : AreWatched v.places v.controller.parts.image.watched
 
-pub has-taken : (v : RunSeen) (project : Project) (events : List Event) → IsRunOf v project events → HasTaken v project events
+pub has-taken : (v : RunView) (project : Project) (events : List Event) → IsRunOf v project events → HasTaken v project events
 has-taken v project events r = record {
   valid = r.controller.valid;
   counted = r.controller.counted;
@@ -120,11 +120,11 @@ has-taken v project events r = record {
 }
 
 -- the watched places are watched still
-pub next_watched : (v : RunSeen) (i : IsRun v) (now : ImageView) → ChangesOnlyMarked v.controller.parts.image now → AreWatched v.places now.watched
+pub next_watched : (v : RunView) (i : IsRun v) (now : ImageView) → ChangesOnlyMarked v.controller.parts.image now → AreWatched v.places now.watched
 next_watched v i now changes = subst (AreWatched v.places) (sym changes.same_watched) i.run.watched
 
 -- what was done when an event of state s was taken
-pub record Takes (old new : RunSeen) (before after : KeptLines) (s : State) (e : Event) (at : Stamp) : Type 0 where
+pub record Takes (old new : RunView) (before after : KeptLines) (s : State) (e : Event) (at : Stamp) : Type 0 where
   pub represents : RepresentsController new.controller (step s e).state
   pub spent : new.controller.spent ≡ old.controller.spent + 1
   pub names : new.names ≡ old.names
@@ -148,7 +148,7 @@ counted events e n is =
     by_test true = omega arith
     by_test false = omega arith
 
-pub follows-more : (old new : RunSeen) (start end : KeptLines) (project : Project) (events : List Event) (e : Event) (at : Stamp) → HasTaken old project events → Takes old new start end (run project events) e at → IsExtended new start end project events (e ∷ [])
+pub follows-more : (old new : RunView) (start end : KeptLines) (project : Project) (events : List Event) (e : Event) (at : Stamp) → HasTaken old project events → Takes old new start end (run project events) e at → IsExtended new start end project events (e ∷ [])
 follows-more old new start end project events e at r t =
     let s = run project events in
     let x = step s e in

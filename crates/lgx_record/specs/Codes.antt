@@ -6,7 +6,7 @@ use Rattle.spec_text.specs.ReportText.{Names}
 use Rattle.lgx_journal.specs.Journals.{JournalView}
 use Rattle.lgx_watch.specs.Kept.{KeptLines}
 use Rattle.lgx_core.specs.ControllerView.{ControllerView}
-use Rattle.lgx_record.specs.RunSeen.{RunSeen}
+use Rattle.lgx_record.specs.RunView.{RunView}
 use Rattle.lgx_record.specs.RecordingView.{RecordingView}
 
 -- the parts but for the controller
@@ -32,7 +32,7 @@ recording_code controller rest =
 abbrev pub RunRest : Type 0
 RunRest = (Names × ℕ) × (List Place × List ℤ)
 
-abbrev pub run_code : Coded ControllerView → Coded RunRest → Coded RunSeen
+abbrev pub run_code : Coded ControllerView → Coded RunRest → Coded RunView
 run_code controller rest =
     code_by (ControllerView × RunRest) (coded× controller rest)
     (λ f. (f.controller, ((f.names, f.steps), (f.places, f.values))))

@@ -1,4 +1,4 @@
-pub mod RunSeen
+pub mod RunView
 pub mod RecordingView
 pub mod Codes
 pub mod Faults

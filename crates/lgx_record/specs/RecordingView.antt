@@ -5,7 +5,7 @@ use Rattle.spec_text.specs.ReportText.{Names}
 use Rattle.lgx_journal.specs.Journals.{JournalView}
 use Rattle.lgx_watch.specs.Kept.{KeptLines}
 use Rattle.lgx_core.specs.ControllerView.{ControllerView}
-use Rattle.lgx_record.specs.RunSeen.{RunSeen}
+use Rattle.lgx_record.specs.RunView.{RunView}
 
 -- Its controller, the journal of what the controller did, the log of the report's lines, the names that they are written
 -- with, the number of processor steps, and the watched places with the numbers that they had when they were last compared.
@@ -19,7 +19,7 @@ pub record RecordingView : Type 0 where
   pub values : List ℤ
 
 -- a run with a journal and a log
-abbrev pub recording_of : RunSeen → JournalView → KeptLines → RecordingView
+abbrev pub recording_of : RunView → JournalView → KeptLines → RecordingView
 recording_of run journal log = record {
   controller = run.controller;
   journal = journal;
@@ -31,7 +31,7 @@ recording_of run journal log = record {
 }
 
 -- all but its journal and its log
-abbrev pub run_of : RecordingView → RunSeen
+abbrev pub run_of : RecordingView → RunView
 run_of r = record {
   controller = r.controller;
   names = r.names;

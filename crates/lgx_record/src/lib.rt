@@ -17,4 +17,4 @@ pub use laws::{law_of_events, law_of_faults, law_of_lines};
 pub use lines::MAX_EVENT_LINES;
 pub use names::names_of;
 pub use recording::Recording;
-pub use run::{Run, alone};
+pub use run::Run;

@@ -2,7 +2,7 @@
 use crate::run::Run;
 use lgx_core::Controller;
 use lgx_edit::Plant;
-use lgx_journal::{Action, Journal, RunView};
+use lgx_journal::{Action, EventsLent, Journal};
 use lgx_num::Memory;
 use lgx_watch::{Log, Names};
 use std::alloc::Global;
@@ -91,7 +91,7 @@ impl Recording {
 
     /// Takes equal events, for which the journal has room: processor steps or ticks, of which at least one, or an action. Out of
     /// memory comes at an accept alone; then nothing changes.
-    pub fn take(&mut self, run: RunView<'_>) -> Result<(), Memory>
+    pub fn take(&mut self, run: EventsLent<'_>) -> Result<(), Memory>
         requires some { 0 < (seen_run run).count }
         requires room { self.old.controller.spent + (seen_run run).count ≤ MAX_EVENTS }
         requires spare { 0 < self.old.journal.spare }
@@ -102,15 +102,15 @@ impl Recording {
         ensures unchanged { OnErr result (self.new ≡ self.old) }
     {
         match run {
-            RunView::Cpu(count) => {
+            EventsLent::Cpu(count) => {
                 self.take_steps(count);
                 Ok(())
             }
-            RunView::Tick(count) => {
+            EventsLent::Tick(count) => {
                 self.take_ticks(count);
                 Ok(())
             }
-            RunView::Act(lane, action) => self.act(lane, action),
+            EventsLent::Act(lane, action) => self.act(lane, action),
         }
     }
 
@@ -160,7 +160,7 @@ impl Recording {
 
     /// The same of events for which the journal may have no room, and which may be none. It is taken before anything changes; out
     /// of memory comes if there is none, and at an accept that has none. For no event no room is taken.
-    pub fn apply(&mut self, run: RunView<'_>) -> Result<(), Memory>
+    pub fn apply(&mut self, run: EventsLent<'_>) -> Result<(), Memory>
         requires room { self.old.controller.spent + (seen_run run).count ≤ MAX_EVENTS }
         ensures records { OnOk result (RecordsMore self.old self.new (events_in run.entry)) }
         ensures counts { OnOk result (HasCounted self.old self.new (events_in run.entry)) }
@@ -214,11 +214,11 @@ ghost use Rattle.std.specs.Prelude.{◌≡◌, ◌==◌};
 ghost use Rattle.lgx_journal.specs.Runs.{seen_run};
 
 /// Whether it is no event at all.
-fn is_none(run: &RunView<'_>) -> bool
+fn is_none(run: &EventsLent<'_>) -> bool
     ensures { result ≡ ((seen_run run.now).count == 0) }
 {
     match run {
-        RunView::Cpu(count) | RunView::Tick(count) => *count == 0,
-        RunView::Act(_, _) => false,
+        EventsLent::Cpu(count) | EventsLent::Tick(count) => *count == 0,
+        EventsLent::Act(_, _) => false,
     }
 }

@@ -4,7 +4,7 @@ use crate::lines::{Stamp, log_begin, log_begins, log_fault, log_line, log_tick_f
 use crate::names::names_and_watches;
 use lgx_core::{Begins, Controller};
 use lgx_edit::Plant;
-use lgx_journal::{Action, Event, RunView};
+use lgx_journal::{Action, Event, EventsLent};
 use lgx_num::Memory;
 use lgx_watch::{Line, Log, Names, WatchIndex};
 use std::alloc::Global;
@@ -41,19 +41,19 @@ impl Model for Run {
     ghost use Rattle.std.specs.Coded.{codes, coded_list};
     ghost use Rattle.lgx_edit.specs.Codes.{view_code};
     ghost use Rattle.lgx_core.specs.Codes.{controller_code};
-    ghost use Rattle.lgx_record.specs.RunSeen.{RunSeen};
+    ghost use Rattle.lgx_record.specs.RunView.{RunView};
     ghost use Rattle.lgx_record.specs.Codes.{run_code};
 
-    ghost Value = { RunSeen };
+    ghost Value = { RunView };
 
     ghost coded = { run_code (controller_code (coded_list (view_code (Prim.hlevel codes) (Prim.hlevel codes) (Prim.hlevel codes))) (Prim.hlevel codes)) (Prim.hlevel codes) };
 
-    ghost use Rattle.lgx_record.specs.RunSeen.{run_seen};
+    ghost use Rattle.lgx_record.specs.RunView.{run_view};
     ghost use Rattle.lgx_record.specs.IsRunOf.{IsRun};
 
-    ghost view = { λ r. run_seen r.controller r.names r.steps r.watches r.values.items };
+    ghost view = { λ r. run_view r.controller r.names r.steps r.watches r.values.items };
 
-    ghost invariant = { λ r. IsRun (run_seen r.controller r.names r.steps r.watches r.values.items) };
+    ghost invariant = { λ r. IsRun (run_view r.controller r.names r.steps r.watches r.values.items) };
 }
 
 impl Run {
@@ -95,7 +95,7 @@ impl Run {
     /// Takes equal events: processor steps, ticks, or an action. The lines of each go into the log, and are those of the report. Out
     /// of memory comes at an accept alone; then nothing changes.
     #[inline(always)]
-    pub fn take(&mut self, run: RunView<'_>, log: &mut Log) -> Result<(), Memory>
+    pub fn take(&mut self, run: EventsLent<'_>, log: &mut Log) -> Result<(), Memory>
         requires room { self.old.controller.spent + (seen_run run).count ≤ MAX_EVENTS }
         requires lost { log.old.lost + MAX_EVENT_LINES * (seen_run run).count < 2 ^ 63 }
         ensures all { OnOk result (Extends self.old self.new log.old log.new (events_in run.entry)) }
@@ -104,15 +104,15 @@ impl Run {
         ensures no_line { OnErr result (log.new ≡ log.old) }
     {
         match run {
-            RunView::Cpu(count) => {
+            EventsLent::Cpu(count) => {
                 self.take_steps(count, log);
                 Ok(())
             }
-            RunView::Tick(count) => {
+            EventsLent::Tick(count) => {
                 self.take_ticks(count, log);
                 Ok(())
             }
-            RunView::Act(lane, action) => self.act(lane, action, log),
+            EventsLent::Act(lane, action) => self.act(lane, action, log),
         }
     }
 
@@ -295,18 +295,6 @@ ghost use Rattle.lgx_watch.specs.declared.bits.TheConstants.{MAX_WATCHES};
 ghost use Rattle.lgx_core.specs.Represents.{RepresentsController};
 ghost use Rattle.lgx_record.specs.Changes.{numbers_at, AreInside, AreWatched, AreAsCompared};
 ghost use Rattle.lgx_record.specs.EventLines.{Compared};
-
-/// An event alone, as it is taken.
-#[inline]
-pub fn alone(event: &Event) -> RunView<'_>
-    ensures { seen_run result ≡ event_run event.now 1 }
-{
-    match event {
-        Event::Cpu => RunView::Cpu(1),
-        Event::Tick => RunView::Tick(1),
-        Event::Act(lane, action) => RunView::Act(*lane, action),
-    }
-}
 
 // ---- what is done to the parts of a run while it is between two events
 

@@ -19,9 +19,9 @@ use crate::turn::Turn;
 use lgx_core::Controller;
 use lgx_edit::Plant;
 use lgx_history::History;
-use lgx_journal::{Action, Event, Journal, RunView, Script};
+use lgx_journal::{Action, Event, EventsLent, Journal, Script, single};
 use lgx_num::Memory;
-use lgx_record::{Recording, alone};
+use lgx_record::Recording;
 use lgx_watch::{Log, Names};
 use spec_base::limits::OWN_LANE;
 use std::alloc::Global;
@@ -78,7 +78,7 @@ fn opened(alloc: Global, project: Plant, room: u32) -> Result<Recording, Memory>
 {
     let mut recording = Recording::of_project(alloc, project)?;
     recording.reserve(room)?;
-    recording.take(RunView::Act(OWN_LANE, &Action::ModeRun))?;
+    recording.take(EventsLent::Act(OWN_LANE, &Action::ModeRun))?;
     Ok(recording)
 }
 
@@ -137,7 +137,7 @@ impl Recorder {
         ensures unchanged { OnErr result (IsUnchanged self.old.recording self.new.recording) }
         ensures room { OnErr result (self.old.recording.journal.spare ≤ self.new.recording.journal.spare) }
     {
-        self.recording.apply(alone(event))
+        self.recording.apply(single(event))
     }
 
     /// A turn of a lane: its next action, if the tick of it has come and it wouldn't be answered Held; else, until the steps are

@@ -18,7 +18,7 @@ ghost use Rattle.lgx_shared.specs.Turns.{MatchTurn};
 use crate::plan::action_at;
 use crate::turn::Turn;
 use lgx_core::Controller;
-use lgx_journal::{Action, RunView, Script, Timed};
+use lgx_journal::{Action, EventsLent, Script, Timed};
 use lgx_record::Recording;
 
 /// Whether an action is answered Held while a CPS is open: an I/O word, or a command on the mode.
@@ -67,7 +67,7 @@ fn is_spent(recording: &Recording, script: &Script) -> bool
 }
 
 /// Takes equal events, for which the journal has room, and none of which is an accept: so they take no memory.
-fn take_freely(recording: &mut Recording, run: RunView<'_>)
+fn take_freely(recording: &mut Recording, run: EventsLent<'_>)
     requires free { is_accept_in run ≡ false }
     requires some { 0 < (seen_run run).count }
     requires room { recording.old.controller.spent + (seen_run run).count ≤ MAX_EVENTS }
@@ -90,9 +90,9 @@ fn make_step(recording: &mut Recording, pace: u32)
     ensures records { RecordsMore recording.old recording.new (paced_step pace (recording.old.steps + 1)) }
     ensures spare { recording.old.journal.spare ≤ recording.new.journal.spare + length (paced_step pace (recording.old.steps + 1)) }
 {
-    take_freely(recording, RunView::Cpu(1));
+    take_freely(recording, EventsLent::Cpu(1));
     if recording.steps() % pace == 0 {
-        take_freely(recording, RunView::Tick(1));
+        take_freely(recording, EventsLent::Tick(1));
     }
 }
 
@@ -130,7 +130,7 @@ pub(crate) fn make_action(
         (IsTrue (is_accept action.now) × (recording.new ≡ recording.old) × (counts.new.items ≡ counts.old.items)) }
     ensures spare { recording.old.journal.spare ≤ recording.new.journal.spare + 1 }
 {
-    if recording.take(RunView::Act(lane, action)).is_err() {
+    if recording.take(EventsLent::Act(lane, action)).is_err() {
         return Turn::Memory;
     }
     counts[lane as usize] += 1;

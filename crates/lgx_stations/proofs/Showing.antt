@@ -8,7 +8,7 @@ use Rattle.lgx_num.specs.declared.place.Place.{Place}
 use Rattle.spec_machine.specs.declared.event.Event.{Event}
 use Rattle.spec_machine.specs.Machine.{run}
 use Rattle.spec_machine.specs.Project.{Project, Watch}
-use Rattle.lgx_record.specs.RunSeen.{RunSeen}
+use Rattle.lgx_record.specs.RunView.{RunView}
 use Rattle.lgx_record.specs.IsRunOf.{IsRunOf, IsRun}
 use Rattle.lgx_record.proofs.FewLines.{few_watches}
 use Rattle.spec_board.specs.declared.snapshot.TheConstants.{MAX_VALUES}
@@ -16,7 +16,7 @@ use Rattle.spec_board.specs.declared.snapshot.Snapshot.{Snapshot}
 use Rattle.spec_story.specs.Snapshots.{snapshot}
 
 -- a snapshot has room for the values
-pub few_values : (v : RunSeen) → IsRun v → length v.values ≤ MAX_VALUES
+pub few_values : (v : RunView) → IsRun v → length v.values ≤ MAX_VALUES
 few_values v i =
     let image = (run i.project i.events).image in
     let values = ap length i.run.values in
@@ -27,7 +27,7 @@ few_values v i =
     omega arith
 
 -- the tick and the values are the run's snapshot
-pub shows_snapshot : (v : RunSeen) (p : Project) (events : List Event) (tick : ℕ) (values : List ℤ) → IsRunOf v p events → tick ≡ (run p events).tick → values ≡ v.values
+pub shows_snapshot : (v : RunView) (p : Project) (events : List Event) (tick : ℕ) (values : List ℤ) → IsRunOf v p events → tick ≡ (run p events).tick → values ≡ v.values
     → (let x : Snapshot = record { tick = tick; values = values } in x) ≡ snapshot p (run p events)
 shows_snapshot v p events tick values h ticks shown =
     let image = (run p events).image in

@@ -8,9 +8,9 @@ ghost use Rattle.spec_story.specs.Snapshots.{snapshot};
 ghost use Rattle.lgx_stations.specs.Reports.{Reports};
 
 use lgx_hmi::{Snapshot, Values};
-use lgx_journal::Event;
+use lgx_journal::{Event, single};
 use lgx_num::Memory;
-use lgx_record::{Run, alone};
+use lgx_record::Run;
 use lgx_watch::Log;
 
 /// A run with the log of its report.
@@ -26,7 +26,7 @@ impl Reported {
         requires { (p : Project) × (events : List Events) × Reports self.old p events × (length events < MAX_EVENTS) }
         ensures { (p : Project) (events : List Events) → Reports self.old p events → OnOk result (Reports self.new p (events ++ event.now ∷ [])) }
     {
-        self.run.take(alone(event), &mut self.log)
+        self.run.take(single(event), &mut self.log)
     }
 
     /// The watched values after the events so far, with the present tick.

@@ -1,8 +1,7 @@
--- Which instruction the next processor step executes, and by which rungs a task scans.
+-- Which instruction the next processor step executes.
 use Rattle.std.specs.Prelude.{ℕ, Option, Some, None, option_map}
 use Rattle.spec_tables.specs.Tasks.{chosen}
 use Rattle.spec_machine.specs.State.{State, Scan, progress_of}
-use Rattle.lgx_prog.specs.FlatProgram.{Program, IsFlatProgram}
 use Rattle.lgx_engine.specs.Executing.{executing}
 use Rattle.lgx_steps.specs.declared.executing.Executed.{Executed}
 
@@ -18,10 +17,3 @@ executed_of s (Some t) = executed_by (progress_of s t).scan
 -- the chosen task executes
 abbrev pub executed : State → Option Executed
 executed s = executed_of s (chosen s.table)
-
--- a scan in progress has flat code of the rungs that it took, and without a scan there is none
-abbrev pub IsCodeOf : Option Program → Option Scan → Type 0
-IsCodeOf None None = Unit {0}
-IsCodeOf (Some flat) (Some scan) = IsFlatProgram flat scan.rungs
-IsCodeOf None (Some scan) = ⊥
-IsCodeOf (Some flat) None = ⊥

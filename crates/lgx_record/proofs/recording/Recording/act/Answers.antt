@@ -2,7 +2,7 @@ use Rattle.std.proofs.Common.{[], ◌∷◌, ◌++◌, sym, ap, ◌∙◌, subst
 use Rattle.spec_machine.specs.declared.event.Action.{Action}
 use Rattle.spec_machine.specs.declared.event.Event.TheVariants.{Act}
 use Rattle.lgx_watch.specs.Kept.{KeptLines}
-use Rattle.lgx_record.specs.RunSeen.{RunSeen}
+use Rattle.lgx_record.specs.RunView.{RunView}
 use Rattle.lgx_record.specs.RecordingView.{RecordingView, recording_of}
 use Rattle.lgx_record.specs.Records.{IsRecording, RecordsMore, HasCounted}
 use Rattle.lgx_record.proofs.Taking.{few_lost_by, few_events_by}
@@ -18,13 +18,13 @@ act-requires-clause-lost c =
 
 pub invariant_of-self : goal.invariant_of-self
 invariant_of-self c =
-    subst (λ (v : RunSeen). IsRecording (recording_of v c.self.inside.journal c.act.new.log)) (sym c.in_err-act.ensures.unchanged)
+    subst (λ (v : RunView). IsRecording (recording_of v c.self.inside.journal c.act.new.log)) (sym c.in_err-act.ensures.unchanged)
     (subst (λ (k : KeptLines). IsRecording (recording_of c.self.inside.run c.self.inside.journal k)) (sym c.in_err-act.ensures.no_line) c.self.invariant)
 
 pub returns-in_err-act-clause-unchanged : goal.returns-in_err-act-clause-unchanged
 returns-in_err-act-clause-unchanged c =
     when-err c.from_residual-in_err-act.result
-    (ap (λ (v : RunSeen). recording_of v c.self.inside.journal c.act.new.log) c.in_err-act.ensures.unchanged
+    (ap (λ (v : RunView). recording_of v c.self.inside.journal c.act.new.log) c.in_err-act.ensures.unchanged
     ∙ ap (λ (k : KeptLines). recording_of c.self.inside.run c.self.inside.journal k) c.in_err-act.ensures.no_line
     ∙ c.self.view_is)
 

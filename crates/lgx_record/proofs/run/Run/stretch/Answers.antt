@@ -2,7 +2,7 @@ use Rattle.std.proofs.Common.{◌+◌, ◌-◌, ◌<◌, ◌^◌, replicate, ref
 use Rattle.spec_base.proofs.Lists.{each_map}
 use Rattle.spec_machine.specs.Machine.{run}
 use Rattle.spec_machine.specs.declared.event.Event.TheVariants.{Cpu}
-use Rattle.lgx_record.specs.RunSeen.{RunSeen, run_seen}
+use Rattle.lgx_record.specs.RunView.{RunView, run_view}
 use Rattle.lgx_record.specs.IsRunOf.{IsRunOf}
 use Rattle.lgx_record.specs.Extends.{Extends}
 use Rattle.lgx_record.proofs.Taking.{few_steps, next_compared, next_watched}
@@ -14,22 +14,22 @@ use Rattle.lgx_record.proofs.run.Run.stretch.Goals as goal
 
 pub overflow_add-self : goal.overflow_add-self
 overflow_add-self c =
-    let old = run_seen c.self.inside.controller c.self.inside.names c.self.inside.steps c.self.inside.watches c.self.inside.values.items in
+    let old = run_view c.self.inside.controller c.self.inside.names c.self.inside.steps c.self.inside.watches c.self.inside.values.items in
     let few = few_steps old c.self.invariant in
-    let spent = ap (λ (v : RunSeen). v.controller.spent) c.self.view_is in
+    let spent = ap (λ (v : RunView). v.controller.spent) c.self.view_is in
     let most = c.stretch-made.ensures.most in
     let room = c.requires.room in
     omega arith
 
 pub log_begins-requires : goal.log_begins-requires
 log_begins-requires c =
-    let old = run_seen c.self.inside.controller c.self.inside.names c.self.inside.steps c.self.inside.watches c.self.inside.values.items in
+    let old = run_view c.self.inside.controller c.self.inside.names c.self.inside.steps c.self.inside.watches c.self.inside.values.items in
     let i = c.self.invariant in
     let b = c.stretch-made.new.begins in
     let made = c.stretch-made.result in
     let g = c.stretch-made.ensures.step (run i.project i.events) i.run.controller.represents in
     let steps = few_steps old i in
-    let spent = ap (λ (v : RunSeen). v.controller.spent) c.self.view_is in
+    let spent = ap (λ (v : RunView). v.controller.spent) c.self.view_is in
     let from = c.stamp-from.ensures.step in
     let most = c.stretch-made.ensures.most in
     let room = c.requires.room in
@@ -61,7 +61,7 @@ log_fault-requires c =
 
 pub close-requires : goal.close-requires
 close-requires c =
-    let old = run_seen c.self.inside.controller c.self.inside.names c.self.inside.steps c.self.inside.watches c.self.inside.values.items in
+    let old = run_view c.self.inside.controller c.self.inside.names c.self.inside.steps c.self.inside.watches c.self.inside.values.items in
     record {
       inside = stretch-inside old c.self.invariant c.stretch-made.result.steps c.stretch-made.new.self (c.stretch-made.ensures.step _ c.self.invariant.run.controller.represents).represents;
       are_watched = next_watched old c.self.invariant c.stretch-made.new.self.parts.image c.stretch-made.ensures.only_marked;
@@ -71,8 +71,8 @@ close-requires c =
 
 pub invariant_of-self : goal.invariant_of-self
 invariant_of-self c =
-    let old = run_seen c.self.inside.controller c.self.inside.names c.self.inside.steps c.self.inside.watches c.self.inside.values.items in
-    let new = run_seen c.close.new.controller c.self.inside.names (c.self.inside.steps + c.stretch-made.result.steps) c.self.inside.watches c.close.new.values.items in
+    let old = run_view c.self.inside.controller c.self.inside.names c.self.inside.steps c.self.inside.watches c.self.inside.values.items in
+    let new = run_view c.close.new.controller c.self.inside.names (c.self.inside.steps + c.stretch-made.result.steps) c.self.inside.watches c.close.new.values.items in
     let closes : Closes old new c.stretch-made.new.self c.log_fault.new.log c.close.new.log c.stamp-at.result = record {
       tick = c.stamp-at.ensures.tick;
       step_is = c.stamp-at.ensures.step;
@@ -91,8 +91,8 @@ invariant_of-self c =
 
 pub returns-clause-takes : goal.returns-clause-takes
 returns-clause-takes c = λ project events f.
-    let old = run_seen c.self.inside.controller c.self.inside.names c.self.inside.steps c.self.inside.watches c.self.inside.values.items in
-    let new = run_seen c.close.new.controller c.self.inside.names (c.self.inside.steps + c.stretch-made.result.steps) c.self.inside.watches c.close.new.values.items in
+    let old = run_view c.self.inside.controller c.self.inside.names c.self.inside.steps c.self.inside.watches c.self.inside.values.items in
+    let new = run_view c.close.new.controller c.self.inside.names (c.self.inside.steps + c.stretch-made.result.steps) c.self.inside.watches c.close.new.values.items in
     let closes : Closes old new c.stretch-made.new.self c.log_fault.new.log c.close.new.log c.stamp-at.result = record {
       tick = c.stamp-at.ensures.tick;
       step_is = c.stamp-at.ensures.step;
@@ -107,4 +107,4 @@ returns-clause-takes c = λ project events f.
     let extends : Extends old new c.args.log.now c.close.new.log (replicate c.stretch-made.result.steps Cpu) =
     stretch-extends old new c.stretch-made.new.self c.log_begins.new.log c.log_begin.new.log c.log_fault.new.log c.close.new.log c.stamp-at.result closes c.stretch-made.ensures.only_marked.same_watched
     c.args.log.now c.stamp-from.result c.stretch-made.new.begins c.stretch-made.result c.stretch-made.ensures.some c.stretch-made.ensures.step c.stamp-from.ensures.tick c.stamp-from.ensures.step c.log_begins.ensures.log c.stretch-made.ensures.spent refl c.log_begin.ensures.log c.log_fault.ensures.log in
-    extends project events (subst (λ (v : RunSeen). IsRunOf v project events) (sym c.self.view_is) f)
+    extends project events (subst (λ (v : RunView). IsRunOf v project events) (sym c.self.view_is) f)

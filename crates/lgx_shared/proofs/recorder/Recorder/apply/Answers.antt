@@ -12,7 +12,7 @@ use Rattle.lgx_shared.proofs.recorder.Recorder.apply.Goals as goal
 
 pub apply-requires : goal.apply-requires
 apply-requires c =
-    let once = ap (λ (r : EventRun). r.count) c.alone.ensures in
+    let once = ap (λ (r : EventRun). r.count) c.single.ensures in
     let spent = ap (λ (v : RecorderView). v.recording.controller.spent) c.self.view_is in
     let room = c.requires.room in
     omega arith
@@ -20,14 +20,14 @@ apply-requires c =
 pub invariant_of-self : goal.invariant_of-self
 invariant_of-self c =
     let r = c.self.inside in
-    applied c.apply.result (view_of r.recording r.script r.counts.items r.ran r.history) c.apply.new.self (events_in c.alone.result) c.self.invariant
+    applied c.apply.result (view_of r.recording r.script r.counts.items r.ran r.history) c.apply.new.self (events_in c.single.result) c.self.invariant
     (ap (λ (v : RecorderView). v.script) c.self.view_is ∙ c.requires.script) c.apply.ensures.records c.apply.ensures.unchanged
 
 pub returns-clause-records : goal.returns-clause-records
 returns-clause-records c = λ project events h.
-    let this : events_in c.alone.result ≡ c.args.event.now ∷ [] = ap (λ (r : EventRun). replicate r.count r.event) c.alone.ensures in
+    let this : events_in c.single.result ≡ c.args.event.now ∷ [] = ap (λ (r : EventRun). replicate r.count r.event) c.single.ensures in
     on_ok_weaker c.apply.result
-    (λ (more : RecordsMore c.self.inside.recording c.apply.new.self (events_in c.alone.result)). subst (λ (es : List Event). Records c.apply.new.self project (events ++ es)) this
+    (λ (more : RecordsMore c.self.inside.recording c.apply.new.self (events_in c.single.result)). subst (λ (es : List Event). Records c.apply.new.self project (events ++ es)) this
     (more project events (subst (λ (v : RecorderView). Records v.recording project events) (sym c.self.view_is) h)))
     c.apply.ensures.records
 

@@ -16,21 +16,21 @@ take-requires c =
     let h = c.requires.2 in
     let spent = h.run.controller.counted in
     let few = c.requires.3 in
-    let once = ap (λ (r : EventRun). r.count) c.alone.ensures in
+    let once = ap (λ (r : EventRun). r.count) c.single.ensures in
     let lines = events_have_few_lines c.requires.0 events h.run.controller.valid in
     let lost = ap (λ (k : KeptLines). k.lost) h.log in
     record { room = omega arith; lost = omega arith }
 
 pub returns : goal.returns
 returns c = λ project events h.
-    let this : events_in c.alone.result ≡ c.args.event.now ∷ [] = ap (λ (r : EventRun). replicate r.count r.event) c.alone.ensures in
+    let this : events_in c.single.result ≡ c.args.event.now ∷ [] = ap (λ (r : EventRun). replicate r.count r.event) c.single.ensures in
     on_ok_weaker c.take.result
-    (λ (x : Extends c.args.self.now.run c.take.new.self c.args.self.now.log c.take.new.log (events_in c.alone.result)).
+    (λ (x : Extends c.args.self.now.run c.take.new.self c.args.self.now.log c.take.new.log (events_in c.single.result)).
     let t = x project events h.run in
     record {
       run = subst (λ (es : List Event). IsRunOf c.take.new.self project (events ++ es)) this t.run;
       log =
-          report-more c.take.new.self c.args.self.now.log c.take.new.log project events (events_in c.alone.result) t h.log
+          report-more c.take.new.self c.args.self.now.log c.take.new.log project events (events_in c.single.result) t h.log
           ∙ ap (λ (es : List Event). kept_of (report_lines project (events ++ es))) this;
     })
     c.take.ensures.all
