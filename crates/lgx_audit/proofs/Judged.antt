@@ -11,7 +11,7 @@ use Rattle.spec_schedule.specs.declared.trace.Table.{Table}
 use Rattle.spec_schedule.specs.declared.trace.TraceEvent.{TraceEvent}
 use Rattle.spec_schedule.specs.Counting.{Counted, uncounted, unedited, CountedEvent, counted_events}
 use Rattle.spec_schedule.specs.Legal.{Legal, each_from, keeps_turn, gives_way}
-use Rattle.lgx_audit.specs.Along.{IsWithin, told, no_tally, Told}
+use Rattle.lgx_audit.specs.Along.{IsWithin, numbers_in, no_tally, AreNumbersIn}
 use Rattle.lgx_audit.specs.Breaches.{keeps}
 use Rattle.lgx_audit.specs.Watching.{unwatched, Watching, watch_at, watched, watched_all, is_unpassed, awaits_none, keeps_turn_now, gives_way_now, passes}
 use Rattle.lgx_audit.proofs.Decided.{turns_decided, ways_decided, follows, all_long}
@@ -71,13 +71,13 @@ pub all_same : {A B : Type 0} (b : B) (xs : List A) → map (λ x. b) xs ≡ rep
 all_same b [] = refl
 all_same b (x ∷ xs) = ap (λ bs. b ∷ bs) (all_same b xs)
 
-pub none_told_yet : (n : ℕ) (ts : List Tally) → ts ≡ replicate n no_tally → Told ts (replicate n unedited)
+pub none_told_yet : (n : ℕ) (ts : List Tally) → ts ≡ replicate n no_tally → AreNumbersIn ts (replicate n unedited)
 none_told_yet n ts is = record {
   many = ap length is ∙ (length-replicate n no_tally ∙ sym (length-replicate n unedited));
   each = λ g within.
       (let l = length-replicate n unedited in
-      ap (λ (xs : List Tally). told (slice_index_or xs g no_tally)) is
-      ∙ (ap told (get_or-replicate n g no_tally no_tally (omega arith)) ∙ sym (get_or-replicate n g unedited unedited (omega arith))));
+      ap (λ (xs : List Tally). numbers_in (slice_index_or xs g no_tally)) is
+      ∙ (ap numbers_in (get_or-replicate n g no_tally no_tally (omega arith)) ∙ sym (get_or-replicate n g unedited unedited (omega arith))));
 }
 
 -- ---- the tests as the code makes them

@@ -10,7 +10,7 @@ use Rattle.spec_schedule.specs.declared.trace.TraceAnswer.{TraceAnswer}
 use Rattle.spec_schedule.specs.declared.trace.TraceEvent.{TraceEvent}
 use Rattle.spec_schedule.specs.declared.trace.TraceEvent.TheVariants.{Act}
 use Rattle.spec_schedule.specs.Counting.{Numbers, unedited, edited, edited_at, edited_all}
-use Rattle.lgx_audit.specs.Along.{told, no_tally, Told}
+use Rattle.lgx_audit.specs.Along.{numbers_in, no_tally, AreNumbersIn}
 
 from_length : (e : TraceEvent) (i : ℕ) (ns : List Numbers) → length (map (λ x. edited_at x.0 e x.1) (enumerate_from i ns)) ≡ length ns
 from_length e i [] = refl
@@ -22,7 +22,7 @@ from_at e i (n ∷ ns) zero h = ap (λ m. edited_at m e n) (let z : i ≡ i + 0 
 from_at e i (n ∷ ns) (suc k) h = from_at e (i + 1) ns k (omega arith) ∙ ap (λ m. edited_at m e (slice_index_or ns k unedited)) (let z : i + 1 + k ≡ i + suc k = omega arith in z)
 
 -- from what each number becomes
-pub all_told : (e : TraceEvent) (old new : List Tally) (ns : List Numbers) → length new ≡ length old → Told old ns → ((k : ℕ) → k < length ns → (x : Numbers) → told (slice_index_or old k no_tally) ≡ x → told (slice_index_or new k no_tally) ≡ edited_at k e x) → Told new (edited_all e ns)
+pub all_told : (e : TraceEvent) (old new : List Tally) (ns : List Numbers) → length new ≡ length old → AreNumbersIn old ns → ((k : ℕ) → k < length ns → (x : Numbers) → numbers_in (slice_index_or old k no_tally) ≡ x → numbers_in (slice_index_or new k no_tally) ≡ edited_at k e x) → AreNumbersIn new (edited_all e ns)
 all_told e old new ns same h each =
     let l = h.many in
     let long = from_length e 0 ns in
@@ -35,15 +35,15 @@ all_told e old new ns same h each =
     }
 
 -- no edit
-pub none_told : (e : TraceEvent) (ts : List Tally) (ns : List Numbers) → ((k : ℕ) (x : Numbers) → edited_at k e x ≡ x) → Told ts ns → Told ts (edited_all e ns)
+pub none_told : (e : TraceEvent) (ts : List Tally) (ns : List Numbers) → ((k : ℕ) (x : Numbers) → edited_at k e x ≡ x) → AreNumbersIn ts ns → AreNumbersIn ts (edited_all e ns)
 none_told e ts ns same h = all_told e ts ts ns refl h (λ k within x is. is ∙ sym (same k x))
 
-pub one_told : (lane : ℕ) (verb : Verb) (g : ℕ) (answer : TraceAnswer) (r : ℕ) (ts : List Tally) (t : Tally) (ns : List Numbers) → g < length ts → told t ≡ edited verb answer (told (slice_index_or ts g no_tally)) → Told ts ns → Told (slice_set ts g t) (edited_all (Act lane verb (Some g) answer r) ns)
+pub one_told : (lane : ℕ) (verb : Verb) (g : ℕ) (answer : TraceAnswer) (r : ℕ) (ts : List Tally) (t : Tally) (ns : List Numbers) → g < length ts → numbers_in t ≡ edited verb answer (numbers_in (slice_index_or ts g no_tally)) → AreNumbersIn ts ns → AreNumbersIn (slice_set ts g t) (edited_all (Act lane verb (Some g) answer r) ns)
 one_told lane verb g answer r ts t ns within made h =
     all_told (Act lane verb (Some g) answer r) ts (slice_set ts g t) ns (length-set ts g t) h (λ k below x is. elim (cases_eq k g) [
-      | inl same ↦ subst (λ n. told (slice_index_or ts n no_tally) ≡ x → told (slice_index_or (slice_set ts g t) n no_tally) ≡ edited_at n (Act lane verb (Some g) answer r) x) (sym same)
-          (λ is'. ap told (get_or-set_same ts g t no_tally within) ∙ (made ∙ (ap (edited verb answer) is' ∙ sym (rw (eq-eqb g g refl) refl)))) is
-      | inr other ↦ ap told (get_or-set_other ts g k t no_tally other) ∙ (is ∙ sym (rw (ne_eqb k g other) refl))
+      | inl same ↦ subst (λ n. numbers_in (slice_index_or ts n no_tally) ≡ x → numbers_in (slice_index_or (slice_set ts g t) n no_tally) ≡ edited_at n (Act lane verb (Some g) answer r) x) (sym same)
+          (λ is'. ap numbers_in (get_or-set_same ts g t no_tally within) ∙ (made ∙ (ap (edited verb answer) is' ∙ sym (rw (eq-eqb g g refl) refl)))) is
+      | inr other ↦ ap numbers_in (get_or-set_other ts g k t no_tally other) ∙ (is ∙ sym (rw (ne_eqb k g other) refl))
     ])
 
 -- what is no action edits nothing

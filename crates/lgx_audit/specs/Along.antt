@@ -50,16 +50,16 @@ is_for_all _ = false
 
 -- ---- numbers of programs
 
-abbrev pub told : Tally → Numbers
-told t = record { base = t.base; merged = t.merged; testing = t.testing }
+abbrev pub numbers_in : Tally → Numbers
+numbers_in t = record { base = t.base; merged = t.merged; testing = t.testing }
 
 abbrev pub no_tally : Tally
 no_tally = record { base = 0; merged = 0; testing = false }
 
 -- these are the numbers of these programs
-pub record Told (ts : List Tally) (ns : List Numbers) : Type 0 where
+pub record AreNumbersIn (ts : List Tally) (ns : List Numbers) : Type 0 where
   pub many : length ts ≡ length ns
-  pub each : (g : ℕ) → g < length ns → told (slice_index_or ts g no_tally) ≡ slice_index_or ns g unedited
+  pub each : (g : ℕ) → g < length ns → numbers_in (slice_index_or ts g no_tally) ≡ slice_index_or ns g unedited
 
 -- the program that a begin or an edit is of
 abbrev pub program_of : TraceEvent → Option ℕ

@@ -2,7 +2,7 @@
 ghost use Rattle.std.specs.Prelude.{◌≡◌, ◌<◌, ℕ, List, length, replicate, slice_index_or, IfOk};
 ghost use Rattle.spec_schedule.specs.Counting.{Counted, Numbers, edited, edited_all, selected_number};
 ghost use Rattle.spec_schedule.specs.Legal.{keeps_version};
-ghost use Rattle.lgx_audit.specs.Along.{told, no_tally, Told, IsOfPrograms};
+ghost use Rattle.lgx_audit.specs.Along.{numbers_in, no_tally, AreNumbersIn, IsOfPrograms};
 
 use lgx_num::Memory;
 use spec_schedule::{TraceAnswer, TraceEvent, Verb};
@@ -30,7 +30,7 @@ pub(crate) fn no_tallies(alloc: Global, programs: usize) -> Result<Vec<Tally>, M
 
 /// The numbers after an edit that was answered so.
 fn edited(verb: Verb, answer: TraceAnswer, n: Tally) -> Tally
-    ensures { told result ≡ edited verb answer (told n) }
+    ensures { numbers_in result ≡ edited verb answer (numbers_in n) }
 {
     match (verb, answer) {
         (Verb::Accept, TraceAnswer::Number(merged)) => Tally { merged, ..n },
@@ -55,7 +55,7 @@ fn edited(verb: Verb, answer: TraceAnswer, n: Tally) -> Tally
 /// The numbers of all programs after the event.
 pub(crate) fn edit_all(tallies: &mut [Tally], e: &TraceEvent)
     requires { IsOfPrograms (length tallies.old) e.now }
-    ensures { (ns : List Numbers) → Told tallies.old ns → Told tallies.new (edited_all e.now ns) }
+    ensures { (ns : List Numbers) → AreNumbersIn tallies.old ns → AreNumbersIn tallies.new (edited_all e.now ns) }
 {
     match e {
         TraceEvent::Act {
@@ -76,7 +76,7 @@ pub(crate) fn edit_all(tallies: &mut [Tally], e: &TraceEvent)
 
 /// The number of the text that is selected.
 fn selected(n: Tally) -> u32
-    ensures { result ≡ selected_number (told n) }
+    ensures { result ≡ selected_number (numbers_in n) }
 {
     if n.testing { n.merged } else { n.base }
 }
@@ -84,7 +84,7 @@ fn selected(n: Tally) -> u32
 /// Whether the event keeps the version law after what is counted.
 pub(crate) fn keeps_version(tallies: &[Tally], e: &TraceEvent) -> bool
     requires { IsOfPrograms (length tallies.now) e.now }
-    ensures { (cs : List Counted) (ns : List Numbers) → Told tallies.now ns → result ≡ keeps_version (record { tasks = cs; programs = ns; event = e.now }) }
+    ensures { (cs : List Counted) (ns : List Numbers) → AreNumbersIn tallies.now ns → result ≡ keeps_version (record { tasks = cs; programs = ns; event = e.now }) }
 {
     match e {
         TraceEvent::Began {

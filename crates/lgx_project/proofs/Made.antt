@@ -10,7 +10,7 @@ use Rattle.spec_valid.proofs.Accepted.{accepted_is_valid}
 use Rattle.lgx_edit.specs.Plants.{watch_of}
 use Rattle.lgx_edit.specs.Texts.{program_of}
 use Rattle.lgx_project.specs.Parts.{ArePartsOf}
-use Rattle.lgx_project.specs.declared.plant.FileParts.{FileParts}
+use Rattle.lgx_project.specs.declared.project.FileParts.{FileParts}
 
 -- the parts as the machine's project
 abbrev pub put_together : FileParts → machine.Project

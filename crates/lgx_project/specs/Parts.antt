@@ -7,8 +7,8 @@ use Rattle.spec_project.specs.Places as places
 use Rattle.spec_project.specs.Routines.{program_texts}
 use Rattle.spec_project.specs.Tags.{declarations}
 use Rattle.lgx_project.specs.TaskParts.{AreTasksOf}
-use Rattle.lgx_project.specs.declared.plant.LookedUp.{LookedUp}
-use Rattle.lgx_project.specs.declared.plant.FileParts.{FileParts}
+use Rattle.lgx_project.specs.declared.project.LookedUp.{LookedUp}
+use Rattle.lgx_project.specs.declared.project.FileParts.{FileParts}
 
 -- the sealed tags, and what connections, initial values and watched texts name by them
 pub record IsLookedUp (p : Described) (l : LookedUp) : Type 0 where

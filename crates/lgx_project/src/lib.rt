@@ -3,12 +3,12 @@
 
 mod count;
 mod newest;
-mod plant;
 mod programs;
+mod project;
 mod routines;
 mod tasks;
 
 pub use lgx_json::ProjectError;
 pub use newest::migrate;
-pub use plant::{Project, read_project};
+pub use project::{Project, read_project};
 pub use spec_project::{Inner, PathText, ProjectCode, ProjectFault};

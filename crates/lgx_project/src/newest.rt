@@ -10,7 +10,7 @@ ghost use Rattle.lgx_json.specs.declared.error.ProjectError.TheVariants.{Memory}
 ghost use Rattle.lgx_json.specs.Answers.{IsRefusedWith, fault_of};
 ghost use Rattle.lgx_project.specs.Migrated.{line_of, migrated, with_newest_schema};
 
-use crate::plant::read_project;
+use crate::project::read_project;
 use lgx_json::{ProjectError, read_value};
 use serde_json::Value;
 use spec_project::limits::NEWEST_SCHEMA;

@@ -11,7 +11,7 @@ use Rattle.lgx_prog.specs.declared.rung.Node.{Node}
 use Rattle.lgx_prog.specs.declared.rung.Node.TheVariants.{Ins, Fork}
 use Rattle.spec_uses.specs.Uses.{Site, site, sites_of_rung}
 use Rattle.lgx_xref.specs.Spots.{sites_on}
-use Rattle.lgx_xref.specs.declared.placed.Spot.{Spot}
+use Rattle.lgx_xref.specs.declared.placed.RungPlace.{RungPlace}
 
 -- ---- measures
 
@@ -53,7 +53,7 @@ enumerate-append n (x ∷ xs) ys =
     ap (λ es. (n, x) ∷ es) (enumerate-append (n + 1) xs ys ∙ ap (λ k. enumerate_from (n + 1) xs ++ enumerate_from k ys) next)
 
 -- a part is added after others, and then what is left
-two : (s : Spot) (placed new : List Site) (all xs ys : List Instruction) → s.before ≤ length placed → all ≡ xs ++ ys
+two : (s : RungPlace) (placed new : List Site) (all xs ys : List Instruction) → s.before ≤ length placed → all ≡ xs ++ ys
     → new ≡ placed ++ sites_on s (length placed) xs
     → new ++ sites_on s (length new) ys ≡ placed ++ sites_on s (length placed) all
 two s placed new all xs ys before parts added =
@@ -71,7 +71,7 @@ two s placed new all xs ys before parts added =
     ∙ ap (λ es. placed ++ map put es) (sym (enumerate-append at xs ys) ∙ ap (enumerate_from at) (sym parts))
 
 -- more are there than before
-pub still_before : (s : Spot) (placed more new : List Site) → s.before ≤ length placed → new ≡ placed ++ more → s.before ≤ length new
+pub still_before : (s : RungPlace) (placed more new : List Site) → s.before ≤ length placed → new ≡ placed ++ more → s.before ≤ length new
 still_before s placed more new before added = omega (arith, ap length added, length-append placed more)
 
 ahead : (n : Node) (ns : List Node) → instructions (tree_of (n ∷ ns)) ≡ instructions (tree_of (n ∷ [])) ++ instructions (tree_of ns)
@@ -83,7 +83,7 @@ ahead (Fork (t ∷ ts)) ns =
     let rest = instructions (tree_of ns) in
     sym (append_assoc first (legs ++ []) rest ∙ ap (λ xs. first ++ (xs ++ rest)) (append-nil legs))
 
-pub node_on : (s : Spot) (ns : List Node) (i : ℕ) (n : Node) (placed new : List Site) → i < length ns → n ≡ get_or ns i n
+pub node_on : (s : RungPlace) (ns : List Node) (i : ℕ) (n : Node) (placed new : List Site) → i < length ns → n ≡ get_or ns i n
     → s.before ≤ length placed → new ≡ placed ++ sites_on s (length placed) (instructions (tree_of (n ∷ [])))
     → new ++ sites_on s (length new) (instructions (tree_of (drop (i + 1) ns))) ≡ placed ++ sites_on s (length placed) (instructions (tree_of (drop i ns)))
 node_on s ns i n placed new h is before added =
@@ -91,7 +91,7 @@ node_on s ns i n placed new h is before added =
     two s placed new (instructions (tree_of (drop i ns))) (instructions (tree_of (n ∷ []))) (instructions (tree_of (drop (i + 1) ns))) before
     (ap (λ ns. instructions (tree_of ns)) here ∙ ahead n (drop (i + 1) ns)) added
 
-pub leg_on : (s : Spot) (ts : List (Tree Instruction)) (i : ℕ) (t : Tree Instruction) (placed new : List Site) → i < length ts → t ≡ get_or ts i t
+pub leg_on : (s : RungPlace) (ts : List (Tree Instruction)) (i : ℕ) (t : Tree Instruction) (placed new : List Site) → i < length ts → t ≡ get_or ts i t
     → s.before ≤ length placed → new ≡ placed ++ sites_on s (length placed) (instructions t)
     → new ++ sites_on s (length new) (leg_instructions (legs_of (drop (i + 1) ts))) ≡ placed ++ sites_on s (length placed) (leg_instructions (legs_of (drop i ts)))
 leg_on s ts i t placed new h is before added =
@@ -102,7 +102,7 @@ leg_on s ts i t placed new h is before added =
 -- ---- rungs and routines
 
 -- the instructions of a rung, none of which was added before
-pub rung_placed : (s : Spot) (placed new : List Site) (rung : Tree Instruction) → s.before ≡ length placed
+pub rung_placed : (s : RungPlace) (placed new : List Site) (rung : Tree Instruction) → s.before ≡ length placed
     → new ≡ placed ++ sites_on s (length placed) (instructions rung)
     → new ≡ placed ++ sites_of_rung s.program s.routine (s.rung, rung)
 rung_placed s placed new rung first added =

@@ -47,7 +47,7 @@ impl<'p> Placed<'p> {
 
 /// A rung by its numbers, and how many instructions of its program come before it.
 #[derive(Clone, Copy)]
-struct Spot {
+struct RungPlace {
     program: u32,
     routine: u32,
     rung: u32,
@@ -65,15 +65,15 @@ pub(crate) fn numbered(number: usize) -> Result<u32, Memory>
 }
 
 /// Adds an instruction.
-fn place_ins<'p>(placed: &mut Vec<Placed<'p>>, spot: Spot, ins: &'p Ins) -> Result<(), Memory>
-    requires { spot.before ≤ length placed.old.items }
-    ensures { OnOk result (placed.new.items ≡ placed.old.items ++ sites_on spot (length placed.old.items) (ins.now ∷ [])) }
+fn place_ins<'p>(placed: &mut Vec<Placed<'p>>, here: RungPlace, ins: &'p Ins) -> Result<(), Memory>
+    requires { here.before ≤ length placed.old.items }
+    ensures { OnOk result (placed.new.items ≡ placed.old.items ++ sites_on here (length placed.old.items) (ins.now ∷ [])) }
 {
     let at = Use {
-        program: spot.program,
-        routine: spot.routine,
-        rung: spot.rung,
-        ins: numbered(placed.len() - spot.before)?,
+        program: here.program,
+        routine: here.routine,
+        rung: here.rung,
+        ins: numbered(placed.len() - here.before)?,
         op: ins.op,
     };
     placed.push(Placed { at, ins })?;
@@ -82,36 +82,48 @@ fn place_ins<'p>(placed: &mut Vec<Placed<'p>>, spot: Spot, ins: &'p Ins) -> Resu
 
 /// Adds the instructions of a rung or a leg.
 #[cycle(place)]
-fn place_rung<'p>(placed: &mut Vec<Placed<'p>>, spot: Spot, rung: &'p Rung) -> Result<(), Memory>
-    requires { spot.before ≤ length placed.old.items }
-    ensures { OnOk result (placed.new.items ≡ placed.old.items ++ sites_on spot (length placed.old.items) (instructions rung.now)) }
+fn place_rung<'p>(
+    placed: &mut Vec<Placed<'p>>,
+    here: RungPlace,
+    rung: &'p Rung,
+) -> Result<(), Memory>
+    requires { here.before ≤ length placed.old.items }
+    ensures { OnOk result (placed.new.items ≡ placed.old.items ++ sites_on here (length placed.old.items) (instructions rung.now)) }
 {
     for node in rung.nodes() {
-        place_node(placed, spot, node)?;
+        place_node(placed, here, node)?;
     }
     Ok(())
 }
 
 /// Adds an instruction or those of a fork.
 #[cycle(place)]
-fn place_node<'p>(placed: &mut Vec<Placed<'p>>, spot: Spot, node: &'p Node) -> Result<(), Memory>
-    requires { spot.before ≤ length placed.old.items }
-    ensures { OnOk result (placed.new.items ≡ placed.old.items ++ sites_on spot (length placed.old.items) (instructions (tree_of (node.now ∷ [])))) }
+fn place_node<'p>(
+    placed: &mut Vec<Placed<'p>>,
+    here: RungPlace,
+    node: &'p Node,
+) -> Result<(), Memory>
+    requires { here.before ≤ length placed.old.items }
+    ensures { OnOk result (placed.new.items ≡ placed.old.items ++ sites_on here (length placed.old.items) (instructions (tree_of (node.now ∷ [])))) }
 {
     match node {
-        Node::Ins(ins) => place_ins(placed, spot, ins),
-        Node::Fork(legs) => place_legs(placed, spot, legs),
+        Node::Ins(ins) => place_ins(placed, here, ins),
+        Node::Fork(legs) => place_legs(placed, here, legs),
     }
 }
 
 /// Adds the instructions of a fork's legs.
 #[cycle(place)]
-fn place_legs<'p>(placed: &mut Vec<Placed<'p>>, spot: Spot, legs: &'p Legs) -> Result<(), Memory>
-    requires { spot.before ≤ length placed.old.items }
-    ensures { OnOk result (placed.new.items ≡ placed.old.items ++ sites_on spot (length placed.old.items) (leg_instructions (legs_of legs.now))) }
+fn place_legs<'p>(
+    placed: &mut Vec<Placed<'p>>,
+    here: RungPlace,
+    legs: &'p Legs,
+) -> Result<(), Memory>
+    requires { here.before ≤ length placed.old.items }
+    ensures { OnOk result (placed.new.items ≡ placed.old.items ++ sites_on here (length placed.old.items) (leg_instructions (legs_of legs.now))) }
 {
     for leg in legs.as_slice() {
-        place_rung(placed, spot, leg)?;
+        place_rung(placed, here, leg)?;
     }
     Ok(())
 }
@@ -128,13 +140,13 @@ fn place_next<'p>(
 {
     let rung_number = numbered(number)?;
     let before = placed.len();
-    let spot = Spot {
+    let here = RungPlace {
         program,
         routine,
         rung: rung_number,
         before,
     };
-    place_rung(placed, spot, rung)
+    place_rung(placed, here, rung)
 }
 
 /// Adds the instructions of a program's routine.

@@ -3,7 +3,7 @@ use Rattle.std.specs.Prelude.{Some, Option, ℕ, slice_set}
 use Rattle.spec_schedule.specs.declared.trace.TraceEvent.{TraceEvent}
 use Rattle.spec_schedule.specs.declared.trace.TraceEvent.TheVariants.{Act}
 use Rattle.spec_schedule.specs.Counting.{edited_all}
-use Rattle.lgx_audit.specs.Along.{Told, program_of}
+use Rattle.lgx_audit.specs.Along.{AreNumbersIn, program_of}
 use Rattle.lgx_audit.proofs.Tallies.{none_told, one_told, no_action, no_program}
 use Rattle.lgx_audit.proofs.numbers.edit_all.Goals as goal
 
@@ -11,7 +11,7 @@ pub returns-in-Some : goal.returns-in-Some
 returns-in-Some c ns h =
     let a = c.in-Act in
     let is : c.args.e.now ≡ Act a.lane a.verb (Some c.in-Some.g) a.answer a.released = a.is ∙ ap (λ (g : Option ℕ). Act a.lane a.verb g a.answer a.released) c.in-Some.is in
-    subst (λ (e : TraceEvent). Told (slice_set c.args.tallies.now c.in-Some.g c.edited.result) (edited_all e ns)) (sym is)
+    subst (λ (e : TraceEvent). AreNumbersIn (slice_set c.args.tallies.now c.in-Some.g c.edited.result) (edited_all e ns)) (sym is)
     (one_told a.lane a.verb c.in-Some.g a.answer a.released c.args.tallies.now c.edited.result ns (c.requires c.in-Some.g (ap program_of is)) c.edited.ensures h)
 
 pub returns-in-None : goal.returns-in-None

@@ -7,7 +7,7 @@ use Rattle.spec_schedule.specs.declared.trace.TraceEvent.{TraceEvent}
 use Rattle.spec_schedule.specs.declared.trace.TraceEvent.TheVariants.{Idle}
 use Rattle.spec_schedule.specs.Counting.{Counted, Numbers, counted_all, stepping}
 use Rattle.spec_schedule.specs.Legal.{keeps_priority, keeps_version, is_tick, Legal}
-use Rattle.lgx_audit.specs.Along.{IsWithin, no_count, no_tally, Shown, Told, counts_after, numbers_after, place_after}
+use Rattle.lgx_audit.specs.Along.{IsWithin, no_count, no_tally, Shown, AreNumbersIn, counts_after, numbers_after, place_after}
 use Rattle.lgx_audit.specs.declared.error.AuditError.{AuditError}
 use Rattle.lgx_audit.specs.Answers.{IfBreach}
 use Rattle.lgx_audit.specs.Breaches.{keeps, IsBreach}
@@ -120,7 +120,7 @@ loop-i-preserved c =
       c.last_after-last.ensures.last cs ns h.0 ∙ (ap (λ (o : Option ℕ). last_after x cs' o) h.6 ∙ sym (ap (λ (v : Watching). v.last) more)),
       c.way_after-way.ensures ∙ (ap (λ (o : Option ℕ). if is_tick e then o else c.loop-i.way) (to_give ∙ ap (gives_at t x) h.6) ∙ (ap (λ (o : Option ℕ). if is_tick e then gives_at t x w.last else o) h.7 ∙ sym (ap (λ (v : Watching). v.way) more))),
       c.last_after-last.ensures.within,
-      subst (λ (ys : List Numbers). Told c.edit_all.new.tallies ys) (sym (numbers_more t xs i Idle l)) (c.edit_all.ensures ns h.9),
+      subst (λ (ys : List Numbers). AreNumbersIn c.edit_all.new.tallies ys) (sym (numbers_more t xs i Idle l)) (c.edit_all.ensures ns h.9),
       c.edit_all.auto.tallies ∙ h.10,
       still t xs i Idle l (keeps_priority t) h.11 (sym (c.keeps_priority.ensures cs ns h.0) ∙ c.if-not-keeps_priority.false),
       still_passes t xs i Idle l turn_test h.12 fair.0,

@@ -1,6 +1,6 @@
 use Rattle.std.proofs.Common.{◌≡◌, ◌<◌, ◌≤◌, ℕ, true, length, take}
 use Rattle.std.specs.Prelude.{slice_index_or, Some}
-use Rattle.lgx_audit.specs.Along.{no_count, Shown, Told, counts_after, numbers_after}
+use Rattle.lgx_audit.specs.Along.{no_count, Shown, AreNumbersIn, counts_after, numbers_after}
 use Rattle.lgx_audit.specs.Breaches.{keeps}
 use Rattle.lgx_audit.specs.Watching.{keeps_turn_now, gives_way_now, passes, watching_after}
 use Rattle.lgx_audit.proofs.one_pass.audit_events.Given as goal
@@ -17,7 +17,7 @@ invariant-loop-i l =
     × (l.last ≡ (watching_after l.table (take l.i l.trace)).last)
     × (l.way ≡ (watching_after l.table (take l.i l.trace)).way)
     × ((t : ℕ) → l.last ≡ Some t → t < length l.table.tasks)
-    × Told l.tallies (numbers_after l.table (take l.i l.trace))
+    × AreNumbersIn l.tallies (numbers_after l.table (take l.i l.trace))
     × (length l.tallies ≡ l.table.programs)
     × (keeps 1 l.table (take l.i l.trace) ≡ true)
     × (passes (λ w x. keeps_turn_now w.watches x) l.table (take l.i l.trace) ≡ true)

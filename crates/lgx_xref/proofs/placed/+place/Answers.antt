@@ -13,9 +13,9 @@ place_rung-place_node-requires t c =
 
 pub place_rung-loop-node-preserved : goal.place_rung-loop-node-preserved
 place_rung-loop-node-preserved t c = record {
-  before = still_before c.args.spot c.loop-node.placed.items _ _ c.loop-node.invariant.before c.in_ok-place_node.ensures;
+  before = still_before c.args.here c.loop-node.placed.items _ _ c.loop-node.invariant.before c.in_ok-place_node.ensures;
   placed =
-      node_on c.args.spot c.nodes-node-items.result.now c.loop-node.node-index c.node-item.result c.loop-node.placed.items _ c.loop-node-test.true c.node-item.is c.loop-node.invariant.before c.in_ok-place_node.ensures
+      node_on c.args.here c.nodes-node-items.result.now c.loop-node.node-index c.node-item.result c.loop-node.placed.items _ c.loop-node-test.true c.node-item.is c.loop-node.invariant.before c.in_ok-place_node.ensures
       ∙ c.loop-node.invariant.placed;
 }
 
@@ -28,8 +28,8 @@ place_legs-place_rung-requires t c =
 
 pub place_legs-loop-leg-preserved : goal.place_legs-loop-leg-preserved
 place_legs-loop-leg-preserved t c = record {
-  before = still_before c.args.spot c.loop-leg.placed.items _ _ c.loop-leg.invariant.before c.in_ok-place_rung.ensures;
+  before = still_before c.args.here c.loop-leg.placed.items _ _ c.loop-leg.invariant.before c.in_ok-place_rung.ensures;
   placed =
-      leg_on c.args.spot c.as_slice-leg-items.result.now c.loop-leg.leg-index c.leg-item.result c.loop-leg.placed.items _ c.loop-leg-test.true c.leg-item.is c.loop-leg.invariant.before c.in_ok-place_rung.ensures
+      leg_on c.args.here c.as_slice-leg-items.result.now c.loop-leg.leg-index c.leg-item.result c.loop-leg.placed.items _ c.loop-leg-test.true c.leg-item.is c.loop-leg.invariant.before c.in_ok-place_rung.ensures
       ∙ c.loop-leg.invariant.placed;
 }

@@ -9,16 +9,16 @@ use Rattle.lgx_xref.proofs.placed.+place.Given as goal
 
 abbrev pub invariant-place_rung-loop-node : goal.invariant-place_rung-loop-node
 invariant-place_rung-loop-node l = record {
-  before : l.spot.before ≤ length l.placed.items;
-  placed : l.placed.items ++ sites_on l.spot (length l.placed.items) (instructions (tree_of (drop l.node-index l.node-items)))
-      ≡ l.fn.placed.items ++ sites_on l.spot (length l.fn.placed.items) (instructions l.rung);
+  before : l.here.before ≤ length l.placed.items;
+  placed : l.placed.items ++ sites_on l.here (length l.placed.items) (instructions (tree_of (drop l.node-index l.node-items)))
+      ≡ l.fn.placed.items ++ sites_on l.here (length l.fn.placed.items) (instructions l.rung);
 }
 
 abbrev pub invariant-place_legs-loop-leg : goal.invariant-place_legs-loop-leg
 invariant-place_legs-loop-leg l = record {
-  before : l.spot.before ≤ length l.placed.items;
-  placed : l.placed.items ++ sites_on l.spot (length l.placed.items) (leg_instructions (legs_of (drop l.leg-index l.leg-items)))
-      ≡ l.fn.placed.items ++ sites_on l.spot (length l.fn.placed.items) (leg_instructions (legs_of l.legs));
+  before : l.here.before ≤ length l.placed.items;
+  placed : l.placed.items ++ sites_on l.here (length l.placed.items) (leg_instructions (legs_of (drop l.leg-index l.leg-items)))
+      ≡ l.fn.placed.items ++ sites_on l.here (length l.fn.placed.items) (leg_instructions (legs_of l.legs));
 }
 
 abbrev pub decreases-place_rung : goal.decreases-place_rung

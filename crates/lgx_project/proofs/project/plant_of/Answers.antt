@@ -1,7 +1,7 @@
 use Rattle.std.proofs.Common.{ap}
 use Rattle.lgx_tags.specs.Tables.{Table}
 use Rattle.lgx_project.proofs.Made.{made_of_parts, parts_valid}
-use Rattle.lgx_project.proofs.plant.plant_of.Goals as goal
+use Rattle.lgx_project.proofs.project.plant_of.Goals as goal
 
 pub invariant_of-result : goal.invariant_of-result
 invariant_of-result c = record {

@@ -4,7 +4,7 @@ use Rattle.spec_project.specs.Faults.{or_else}
 use Rattle.spec_project.specs.Places.{connections_fault, places_fault}
 use Rattle.lgx_json.specs.Answers.{Passes}
 use Rattle.lgx_project.specs.Passes.{places_refusal}
-use Rattle.lgx_project.proofs.plant.look_up.Goals as goal
+use Rattle.lgx_project.proofs.project.look_up.Goals as goal
 
 pub returns-clause-fault : goal.returns-clause-fault
 returns-clause-fault c =

@@ -5,7 +5,7 @@ use Rattle.spec_project.specs.Projects.{refusal}
 use Rattle.spec_project.specs.Routines.{routines_fault}
 use Rattle.lgx_json.specs.Answers.{Passes}
 use Rattle.lgx_project.proofs.Passes.{rungs_last}
-use Rattle.lgx_project.proofs.plant.read_parts.Goals as goal
+use Rattle.lgx_project.proofs.project.read_parts.Goals as goal
 
 pub returns-clause-fault : goal.returns-clause-fault
 returns-clause-fault c =

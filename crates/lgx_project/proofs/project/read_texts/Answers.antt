@@ -5,7 +5,7 @@ use Rattle.spec_project.specs.Routines.{routines_fault}
 use Rattle.lgx_edit.specs.declared.texts.ProgramText.{ProgramText}
 use Rattle.lgx_json.specs.Answers.{Reads, fault_of}
 use Rattle.lgx_project.proofs.Texts.{all_counted, all_read, program_refused}
-use Rattle.lgx_project.proofs.plant.read_texts.Goals as goal
+use Rattle.lgx_project.proofs.project.read_texts.Goals as goal
 
 pub returns-in-Err : goal.returns-in-Err
 returns-in-Err c =
