@@ -56,8 +56,8 @@ cancel_order b c h k = subst IsOrdered (ok_inj _ c h) k
 
 -- ---- an event
 
-changed_order : (change : Book → Result Book EditFault) (books : List Book) (client : ℕ) (name : List ℕ) (e : Edited) → KeepsOrder change → IsChanged change books client name e → AreOrdered books → AreOrdered e.books
-changed_order change books client name e keeps x h =
+changed_order : (change : Book → Result Book EditFault) (books : List Book) (lane : ℕ) (name : List ℕ) (e : Edited) → KeepsOrder change → IsChanged change books lane name e → AreOrdered books → AreOrdered e.books
+changed_order change books lane name e keeps x h =
     subst (λ (y : Edited). AreOrdered y.books) x.result (set_ordered books x.number x.book (keeps (book_at books x.number) x.book x.changed (h x.number)) h)
 
 edit_order : (s : State) (lane : ℕ) (a : Action) (e : Edited) → edit s.plan.tags s.plan.names s.books lane a ≡ Some (Ok e) → AreOrdered s.books → AreOrdered e.books

@@ -63,7 +63,7 @@ force-replies s lane ModeRun h = absurd (cc h)
 force-replies s lane ModeProgram h = absurd (cc h)
 force-replies s lane Clear h = absurd (cc h)
 
--- forces have no clients, and need no memory
+-- forces have no lanes, and need no memory
 force-lanes : (s : State) (lane other : ℕ) (a : Action) → is_force a ≡ true → act s lane a ≡ act s other a
 force-lanes s lane other (ForceInstall conn word mask value) h = refl
 force-lanes s lane other ForceEnable h = refl

@@ -74,17 +74,17 @@ impl Controller {
     }
 
     /// One of the five edit commands. Out of memory comes at an accept alone; then it is no event, and nothing changes.
-    pub fn edit(&mut self, client: u32, action: &Action) -> Result<Reply, Memory>
+    pub fn edit(&mut self, lane: u32, action: &Action) -> Result<Reply, Memory>
         requires room { self.old.spent < MAX_EVENTS }
         requires edit { is_edit action.now ≡ true }
-        ensures step { (s : State) → RepresentsController self.old s → IfOk result (λ reply. Gives self.new (replied_by reply) (act s client action.now)) }
-        ensures runs { IfOk result (λ reply. GoesOn self.old self.new (OfAction client action.now (replied_by reply))) }
+        ensures step { (s : State) → RepresentsController self.old s → IfOk result (λ reply. Gives self.new (replied_by reply) (act s lane action.now)) }
+        ensures runs { IfOk result (λ reply. GoesOn self.old self.new (OfAction lane action.now (replied_by reply))) }
         ensures spent { IfOk result (λ _. self.new.spent ≡ self.old.spent + 1) }
         ensures memory { IfErr result (λ _. IsTrue (is_accept action.now)) }
         ensures unchanged { IfErr result (λ _. self.new ≡ self.old) }
         ensures only_marked { ChangesOnlyMarked self.old.parts.image self.new.parts.image }
     {
-        match self.act(client, action) {
+        match self.act(lane, action) {
             Ok(outcome) => Ok(outcome.reply),
             Err(memory) => Err(memory),
         }

@@ -119,7 +119,7 @@ impl Controller {
         self.parts.tick()
     }
 
-    /// An action of a lane, which is the client of its edits. Out of memory comes at an accept alone; then it is no event,
+    /// An action of a lane, whose its edits are. Out of memory comes at an accept alone; then it is no event,
     /// and nothing changes.
     pub fn act(&mut self, lane: u32, action: &Action) -> Result<Outcome, Memory>
         requires room { self.old.spent < MAX_EVENTS }

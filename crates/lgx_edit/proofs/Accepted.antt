@@ -68,10 +68,10 @@ module _ (xs : List EditedRoutine) (r : ℕ) (x : EditedRoutine) (there : x ≡ 
 -- ---- an accept
 
 module _ (name : List ℕ) (main : ℕ) (xs : List EditedRoutine) (ks : List KeptEdit) (owner : Option ℕ) (roles : Roles)
-    (r : ℕ) (x : EditedRoutine) (there : x ≡ get_or xs r x) (within : r < length xs) (client : ℕ) (edits : List RungEdit) (d : Draft)
+    (r : ℕ) (x : EditedRoutine) (there : x ≡ get_or xs r x) (within : r < length xs) (lane : ℕ) (edits : List RungEdit) (d : Draft)
     (draft : IsDraft main r xs ks edits d) where
   abbrev new_book : Book
-  new_book = book_with name main (now xs r x there within d.text) (ks ++ d.edits.items) (Some client) (add d.program roles)
+  new_book = book_with name main (now xs r x there within d.text) (ks ++ d.edits.items) (Some lane) (add d.program roles)
 
   bases : map base_of (now xs r x there within d.text) ≡ map base_of xs
   bases = base_kept xs r x there within d.text
@@ -85,7 +85,7 @@ module _ (name : List ℕ) (main : ℕ) (xs : List EditedRoutine) (ks : List Kep
   accepted_is : map accepted_of (ks ++ d.edits.items) ≡ map accepted_of ks ++ map (edit_of r) (map change_kept d.edits.items)
   accepted_is = map-append accepted_of ks d.edits.items ∙ ap (λ (es : List AcceptedEdit). map accepted_of ks ++ es) draft.routine
 
-  pub accepted-book : new_book ≡ with_draft client r (book_with name main xs ks owner roles) d
+  pub accepted-book : new_book ≡ with_draft lane r (book_with name main xs ks owner roles) d
   accepted-book =
       ap (λ (b : List machine.RoutineText). record new_book { base = b }) bases
       ∙ (ap (λ (m : List machine.RoutineText). record new_book { base = map base_of xs; merged = m }) (mergeds ∙ ap (λ (t : machine.RoutineText). set (map merged_of xs) r t) text_is)
@@ -149,14 +149,14 @@ module _ (name : List ℕ) (main : ℕ) (xs : List EditedRoutine) (ks : List Kep
 
   -- the same of the vectors and versions that were made
   pub accepted-along : (es : List KeptEdit) (q : Roles) → es ≡ ks ++ d.edits.items → q ≡ add d.program roles
-      → book_with name main (now xs r x there within d.text) es (Some client) q ≡ new_book
+      → book_with name main (now xs r x there within d.text) es (Some lane) q ≡ new_book
   accepted-along es q e f =
-      ap (λ (ls : List KeptEdit). book_with name main (now xs r x there within d.text) ls (Some client) q) e
-      ∙ ap (λ (o : Roles). book_with name main (now xs r x there within d.text) (ks ++ d.edits.items) (Some client) o) f
+      ap (λ (ls : List KeptEdit). book_with name main (now xs r x there within d.text) ls (Some lane) q) e
+      ∙ ap (λ (o : Roles). book_with name main (now xs r x there within d.text) (ks ++ d.edits.items) (Some lane) o) f
 
   pub tied-now : (es : List KeptEdit) (q : Roles) → es ≡ ks ++ d.edits.items → q ≡ add d.program roles
       → AreTied (book_with name main xs ks owner roles) roles → 0 < length edits
-      → AreTied (book_with name main (now xs r x there within d.text) es (Some client) q) q
+      → AreTied (book_with name main (now xs r x there within d.text) es (Some lane) q) q
   tied-now es q e f t some =
       subst (λ (b : Book). AreTied b q) (sym (accepted-along es q e f))
       (subst (λ (o : Roles). AreTied new_book o) (sym f) (accepted-tied t some))
@@ -164,7 +164,7 @@ module _ (name : List ℕ) (main : ℕ) (xs : List EditedRoutine) (ks : List Kep
 -- what a draft of these slices says, said of the vectors
 abbrev pub Drafted : Against → ℕ → ℕ → List EditedRoutine → List KeptEdit → List RungEdit → Draft → Type 0
 Drafted a main r xs ks edits d =
-    ((b : Book) (client : ℕ) → IsBookOf b xs ks → other_owner b client ≡ None → accept_in (scope_against a xs) client r edits b ≡ Ok (with_draft client r b d))
+    ((b : Book) (lane : ℕ) → IsBookOf b xs ks → other_owner b lane ≡ None → accept_in (scope_against a xs) lane r edits b ≡ Ok (with_draft lane r b d))
     × IsDraft main r xs ks edits d
 
 pub drafted-for : (a : Against) (main r : ℕ) (xs ys : List EditedRoutine) (ks ls : List KeptEdit) (edits es : List RungEdit) (d : Draft)
@@ -175,10 +175,10 @@ drafted-for a main r xs ys ks ls edits es d e f g h =
     (subst (λ (gs : List RungEdit). Drafted a main r ys ls gs d) g h))
 
 -- the routine and the owner of the accept are found first
-pub accept-found : (a : Against) (client r : ℕ) (command : AcceptCommand) (b book : Book) (scope : CheckScope) → Ok r ≡ routine_named b command.routine
-    → accept_in scope client r command.edits b ≡ Ok book → accept_at scope client command b ≡ Ok book
-accept-found a client r command b book scope named e =
-    ap (λ (n : Result ℕ EditFault). n >>= λ k. accept_in scope client k command.edits b) (sym named) ∙ e
+pub accept-found : (a : Against) (lane r : ℕ) (command : AcceptCommand) (b book : Book) (scope : CheckScope) → Ok r ≡ routine_named b command.routine
+    → accept_in scope lane r command.edits b ≡ Ok book → accept_at scope lane command b ≡ Ok book
+accept-found a lane r command b book scope named e =
+    ap (λ (n : Result ℕ EditFault). n >>= λ k. accept_in scope lane k command.edits b) (sym named) ∙ e
 
 pub some_edit : (n : ℕ) → is_edit_count n ≡ true → 0 < n
 some_edit n h = let least : nat_le 1 n ≡ true = (and_parts (nat_le 1 n) (nat_le n MAX_EDITS) h).0 in grind (arith, nat_tests)

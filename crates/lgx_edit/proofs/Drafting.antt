@@ -34,7 +34,7 @@ over b routines accepted is P p =
     ∙ (ap (λ (x : List machine.RoutineText). record b { merged = x; accepted = map accepted_of accepted }) (sym is.mergeds)
     ∙ ap (λ (x : List AcceptedEdit). record b { accepted = x }) (sym is.kept))) p
 
-module _ (scope : CheckScope) (client r : ℕ) (edits : List RungEdit) (b : Book) (owner : other_owner b client ≡ None) where
+module _ (scope : CheckScope) (lane r : ℕ) (edits : List RungEdit) (b : Book) (owner : other_owner b lane ≡ None) where
   abbrev pub the_misplaced : Option ℕ
   the_misplaced = position_from (is_misplaced (length (routine_at b.base r).source)) 0 edits
 
@@ -46,14 +46,14 @@ module _ (scope : CheckScope) (client r : ℕ) (edits : List RungEdit) (b : Book
 
   abbrev after_check : List Change → Rungs → Result Book EditFault
   after_check changes rungs =
-      unless (nat_le (instruction_count (with_changes client r changes (the_source changes) rungs b).merged) MAX_PROGRAM_INSTRUCTIONS) E9
-      >>= λ _. Ok (with_changes client r changes (the_source changes) rungs b)
+      unless (nat_le (instruction_count (with_changes lane r changes (the_source changes) rungs b).merged) MAX_PROGRAM_INSTRUCTIONS) E9
+      >>= λ _. Ok (with_changes lane r changes (the_source changes) rungs b)
 
   abbrev after_reading : List Change → Result Book EditFault
   after_reading changes = ok_or_cause (checked scope (the_source changes)) E8 >>= after_check changes
 
   abbrev pub whole : Result Book EditFault
-  whole = accept_in scope client r edits b
+  whole = accept_in scope lane r edits b
 
   owned : whole ≡ (none_or the_misplaced E5 >>= λ _. none_or the_again E6 >>= λ _. changes_of 0 edits >>= after_reading)
   owned = ap (λ (o : Option ℕ). none_or o E3 >>= λ _. none_or the_misplaced E5 >>= λ _. none_or the_again E6 >>= λ _. changes_of 0 edits >>= after_reading) owner
@@ -95,22 +95,22 @@ module _ (scope : CheckScope) (client r : ℕ) (edits : List RungEdit) (b : Book
               ∙ ap (λ (n : List ℕ). let t : machine.RoutineText = record { name = n; source = text.source; checked = text.checked } in t) (sym name)
 
           the_end : Bool → Result Book EditFault
-          the_end x = unless x E9 >>= λ _. Ok (with_changes client r changes (the_source changes) text.checked b)
+          the_end x = unless x E9 >>= λ _. Ok (with_changes lane r changes (the_source changes) text.checked b)
 
           all_checked : whole ≡ the_end (nat_le (instruction_count (slice_set b.merged r (routine_of text))) MAX_PROGRAM_INSTRUCTIONS)
           unfolding the_end
           all_checked =
               all_read ∙ (ap (λ (c : Result Rungs EditFault). c >>= after_check changes) is_checked
-              ∙ ap (λ (t : machine.RoutineText). unless (nat_le (instruction_count (slice_set b.merged r t)) MAX_PROGRAM_INSTRUCTIONS) E9 >>= λ _. Ok (with_changes client r changes (the_source changes) text.checked b)) text_is)
+              ∙ ap (λ (t : machine.RoutineText). unless (nat_le (instruction_count (slice_set b.merged r t)) MAX_PROGRAM_INSTRUCTIONS) E9 >>= λ _. Ok (with_changes lane r changes (the_source changes) text.checked b)) text_is)
 
           pub crowded : nat_le (instruction_count (slice_set b.merged r (routine_of text))) MAX_PROGRAM_INSTRUCTIONS ≡ false → whole ≡ Err E9
           unfolding the_end
           crowded e = all_checked ∙ ap the_end e
 
           pub accepted : nat_le (instruction_count (slice_set b.merged r (routine_of text))) MAX_PROGRAM_INSTRUCTIONS ≡ true
-              → whole ≡ Ok (with_changes client r changes text.source text.checked b)
+              → whole ≡ Ok (with_changes lane r changes text.source text.checked b)
           unfolding the_end
-          accepted e = all_checked ∙ (ap the_end e ∙ ap (λ (s : List Source). let ok : Result Book EditFault = Ok (with_changes client r changes s text.checked b) in ok) (sym source))
+          accepted e = all_checked ∙ (ap the_end e ∙ ap (λ (s : List Source). let ok : Result Book EditFault = Ok (with_changes lane r changes s text.checked b) in ok) (sym source))
 
 -- the base text of a routine that is there
 pub base_there : (routines : List EditedRoutine) (r : ℕ) (x : EditedRoutine) → r < length routines → routine_at (map base_of routines) r ≡ base_of (get_or routines r x)

@@ -23,14 +23,14 @@ use Rattle.std.proofs.lemmas.Bool.{and_parts}
 abbrev edited : List Book → ℕ → Book → Result Edited EditFault
 edited all n b = Ok (record { books = slice_set all n b; reply = Done })
 
-on_accepted-at : (change : Book → Result Book EditFault) (all : List Book) (client n : ℕ) (name : List ℕ) → Ok n ≡ program_named all name
-    → on_accepted change all client name ≡ (on_book change client (book_at all n) >>= edited all n)
-on_accepted-at change all client n name e =
+on_accepted-at : (change : Book → Result Book EditFault) (all : List Book) (lane n : ℕ) (name : List ℕ) → Ok n ≡ program_named all name
+    → on_accepted change all lane name ≡ (on_book change lane (book_at all n) >>= edited all n)
+on_accepted-at change all lane n name e =
     ap (λ (r : Result ℕ EditFault). r >>= after) (sym e)
-    ∙ by_cause (none_or (other_owner (book_at all n) client) E3) (unless (has_accepted (book_at all n)) E10) (change (book_at all n))
+    ∙ by_cause (none_or (other_owner (book_at all n) lane) E3) (unless (has_accepted (book_at all n)) E10) (change (book_at all n))
   where
     after : ℕ → Result Edited EditFault
-    after k = none_or (other_owner (book_at all k) client) E3 >>= λ _. unless (has_accepted (book_at all k)) E10 >>= λ _. change (book_at all k) >>= edited all k
+    after k = none_or (other_owner (book_at all k) lane) E3 >>= λ _. unless (has_accepted (book_at all k)) E10 >>= λ _. change (book_at all k) >>= edited all k
 
     by_cause : (p q : Result Bool EditFault) (r : Result Book EditFault)
         → (p >>= λ _. q >>= λ _. r >>= edited all n) ≡ ((p >>= λ _. q >>= λ _. r) >>= edited all n)
@@ -57,15 +57,15 @@ leaves-others all n old new answer (Ok b) there a = (
 leaves-others all n old new answer (Err f) there a =
     (a.0, ap (λ (e : EditsView). set all n e) (a.1 ∙ there) ∙ set-get_or all n old)
 
-pub command-leaves : (change : Book → Result Book EditFault) (client n : ℕ) (name : List ℕ) (all now : List EditsView) (old new : EditsView)
+pub command-leaves : (change : Book → Result Book EditFault) (lane n : ℕ) (name : List ℕ) (all now : List EditsView) (old new : EditsView)
     (answer : Result (Unit {0}) EditFault) → all ≡ now → Ok n ≡ program_named (books now) name → n < length now → old ≡ get_or all n old
-    → AnswersBook (on_book change client old.book) old new answer
-    → Leaves (on_accepted change (books now) client name) now (set all n new) answer
-command-leaves change client n name all now old new answer is named within there a =
-    subst (λ (w : List EditsView). Leaves (on_accepted change (books w) client name) w (set all n new) answer) is
-    (subst (λ (r : Result Edited EditFault). Leaves r all (set all n new) answer) (sym (on_accepted-at change (books all) client n name named_all
-    ∙ ap (λ (b : Book). on_book change client b >>= edited (books all) n) the_book))
-    (leaves-others all n old new answer (on_book change client old.book) there a))
+    → AnswersBook (on_book change lane old.book) old new answer
+    → Leaves (on_accepted change (books now) lane name) now (set all n new) answer
+command-leaves change lane n name all now old new answer is named within there a =
+    subst (λ (w : List EditsView). Leaves (on_accepted change (books w) lane name) w (set all n new) answer) is
+    (subst (λ (r : Result Edited EditFault). Leaves r all (set all n new) answer) (sym (on_accepted-at change (books all) lane n name named_all
+    ∙ ap (λ (b : Book). on_book change lane b >>= edited (books all) n) the_book))
+    (leaves-others all n old new answer (on_book change lane old.book) there a))
   where
     named_all : Ok n ≡ program_named (books all) name
     named_all = subst (λ (w : List EditsView). Ok n ≡ program_named (books w) name) (sym is) named
@@ -101,14 +101,14 @@ holds-now all now n number old new is within there numbered h = record {
 abbrev accepted : List Book → ℕ → Book → Result Edited EditFault
 accepted all n b = Ok (record { books = slice_set all n b; reply = Version b.newest })
 
-accept-at : (tags : Declarations) (tasks : List TaskName) (all : List Book) (client n : ℕ) (command : AcceptCommand) → Ok n ≡ program_named all command.program
-    → accept tags tasks all client command ≡ (accept_at (scope_of tags tasks n (book_at all n)) client command (book_at all n) >>= accepted all n)
-accept-at tags tasks all client n command e =
+accept-at : (tags : Declarations) (tasks : List TaskName) (all : List Book) (lane n : ℕ) (command : AcceptCommand) → Ok n ≡ program_named all command.program
+    → accept tags tasks all lane command ≡ (accept_at (scope_of tags tasks n (book_at all n)) lane command (book_at all n) >>= accepted all n)
+accept-at tags tasks all lane n command e =
     ap (λ (r : Result ℕ EditFault). r >>= after) (sym e)
-    ∙ by_cause (routine_named (book_at all n) command.routine) (λ (r : ℕ). accept_in (scope_of tags tasks n (book_at all n)) client r command.edits (book_at all n))
+    ∙ by_cause (routine_named (book_at all n) command.routine) (λ (r : ℕ). accept_in (scope_of tags tasks n (book_at all n)) lane r command.edits (book_at all n))
   where
     after : ℕ → Result Edited EditFault
-    after k = routine_named (book_at all k) command.routine >>= λ r. accept_in (scope_of tags tasks k (book_at all k)) client r command.edits (book_at all k) >>= accepted all k
+    after k = routine_named (book_at all k) command.routine >>= λ r. accept_in (scope_of tags tasks k (book_at all k)) lane r command.edits (book_at all k) >>= accepted all k
 
     by_cause : (p : Result ℕ EditFault) (q : ℕ → Result Book EditFault) → (p >>= λ r. q r >>= accepted all n) ≡ ((p >>= q) >>= accepted all n)
     by_cause (Err f) q = refl
@@ -129,15 +129,15 @@ accepts-others all n old new (Err (Edit f)) meant of_all there is a = (
 )
 accepts-others all n old new (Err Memory) meant of_all there is a = ap (λ (e : EditsView). set all n e) (a ∙ there) ∙ set-get_or all n old
 
-pub accept-leaves : (tags : Declarations) (tasks : List TaskName) (client n : ℕ) (command : AcceptCommand) (all now : List EditsView) (old new : EditsView)
+pub accept-leaves : (tags : Declarations) (tasks : List TaskName) (lane n : ℕ) (command : AcceptCommand) (all now : List EditsView) (old new : EditsView)
     (answer : Result ℕ EditError) → all ≡ now → Ok n ≡ program_named (books now) command.program → n < length now → old ≡ get_or all n old
-    → Accepts (accept_at (scope_of tags tasks n old.book) client command old.book) old new answer
-    → LeavesAccepted (accept tags tasks (books now) client command) now (set all n new) answer
-accept-leaves tags tasks client n command all now old new answer is named within there a =
-    subst (λ (w : List EditsView). LeavesAccepted (accept tags tasks (books w) client command) w (set all n new) answer) is
-    (accepts-others all n old new answer (accept_at (scope_of tags tasks n old.book) client command old.book) (accept tags tasks (books all) client command) there
-    (accept-at tags tasks (books all) client n command named_all
-    ∙ ap (λ (b : Book). accept_at (scope_of tags tasks n b) client command b >>= accepted (books all) n) the_book) a)
+    → Accepts (accept_at (scope_of tags tasks n old.book) lane command old.book) old new answer
+    → LeavesAccepted (accept tags tasks (books now) lane command) now (set all n new) answer
+accept-leaves tags tasks lane n command all now old new answer is named within there a =
+    subst (λ (w : List EditsView). LeavesAccepted (accept tags tasks (books w) lane command) w (set all n new) answer) is
+    (accepts-others all n old new answer (accept_at (scope_of tags tasks n old.book) lane command old.book) (accept tags tasks (books all) lane command) there
+    (accept-at tags tasks (books all) lane n command named_all
+    ∙ ap (λ (b : Book). accept_at (scope_of tags tasks n b) lane command b >>= accepted (books all) n) the_book) a)
   where
     named_all : Ok n ≡ program_named (books all) command.program
     named_all = subst (λ (w : List EditsView). Ok n ≡ program_named (books w) command.program) (sym is) named

@@ -17,9 +17,9 @@ has_numbers_left all = list_all (λ b. nat_lt b.newest (2 ^ 32 - 1)) all
 
 -- an accept on the book of its program
 abbrev pub accept_at : CheckScope → ℕ → AcceptCommand → Book → Result Book EditFault
-accept_at scope client command b = do
+accept_at scope lane command b = do
   r ← routine_named b command.routine
-  accept_in scope client r command.edits b
+  accept_in scope lane r command.edits b
 
 -- It answers the number of the accept that is meant, or the cause. If it is refused or out of memory, all is as before, the
 -- slots too; the held program is the same in any case.

@@ -48,7 +48,7 @@ pub record IsBookOf (b : Book) (routines : List EditedRoutine) (accepted : List 
 
 -- the book after the draft
 abbrev pub with_draft : ℕ → ℕ → Book → Draft → Book
-with_draft client r b d = with_changes client r (map change_kept d.edits.items) d.text.source d.text.checked b
+with_draft lane r b d = with_changes lane r (map change_kept d.edits.items) d.text.source d.text.checked b
 
 -- The edits are of the routine, as many as were asked for; the text is the merged one under its name; and the program is
 -- flat code of the merged rungs.

@@ -50,15 +50,15 @@ RunsSelected program book = IsFlatProgram program (selected_rungs book)
 -- ---- the commands on one book
 
 abbrev pub may_edit : ℕ → Book → Result (Unit {0}) EditFault
-may_edit client b = do
-  _ ← none_or (other_owner b client) E3
+may_edit lane b = do
+  _ ← none_or (other_owner b lane) E3
   _ ← unless (has_accepted b) E10
   Ok tt
 
--- a command on what is accepted: refused if it is another client's, if nothing is accepted, and by its own cause
+-- a command on what is accepted: refused if it is another lane's, if nothing is accepted, and by its own cause
 abbrev pub on_book : (Book → Result Book EditFault) → ℕ → Book → Result Book EditFault
-on_book change client b = do
-  _ ← none_or (other_owner b client) E3
+on_book change lane b = do
+  _ ← none_or (other_owner b lane) E3
   _ ← unless (has_accepted b) E10
   change b
 

@@ -71,7 +71,7 @@ impl EditBook {
     /// Adds edits of a routine to the accepted ones of its program, and answers the accept's number: that of the program's
     /// last accept plus one. It may be tested, and stays so: then the new merged rungs are selected, from its next begin on.
     ///
-    /// It is refused by the first of these causes: E1 there is no such program, E2 no such routine, E3 another client owns
+    /// It is refused by the first of these causes: E1 there is no such program, E2 no such routine, E3 another lane owns
     /// the program's edits, E5 the first edit of a rung that isn't there, E6 the first that replaces or deletes a rung that
     /// an accepted edit or an earlier one did, E7 the first whose text spells no rung, E8 the merged routine is refused, E9
     /// the merged program has more than `MAX_PROGRAM_INSTRUCTIONS`. Then it may be out of memory. If it is refused or out of
@@ -80,7 +80,7 @@ impl EditBook {
     pub fn accept(
         &mut self,
         alloc: Global,
-        client: u32,
+        lane: u32,
         command: &Accept,
         tags: &TagTable,
         tasks: &[TaskName],
@@ -88,7 +88,7 @@ impl EditBook {
         requires numbers { IsTrue (has_numbers_left (books self.old)) }
         requires sealed { tags.now.sealed ≡ true }
         requires few_tasks { length tasks.now < 2 ^ 32 }
-        ensures { LeavesAccepted (accept tags.now.declarations tasks.now (books self.old) client command.now) self.old self.new result }
+        ensures { LeavesAccepted (accept tags.now.declarations tasks.now (books self.old) lane command.now) self.old self.new result }
     {
         let n = self.find(&command.program)?;
         let against = Against {
@@ -96,49 +96,49 @@ impl EditBook {
             program: n as u32,
             tasks,
         };
-        self.programs[n].accept(alloc, client, command, &against)
+        self.programs[n].accept(alloc, lane, command, &against)
     }
 
     /// Selects the program's merged rungs, from its next begin on.
     ///
-    /// E1 comes if there is no such program, E3 if another client owns its edits, E10 if nothing is accepted, E11 if
+    /// E1 comes if there is no such program, E3 if another lane owns its edits, E10 if nothing is accepted, E11 if
     /// it is tested already.
-    pub fn test(&mut self, client: u32, program: &Name) -> Result<(), EditFault>
-        ensures { Leaves (on_accepted test (books self.old) client program.now) self.old self.new result }
+    pub fn test(&mut self, lane: u32, program: &Name) -> Result<(), EditFault>
+        ensures { Leaves (on_accepted test (books self.old) lane program.now) self.old self.new result }
     {
         let n = self.find(program)?;
-        self.programs[n].test(client)
+        self.programs[n].test(lane)
     }
 
     /// Selects the program's base rungs, from its next begin on.
     ///
-    /// E1 comes if there is no such program, E3 if another client owns its edits, E10 if nothing is accepted, E12 if it
+    /// E1 comes if there is no such program, E3 if another lane owns its edits, E10 if nothing is accepted, E12 if it
     /// isn't tested.
-    pub fn untest(&mut self, client: u32, program: &Name) -> Result<(), EditFault>
-        ensures { Leaves (on_accepted untest (books self.old) client program.now) self.old self.new result }
+    pub fn untest(&mut self, lane: u32, program: &Name) -> Result<(), EditFault>
+        ensures { Leaves (on_accepted untest (books self.old) lane program.now) self.old self.new result }
     {
         let n = self.find(program)?;
-        self.programs[n].untest(client)
+        self.programs[n].untest(lane)
     }
 
     /// Makes the program's merged rungs its base, tested or not. Testing ends, and nobody owns its edits.
     ///
-    /// E1 comes if there is no such program, E3 if another client owns its edits, E10 if nothing is accepted.
-    pub fn assemble(&mut self, client: u32, program: &Name) -> Result<(), EditFault>
-        ensures { Leaves (on_accepted assemble (books self.old) client program.now) self.old self.new result }
+    /// E1 comes if there is no such program, E3 if another lane owns its edits, E10 if nothing is accepted.
+    pub fn assemble(&mut self, lane: u32, program: &Name) -> Result<(), EditFault>
+        ensures { Leaves (on_accepted assemble (books self.old) lane program.now) self.old self.new result }
     {
         let n = self.find(program)?;
-        self.programs[n].assemble(client)
+        self.programs[n].assemble(lane)
     }
 
     /// Drops the program's accepted edits, also while it is tested. Testing ends, and nobody owns its edits.
     ///
-    /// E1 comes if there is no such program, E3 if another client owns its edits, E10 if nothing is accepted.
-    pub fn cancel(&mut self, client: u32, program: &Name) -> Result<(), EditFault>
-        ensures { Leaves (on_accepted cancel (books self.old) client program.now) self.old self.new result }
+    /// E1 comes if there is no such program, E3 if another lane owns its edits, E10 if nothing is accepted.
+    pub fn cancel(&mut self, lane: u32, program: &Name) -> Result<(), EditFault>
+        ensures { Leaves (on_accepted cancel (books self.old) lane program.now) self.old self.new result }
     {
         let n = self.find(program)?;
-        self.programs[n].cancel(client)
+        self.programs[n].cancel(lane)
     }
 
     /// Holds the selected version of a program, which is given by its number in the project, and answers the version's number. None

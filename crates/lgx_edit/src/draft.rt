@@ -191,7 +191,7 @@ pub fn drafted(
     requires few_edits { length edits.now ≤ MAX_EDITS }
     requires sealed { against.now.tags.now.sealed ≡ true }
     requires few_tasks { length against.now.tasks.now < 2 ^ 32 }
-    ensures answer { (b : Book) (client : ℕ) → IsBookOf b routines.now accepted.now → other_owner b client ≡ None → AnswersAs (with_draft client routine b) (accept_in (scope_against against.now routines.now) client routine edits.now b) result }
+    ensures answer { (b : Book) (lane : ℕ) → IsBookOf b routines.now accepted.now → other_owner b lane ≡ None → AnswersAs (with_draft lane routine b) (accept_in (scope_against against.now routines.now) lane routine edits.now b) result }
     ensures draft { IfOk result (IsDraft main routine routines.now accepted.now edits.now) }
 {
     let rungs = routines[routine as usize].base.source.len();

@@ -82,22 +82,22 @@ impl ProgramEdits {
 
     /// Adds edits of a routine to the accepted ones, also while these are tested, and answers the accept's number.
     ///
-    /// E2 comes if there is no such routine, E3 if another client owns the edits, and then E5 to E9 as [`EditBook::accept`]
+    /// E2 comes if there is no such routine, E3 if another lane owns the edits, and then E5 to E9 as [`EditBook::accept`]
     /// says. If it is refused or out of memory, all is as before.
     pub fn accept(
         &mut self,
         alloc: Global,
-        client: u32,
+        lane: u32,
         command: &Accept,
         against: &Against,
     ) -> Result<u32, EditError>
         requires number { IsTrue (nat_lt self.old.book.newest (2 ^ 32 - 1)) }
         requires sealed { against.now.tags.now.sealed ≡ true }
         requires few_tasks { length against.now.tasks.now < 2 ^ 32 }
-        ensures { Accepts (accept_at (scope_of against.now.tags.now.declarations against.now.tasks.now against.now.program self.old.book) client command.now self.old.book) self.old self.new result }
+        ensures { Accepts (accept_at (scope_of against.now.tags.now.declarations against.now.tasks.now against.now.program self.old.book) lane command.now self.old.book) self.old self.new result }
     {
         let routine = routine_named(self.routines.as_slice(), &command.routine)?;
-        if let Some(owner) = other_owner(self.owner, client) {
+        if let Some(owner) = other_owner(self.owner, lane) {
             return Err(EditError::Edit(EditFault::E3(owner)));
         }
         let draft = drafted(
@@ -117,17 +117,17 @@ impl ProgramEdits {
         // The last that can fail; nothing is changed before.
         self.accepted.append(&mut edits)?;
         self.routines[routine as usize].merged = Some(text);
-        self.owner = Some(client);
+        self.owner = Some(lane);
         Ok(self.versions.add(program)?)
     }
 
     /// Selects the merged rungs, from the program's next begin on.
     ///
-    /// E3 comes if another client owns the edits, E10 if nothing is accepted, E11 if they are tested already.
-    pub fn test(&mut self, client: u32) -> Result<(), EditFault>
-        ensures { AnswersBook (on_book test client self.old.book) self.old self.new result }
+    /// E3 comes if another lane owns the edits, E10 if nothing is accepted, E11 if they are tested already.
+    pub fn test(&mut self, lane: u32) -> Result<(), EditFault>
+        ensures { AnswersBook (on_book test lane self.old.book) self.old self.new result }
     {
-        self.may_edit(client)?;
+        self.may_edit(lane)?;
         if self.versions.is_testing() {
             return Err(EditFault::E11);
         }
@@ -137,11 +137,11 @@ impl ProgramEdits {
 
     /// Selects the base rungs, from the program's next begin on.
     ///
-    /// E3 comes if another client owns the edits, E10 if nothing is accepted, E12 if they aren't tested.
-    pub fn untest(&mut self, client: u32) -> Result<(), EditFault>
-        ensures { AnswersBook (on_book untest client self.old.book) self.old self.new result }
+    /// E3 comes if another lane owns the edits, E10 if nothing is accepted, E12 if they aren't tested.
+    pub fn untest(&mut self, lane: u32) -> Result<(), EditFault>
+        ensures { AnswersBook (on_book untest lane self.old.book) self.old self.new result }
     {
-        self.may_edit(client)?;
+        self.may_edit(lane)?;
         if !self.versions.is_testing() {
             return Err(EditFault::E12);
         }
@@ -151,11 +151,11 @@ impl ProgramEdits {
 
     /// Makes the merged rungs the base, whether they are tested or not. Testing ends, and nobody owns the edits.
     ///
-    /// E3 comes if another client owns the edits, E10 if nothing is accepted.
-    pub fn assemble(&mut self, client: u32) -> Result<(), EditFault>
-        ensures { AnswersBook (on_book assemble client self.old.book) self.old self.new result }
+    /// E3 comes if another lane owns the edits, E10 if nothing is accepted.
+    pub fn assemble(&mut self, lane: u32) -> Result<(), EditFault>
+        ensures { AnswersBook (on_book assemble lane self.old.book) self.old self.new result }
     {
-        self.may_edit(client)?;
+        self.may_edit(lane)?;
         assemble_all(&mut self.routines);
         self.accepted.clear();
         self.owner = None;
@@ -165,11 +165,11 @@ impl ProgramEdits {
 
     /// Drops the accepted edits, also while they are tested. Testing ends, and nobody owns the edits.
     ///
-    /// E3 comes if another client owns the edits, E10 if nothing is accepted.
-    pub fn cancel(&mut self, client: u32) -> Result<(), EditFault>
-        ensures { AnswersBook (on_book cancel client self.old.book) self.old self.new result }
+    /// E3 comes if another lane owns the edits, E10 if nothing is accepted.
+    pub fn cancel(&mut self, lane: u32) -> Result<(), EditFault>
+        ensures { AnswersBook (on_book cancel lane self.old.book) self.old self.new result }
     {
-        self.may_edit(client)?;
+        self.may_edit(lane)?;
         cancel_all(&mut self.routines);
         self.accepted.clear();
         self.owner = None;
@@ -177,12 +177,12 @@ impl ProgramEdits {
         Ok(())
     }
 
-    /// Whether a client may edit what is accepted: E3 comes if another one owns it, and then E10 if nothing is.
-    fn may_edit(&self, client: u32) -> Result<(), EditFault>
-        ensures { result ≡ may_edit client self.now.book }
+    /// Whether a lane may edit what is accepted: E3 comes if another one owns it, and then E10 if nothing is.
+    fn may_edit(&self, lane: u32) -> Result<(), EditFault>
+        ensures { result ≡ may_edit lane self.now.book }
     {
         match self.owner {
-            Some(owner) if owner != client => Err(EditFault::E3(owner)),
+            Some(owner) if owner != lane => Err(EditFault::E3(owner)),
             _ if self.accepted.is_empty() => Err(EditFault::E10),
             _ => Ok(()),
         }

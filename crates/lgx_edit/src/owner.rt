@@ -11,12 +11,12 @@ use crate::changes::EditedRoutine;
 use lgx_num::Name;
 use spec_machine::EditFault;
 
-/// The owner of edits, if it is another client.
-pub fn other_owner(owner: Option<u32>, client: u32) -> Option<u32>
-    ensures { result ≡ unless_same client owner }
+/// The owner of edits, if it is another lane.
+pub fn other_owner(owner: Option<u32>, lane: u32) -> Option<u32>
+    ensures { result ≡ unless_same lane owner }
 {
     match owner {
-        Some(other) if other != client => Some(other),
+        Some(other) if other != lane => Some(other),
         _ => None,
     }
 }

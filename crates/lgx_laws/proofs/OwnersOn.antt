@@ -132,13 +132,13 @@ has_more xs ys h = let l = ltb-true 0 (length xs) h in let m = length-append xs 
 
 -- ---- an accept that is taken finds no other owner
 
-module _ (scope : CheckScope) (client r : ℕ) (edits : List RungEdit) (b : Book) where
+module _ (scope : CheckScope) (lane r : ℕ) (edits : List RungEdit) (b : Book) where
   abbrev source_with : List Change → List Source
-  source_with changes = Rattle.spec_reach.proofs.EditNames.source_with scope client r edits b changes
+  source_with changes = Rattle.spec_reach.proofs.EditNames.source_with scope lane r edits b changes
 
   abbrev from_count : List Change → Rungs → Result Book EditFault
   from_count changes rungs =
-      let b' = with_changes client r changes (source_with changes) rungs b in
+      let b' = with_changes lane r changes (source_with changes) rungs b in
       unless (nat_le (instruction_count b'.merged) MAX_PROGRAM_INSTRUCTIONS) E9 >>= λ _. Ok b'
 
   abbrev from_texts : Result Book EditFault
@@ -148,8 +148,8 @@ module _ (scope : CheckScope) (client r : ℕ) (edits : List RungEdit) (b : Book
   from_places =
       none_or (position_from (is_misplaced (length (routine_at b.base r).source)) 0 edits) E5 >>= λ _. (none_or (first_again 0 (flat_map taken_by (changes_in b r)) edits) E6 >>= λ _. from_texts)
 
-  pub no_other : (c : Book) → accept_in scope client r edits b ≡ Ok c → other_owner b client ≡ None
-  no_other c h = go (other_owner b client) (bind_ok (none_or (other_owner b client) E3) (λ _. from_places) c h).1
+  pub no_other : (c : Book) → accept_in scope lane r edits b ≡ Ok c → other_owner b lane ≡ None
+  no_other c h = go (other_owner b lane) (bind_ok (none_or (other_owner b lane) E3) (λ _. from_places) c h).1
     where
       go : (w : Option ℕ) → {x : Bool} → none_or w E3 ≡ Ok x → w ≡ None
       go None k = refl
@@ -157,7 +157,7 @@ module _ (scope : CheckScope) (client r : ℕ) (edits : List RungEdit) (b : Book
 
 -- ---- one of the other four that is taken
 
-module _ (change : Book → Result Book EditFault) (books : List Book) (client : ℕ) (name : List ℕ) where
+module _ (change : Book → Result Book EditFault) (books : List Book) (lane : ℕ) (name : List ℕ) where
   abbrev with_book : ℕ → Book → Result Edited EditFault
   with_book n b = Ok (record { books = slice_set books n b; reply = reply.Done })
 
@@ -168,7 +168,7 @@ module _ (change : Book → Result Book EditFault) (books : List Book) (client :
   from_accepted n = unless (has_accepted (book_at books n)) E10 >>= λ _. from_change n
 
   abbrev from_owner : ℕ → Result Edited EditFault
-  from_owner n = none_or (other_owner (book_at books n) client) E3 >>= λ _. from_accepted n
+  from_owner n = none_or (other_owner (book_at books n) lane) E3 >>= λ _. from_accepted n
 
   record IsTaken (e : Edited) : Type 0 where
     pub number : ℕ
@@ -178,10 +178,10 @@ module _ (change : Book → Result Book EditFault) (books : List Book) (client :
     pub changed : change (book_at books number) ≡ Ok book
     pub result : record { books = slice_set books number book; reply = reply.Done } ≡ e
 
-  is_taken : (e : Edited) → on_accepted change books client name ≡ Ok e → IsTaken e
+  is_taken : (e : Edited) → on_accepted change books lane name ≡ Ok e → IsTaken e
   is_taken e h =
       let h1 = bind_ok (program_named books name) from_owner e h in
-      let h2 = bind_ok (none_or (other_owner (book_at books h1.0) client) E3) (λ _. from_accepted h1.0) e h1.2 in
+      let h2 = bind_ok (none_or (other_owner (book_at books h1.0) lane) E3) (λ _. from_accepted h1.0) e h1.2 in
       let h3 = bind_ok (unless (has_accepted (book_at books h1.0)) E10) (λ _. from_change h1.0) e h2.2 in
       let h4 = bind_ok (change (book_at books h1.0)) (with_book h1.0) e h3.2 in
       record {

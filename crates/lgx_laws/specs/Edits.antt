@@ -31,7 +31,7 @@ abbrev pub owned_after : ℕ → TraceEvent → Owned → Owned
 owned_after g (Act lane verb (Some h) answer mask) o = if nat_eq g h then owned_by lane verb answer o else o
 owned_after g _ o = o
 
--- of program g, by the places of the past
+-- of program g, by the events of the past
 abbrev pub owned : ℕ → List CountedEvent → Owned
 owned g [] = unowned
 owned g (x ∷ past) = owned_after g x.event (owned g past)

@@ -23,7 +23,7 @@ use Rattle.lgx_laws.specs.Laws.{Roster}
 abbrev pub no_since : Since
 no_since = record { ticks = 0; scan = None; copy = None }
 
--- of a task, by what is counted now and by the places of the past
+-- of a task, by what is counted now and by the events of the past
 abbrev pub since : ℕ → List Counted → List CountedEvent → Since
 since t now past = record { ticks = ticks_up t now past; scan = scanned t now past; copy = copied t now past }
 
@@ -32,7 +32,7 @@ pub record Kept (xs : List Since) (now : List Counted) (past : List CountedEvent
   pub many : length xs ≡ length now
   pub each : (t : ℕ) → t < length now → slice_index_or xs t no_since ≡ since t now past
 
--- the places of a trace, the latest first
+-- the events of a trace, each with what is counted there, the latest first
 abbrev pub back : List CountedEvent → List CountedEvent → List CountedEvent
 back past xs = fold (λ past x. x ∷ past) past xs
 

@@ -51,7 +51,7 @@ rank Modes = 7
 rank Edits = 8
 rank Numbers = 9
 
--- whether a law is kept at a place, by the places before it, the latest of them first
+-- whether a law is kept at an event, by the events before it, the latest first
 abbrev pub keeps_at : Law → Roster → List CountedEvent → CountedEvent → Bool
 keeps_at Regions r past x = keeps_region x
 keeps_at Copies r past x = keeps_copies past x
@@ -64,7 +64,7 @@ keeps_at Modes r past x = keeps_modes past x
 keeps_at Edits r past x = keeps_edits past x
 keeps_at Numbers r past x = keeps_numbers x
 
--- whether a trace keeps it at each of its places
+-- whether a trace keeps it at each of its events
 abbrev pub keeps : Law → Roster → List TraceEvent → Bool
 keeps law r trace = each_with_past (keeps_at law r) [] (counted_events r.table trace)
 
@@ -92,11 +92,11 @@ pub record Breach : Type 0 where
   pub law : Law
   pub at : ℕ
 
--- the first law that isn't kept at a place
+-- the first law that isn't kept at an event
 abbrev pub broken_at : Roster → List CountedEvent → CountedEvent → Option Law
 broken_at r past x = find (λ law. not (keeps_at law r past x)) laws
 
--- the first of these places at which one isn't kept; the number is that of the next
+-- the first of these events at which one isn't kept; the number is that of the next
 abbrev pub breach_from : Roster → ℕ → List CountedEvent → List CountedEvent → Option Breach
 breach_from r at past [] = None
 breach_from r at past (x ∷ xs) = elim (broken_at r past x) [

@@ -22,7 +22,7 @@ mode_shown (Step _ _ _ Major) before = mode.Faulted
 mode_shown (Tick _ _ (Some t)) before = mode.Faulted
 mode_shown _ before = before
 
--- the mode after these places; a controller starts in Program
+-- the mode after these events; a controller starts in Program
 abbrev pub mode_after : List CountedEvent → Mode
 mode_after [] = mode.Program
 mode_after (x ∷ past) = mode_shown x.event (mode_after past)

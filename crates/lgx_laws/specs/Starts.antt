@@ -26,7 +26,7 @@ may_come_up kind tasks x t =
 abbrev pub is_event_mask : List TaskDef → CountedEvent → ℕ → Bool
 is_event_mask tasks x mask = list_any (λ t. nat_eq mask (2 ^ t) && may_come_up is_event tasks x t) (range_with_len 0 (length tasks))
 
--- a word may come in in Run, unless a CPS is in progress
+-- a word that comes in may release its trigger: in Run, unless a CPS is in progress
 abbrev pub may_trigger : List CountedEvent → CountedEvent → Bool
 may_trigger past x = is_mode (mode_after past) mode.Run && not (holds x.tasks)
 

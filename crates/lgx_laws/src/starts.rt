@@ -96,7 +96,7 @@ fn is_run(mode: Mode) -> bool
     }
 }
 
-/// Whether an input's word may come in.
+/// Whether an input's word may release its trigger.
 fn may_trigger(counts: &[Count], mode: Mode) -> bool
     ensures { (cs : List Counted) (ns : List Numbers) (past : List CountedEvent) (e : TraceEvent) → Shown counts.now cs → mode ≡ mode_after past
         → result ≡ may_trigger past (record { tasks = cs; programs = ns; event = e }) }

@@ -13,40 +13,40 @@ use Rattle.spec_project.specs.declared.described.Described.{Described}
 use Rattle.spec_project.specs.declared.described.DescribedConnection.{DescribedConnection}
 use Rattle.spec_project.specs.declared.fault.ProjectFault.{ProjectFault}
 use Rattle.spec_project.specs.Faults.{or_else, in_field}
-use Rattle.spec_project.specs.Places.{connected_such, connection_fault, connection_of, event_named, found_such, trigger_such}
+use Rattle.spec_project.specs.Places.{connected_refusal, connection_fault, connection_of, event_named, found_refusal, trigger_refusal}
 use Rattle.spec_project.specs.Tags.{declarations}
 use Rattle.lgx_json.proofs.Steps.{earlier, fielded}
 use Rattle.lgx_places.specs.WholeTags.{connected_among, tag_types}
-use Rattle.lgx_places.proofs.WholeTags.{same_such}
+use Rattle.lgx_places.proofs.WholeTags.{same_refusals}
 
 abbrev tag_fault : Described → List ℕ → Option ProjectFault
-tag_fault p text = found_such (connected_such (declarations p)) (found_fixed (declarations p) Controller text)
+tag_fault p text = found_refusal (connected_refusal (declarations p)) (found_fixed (declarations p) Controller text)
 
 -- what is found of the tag, by the types of the controller's tags
 tag_fault_among : (p : Described) (c : DescribedConnection) (types : List DataType) (text : List ℕ) → types ≡ tag_types p.types p.tags → text ≡ c.tag
-    → found_such (connected_among (declarations p) types) (found_fixed (declarations p) Controller text) ≡ tag_fault p c.tag
-tag_fault_among p c types text made is = same_such p types (found_fixed (declarations p) Controller text) made ∙ ap (tag_fault p) is
+    → found_refusal (connected_among (declarations p) types) (found_fixed (declarations p) Controller text) ≡ tag_fault p c.tag
+tag_fault_among p c types text made is = same_refusals p types (found_fixed (declarations p) Controller text) made ∙ ap (tag_fault p) is
 
 pub tag_refused : (p : Described) (c : DescribedConnection) (types : List DataType) (text : List ℕ) (e r : Option ProjectFault) → types ≡ tag_types p.types p.tags → text ≡ c.tag
-    → IsFaultOf (found_such (connected_among (declarations p) types) (found_fixed (declarations p) Controller text)) e → IsFaultOf (in_field (codes "tag") e) r → IsFaultOf (connection_fault p c) r
+    → IsFaultOf (found_refusal (connected_among (declarations p) types) (found_fixed (declarations p) Controller text)) e → IsFaultOf (in_field (codes "tag") e) r → IsFaultOf (connection_fault p c) r
 tag_refused p c types text e r made is h k =
-    earlier (in_field (codes "tag") (tag_fault p c.tag)) (in_field (codes "trigger") (trigger_such p c c.trigger)) r
+    earlier (in_field (codes "tag") (tag_fault p c.tag)) (in_field (codes "trigger") (trigger_refusal p c c.trigger)) r
     (fielded (codes "tag") (tag_fault p c.tag) e r (subst (λ (o : Option ProjectFault). IsFaultOf o e) (tag_fault_among p c types text made is) h) k)
 
 -- what is left if the tag isn't refused
 tag_passed : (p : Described) (c : DescribedConnection) (types : List DataType) (text : List ℕ) → types ≡ tag_types p.types p.tags → text ≡ c.tag
-    → found_such (connected_among (declarations p) types) (found_fixed (declarations p) Controller text) ≡ None → connection_fault p c ≡ in_field (codes "trigger") (trigger_such p c c.trigger)
+    → found_refusal (connected_among (declarations p) types) (found_fixed (declarations p) Controller text) ≡ None → connection_fault p c ≡ in_field (codes "trigger") (trigger_refusal p c c.trigger)
 tag_passed p c types text made is none =
-    ap (λ o. or_else (in_field (codes "tag") o) (in_field (codes "trigger") (trigger_such p c c.trigger))) (sym (tag_fault_among p c types text made is) ∙ none)
+    ap (λ o. or_else (in_field (codes "tag") o) (in_field (codes "trigger") (trigger_refusal p c c.trigger))) (sym (tag_fault_among p c types text made is) ∙ none)
 
 pub trigger_refused : (p : Described) (c : DescribedConnection) (types : List DataType) (text : List ℕ) (e r : Option ProjectFault) → types ≡ tag_types p.types p.tags → text ≡ c.tag
-    → found_such (connected_among (declarations p) types) (found_fixed (declarations p) Controller text) ≡ None
-    → IsFaultOf (trigger_such p c c.trigger) e → IsFaultOf (in_field (codes "trigger") e) r → IsFaultOf (connection_fault p c) r
+    → found_refusal (connected_among (declarations p) types) (found_fixed (declarations p) Controller text) ≡ None
+    → IsFaultOf (trigger_refusal p c c.trigger) e → IsFaultOf (in_field (codes "trigger") e) r → IsFaultOf (connection_fault p c) r
 trigger_refused p c types text e r made is none h k =
-    subst (λ (o : Option ProjectFault). IsFaultOf o r) (sym (tag_passed p c types text made is none)) (fielded (codes "trigger") (trigger_such p c c.trigger) e r h k)
+    subst (λ (o : Option ProjectFault). IsFaultOf o r) (sym (tag_passed p c types text made is none)) (fielded (codes "trigger") (trigger_refusal p c c.trigger) e r h k)
 
 pub connection_passes : (p : Described) (c : DescribedConnection) (types : List DataType) (text : List ℕ) → types ≡ tag_types p.types p.tags → text ≡ c.tag
-    → found_such (connected_among (declarations p) types) (found_fixed (declarations p) Controller text) ≡ None → trigger_such p c c.trigger ≡ None → connection_fault p c ≡ None
+    → found_refusal (connected_among (declarations p) types) (found_fixed (declarations p) Controller text) ≡ None → trigger_refusal p c c.trigger ≡ None → connection_fault p c ≡ None
 connection_passes p c types text made is none last = tag_passed p c types text made is none ∙ ap (in_field (codes "trigger")) last
 
 -- ---- what a connection is

@@ -20,7 +20,7 @@ use Rattle.spec_project.specs.declared.described.DescribedProgram.{DescribedProg
 use Rattle.spec_project.specs.declared.described.DescribedTag.{DescribedTag}
 use Rattle.spec_project.specs.declared.fault.ProjectCode.TheVariants.{P5}
 use Rattle.spec_project.specs.Faults.{here, refused_if}
-use Rattle.spec_project.specs.Places.{connected_such, found_such, is_controller_tag, is_short, is_whole_tag, may_connect}
+use Rattle.spec_project.specs.Places.{connected_refusal, found_refusal, is_controller_tag, is_short, is_whole_tag, may_connect}
 use Rattle.spec_project.specs.Tags.{ScopedTag, data_type, declarations, entry_of, tags_in}
 use Rattle.spec_language.specs.declared.span.TagSpan.{TagSpan}
 use Rattle.spec_language.specs.TagSpans.{is_laid_tag, span_of, spans_of}
@@ -116,9 +116,9 @@ whole_is_one_of p f =
     subst P (sym (own_entries p)) (first_tags p.types f 0 0 p.tags others are)
 
 -- what is refused is the same
-pub same_such : (p : Described) (types : List DataType) (r : Result Found TagCode) → types ≡ tag_types p.types p.tags → found_such (connected_among (declarations p) types) r ≡ found_such (connected_such (declarations p)) r
-same_such p types (Err code) is = refl
-same_such p types (Ok f) is =
+pub same_refusals : (p : Described) (types : List DataType) (r : Result Found TagCode) → types ≡ tag_types p.types p.tags → found_refusal (connected_among (declarations p) types) r ≡ found_refusal (connected_refusal (declarations p)) r
+same_refusals p types (Err code) is = refl
+same_refusals p types (Ok f) is =
     rw is (ap (λ b. refused_if (not (b && may_connect f.of && is_short (declarations p) f.of)) (here P5)) (sym (whole_is_one_of p f)))
 
 -- ---- one more

@@ -7,7 +7,7 @@ ghost use Rattle.spec_base.specs.declared.limits.TheConstants.{MAX_TASKS};
 ghost use Rattle.spec_machine.specs.declared.limits.TheConstants.{MAX_SCOPE_TAGS};
 ghost use Rattle.spec_project.specs.Faults.{first_at};
 ghost use Rattle.spec_project.specs.Limits.{IsWithinLimits};
-ghost use Rattle.spec_project.specs.Places.{connection_fault, connection_of, connections_fault, event_named, found_such, is_short, may_connect, trigger_such};
+ghost use Rattle.spec_project.specs.Places.{connection_fault, connection_of, connections_fault, event_named, found_refusal, is_short, may_connect, trigger_refusal};
 ghost use Rattle.spec_project.specs.Tags.{declarations};
 ghost use Rattle.lgx_types.specs.Tables.{HasSize};
 ghost use Rattle.spec_language.specs.TagSpans.{spans_of};
@@ -76,7 +76,7 @@ fn connected(
 ) -> Result<Found, ProjectError>
     requires sealed { tags.now.sealed ≡ true }
     requires few { length types.now ≤ MAX_SCOPE_TAGS }
-    ensures fault { Passes (found_such (connected_among tags.now.declarations types.now) (found_fixed tags.now.declarations Controller text.now)) result }
+    ensures fault { Passes (found_refusal (connected_among tags.now.declarations types.now) (found_fixed tags.now.declarations Controller text.now)) result }
     ensures found { IfOk result (λ f. found_fixed tags.now.declarations Controller text.now ≡ Ok f) }
     ensures sized { IfOk result (λ f. HasSize tags.now.declarations.types f.of) }
 {
@@ -95,7 +95,7 @@ fn trigger_of(
     connection: &DescribedConnection,
 ) -> Result<Option<u32>, ProjectError>
     requires { length file.now.tasks ≤ MAX_TASKS }
-    ensures { Reads (trigger_such file.now connection.now connection.now.trigger) (option_and_then (event_named file.now) connection.now.trigger) result }
+    ensures { Reads (trigger_refusal file.now connection.now connection.now.trigger) (option_and_then (event_named file.now) connection.now.trigger) result }
 {
     let Some(name) = &connection.trigger else {
         return Ok(None);

@@ -16,7 +16,7 @@ use Rattle.spec_project.specs.declared.described.TaskWord.{TaskWord}
 use Rattle.spec_project.specs.declared.described.TaskWord.TheVariants.{Continuous, Periodic, Event}
 use Rattle.spec_project.specs.declared.fault.ProjectCode.TheVariants.{P3, P5, P11}
 use Rattle.spec_project.specs.Faults.{or_else, here, refused_if, in_field, first_from, first_at, at_place}
-use Rattle.spec_project.specs.Judges.{Judge, Field, name, whole, needed, optional, list, listed, value_such, field, fields_of, keys, is_field, only_keys, any_object, keys_of, object as object_of}
+use Rattle.spec_project.specs.Judges.{Judge, Field, name, whole, needed, optional, list, listed, value_refusal, field, fields_of, keys, is_field, only_keys, any_object, keys_of, object as object_of}
 use Rattle.spec_project.specs.Shape as shapes
 use Rattle.spec_project.specs.Values.{text_of, number_of, truth_of, elements_of, text_at, number_at, list_at}
 use Rattle.spec_project.specs.Reading.{type_decl, described_tag, described_program, task_def, described_task, described_connection, described_value, described, kind_of, priority_of}
@@ -98,7 +98,7 @@ not_known Event = refl
 
 no_inhibited : (d : Data) → get inhibited d ≡ None → field shapes.inhibited_field d ≡ None
 unfolding field shapes.inhibited_field
-no_inhibited d none = ap (λ o. in_field inhibited (value_such shapes.inhibited_field o)) none
+no_inhibited d none = ap (λ o. in_field inhibited (value_refusal shapes.inhibited_field o)) none
 
 fields_together : (fs : List Field) (d : Data) → FieldsPass fs d → fields_of fs d ≡ None
 fields_together [] d h = refl
@@ -237,11 +237,11 @@ module _ (ms : Members) where
 
   schema_passes : field (needed schema_key (whole 1 NEWEST_SCHEMA)) after ≡ None
   unfolding field
-  schema_passes = ap (λ o. in_field schema_key (value_such (needed schema_key (whole 1 NEWEST_SCHEMA)) o)) schema_is
+  schema_passes = ap (λ o. in_field schema_key (value_refusal (needed schema_key (whole 1 NEWEST_SCHEMA)) o)) schema_is
 
   field_kept : (f : Field) → bytes_eq f.key schema_key ≡ false → field f before ≡ None → field f after ≡ None
   unfolding field
-  field_kept f other e = ap (λ o. in_field f.key (value_such f o)) (kept f.key other) ∙ e
+  field_kept f other e = ap (λ o. in_field f.key (value_refusal f o)) (kept f.key other) ∙ e
 
   keys_put : (k : List ℕ) (d : Data) (known : List (List ℕ)) (ns : Members) → is_field known k ≡ true → list_all (is_field known) (keys ns) ≡ true → list_all (is_field known) (keys (put k d ns)) ≡ true
   keys_put k d known no_members own e = ap (λ b. b && true) own
@@ -257,9 +257,9 @@ module _ (ms : Members) where
 
   tasks_pass : field (needed (codes "tasks") (shapes.tasks newest)) before ≡ None → field (needed (codes "tasks") (shapes.tasks true)) after ≡ None
   unfolding field
-  tasks_pass e = ap (λ o. in_field (codes "tasks") (value_such (needed (codes "tasks") (shapes.tasks true)) o)) (kept (codes "tasks") refl) ∙ found (get (codes "tasks") before) e
+  tasks_pass e = ap (λ o. in_field (codes "tasks") (value_refusal (needed (codes "tasks") (shapes.tasks true)) o)) (kept (codes "tasks") refl) ∙ found (get (codes "tasks") before) e
     where
-      found : (o : Option Data) → in_field (codes "tasks") (value_such (needed (codes "tasks") (shapes.tasks newest)) o) ≡ None → in_field (codes "tasks") (value_such (needed (codes "tasks") (shapes.tasks true)) o) ≡ None
+      found : (o : Option Data) → in_field (codes "tasks") (value_refusal (needed (codes "tasks") (shapes.tasks newest)) o) ≡ None → in_field (codes "tasks") (value_refusal (needed (codes "tasks") (shapes.tasks true)) o) ≡ None
       found None e = absurd (cc)
       found (Some d) e = ap (in_field (codes "tasks")) (newest_tasks newest d (not_mapped _ (shapes.tasks newest d) e))
 
@@ -329,7 +329,7 @@ module _ (ms : Members) where
       ∙ same_list (codes "tasks") (described_task true) refl
       ∙ found (get (codes "tasks") before) e
     where
-      found : (o : Option Data) → in_field (codes "tasks") (value_such (needed (codes "tasks") (shapes.tasks newest)) o) ≡ None
+      found : (o : Option Data) → in_field (codes "tasks") (value_refusal (needed (codes "tasks") (shapes.tasks newest)) o) ≡ None
           → unwrap_or (option_map (λ v. map (described_task true) (elements_of v)) o) [] ≡ unwrap_or (option_map (λ v. map (described_task newest) (elements_of v)) o) []
       found None e = refl
       found (Some d) e = same_tasks newest d (not_mapped _ (shapes.tasks newest d) e)

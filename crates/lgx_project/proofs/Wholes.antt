@@ -23,7 +23,7 @@ use Rattle.spec_project.specs.declared.described.TaskWord.{TaskWord}
 use Rattle.spec_project.specs.declared.described.TaskWord.TheVariants.{Continuous, Periodic, Event}
 use Rattle.spec_project.specs.declared.fault.ProjectCode.TheVariants.{P3, P4, P5, P11}
 use Rattle.spec_project.specs.Faults.{or_else, here, refused_if, under, first_from, first_at, at_place}
-use Rattle.spec_project.specs.Judges.{Judge, Field, text_such, any_text, name, one_of, is_one_of, rung, whole, dint, between, truth, list, listed, value_such, field, fields_of, keys, is_field, only_keys, any_object, keys_of, object as object_of}
+use Rattle.spec_project.specs.Judges.{Judge, Field, text_refusal, any_text, name, one_of, is_one_of, rung, whole, dint, between, truth, list, listed, value_refusal, field, fields_of, keys, is_field, only_keys, any_object, keys_of, object as object_of}
 use Rattle.spec_project.specs.Shape as shapes
 use Rattle.spec_valid.proofs.Passes.{neither, not_mapped, is_so, none_placed}
 use Rattle.spec_project.specs.Values.{has_field}
@@ -92,7 +92,7 @@ abbrev AreWhole : List Field → Type 0
 AreWhole [] = ⊤
 AreWhole (f ∷ fs) = IsWhole f.judge × AreWhole fs
 
-text_whole : (fits : List ℕ → Bool) → IsWhole (λ d. text_such fits (as_str d))
+text_whole : (fits : List ℕ → Bool) → IsWhole (λ d. text_refusal fits (as_str d))
 text_whole fits null h e = refl
 text_whole fits (boolean b) h e = refl
 text_whole fits (number n) h e = absurd (cc)
@@ -150,7 +150,7 @@ Fit (f ∷ fs) ms = ((e : Data) → get_member f.key ms ≡ Some e → has_float
 
 field_fits : (f : Field) (ms : Members) (e : Data) → field f (object ms) ≡ None → get_member f.key ms ≡ Some e → f.judge e ≡ None
 unfolding field
-field_fits f ms e passes is = ap (value_such f) (sym is) ∙ not_mapped (under f.key) (value_such f (get_member f.key ms)) passes
+field_fits f ms e passes is = ap (value_refusal f) (sym is) ∙ not_mapped (under f.key) (value_refusal f (get_member f.key ms)) passes
 
 fields_fit : (fs : List Field) (ms : Members) → AreWhole fs → MembersOrdered ms → FieldsPass fs (object ms) → Fit fs ms
 fields_fit [] ms each h passes = tt

@@ -7,7 +7,7 @@ ghost use Rattle.spec_language.specs.Checked.{checked};
 ghost use Rattle.lgx_check.specs.Scopes.{scope_of};
 ghost use Rattle.spec_project.specs.Faults.{first_at};
 ghost use Rattle.spec_project.specs.Limits.{HasFewRungs, IsShortText};
-ghost use Rattle.spec_project.specs.Routines.{routine_fault, rung_fault, rungs_such};
+ghost use Rattle.spec_project.specs.Routines.{routine_fault, rung_fault, rungs_refusal};
 ghost use Rattle.lgx_project.specs.Programs.{read_as};
 ghost use Rattle.lgx_project.specs.Sources.{sources};
 ghost use Rattle.lgx_json.specs.Answers.{Reads, ReadsField};
@@ -60,7 +60,7 @@ fn check_source(
     requires sealed { scope.now.tags.now.sealed ≡ true }
     requires few_routines { length scope.now.routines.now < 2 ^ 32 }
     requires few_tasks { length scope.now.tasks.now < 2 ^ 32 }
-    ensures { ReadsField (rungs_such (checked (scope_of scope.now) source.now)) (result_ok (checked (scope_of scope.now) source.now)) result }
+    ensures { ReadsField (rungs_refusal (checked (scope_of scope.now) source.now)) (result_ok (checked (scope_of scope.now) source.now)) result }
 {
     match check_routine(alloc, source, scope) {
         Ok(rungs) => Ok(rungs),

@@ -234,7 +234,7 @@ impl TaskTable {
     }
 
     /// Finds out which ticks after `now` have nothing to do, so that `is_quiet` knows them until the table changes.
-    pub fn settle(&mut self, now: u32)
+    pub fn find_quiet(&mut self, now: u32)
         ensures { self.new ≡ self.old }
     {
         let until = self.quiet_until(now);

@@ -43,40 +43,40 @@ module _ (n : ℕ) (v : PartsView) (s : State) (h : RepresentsState n v s) where
       omega arith
 
   -- the accept that is meant
-  meant : (client : ℕ) (command : AcceptCommand) → accept v.plan.tags v.plan.names (books v.book) client command ≡ accept s.plan.tags s.plan.names s.books client command
-  meant client command = ap (λ (p : Plan). accept p.tags p.names (books v.book) client command) h.plan ∙ ap (λ (bs : List Book). accept s.plan.tags s.plan.names bs client command) h.books
+  meant : (lane : ℕ) (command : AcceptCommand) → accept v.plan.tags v.plan.names (books v.book) lane command ≡ accept s.plan.tags s.plan.names s.books lane command
+  meant lane command = ap (λ (p : Plan). accept p.tags p.names (books v.book) lane command) h.plan ∙ ap (λ (bs : List Book). accept s.plan.tags s.plan.names bs lane command) h.books
 
-  pub accepted : (client : ℕ) (command : AcceptCommand) (names : List TaskName) (book : List EditsView) (number : ℕ) (o : Outcome) → names ≡ v.plan.names → o ≡ replied_by (reply.Version number)
-      → accept v.plan.tags names (books v.book) client command ≡ Ok (record { books = books book; reply = reply.Version number }) → holds book ≡ holds v.book
-      → ViewGives (n + 1) (record v { book = book }) o (edit_replied s (accept s.plan.tags s.plan.names s.books client command))
-  accepted client command names book number o names_are is done held =
+  pub accepted : (lane : ℕ) (command : AcceptCommand) (names : List TaskName) (book : List EditsView) (number : ℕ) (o : Outcome) → names ≡ v.plan.names → o ≡ replied_by (reply.Version number)
+      → accept v.plan.tags names (books v.book) lane command ≡ Ok (record { books = books book; reply = reply.Version number }) → holds book ≡ holds v.book
+      → ViewGives (n + 1) (record v { book = book }) o (edit_replied s (accept s.plan.tags s.plan.names s.books lane command))
+  accepted lane command names book number o names_are is done held =
       let e : Edited = record { books = books book; reply = reply.Version number } in
-      let answer : accept s.plan.tags s.plan.names s.books client command ≡ Ok e = sym (meant client command) ∙ (ap (λ (ns : List TaskName). accept v.plan.tags ns (books v.book) client command) (sym names_are) ∙ done) in
+      let answer : accept s.plan.tags s.plan.names s.books lane command ≡ Ok e = sym (meant lane command) ∙ (ap (λ (ns : List TaskName). accept v.plan.tags ns (books v.book) lane command) (sym names_are) ∙ done) in
       let named : length s.plan.schedule ≡ length s.plan.names = sym h.sane.plan.names in
       let l = later n v s h in
       let before : Each (IsReadyBook (bytes s.plan.tags) (length s.plan.names) n) s.books = subst (λ k. Each (IsReadyBook (bytes s.plan.tags) k n) s.books) named h.sane.books in
       let after : Each (IsReadyBook (bytes s.plan.tags) (length s.plan.names) (n + 1)) s.books = subst (λ k. Each (IsReadyBook (bytes s.plan.tags) k (n + 1)) s.books) named l.sane.books in
-      let r : StaysReady s.plan.tags s.plan.names h.sane.plan.tags n s.books e = accept-ready s.plan.tags s.plan.names h.sane.plan.tags n client command s.books e before after answer in
+      let r : StaysReady s.plan.tags s.plan.names h.sane.plan.tags n s.books e = accept-ready s.plan.tags s.plan.names h.sane.plan.tags n lane command s.books e before after answer in
       subst (λ (x : Result Edited EditFault). ViewGives (n + 1) (record v { book = book }) o (edit_replied s x)) (sym answer)
       (record { answers = is; represents = with-books (n + 1) v s l book (books book) refl held r.many (subst (λ k. Each (IsReadyBook (bytes s.plan.tags) k (n + 1)) (books book)) (sym named) r.ready) })
 
-  pub refused : (client : ℕ) (command : AcceptCommand) (names : List TaskName) (book : List EditsView) (fault : EditFault) (o : Outcome) → names ≡ v.plan.names → o ≡ replied_by (reply.Edit fault)
-      → accept v.plan.tags names (books v.book) client command ≡ Err fault → book ≡ v.book
-      → ViewGives (n + 1) (record v { book = book }) o (edit_replied s (accept s.plan.tags s.plan.names s.books client command))
-  refused client command names book fault o names_are is done same =
-      let answer : accept s.plan.tags s.plan.names s.books client command ≡ Err fault = sym (meant client command) ∙ (ap (λ (ns : List TaskName). accept v.plan.tags ns (books v.book) client command) (sym names_are) ∙ done) in
+  pub refused : (lane : ℕ) (command : AcceptCommand) (names : List TaskName) (book : List EditsView) (fault : EditFault) (o : Outcome) → names ≡ v.plan.names → o ≡ replied_by (reply.Edit fault)
+      → accept v.plan.tags names (books v.book) lane command ≡ Err fault → book ≡ v.book
+      → ViewGives (n + 1) (record v { book = book }) o (edit_replied s (accept s.plan.tags s.plan.names s.books lane command))
+  refused lane command names book fault o names_are is done same =
+      let answer : accept s.plan.tags s.plan.names s.books lane command ≡ Err fault = sym (meant lane command) ∙ (ap (λ (ns : List TaskName). accept v.plan.tags ns (books v.book) lane command) (sym names_are) ∙ done) in
       subst (λ (x : Result Edited EditFault). ViewGives (n + 1) (record v { book = book }) o (edit_replied s x)) (sym answer)
       (record { answers = is; represents = subst (λ (b : List EditsView). RepresentsState (n + 1) (record v { book = b }) s) (sym same) (later n v s h) })
 
   -- the same by the book's error
-  pub refused-as : (client : ℕ) (command : AcceptCommand) (names : List TaskName) (book : List EditsView) (e : EditError) (r : Result Outcome Memory) → names ≡ v.plan.names → r ≡ refusal_of e
-      → LeavesAccepted (accept v.plan.tags names (books v.book) client command) v.book book (Err e)
-      → IfOk r (λ o. ViewGives (n + 1) (record v { book = book }) o (edit_replied s (accept s.plan.tags s.plan.names s.books client command)))
-  refused-as client command names book (error.Edit fault) r names_are is l =
-      subst (λ (x : Result Outcome Memory). IfOk x (λ o. ViewGives (n + 1) (record v { book = book }) o (edit_replied s (accept s.plan.tags s.plan.names s.books client command)))) (sym is)
-      (refused client command names book fault (replied_by (reply.Edit fault)) names_are refl l.0 l.1)
-  refused-as client command names book error.Memory r names_are is l =
-      subst (λ (x : Result Outcome Memory). IfOk x (λ o. ViewGives (n + 1) (record v { book = book }) o (edit_replied s (accept s.plan.tags s.plan.names s.books client command)))) (sym is) tt
+  pub refused-as : (lane : ℕ) (command : AcceptCommand) (names : List TaskName) (book : List EditsView) (e : EditError) (r : Result Outcome Memory) → names ≡ v.plan.names → r ≡ refusal_of e
+      → LeavesAccepted (accept v.plan.tags names (books v.book) lane command) v.book book (Err e)
+      → IfOk r (λ o. ViewGives (n + 1) (record v { book = book }) o (edit_replied s (accept s.plan.tags s.plan.names s.books lane command)))
+  refused-as lane command names book (error.Edit fault) r names_are is l =
+      subst (λ (x : Result Outcome Memory). IfOk x (λ o. ViewGives (n + 1) (record v { book = book }) o (edit_replied s (accept s.plan.tags s.plan.names s.books lane command)))) (sym is)
+      (refused lane command names book fault (replied_by (reply.Edit fault)) names_are refl l.0 l.1)
+  refused-as lane command names book error.Memory r names_are is l =
+      subst (λ (x : Result Outcome Memory). IfOk x (λ o. ViewGives (n + 1) (record v { book = book }) o (edit_replied s (accept s.plan.tags s.plan.names s.books lane command)))) (sym is) tt
 
   -- ---- a word out
 

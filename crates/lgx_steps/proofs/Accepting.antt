@@ -35,8 +35,8 @@ was-checked (Err f) e x h = err_not_ok _ _ h
 
 module _ (tags : Declarations) (names : List TaskName) (sound : Sound tags) where
   -- a routine that was checked is ready, and so are the merged ones with it
-  with-routine : (n client r : ℕ) (k : ℕ) (scoped b : Book) (changes : List Change) (source : List Source) (rungs : Rungs) → checked (scope_of tags names k scoped) source ≡ Ok rungs → IsReadyBook (bytes tags) (length names) n b → IsReadyBook (bytes tags) (length names) (n + 1) (with_changes client r changes source rungs b)
-  with-routine n client r k scoped b changes source rungs e h =
+  with-routine : (n lane r : ℕ) (k : ℕ) (scoped b : Book) (changes : List Change) (source : List Source) (rungs : Rungs) → checked (scope_of tags names k scoped) source ≡ Ok rungs → IsReadyBook (bytes tags) (length names) n b → IsReadyBook (bytes tags) (length names) (n + 1) (with_changes lane r changes source rungs b)
+  with-routine n lane r k scoped b changes source rungs e h =
       let routine : RoutineText = record (routine_at b.merged r) { source = source; checked = rungs } in
       record {
         base = h.base;
@@ -47,10 +47,10 @@ module _ (tags : Declarations) (names : List TaskName) (sound : Sound tags) wher
         newest = omega (arith, h.newest);
       }
 
-  in-ready : (n client r k : ℕ) (scoped b b' : Book) (edits : List RungEdit) → IsReadyBook (bytes tags) (length names) n b → accept_in (scope_of tags names k scoped) client r edits b ≡ Ok b' → IsReadyBook (bytes tags) (length names) (n + 1) b'
-  in-ready n client r k scoped b b' edits h is =
+  in-ready : (n lane r k : ℕ) (scoped b b' : Book) (edits : List RungEdit) → IsReadyBook (bytes tags) (length names) n b → accept_in (scope_of tags names k scoped) lane r edits b ≡ Ok b' → IsReadyBook (bytes tags) (length names) (n + 1) b'
+  in-ready n lane r k scoped b b' edits h is =
       let scope : CheckScope = scope_of tags names k scoped in
-      let r₁ = bind_ok (none_or (other_owner b client) E3) _ b' is in
+      let r₁ = bind_ok (none_or (other_owner b lane) E3) _ b' is in
       let r₂ = bind_ok (none_or (position_from (is_misplaced (length (routine_at b.base r).source)) 0 edits) E5) _ b' r₁.2 in
       let r₃ = bind_ok (none_or (first_again 0 (flat_map taken_by (changes_in b r)) edits) E6) _ b' r₂.2 in
       let r₄ = bind_ok (changes_of 0 edits) _ b' r₃.2 in
@@ -58,24 +58,24 @@ module _ (tags : Declarations) (names : List TaskName) (sound : Sound tags) wher
       let source : List Source = merged (routine_at b.base r).source (changes_in b r ++ changes) in
       let r₅ = bind_ok (ok_or_cause (checked scope source) E8) _ b' r₄.2 in
       let rungs : Rungs = r₅.0 in
-      let new : Book = with_changes client r changes source rungs b in
+      let new : Book = with_changes lane r changes source rungs b in
       let r₆ = bind_ok (unless (nat_le (instruction_count new.merged) MAX_PROGRAM_INSTRUCTIONS) E9) _ b' r₅.2 in
-      subst (IsReadyBook (bytes tags) (length names) (n + 1)) (ok_inj new b' r₆.2) (with-routine n client r k scoped b changes source rungs (was-checked (checked scope source) E8 rungs r₅.1) h)
+      subst (IsReadyBook (bytes tags) (length names) (n + 1)) (ok_inj new b' r₆.2) (with-routine n lane r k scoped b changes source rungs (was-checked (checked scope source) E8 rungs r₅.1) h)
 
   -- the books after an accept
   pub record StaysReady (n : ℕ) (bs : List Book) (e : Edited) : Type 0 where
     pub many : length e.books ≡ length bs
     pub ready : Each (IsReadyBook (bytes tags) (length names) (n + 1)) e.books
 
-  pub accept-ready : (n client : ℕ) (command : AcceptCommand) (bs : List Book) (e : Edited) → Each (IsReadyBook (bytes tags) (length names) n) bs → Each (IsReadyBook (bytes tags) (length names) (n + 1)) bs → accept tags names bs client command ≡ Ok e → StaysReady n bs e
-  accept-ready n client command bs e h later is =
+  pub accept-ready : (n lane : ℕ) (command : AcceptCommand) (bs : List Book) (e : Edited) → Each (IsReadyBook (bytes tags) (length names) n) bs → Each (IsReadyBook (bytes tags) (length names) (n + 1)) bs → accept tags names bs lane command ≡ Ok e → StaysReady n bs e
+  accept-ready n lane command bs e h later is =
       let r₁ = bind_ok (program_named bs command.program) _ e is in
       let k : ℕ = r₁.0 in
       let b : Book = book_at bs k in
       let r₂ = bind_ok (routine_named b command.routine) _ e r₁.2 in
-      let r₃ = bind_ok (accept_in (scope_of tags names k b) client r₂.0 command.edits b) _ e r₂.2 in
+      let r₃ = bind_ok (accept_in (scope_of tags names k b) lane r₂.0 command.edits b) _ e r₂.2 in
       let b' : Book = r₃.0 in
-      let new : IsReadyBook (bytes tags) (length names) (n + 1) b' = in-ready n client r₂.0 k b b b' command.edits (each-get_or (IsReadyBook (bytes tags) (length names) n) bs k no_book h (no-rungs (bytes tags) (length names) n)) r₃.1 in
+      let new : IsReadyBook (bytes tags) (length names) (n + 1) b' = in-ready n lane r₂.0 k b b b' command.edits (each-get_or (IsReadyBook (bytes tags) (length names) n) bs k no_book h (no-rungs (bytes tags) (length names) n)) r₃.1 in
       subst (StaysReady n bs) (ok_inj (record { books = slice_set bs k b'; reply = Version b'.newest }) e r₃.2)
       (record { many = length-set bs k b'; ready = each-set (IsReadyBook (bytes tags) (length names) (n + 1)) bs k b' later new })
 

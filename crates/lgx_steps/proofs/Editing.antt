@@ -53,12 +53,12 @@ pub record LeavesReady (len tasks n : ℕ) (bs : List Book) (e : Edited) : Type 
   pub many : length e.books ≡ length bs
   pub ready : Each (IsReadyBook len tasks n) e.books
 
-pub command-ready : (change : Book → Result Book EditFault) (len tasks n client : ℕ) (name : List ℕ) (bs : List Book) (e : Edited) → KeepsReady change → Each (IsReadyBook len tasks n) bs → on_accepted change bs client name ≡ Ok e → LeavesReady len tasks n bs e
-command-ready change len tasks n client name bs e keeps h is =
+pub command-ready : (change : Book → Result Book EditFault) (len tasks n lane : ℕ) (name : List ℕ) (bs : List Book) (e : Edited) → KeepsReady change → Each (IsReadyBook len tasks n) bs → on_accepted change bs lane name ≡ Ok e → LeavesReady len tasks n bs e
+command-ready change len tasks n lane name bs e keeps h is =
     let r = bind_ok (program_named bs name) _ e is in
     let i : ℕ = r.0 in
     let b : Book = book_at bs i in
-    let r₂ = bind_ok (none_or (other_owner b client) E3) _ e r.2 in
+    let r₂ = bind_ok (none_or (other_owner b lane) E3) _ e r.2 in
     let r₃ = bind_ok (unless (has_accepted b) E10) _ e r₂.2 in
     let r₄ = bind_ok (change b) _ e r₃.2 in
     let b' : Book = r₄.0 in
@@ -68,10 +68,10 @@ command-ready change len tasks n client name bs e keeps h is =
 
 -- ---- the answer
 
-module _ (n : ℕ) (v : PartsView) (s : State) (h : RepresentsState n v s) (change : Book → Result Book EditFault) (keeps : KeepsReady change) (client : ℕ) (name : List ℕ) (book : List EditsView) (answer : Result (Unit {0}) EditFault) where
-  edited : (r : Result Edited EditFault) → on_accepted change s.books client name ≡ r → Leaves r v.book book answer → ViewGives n (record v { book = book }) (edit_outcome answer) (edit_replied s r)
+module _ (n : ℕ) (v : PartsView) (s : State) (h : RepresentsState n v s) (change : Book → Result Book EditFault) (keeps : KeepsReady change) (lane : ℕ) (name : List ℕ) (book : List EditsView) (answer : Result (Unit {0}) EditFault) where
+  edited : (r : Result Edited EditFault) → on_accepted change s.books lane name ≡ r → Leaves r v.book book answer → ViewGives n (record v { book = book }) (edit_outcome answer) (edit_replied s r)
   edited (Ok e) is l =
-      let r = command-ready change (bytes s.plan.tags) (length s.plan.schedule) n client name s.books e keeps h.sane.books is in
+      let r = command-ready change (bytes s.plan.tags) (length s.plan.schedule) n lane name s.books e keeps h.sane.books is in
       record {
         answers = ap edit_outcome l.0 ∙ ap (λ x. record { reply = x; fault = None; released = 0 }) (sym r.done);
         represents = with-books n v s h book e.books l.1 l.2 r.many r.ready;
@@ -81,5 +81,5 @@ module _ (n : ℕ) (v : PartsView) (s : State) (h : RepresentsState n v s) (chan
     represents = subst (λ (b : List EditsView). RepresentsState n (record v { book = b }) s) (sym l.1) h;
   }
 
-  pub gives-edited : Leaves (on_accepted change (books v.book) client name) v.book book answer → ViewGives n (record v { book = book }) (edit_outcome answer) (edit_replied s (on_accepted change s.books client name))
-  gives-edited l = edited (on_accepted change s.books client name) refl (subst (λ (bs : List Book). Leaves (on_accepted change bs client name) v.book book answer) h.books l)
+  pub gives-edited : Leaves (on_accepted change (books v.book) lane name) v.book book answer → ViewGives n (record v { book = book }) (edit_outcome answer) (edit_replied s (on_accepted change s.books lane name))
+  gives-edited l = edited (on_accepted change s.books lane name) refl (subst (λ (bs : List Book). Leaves (on_accepted change bs lane name) v.book book answer) h.books l)

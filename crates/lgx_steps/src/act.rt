@@ -13,7 +13,7 @@ use lgx_num::Memory;
 use spec_machine::{Action, Outcome};
 
 impl ControllerParts {
-    /// What a lane does, which is the client of its edits. Only an accept takes memory; out of memory, nothing changes.
+    /// What a lane does, whose its edits are. Only an accept takes memory; out of memory, nothing changes.
     pub fn act(&mut self, lane: u32, action: &Action) -> Result<Outcome, Memory>
         requires { IsLive self.old }
         ensures gives { (n : ℕ) (s : State) → RepresentsParts n self.old s → IfOk result (λ outcome. Gives (n + 1) self.new outcome (act s lane action.now)) }

@@ -81,7 +81,7 @@ impl ControllerParts {
         ensures image { self.new.image ≡ self.old.image }
     {
         let report = self.watch_and_release();
-        self.table.settle(self.tick);
+        self.table.find_quiet(self.tick);
         report
     }
 

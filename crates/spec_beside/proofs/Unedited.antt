@@ -40,7 +40,7 @@ none_accepted (x ∷ xs) (suc n) = none_accepted xs n
 -- ---- commands
 
 -- a command on accepted edits is refused
-module _ (change : Book → Result Book EditFault) (ps : List ProgramText) (client : ℕ) (name : List ℕ) where
+module _ (change : Book → Result Book EditFault) (ps : List ProgramText) (lane : ℕ) (name : List ℕ) where
   abbrev books : List Book
   books = map book_of ps
 
@@ -54,18 +54,18 @@ module _ (change : Book → Result Book EditFault) (ps : List ProgramText) (clie
   from_accepted n = unless (has_accepted (book_at books n)) E10 >>= λ _. from_change n
 
   abbrev from_owner : ℕ → Result Edited EditFault
-  from_owner n = none_or (other_owner (book_at books n) client) E3 >>= λ _. from_accepted n
+  from_owner n = none_or (other_owner (book_at books n) lane) E3 >>= λ _. from_accepted n
 
-  is_refused : (e : Edited) → on_accepted change books client name ≡ Ok e → ⊥
+  is_refused : (e : Edited) → on_accepted change books lane name ≡ Ok e → ⊥
   is_refused e h =
       let h1 = bind_ok (program_named books name) from_owner e h in
-      let h2 = bind_ok (none_or (other_owner (book_at books h1.0) client) E3) (λ _. from_accepted h1.0) e h1.2 in
+      let h2 = bind_ok (none_or (other_owner (book_at books h1.0) lane) E3) (λ _. from_accepted h1.0) e h1.2 in
       let h3 = bind_ok (unless (has_accepted (book_at books h1.0)) E10) (λ _. from_change h1.0) e h2.2 in
       false≢true (sym (none_accepted ps h1.0) ∙ unless_ok (has_accepted (book_at books h1.0)) E10 h3.0 h3.1)
 
 -- an accept that is taken is answered with a number
-accept_told : (tags : Declarations) (names : List TaskName) (before : List Book) (client : ℕ) (command : AcceptCommand) (e : Edited) → IsAccepted tags names before client command e → is_version e.reply ≡ true
-accept_told tags names before client command e x = ap (λ (y : Edited). is_version y.reply) (sym x.result)
+accept_told : (tags : Declarations) (names : List TaskName) (before : List Book) (lane : ℕ) (command : AcceptCommand) (e : Edited) → IsAccepted tags names before lane command e → is_version e.reply ≡ true
+accept_told tags names before lane command e x = ap (λ (y : Edited). is_version y.reply) (sym x.result)
 
 -- ---- events
 

@@ -80,8 +80,8 @@ module _ (p : Project) where
   text_at n (y ∷ ys) zero h l = h.0
   text_at n (y ∷ ys) (suc r) h l = text_at n ys r h.1 (omega arith)
 
-  changes_hold : (n client r : ℕ) (changes : List Change) (source : List Source) (rungs : Rungs) (b : Book) → Holds n b → checked (scope_of p.tags p.names n b) source ≡ Ok rungs → TakesOnce (with_changes client r changes source rungs b) → Holds n (with_changes client r changes source rungs b)
-  changes_hold n client r changes source rungs b h k once =
+  changes_hold : (n lane r : ℕ) (changes : List Change) (source : List Source) (rungs : Rungs) (b : Book) → Holds n b → checked (scope_of p.tags p.names n b) source ≡ Ok rungs → TakesOnce (with_changes lane r changes source rungs b) → Holds n (with_changes lane r changes source rungs b)
+  changes_hold n lane r changes source rungs b h k once =
       let text : RoutineText = record (routine_at b.merged r) { source = source; checked = rungs } in
       record {
         base_names = h.base_names;
@@ -119,16 +119,16 @@ module _ (p : Project) where
   abbrev AllHold : List Book → Type 0
   AllHold books = (n : ℕ) → Holds n (book_at books n)
 
-  changed_hold : (change : Book → Result Book EditFault) (books : List Book) (client : ℕ) (name : List ℕ) (e : Edited) → KeepsHold change → IsChanged change books client name e → AllHold books → AllHold e.books
-  changed_hold change books client name e keeps x h =
+  changed_hold : (change : Book → Result Book EditFault) (books : List Book) (lane : ℕ) (name : List ℕ) (e : Edited) → KeepsHold change → IsChanged change books lane name e → AllHold books → AllHold e.books
+  changed_hold change books lane name e keeps x h =
       subst (λ (y : Edited). AllHold y.books) x.result (set_at Holds books x.number x.book h (keeps x.number (book_at books x.number) x.book x.changed (h x.number)))
 
-  accept_holds : (books : List Book) (client : ℕ) (c : AcceptCommand) (e : Edited) → accept p.tags p.names books client c ≡ Ok e → AllHold books → AllHold e.books
-  accept_holds books client c e is h =
-      let a = is_accepted p.tags p.names books client c e is in
+  accept_holds : (books : List Book) (lane : ℕ) (c : AcceptCommand) (e : Edited) → accept p.tags p.names books lane c ≡ Ok e → AllHold books → AllHold e.books
+  accept_holds books lane c e is h =
+      let a = is_accepted p.tags p.names books lane c e is in
       let b = book_at books a.number in
-      let parts = accepted_parts (scope_of p.tags p.names a.number b) client a.routine c.edits b a.book a.accepted in
-      let holds = changes_hold a.number client a.routine parts.0 (merged (routine_at b.base a.routine).source (changes_in b a.routine ++ parts.0)) parts.1 b (h a.number) parts.3 (subst TakesOnce (sym parts.2) (accepted_once (scope_of p.tags p.names a.number b) client a.routine c.edits b a.book a.accepted (h a.number).once)) in
+      let parts = accepted_parts (scope_of p.tags p.names a.number b) lane a.routine c.edits b a.book a.accepted in
+      let holds = changes_hold a.number lane a.routine parts.0 (merged (routine_at b.base a.routine).source (changes_in b a.routine ++ parts.0)) parts.1 b (h a.number) parts.3 (subst TakesOnce (sym parts.2) (accepted_once (scope_of p.tags p.names a.number b) lane a.routine c.edits b a.book a.accepted (h a.number).once)) in
       subst (λ (y : Edited). AllHold y.books) a.result (set_at Holds books a.number a.book h (subst (Holds a.number) parts.2 holds))
 
   edit_holds : (books : List Book) (lane : ℕ) (a : Action) (e : Edited) → edit p.tags p.names books lane a ≡ Some (Ok e) → AllHold books → AllHold e.books

@@ -103,14 +103,14 @@ changes_elsewhere r q [] ne = refl
 changes_elsewhere r q (c ∷ changes) ne =
     ap (λ (b : Bool). cons_option (if_here b c) (filter_map (change_in q) (edits_of r changes))) (ne_eqb r q ne) ∙ changes_elsewhere r q changes ne
 
-module _ (scope : CheckScope) (client r : ℕ) (edits : List RungEdit) (b : Book) where
+module _ (scope : CheckScope) (lane r : ℕ) (edits : List RungEdit) (b : Book) where
   abbrev from_count : List Change → Rungs → Result Book EditFault
   from_count changes rungs =
-      let b' = with_changes client r changes (source_with scope client r edits b changes) rungs b in
+      let b' = with_changes lane r changes (source_with scope lane r edits b changes) rungs b in
       unless (nat_le (instruction_count b'.merged) MAX_PROGRAM_INSTRUCTIONS) E9 >>= λ _. Ok b'
 
   abbrev from_merged : List Change → Result Book EditFault
-  from_merged changes = ok_or_cause (checked scope (source_with scope client r edits b changes)) E8 >>= from_count changes
+  from_merged changes = ok_or_cause (checked scope (source_with scope lane r edits b changes)) E8 >>= from_count changes
 
   abbrev from_texts : Result Book EditFault
   from_texts = changes_of 0 edits >>= from_merged
@@ -133,16 +133,16 @@ module _ (scope : CheckScope) (client r : ℕ) (edits : List RungEdit) (b : Book
     rungs : Rungs
     none : again ≡ None
     read : changes_of 0 edits ≡ Ok changes
-    result : with_changes client r changes (source_with scope client r edits b changes) rungs b ≡ c
+    result : with_changes lane r changes (source_with scope lane r edits b changes) rungs b ≡ c
 
-  is_taken : (c : Book) → accept_in scope client r edits b ≡ Ok c → IsTaken c
+  is_taken : (c : Book) → accept_in scope lane r edits b ≡ Ok c → IsTaken c
   is_taken c h =
-      let h1 = bind_ok (none_or (other_owner b client) E3) (λ _. from_places) c h in
+      let h1 = bind_ok (none_or (other_owner b lane) E3) (λ _. from_places) c h in
       let h2 = bind_ok (none_or misplaced E5) (λ _. from_again) c h1.2 in
       let h3 = bind_ok (none_or again E6) (λ _. from_texts) c h2.2 in
       let h4 = bind_ok (changes_of 0 edits) from_merged c h3.2 in
-      let h5 = bind_ok (ok_or_cause (checked scope (source_with scope client r edits b h4.0)) E8) (from_count h4.0) c h4.2 in
-      let b' = with_changes client r h4.0 (source_with scope client r edits b h4.0) h5.0 b in
+      let h5 = bind_ok (ok_or_cause (checked scope (source_with scope lane r edits b h4.0)) E8) (from_count h4.0) c h4.2 in
+      let b' = with_changes lane r h4.0 (source_with scope lane r edits b h4.0) h5.0 b in
       let h6 = bind_ok (unless (nat_le (instruction_count b'.merged) MAX_PROGRAM_INSTRUCTIONS) E9) (λ _. Ok b') c h5.2 in
       record { changes = h4.0; rungs = h5.0; none = go again h3.0 h3.1; read = h4.1; result = ok_inj b' c h6.2 }
     where
@@ -150,18 +150,18 @@ module _ (scope : CheckScope) (client r : ℕ) (edits : List RungEdit) (b : Book
       go None y e = refl
       go (Some k) y e = err_not_ok (E6 k) y e
 
-  by_routine : (changes : List Change) (source : List Source) (rungs : Rungs) → changes_of 0 edits ≡ Ok changes → again ≡ None → TakesOnce b → (q i : ℕ) → (r ≡ q) ⊎ (r ≡ q → ⊥) → count_by (took_rung i) (changes_in (with_changes client r changes source rungs b) q) ≤ 1
+  by_routine : (changes : List Change) (source : List Source) (rungs : Rungs) → changes_of 0 edits ≡ Ok changes → again ≡ None → TakesOnce b → (q i : ℕ) → (r ≡ q) ⊎ (r ≡ q → ⊥) → count_by (took_rung i) (changes_in (with_changes lane r changes source rungs b) q) ≤ 1
   by_routine changes source rungs read none once q i (inl e) =
       let all = all_edits (changes_in b r) edits (subst (IsFirstAgain (changes_in b r) edits) none (is_first (changes_in b r) edits)) i (once r i) in
       let parts = ap (count_by (took_rung i)) (filter_map-append (change_in r) b.accepted (edits_of r changes) ∙ ap (λ (cs : List Change). changes_in b r ++ cs) (changes_here r changes)) ∙ count-append (took_rung i) (changes_in b r) changes in
       let same = same_count 0 i edits changes read in
-      subst (λ k. count_by (took_rung i) (changes_in (with_changes client r changes source rungs b) k) ≤ 1) e (omega arith)
+      subst (λ k. count_by (took_rung i) (changes_in (with_changes lane r changes source rungs b) k) ≤ 1) e (omega arith)
   by_routine changes source rungs read none once q i (inr ne) =
       let parts = ap (count_by (took_rung i)) (filter_map-append (change_in q) b.accepted (edits_of r changes) ∙ ap (λ (cs : List Change). changes_in b q ++ cs) (changes_elsewhere r q changes ne)) ∙ count-append (took_rung i) (changes_in b q) [] in
       let l = once q i in
       omega arith
 
-  pub accepted_once : (c : Book) → accept_in scope client r edits b ≡ Ok c → TakesOnce b → TakesOnce c
+  pub accepted_once : (c : Book) → accept_in scope lane r edits b ≡ Ok c → TakesOnce b → TakesOnce c
   accepted_once c h once =
       let x = is_taken c h in
-      subst TakesOnce x.result (λ q i. by_routine x.changes (source_with scope client r edits b x.changes) x.rungs x.read x.none once q i (cases_eq r q))
+      subst TakesOnce x.result (λ q i. by_routine x.changes (source_with scope lane r edits b x.changes) x.rungs x.read x.none once q i (cases_eq r q))

@@ -1,5 +1,5 @@
 -- What is counted back along a trace: for how many ticks a task has been up, and for how many the controller has been in
--- Run. The places of the past come with the latest first.
+-- Run. The events of the past come with the latest first.
 use Rattle.std.specs.Prelude.{ℕ, ◌+◌, List, [], ◌∷◌, slice_index_or, Bool, true, false, ◌&&◌, nat_eq, if◌then◌else◌, Option, Some, None, option_map}
 use Rattle.spec_schedule.specs.declared.trace.Verb.TheVariants.{Run}
 use Rattle.spec_schedule.specs.declared.trace.TraceAnswer.TheVariants.{Done}
@@ -12,7 +12,7 @@ use Rattle.spec_schedule.specs.Legal.{at, is_tick}
 abbrev pub ticks_in : TraceEvent → ℕ
 ticks_in e = if is_tick e then 1 else 0
 
--- the task was up just before place x, and hasn't gone down since
+-- the task was up just before event x, and hasn't gone down since
 abbrev pub is_up_since : ℕ → List Counted → CountedEvent → Bool
 is_up_since t now x = (at x t).up && nat_eq (at x t).downs (slice_index_or now t uncounted).downs
 
@@ -33,7 +33,7 @@ ticks_in_run [] = None
 ticks_in_run (x ∷ past) =
     if comes_to_run x.event then Some 0 else (if stops x.event then None else option_map (λ n. ticks_in x.event + n) (ticks_in_run past))
 
--- a test of each place, with those before it
+-- a test of each event, with those before it
 abbrev pub each_with_past : (List CountedEvent → CountedEvent → Bool) → List CountedEvent → List CountedEvent → Bool
 each_with_past test past [] = true
 each_with_past test past (x ∷ xs) = test past x && each_with_past test (x ∷ past) xs

@@ -1,5 +1,5 @@
 -- What each run of a project keeps, whatever its events are. First the laws of the schedule, then what a controller owes to its
--- tasks: laws that one breaks which does too little. Each is a proposition with a name; what it asks of a place is in the file of
+-- tasks: laws that one breaks which does too little. Each is a proposition with a name; what it asks of an event is in the file of
 -- its own from which it is taken here.
 use Rattle.std.specs.Prelude.{List, [], IsTrue}
 use Rattle.std.specs.List.{list_all}

@@ -52,12 +52,12 @@ unedited b same none = record {
 }
 
 -- an accept puts its changes after those of its routine
-module _ (client r : ℕ) (changes : List Change) (rungs : Rungs) (b : Book) (l : r < length b.base) (fits : Fits b) where
+module _ (lane r : ℕ) (changes : List Change) (rungs : Rungs) (b : Book) (l : r < length b.base) (fits : Fits b) where
   abbrev source : List Source
   source = merged (routine_at b.base r).source (changes_in b r ++ changes)
 
   abbrev after : Book
-  after = with_changes client r changes source rungs b
+  after = with_changes lane r changes source rungs b
 
   abbrev text : RoutineText
   text = record (routine_at b.merged r) { source = source; checked = rungs }
@@ -114,11 +114,11 @@ set-fits [] n b k h = tt
 set-fits (x ∷ xs) zero b k h = (k h.0, h.1)
 set-fits (x ∷ xs) (suc n) b k h = (h.0, set-fits xs n b k h.1)
 
-changed-fits : (change : Book → Result Book EditFault) (books : List Book) (client : ℕ) (name : List ℕ) (e : Edited) → KeepsFit change → IsChanged change books client name e → Each Fits books → Each Fits e.books
-changed-fits change books client name e keeps x h =
+changed-fits : (change : Book → Result Book EditFault) (books : List Book) (lane : ℕ) (name : List ℕ) (e : Edited) → KeepsFit change → IsChanged change books lane name e → Each Fits books → Each Fits e.books
+changed-fits change books lane name e keeps x h =
     subst (λ (y : Edited). Each Fits y.books) x.result (set-fits books x.number x.book (keeps (book_at books x.number) x.book x.changed) h)
 
-module _ (tags : Declarations) (names : List TaskName) (books : List Book) (client : ℕ) (command : AcceptCommand) (h : Each Fits books) where
+module _ (tags : Declarations) (names : List TaskName) (books : List Book) (lane : ℕ) (command : AcceptCommand) (h : Each Fits books) where
   abbrev scope_at : ℕ → CheckScope
   scope_at n = scope_of tags names n (book_at books n)
 
@@ -126,22 +126,22 @@ module _ (tags : Declarations) (names : List TaskName) (books : List Book) (clie
   from_book n b = Ok (record { books = slice_set books n b; reply = Version b.newest })
 
   abbrev from_routine : ℕ → ℕ → Result Edited EditFault
-  from_routine n r = accept_in (scope_at n) client r command.edits (book_at books n) >>= from_book n
+  from_routine n r = accept_in (scope_at n) lane r command.edits (book_at books n) >>= from_book n
 
   abbrev from_program : ℕ → Result Edited EditFault
   from_program n = routine_named (book_at books n) command.routine >>= from_routine n
 
-  accepted : (n r : ℕ) (c : Book) → r < length (book_at books n).base → accept_in (scope_at n) client r command.edits (book_at books n) ≡ Ok c → Fits (book_at books n) → Fits c
+  accepted : (n r : ℕ) (c : Book) → r < length (book_at books n).base → accept_in (scope_at n) lane r command.edits (book_at books n) ≡ Ok c → Fits (book_at books n) → Fits c
   accepted n r c l is fits =
-      let parts = accepted_parts (scope_at n) client r command.edits (book_at books n) c is in
-      subst Fits parts.2 (with-changes client r parts.0 parts.1 (book_at books n) l fits)
+      let parts = accepted_parts (scope_at n) lane r command.edits (book_at books n) c is in
+      subst Fits parts.2 (with-changes lane r parts.0 parts.1 (book_at books n) l fits)
 
-  accept-fits : (e : Edited) → accept tags names books client command ≡ Ok e → Each Fits e.books
+  accept-fits : (e : Edited) → accept tags names books lane command ≡ Ok e → Each Fits e.books
   accept-fits e is =
       let h1 = bind_ok (program_named books command.program) from_program e is in
       let b = book_at books h1.0 in
       let h2 = bind_ok (routine_named b command.routine) (from_routine h1.0) e h1.2 in
-      let h3 = bind_ok (accept_in (scope_at h1.0) client h2.0 command.edits b) (from_book h1.0) e h2.2 in
+      let h3 = bind_ok (accept_in (scope_at h1.0) lane h2.0 command.edits b) (from_book h1.0) e h2.2 in
       let found = some_or_ok (position_from (λ r. same r.name command.routine) 0 b.base) E2 h2.0 h2.1 in
       let l = first-within (λ r. same r.name command.routine) 0 b.base h2.0 found in
       subst (λ (y : Edited). Each Fits y.books) (ok_inj _ e h3.2)

@@ -127,7 +127,7 @@ clear s = unless_held s (clear_from s.mode s)
 
 -- ---- all of them
 
--- Edits are taken in every mode, and by the lane as their client; forces too.
+-- Edits are taken in every mode, and are the lane's from then on; forces too.
 abbrev pub act : State → ℕ → Action → Answered Outcome
 act s lane (WordIn conn word value) = word_in s conn word value
 act s lane (WordOut conn word) = word_out s conn word

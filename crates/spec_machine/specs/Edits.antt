@@ -59,7 +59,7 @@ pub record AcceptedEdit : Type 0 where
   pub change : Change
 
 -- A program's rungs: the base, and the merged ones, which have the accepted edits. The base's number, and that of the
--- last accept: accepts are numbered 1, 2, .. and never start again. The owner is the client that accepted, from its
+-- last accept: accepts are numbered 1, 2, .. and never start again. The owner is the lane that accepted, from its
 -- first accept until the edits are assembled or cancelled (profile).
 pub record Book : Type 0 where
   pub name : List ℕ
@@ -114,12 +114,12 @@ abbrev pub routine_named : Book → List ℕ → Result ℕ EditFault
 routine_named b name = some_or (position_from (λ r. same r.name name) 0 b.base) E2
 
 abbrev pub unless_same : ℕ → Option ℕ → Option ℕ
-unless_same client None = None
-unless_same client (Some owner) = if nat_eq owner client then None else Some owner
+unless_same lane None = None
+unless_same lane (Some owner) = if nat_eq owner lane then None else Some owner
 
--- the owner, if it is another client
+-- the owner, if it is another lane
 abbrev pub other_owner : Book → ℕ → Option ℕ
-other_owner b client = unless_same client b.owner
+other_owner b lane = unless_same lane b.owner
 
 -- an edit names a rung that isn't there
 abbrev pub is_misplaced : ℕ → RungEdit → Bool
@@ -174,22 +174,22 @@ scope_of tags tasks n b = record { tags = tags; program = n; routines = map (λ 
 
 -- the book with these changes of a routine, whose merged rungs are then these
 abbrev pub with_changes : ℕ → ℕ → List Change → List Source → Rungs → Book → Book
-with_changes client r changes source rungs b =
-    record b { merged = slice_set b.merged r (record (routine_at b.merged r) { source = source; checked = rungs }); accepted = b.accepted ++ map (λ c. record { routine = r; change = c }) changes; newest = b.newest + 1; owner = Some client }
+with_changes lane r changes source rungs b =
+    record b { merged = slice_set b.merged r (record (routine_at b.merged r) { source = source; checked = rungs }); accepted = b.accepted ++ map (λ c. record { routine = r; change = c }) changes; newest = b.newest + 1; owner = Some lane }
 
 -- An accept on a routine's book; it may be tested, and stays so: then the new merged rungs are selected. Refused are
--- another client's program; the first edit of a rung that isn't there; the first that replaces or deletes a rung a second
+-- another lane's program; the first edit of a rung that isn't there; the first that replaces or deletes a rung a second
 -- time; the first whose text is refused; a merged routine that is refused; and a merged program with too many
 -- instructions.
 abbrev pub accept_in : CheckScope → ℕ → ℕ → List RungEdit → Book → Result Book EditFault
-accept_in scope client r edits b = do
-  _ ← none_or (other_owner b client) E3
+accept_in scope lane r edits b = do
+  _ ← none_or (other_owner b lane) E3
   _ ← none_or (position_from (is_misplaced (length (routine_at b.base r).source)) 0 edits) E5
   _ ← none_or (first_again 0 (flat_map taken_by (changes_in b r)) edits) E6
   changes ← changes_of 0 edits
   let source = merged (routine_at b.base r).source (changes_in b r ++ changes) in do
     rungs ← ok_or_cause (checked scope source) E8
-    let b' = with_changes client r changes source rungs b in do
+    let b' = with_changes lane r changes source rungs b in do
       _ ← unless (nat_le (instruction_count b'.merged) MAX_PROGRAM_INSTRUCTIONS) E9
       Ok b'
 
@@ -200,23 +200,23 @@ pub record Edited : Type 0 where
 
 -- An accept is refused first if its program or its routine isn't there. It is answered by its number.
 abbrev pub accept : Declarations → List TaskName → List Book → ℕ → AcceptCommand → Result Edited EditFault
-accept tags tasks books client command = do
+accept tags tasks books lane command = do
   n ← program_named books command.program
   let b = book_at books n in do
     r ← routine_named b command.routine
-    b' ← accept_in (scope_of tags tasks n b) client r command.edits b
+    b' ← accept_in (scope_of tags tasks n b) lane r command.edits b
     Ok (record { books = slice_set books n b'; reply = Version b'.newest })
 
 abbrev pub has_accepted : Book → Bool
 has_accepted b = nat_lt 0 (length b.accepted)
 
--- The other four are refused if the program isn't there, if it is another client's, if nothing is accepted, and
+-- The other four are refused if the program isn't there, if it is another lane's, if nothing is accepted, and
 -- then by a cause of their own.
 abbrev pub on_accepted : (Book → Result Book EditFault) → List Book → ℕ → List ℕ → Result Edited EditFault
-on_accepted change books client name = do
+on_accepted change books lane name = do
   n ← program_named books name
   let b = book_at books n in do
-    _ ← none_or (other_owner b client) E3
+    _ ← none_or (other_owner b lane) E3
     _ ← unless (has_accepted b) E10
     b' ← change b
     Ok (record { books = slice_set books n b'; reply = Done })
@@ -237,11 +237,11 @@ assemble b = Ok (record b { base = b.merged; number = b.newest; accepted = []; o
 abbrev pub cancel : Book → Result Book EditFault
 cancel b = Ok (record b { merged = b.base; accepted = []; owner = None; testing = false })
 
--- An edit command of a client: the books after it, or the first cause. No other action is one.
+-- An edit command of a lane: the books after it, or the first cause. No other action is one.
 abbrev pub edit : Declarations → List TaskName → List Book → ℕ → Action → Option (Result Edited EditFault)
-edit tags tasks books client (Accept command) = Some (accept tags tasks books client command)
-edit tags tasks books client (Test name) = Some (on_accepted test books client name)
-edit tags tasks books client (Untest name) = Some (on_accepted untest books client name)
-edit tags tasks books client (Assemble name) = Some (on_accepted assemble books client name)
-edit tags tasks books client (Cancel name) = Some (on_accepted cancel books client name)
-edit tags tasks books client _ = None
+edit tags tasks books lane (Accept command) = Some (accept tags tasks books lane command)
+edit tags tasks books lane (Test name) = Some (on_accepted test books lane name)
+edit tags tasks books lane (Untest name) = Some (on_accepted untest books lane name)
+edit tags tasks books lane (Assemble name) = Some (on_accepted assemble books lane name)
+edit tags tasks books lane (Cancel name) = Some (on_accepted cancel books lane name)
+edit tags tasks books lane _ = None

@@ -2,7 +2,7 @@
 use lgx_rung::{CheckFault, TextFault};
 use spec_tables::{ConnFault, ForceFault};
 
-/// Why an edit is refused: no program (E1), no routine (E2), another client owns the program's edits (E3, with the owner),
+/// Why an edit is refused: no program (E1), no routine (E2), another lane owns the program's edits (E3, with the owner),
 /// the edit of a rung that isn't there (E5, with the edit's place from 0), of a rung that an edit replaced or deleted before
 /// (E6, likewise), with a text that is no rung (E7, likewise), a merged routine that is refused (E8), more than
 /// `MAX_PROGRAM_INSTRUCTIONS` (E9), nothing accepted (E10), already tested (E11), not tested (E12).

@@ -20,24 +20,24 @@ Judge = Data → Option ProjectFault
 -- ---- texts
 
 -- P4: it is no text; P5: it is none of those
-abbrev pub text_such : (List ℕ → Bool) → Option (List ℕ) → Option ProjectFault
-text_such fits None = Some (here P4)
-text_such fits (Some text) = refused_if (not (fits text)) (here P5)
+abbrev pub text_refusal : (List ℕ → Bool) → Option (List ℕ) → Option ProjectFault
+text_refusal fits None = Some (here P4)
+text_refusal fits (Some text) = refused_if (not (fits text)) (here P5)
 
 abbrev pub any_text : Judge
-any_text d = text_such (λ _. true) (as_str d)
+any_text d = text_refusal (λ _. true) (as_str d)
 
 abbrev pub name : Judge
-name d = text_such names.is_name (as_str d)
+name d = text_refusal names.is_name (as_str d)
 
 abbrev pub is_one_of : List (List ℕ) → List ℕ → Bool
 is_one_of words text = list_any (λ word. bytes_eq text word) words
 
 abbrev pub one_of : List (List ℕ) → Judge
-one_of words d = text_such (is_one_of words) (as_str d)
+one_of words d = text_refusal (is_one_of words) (as_str d)
 
 abbrev pub rung : Judge
-rung d = text_such (λ text. nat_le (length text) MAX_RUNG_BYTES) (as_str d)
+rung d = text_refusal (λ text. nat_le (length text) MAX_RUNG_BYTES) (as_str d)
 
 -- ---- numbers
 
@@ -49,12 +49,12 @@ integer d = option_and_then as_integer (as_number d)
 abbrev pub is_between : ℤ → ℤ → ℤ → Bool
 is_between least most n = int_le least n && int_le n most
 
-abbrev pub integer_such : ℤ → ℤ → Option ℤ → Option ProjectFault
-integer_such least most None = Some (here P4)
-integer_such least most (Some n) = refused_if (not (is_between least most n)) (here P5)
+abbrev pub integer_refusal : ℤ → ℤ → Option ℤ → Option ProjectFault
+integer_refusal least most None = Some (here P4)
+integer_refusal least most (Some n) = refused_if (not (is_between least most n)) (here P5)
 
 abbrev pub between : ℤ → ℤ → Judge
-between least most d = integer_such least most (integer d)
+between least most d = integer_refusal least most (integer d)
 
 abbrev pub whole : ℕ → ℕ → Judge
 whole least most d = between (pos least) (pos most) d
@@ -74,15 +74,15 @@ listed no_items = []
 listed (item d ds) = d ∷ listed ds
 
 -- P4: it is no list; P5: it has fewer elements than it must; P11: it has more than it may; and then its elements
-abbrev pub list_such : ℕ → ℕ → Judge → Option Items → Option ProjectFault
-list_such least most judge None = Some (here P4)
-list_such least most judge (Some items) =
+abbrev pub list_refusal : ℕ → ℕ → Judge → Option Items → Option ProjectFault
+list_refusal least most judge None = Some (here P4)
+list_refusal least most judge (Some items) =
     or_else (refused_if (nat_lt (length (listed items)) least) (here P5))
     (or_else (refused_if (nat_lt most (length (listed items))) (here P11))
     (first_at judge (listed items)))
 
 unfoldable pub list : ℕ → ℕ → Judge → Judge
-list least most judge d = list_such least most judge (as_array d)
+list least most judge d = list_refusal least most judge (as_array d)
 
 -- ---- objects
 
@@ -99,12 +99,12 @@ abbrev pub optional : List ℕ → Judge → Field
 optional key judge = record { key = key; is_needed = false; judge = judge }
 
 -- P2: it is missing; and then what is there
-abbrev pub value_such : Field → Option Data → Option ProjectFault
-value_such f None = refused_if f.is_needed (here P2)
-value_such f (Some d) = f.judge d
+abbrev pub value_refusal : Field → Option Data → Option ProjectFault
+value_refusal f None = refused_if f.is_needed (here P2)
+value_refusal f (Some d) = f.judge d
 
 unfoldable pub field : Field → Judge
-field f d = in_field f.key (value_such f (get f.key d))
+field f d = in_field f.key (value_refusal f (get f.key d))
 
 -- its fields, in the order of the table
 abbrev pub fields_of : List Field → Judge
@@ -118,13 +118,13 @@ keys (member key d ms) = key ∷ keys ms
 abbrev pub is_field : List (List ℕ) → List ℕ → Bool
 is_field known key = list_any (λ k. bytes_eq key k) known
 
-abbrev pub keys_such : List (List ℕ) → Option Members → Option ProjectFault
-keys_such known None = Some (here P4)
-keys_such known (Some ms) = refused_if (not (list_all (is_field known) (keys ms))) (here P3)
+abbrev pub keys_refusal : List (List ℕ) → Option Members → Option ProjectFault
+keys_refusal known None = Some (here P4)
+keys_refusal known (Some ms) = refused_if (not (list_all (is_field known) (keys ms))) (here P3)
 
 -- P4: it is no object; P3: it has a field of another key
 unfoldable pub only_keys : List (List ℕ) → Judge
-only_keys known d = keys_such known (as_object d)
+only_keys known d = keys_refusal known (as_object d)
 
 -- P4: it is no object
 unfoldable pub any_object : Judge

@@ -31,9 +31,9 @@ use Rattle.spec_project.specs.Tags.{declarations}
 use Rattle.spec_project.specs.Schedules.{program_named}
 
 -- P9: the text names nothing; and else what is refused of what it names
-abbrev pub found_such : (Found → Option ProjectFault) → Result Found TagCode → Option ProjectFault
-found_such judge (Err code) = Some (here_for P9 (OfTag code))
-found_such judge (Ok f) = judge f
+abbrev pub found_refusal : (Found → Option ProjectFault) → Result Found TagCode → Option ProjectFault
+found_refusal judge (Err code) = Some (here_for P9 (OfTag code))
+found_refusal judge (Ok f) = judge f
 
 -- ---- connections
 
@@ -70,22 +70,22 @@ abbrev pub is_short : Declarations → DataType → Bool
 is_short d t = nat_le (size_of d.types t) (4 * MAX_CONNECTION_WORDS)
 
 -- P5: it isn't what a connection may be of
-abbrev pub connected_such : Declarations → Found → Option ProjectFault
-connected_such d f = refused_if (not (is_whole_tag d f && may_connect f.of && is_short d f.of)) (here P5)
+abbrev pub connected_refusal : Declarations → Found → Option ProjectFault
+connected_refusal d f = refused_if (not (is_whole_tag d f && may_connect f.of && is_short d f.of)) (here P5)
 
 -- the number of the event task of a name
 abbrev pub event_named : Described → List ℕ → Option ℕ
 event_named p name = position (λ t. same t.name name && is_event t.def.kind) p.tasks
 
 -- P5: no event task has the name, or the connection is an output
-abbrev pub trigger_such : Described → DescribedConnection → Option (List ℕ) → Option ProjectFault
-trigger_such p c None = None
-trigger_such p c (Some name) = refused_if (c.output || is_none (event_named p name)) (here P5)
+abbrev pub trigger_refusal : Described → DescribedConnection → Option (List ℕ) → Option ProjectFault
+trigger_refusal p c None = None
+trigger_refusal p c (Some name) = refused_if (c.output || is_none (event_named p name)) (here P5)
 
 abbrev pub connection_fault : Described → DescribedConnection → Option ProjectFault
 connection_fault p c =
-    or_else (in_field (codes "tag") (found_such (connected_such (declarations p)) (found_fixed (declarations p) Controller c.tag)))
-    (in_field (codes "trigger") (trigger_such p c c.trigger))
+    or_else (in_field (codes "tag") (found_refusal (connected_refusal (declarations p)) (found_fixed (declarations p) Controller c.tag)))
+    (in_field (codes "trigger") (trigger_refusal p c c.trigger))
 
 unfoldable pub connections_fault : Described → Option ProjectFault
 connections_fault p = in_field (codes "connections") (first_at (connection_fault p) p.connections)
@@ -123,11 +123,12 @@ found_in p text = if has_scope text then in_program (program_named p (scope_name
 abbrev pub is_one_value : DataType → Bool
 is_one_value t = not (is_array t) && (same_base t.base OneBit || nat_lt 0 (integer_bits t.base))
 
-abbrev pub value_such : Found → Option ProjectFault
-value_such f = refused_if (not (is_one_value f.of)) (here P5)
+-- P5: it is no single value
+abbrev pub initial_refusal : Found → Option ProjectFault
+initial_refusal f = refused_if (not (is_one_value f.of)) (here P5)
 
 abbrev pub place_fault : Described → List ℕ → Option ProjectFault
-place_fault p text = found_such value_such (found_in p text)
+place_fault p text = found_refusal initial_refusal (found_in p text)
 
 abbrev pub place_of : Found → Place
 place_of f = record { kind = kind_of f.of.base; at = f.at }

@@ -34,17 +34,19 @@ scope_of p n q = record { tags = declarations p; program = n; routines = routine
 
 -- ---- refusals
 
-abbrev pub text_such : Result Source TextFault → Option ProjectFault
-text_such (Ok rung) = None
-text_such (Err f) = Some (here_for P10 (OfText f))
+-- P10, for what is wrong with the spelling
+abbrev pub spelling_refusal : Result Source TextFault → Option ProjectFault
+spelling_refusal (Ok rung) = None
+spelling_refusal (Err f) = Some (here_for P10 (OfText f))
 
 -- P10: the text is no rung
 abbrev pub rung_fault : List ℕ → Option ProjectFault
-rung_fault text = text_such (read_rung text)
+rung_fault text = spelling_refusal (read_rung text)
 
-abbrev pub rungs_such : Result Rungs CheckFault → Option ProjectFault
-rungs_such (Ok rungs) = None
-rungs_such (Err f) = Some (here_for P10 (OfCheck f))
+-- P10, for what is wrong with an operand
+abbrev pub rungs_refusal : Result Rungs CheckFault → Option ProjectFault
+rungs_refusal (Ok rungs) = None
+rungs_refusal (Err f) = Some (here_for P10 (OfCheck f))
 
 -- the rungs that a routine's texts spell, if each spells one
 abbrev pub source_of : DescribedRoutine → List Source
@@ -53,7 +55,7 @@ source_of r = filter_map (λ text. result_ok (read_rung text)) r.rungs
 -- P10 of its texts, at the rung; and then of its rungs, at the routine
 abbrev pub routine_fault : CheckScope → DescribedRoutine → Option ProjectFault
 routine_fault scope r =
-    or_else (in_field (codes "rungs") (first_at rung_fault r.rungs)) (rungs_such (checked scope (source_of r)))
+    or_else (in_field (codes "rungs") (first_at rung_fault r.rungs)) (rungs_refusal (checked scope (source_of r)))
 
 abbrev pub program_fault : Described → ℕ → DescribedProgram → Option ProjectFault
 program_fault p n q = at_place n (in_field (codes "routines") (first_at (routine_fault (scope_of p n q)) q.routines))

@@ -109,8 +109,8 @@ untest_newest b c h = go b.testing h
     go true h = sym (ap (λ (x : Book). x.newest) (ok_inj _ c h))
     go false h = err_not_ok _ c h
 
-changed_newer : (change : Book → Result Book EditFault) (books : List Book) (client : ℕ) (name : List ℕ) (e : Edited) → KeepsNewest change → IsChanged change books client name e → Newer books e.books
-changed_newer change books client name e keeps x =
+changed_newer : (change : Book → Result Book EditFault) (books : List Book) (lane : ℕ) (name : List ℕ) (e : Edited) → KeepsNewest change → IsChanged change books lane name e → Newer books e.books
+changed_newer change books lane name e keeps x =
     let k = keeps (book_at books x.number) x.book x.changed in
     subst (λ (y : Edited). Newer books y.books) x.result (set_newer books x.number x.book (omega arith))
 

@@ -87,19 +87,19 @@ module _ (p : Project) where
   Sized s = KeepsSizes p s
 
   on_table : (s : State) (x : Table) → KeepsTasks s.table x → Sized s → Sized (record s { table = x })
-  on_table s x k h = record { same_plan = h.same_plan; same_tasks = k.defs ∙ h.same_tasks; states = k.states ∙ h.states; progresses = h.progresses; marks = h.marks; names = h.names; words = h.words }
+  on_table s x k h = record { same_plan = h.same_plan; same_tasks = k.defs ∙ h.same_tasks; states = k.states ∙ h.states; progresses = h.progresses; first_scans = h.first_scans; names = h.names; words = h.words }
 
   on_progress : (s : State) (x : List Progress) → length x ≡ length s.progress → Sized s → Sized (record s { progress = x })
-  on_progress s x k h = record { same_plan = h.same_plan; same_tasks = h.same_tasks; states = h.states; progresses = k ∙ h.progresses; marks = h.marks; names = h.names; words = h.words }
+  on_progress s x k h = record { same_plan = h.same_plan; same_tasks = h.same_tasks; states = h.states; progresses = k ∙ h.progresses; first_scans = h.first_scans; names = h.names; words = h.words }
 
   on_firsts : (s : State) (x : List Bool) → length x ≡ length s.firsts → Sized s → Sized (record s { firsts = x })
-  on_firsts s x k h = record { same_plan = h.same_plan; same_tasks = h.same_tasks; states = h.states; progresses = h.progresses; marks = k ∙ h.marks; names = h.names; words = h.words }
+  on_firsts s x k h = record { same_plan = h.same_plan; same_tasks = h.same_tasks; states = h.states; progresses = h.progresses; first_scans = k ∙ h.first_scans; names = h.names; words = h.words }
 
   on_books : (s : State) (x : List Book) → names_of x ≡ names_of s.books → Sized s → Sized (record s { books = x })
-  on_books s x k h = record { same_plan = h.same_plan; same_tasks = h.same_tasks; states = h.states; progresses = h.progresses; marks = h.marks; names = k ∙ h.names; words = h.words }
+  on_books s x k h = record { same_plan = h.same_plan; same_tasks = h.same_tasks; states = h.states; progresses = h.progresses; first_scans = h.first_scans; names = k ∙ h.names; words = h.words }
 
   on_forces : (s : State) (x : Forces) → length x.words ≡ length s.forces.words → Sized s → Sized (record s { forces = x })
-  on_forces s x k h = record { same_plan = h.same_plan; same_tasks = h.same_tasks; states = h.states; progresses = h.progresses; marks = h.marks; names = h.names; words = k ∙ h.words }
+  on_forces s x k h = record { same_plan = h.same_plan; same_tasks = h.same_tasks; states = h.states; progresses = h.progresses; first_scans = h.first_scans; names = h.names; words = k ∙ h.words }
 
   on_task : (s : State) (t : ℕ) (q : Progress) → Sized s → Sized (with_progress t q s)
   on_task s t q h = on_progress s (slice_set s.progress t q) (length-set s.progress t q) h
@@ -286,7 +286,7 @@ module _ (p : Project) where
     same_tasks = refl;
     states = length-map p.tasks (λ (d : TaskDef). let x : Option TaskState = None in x);
     progresses = length-map p.tasks (λ (d : TaskDef). no_progress);
-    marks = length-map p.programs (λ (q : ProgramText). false);
+    first_scans = length-map p.programs (λ (q : ProgramText). false);
     names = book_names p.programs;
     words = length-replicate (words_of p.conns) None;
   }

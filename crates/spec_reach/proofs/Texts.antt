@@ -64,10 +64,10 @@ module _ (tags : Declarations) (names : List TaskName) (sound : Sound tags) wher
   abbrev Fits : Book → Type 0
   Fits b = IsBook len count b
 
-  accepted_fits : (n client r : ℕ) (b c : Book) (command : AcceptCommand) → accept_in (scope_of tags names n b) client r command.edits b ≡ Ok c → Fits b → Fits c
-  accepted_fits n client r b c command h fits =
-      let parts = accepted_parts (scope_of tags names n b) client r command.edits b c h in
-      let source = source_with (scope_of tags names n b) client r command.edits b parts.0 in
+  accepted_fits : (n lane r : ℕ) (b c : Book) (command : AcceptCommand) → accept_in (scope_of tags names n b) lane r command.edits b ≡ Ok c → Fits b → Fits c
+  accepted_fits n lane r b c command h fits =
+      let parts = accepted_parts (scope_of tags names n b) lane r command.edits b c h in
+      let source = source_with (scope_of tags names n b) lane r command.edits b parts.0 in
       let text : IsText len count (record (routine_at b.merged r) { source = source; checked = parts.1 }) = record {
         executable = checked_ready checked_lies (scope_of tags names n b) source parts.1 sound parts.3;
         tasks = checked_know_tasks (scope_of tags names n b) source parts.1 parts.3;
@@ -105,8 +105,8 @@ module _ (tags : Declarations) (names : List TaskName) (sound : Sound tags) wher
   set_fits (x ∷ xs) zero b k h = (k h.0, h.1)
   set_fits (x ∷ xs) (suc n) b k h = (h.0, set_fits xs n b k h.1)
 
-  changed_fits : (change : Book → Result Book EditFault) (books : List Book) (client : ℕ) (name : List ℕ) (e : Edited) → KeepsFit change → IsChanged change books client name e → Each Fits books → Each Fits e.books
-  changed_fits change books client name e keeps x h =
+  changed_fits : (change : Book → Result Book EditFault) (books : List Book) (lane : ℕ) (name : List ℕ) (e : Edited) → KeepsFit change → IsChanged change books lane name e → Each Fits books → Each Fits e.books
+  changed_fits change books lane name e keeps x h =
       subst (λ (y : Edited). Each Fits y.books) x.result (set_fits books x.number x.book (keeps (book_at books x.number) x.book x.changed) h)
 
   edit_fits : (books : List Book) (lane : ℕ) (a : Action) (e : Edited) → edit tags names books lane a ≡ Some (Ok e) → Each Fits books → Each Fits e.books

@@ -16,7 +16,7 @@ pub record HasSizes (p : Project) (plan : Plan) (table : Table) (progress : List
   pub same_tasks : table.defs ≡ p.tasks
   pub states : length table.states ≡ length p.tasks
   pub progresses : length progress ≡ length p.tasks
-  pub marks : length firsts ≡ length p.programs
+  pub first_scans : length firsts ≡ length p.programs
   pub names : map (λ b. b.name) books ≡ map (λ q. q.name) p.programs
   pub words : length forces.words ≡ words_of p.conns
 

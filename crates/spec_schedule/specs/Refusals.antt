@@ -90,11 +90,11 @@ book_named s name = book_at s.books (unwrap_or (program_at s name) (length s.boo
 abbrev pub no_program : State → List ℕ → Option Reply
 no_program s name = when (is_none (program_at s name)) (Edit E1)
 
--- the owner, if it is another client
+-- the owner, if it is another lane
 abbrev pub owner_cause : Book → ℕ → Option Reply
 owner_cause b lane = option_map (λ owner. Edit (E3 owner)) (other_owner b lane)
 
--- `test` and its kin: no such program; another client's; nothing accepted
+-- `test` and its kin: no such program; another lane's; nothing accepted
 abbrev pub accepted_causes : State → ℕ → List ℕ → List (Option Reply)
 accepted_causes s lane name =
     let b = book_named s name in no_program s name ∷ owner_cause b lane ∷ when (nat_eq (length b.accepted) 0) (Edit E10) ∷ []
@@ -119,7 +119,7 @@ abbrev pub if_read : Result (List Change) EditFault → (List Change → List (O
 if_read (Err f) causes = []
 if_read (Ok changes) causes = causes changes
 
--- `accept`: no such program, no such routine, another client's program; the first edit of a rung that isn't
+-- `accept`: no such program, no such routine, another lane's program; the first edit of a rung that isn't
 -- there, the first of a rung that accepted or earlier edits replace or delete, the first whose text is refused; the
 -- merged routine is refused; too many instructions
 abbrev pub accept_causes : State → ℕ → AcceptCommand → List (Option Reply)

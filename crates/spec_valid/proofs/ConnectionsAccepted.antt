@@ -22,7 +22,7 @@ use Rattle.spec_language.specs.declared.types.Base.TheVariants.{Bool as OneBit, 
 use Rattle.spec_language.specs.declared.types.DataType.{DataType}
 use Rattle.spec_language.specs.declared.types.TypeDecl.{TypeDecl}
 use Rattle.spec_machine.specs.ValidProject.{has_known_trigger, is_event, is_event_task, is_of_one_tag, is_small_connection, is_tag_of, is_within}
-use Rattle.spec_project.specs.Places.{connected_such, connection_fault, connection_of, event_named, found_such, is_controller_tag, is_of_type, is_short, is_whole_tag, may_connect, same_base, trigger_such}
+use Rattle.spec_project.specs.Places.{connected_refusal, connection_fault, connection_of, event_named, found_refusal, is_controller_tag, is_of_type, is_short, is_whole_tag, may_connect, same_base, trigger_refusal}
 use Rattle.spec_project.specs.Tags.{declarations}
 use Rattle.spec_project.specs.declared.described.Described.{Described}
 use Rattle.spec_project.specs.declared.described.DescribedConnection.{DescribedConnection}
@@ -44,7 +44,7 @@ pub record IsConnected (p : Described) (c : DescribedConnection) : Type 0 where
   pub whole : IsTrue (is_whole_tag (declarations p) found)
   pub may : IsTrue (may_connect found.of)
   pub short : IsTrue (is_short (declarations p) found.of)
-  pub trigger : trigger_such p c c.trigger ≡ None
+  pub trigger : trigger_refusal p c c.trigger ≡ None
 
 pub connected : (p : Described) (c : DescribedConnection) → connection_fault p c ≡ None → IsConnected p c
 connected p c h =
@@ -52,7 +52,7 @@ connected p c h =
     go (found_fixed (declarations p) Controller c.tag) refl (not_mapped _ _ a.0) (not_mapped _ _ a.1)
   where
     go : (r : Result Found TagCode) → found_fixed (declarations p) Controller c.tag ≡ r
-        → found_such (connected_such (declarations p)) r ≡ None → trigger_such p c c.trigger ≡ None → IsConnected p c
+        → found_refusal (connected_refusal (declarations p)) r ≡ None → trigger_refusal p c c.trigger ≡ None → IsConnected p c
     go (Err code) e s t = absurd (cc s)
     go (Ok f) e s t =
         let d = declarations p in
@@ -174,7 +174,7 @@ event_is p name t e =
     and_from (nat_lt t (length (map (λ t. t.def) p.tasks))) (is_event (slice_index_or (map (λ t. t.def) p.tasks) t no_task).kind) (lt-ltb t (length (map (λ t. t.def) p.tasks)) below)
     (subst (λ (d : TaskDef). IsTrue (is_event d.kind)) (sym (get_or-map (λ t. t.def) p.tasks t no_described no_task is.0)) event)
 
-known_trigger : (p : Described) (c : DescribedConnection) (f : Found) → trigger_such p c c.trigger ≡ None
+known_trigger : (p : Described) (c : DescribedConnection) (f : Found) → trigger_refusal p c c.trigger ≡ None
     → IsTrue (has_known_trigger (map (λ t. t.def) p.tasks) (conn_of p c f))
 known_trigger p c f h = go c.trigger h
   where
@@ -183,7 +183,7 @@ known_trigger p c f h = go c.trigger h
     named name None e q r = refl
     named name (Some t) e q r = and_from (not c.output) (is_event_task (map (λ t. t.def) p.tasks) t) (not_from_false c.output q) (event_is p name t e)
 
-    go : (o : Option (List ℕ)) → trigger_such p c o ≡ None
+    go : (o : Option (List ℕ)) → trigger_refusal p c o ≡ None
         → IsTrue (has_known_trigger (map (λ t. t.def) p.tasks) (record (conn_of p c f) { trigger = option_and_then (event_named p) o }))
     go None q = refl
     go (Some name) q =

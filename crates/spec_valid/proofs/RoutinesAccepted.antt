@@ -24,7 +24,7 @@ use Rattle.spec_project.proofs.Lists.{kept_few}
 use Rattle.spec_project.specs.Limits.{HasFewRungs, IsSmallProgram, IsWithinLimits}
 use Rattle.spec_project.specs.Names.{main_fault, routine_names}
 use Rattle.spec_project.specs.Projects.{project_made}
-use Rattle.spec_project.specs.Routines.{instructions_in, main_of, names_of_tasks, program_fault, program_text, program_texts, routine_fault, routine_text, routines_fault, rungs_of, rungs_such, scope_of, source_of}
+use Rattle.spec_project.specs.Routines.{instructions_in, main_of, names_of_tasks, program_fault, program_text, program_texts, routine_fault, routine_text, routines_fault, rungs_of, rungs_refusal, scope_of, source_of}
 use Rattle.spec_project.specs.Tags.{declarations}
 use Rattle.spec_project.specs.declared.described.Described.{Described}
 use Rattle.spec_project.specs.declared.described.DescribedProgram.{DescribedProgram}
@@ -45,7 +45,7 @@ IsRead scope r = checked scope (source_of r) ≡ Ok (rungs_of scope r)
 read_routine : (scope : CheckScope) (r : DescribedRoutine) → routine_fault scope r ≡ None → IsRead scope r
 read_routine scope r h = go (checked scope (source_of r)) refl (neither _ _ h).1
   where
-    go : (x : Result Rungs CheckFault) → checked scope (source_of r) ≡ x → rungs_such x ≡ None → IsRead scope r
+    go : (x : Result Rungs CheckFault) → checked scope (source_of r) ≡ x → rungs_refusal x ≡ None → IsRead scope r
     go (Ok rungs) e s = e ∙ sym (ap (λ (x : Result Rungs CheckFault). Ok (unwrap_or (result_ok x) [])) e)
     go (Err f) e s = absurd (cc s)
 

@@ -9,7 +9,7 @@ use Rattle.spec_base.specs.declared.limits.TheConstants.{LEAST_PRIORITY, MAX_CON
 use Rattle.spec_machine.specs.ValidProject.{has_period, has_priority, is_within}
 use Rattle.spec_machine.specs.declared.limits.TheConstants.{MAX_MEMBERS, MAX_PERIOD, MAX_PROGRAMS, MAX_ROUTINES, MAX_RUNGS, MAX_SCOPE_TAGS, MAX_TYPES, MAX_WATCHES}
 use Rattle.spec_project.proofs.Fields.{fields_of_groups}
-use Rattle.spec_project.specs.Judges.{Field, Judge, any_object, any_text, field, fields_of, integer, integer_such, list, list_such, listed, name, needed, object, optional, rung, text_such, value_such, whole}
+use Rattle.spec_project.specs.Judges.{Field, Judge, any_object, any_text, field, fields_of, integer, integer_refusal, list, list_refusal, listed, name, needed, object, optional, rung, text_refusal, value_refusal, whole}
 use Rattle.spec_project.specs.Limits.{HasFewMembers, HasFewRungs, HasSmallDim, IsListOf, IsShortText, IsSmallMeaning, IsSmallProgram, IsSmallTag, IsSmallTask, IsWithinLimits}
 use Rattle.spec_project.specs.Reading.{described, described_connection, described_program, described_routine, described_tag, described_task, described_value, kind_of, member_decl, priority_of, task_def, type_decl}
 use Rattle.spec_project.specs.Shape.{alias_fields, connection, connections_field, inhibited_fields, is_newest, kind_field, later_fields, member, member_fields, period_fields, priority_fields, program, program_fields, program_names, routine, routine_fields, shape, structure, tag, tag_fields, task, task_fields, top_fields, type_fields, value, word_at}
@@ -33,7 +33,7 @@ elements_within : {A : Type 0} (least most : ℕ) (judge : Judge) (made : Data �
 unfolding list
 elements_within {A} least most judge made P gives v h = go (as_array v) h
   where
-    go : (o : Option Items) → list_such least most judge o ≡ None → IsListOf least most P (map made (listed (unwrap_or o no_items)))
+    go : (o : Option Items) → list_refusal least most judge o ≡ None → IsListOf least most P (map made (listed (unwrap_or o no_items)))
     go None r = absurd (cc r)
     go (Some items) r =
         let xs = listed items in
@@ -47,7 +47,7 @@ elements_within {A} least most judge made P gives v h = go (as_array v) h
           each = each_made (λ x. judge x ≡ None) P made xs gives (none_at judge xs b.1);
         }
 
-value_passes : (f : Field) (d : Data) → field f d ≡ None → value_such f (get f.key d) ≡ None
+value_passes : (f : Field) (d : Data) → field f d ≡ None → value_refusal f (get f.key d) ≡ None
 unfolding field
 value_passes f d h = not_mapped _ _ h
 
@@ -55,7 +55,7 @@ needed_list : {A : Type 0} (key : List ℕ) (least most : ℕ) (judge : Judge) (
     → (d : Data) → field (needed key (list least most judge)) d ≡ None → IsListOf least most P (list_at key made d)
 needed_list {A} key least most judge made P gives d h = go (get key d) (value_passes (needed key (list least most judge)) d h)
   where
-    go : (o : Option Data) → value_such (needed key (list least most judge)) o ≡ None
+    go : (o : Option Data) → value_refusal (needed key (list least most judge)) o ≡ None
         → IsListOf least most P (unwrap_or (option_map (λ v. map made (elements_of v)) o) [])
     go None r = absurd (cc r)
     go (Some v) r = elements_within least most judge made P gives v r
@@ -64,7 +64,7 @@ optional_list : {A : Type 0} (key : List ℕ) (most : ℕ) (judge : Judge) (made
     → (d : Data) → field (optional key (list 0 most judge)) d ≡ None → IsListOf 0 most P (list_at key made d)
 optional_list {A} key most judge made P gives d h = go (get key d) (value_passes (optional key (list 0 most judge)) d h)
   where
-    go : (o : Option Data) → value_such (optional key (list 0 most judge)) o ≡ None
+    go : (o : Option Data) → value_refusal (optional key (list 0 most judge)) o ≡ None
         → IsListOf 0 most P (unwrap_or (option_map (λ v. map made (elements_of v)) o) [])
     go None r = record { enough = omega arith; few = omega arith; each = tt }
     go (Some v) r = elements_within 0 most judge made P gives v r
@@ -86,7 +86,7 @@ whole_within : (least most default : ℕ) (P : ℕ → Type 0) → HoldsFrom lea
     → (v : Data) → whole least most v ≡ None → P (number_of default v)
 whole_within least most default P holds v h = go (integer v) h
   where
-    go : (o : Option ℤ) → integer_such (pos least) (pos most) o ≡ None → P (unwrap_or (option_map unsigned_abs o) default)
+    go : (o : Option ℤ) → integer_refusal (pos least) (pos most) o ≡ None → P (unwrap_or (option_map unsigned_abs o) default)
     go None r = absurd (cc r)
     go (Some n) r = let range = in_range least most n (is_so _ _ r) in holds (unsigned_abs n) range.0 range.1
 
@@ -94,7 +94,7 @@ needed_number : (key : List ℕ) (least most default : ℕ) (P : ℕ → Type 0)
     → (d : Data) → field (needed key (whole least most)) d ≡ None → P (number_at key default d)
 needed_number key least most default P holds d h = go (get key d) (value_passes (needed key (whole least most)) d h)
   where
-    go : (o : Option Data) → value_such (needed key (whole least most)) o ≡ None → P (unwrap_or (option_map (number_of default) o) default)
+    go : (o : Option Data) → value_refusal (needed key (whole least most)) o ≡ None → P (unwrap_or (option_map (number_of default) o) default)
     go None r = absurd (cc r)
     go (Some v) r = whole_within least most default P holds v r
 
@@ -102,7 +102,7 @@ optional_number : (key : List ℕ) (least most default : ℕ) (P : ℕ → Type 
     → (d : Data) → field (optional key (whole least most)) d ≡ None → P (number_at key default d)
 optional_number key least most default P left_out holds d h = go (get key d) (value_passes (optional key (whole least most)) d h)
   where
-    go : (o : Option Data) → value_such (optional key (whole least most)) o ≡ None → P (unwrap_or (option_map (number_of default) o) default)
+    go : (o : Option Data) → value_refusal (optional key (whole least most)) o ≡ None → P (unwrap_or (option_map (number_of default) o) default)
     go None r = left_out
     go (Some v) r = whole_within least most default P holds v r
 
@@ -147,7 +147,7 @@ small_tag d h = go (has_field (codes "alias") d) h
 short_rung : Gives rung text_of IsShortText
 short_rung d h = go (as_str d) h
   where
-    go : (o : Option (List ℕ)) → text_such (λ text. nat_le (length text) MAX_RUNG_BYTES) o ≡ None → IsShortText (unwrap_or o [])
+    go : (o : Option (List ℕ)) → text_refusal (λ text. nat_le (length text) MAX_RUNG_BYTES) o ≡ None → IsShortText (unwrap_or o [])
     go None r = absurd (cc r)
     go (Some text) r = leb-true (length text) MAX_RUNG_BYTES (is_so _ _ r)
 

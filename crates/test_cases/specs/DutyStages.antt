@@ -122,7 +122,7 @@ stays_up = record barks { after = record barks.after { table = barks.before.tabl
 abbrev pub takes : State → ℕ → Action → Stage
 takes s lane a = record { before = s; entry = OfAction lane a (record { reply = Done; fault = None; released = 0 }); after = s }
 
--- a word of no connection; a test with nothing accepted; another client's edits
+-- a word of no connection; a test with nothing accepted; another lane's edits
 abbrev pub takes_any_word : Stage
 takes_any_word = takes (start one_nop) 0 (WordIn (codes "Zz") 0 (pos 1))
 

@@ -59,7 +59,7 @@ AcceptWhileTesting = replay two_moves (lines (codes "mode run"
     ∷ codes "end 0 11 run lost 0"
     ∷ [])
 
--- What is accepted is one client's until it is cancelled; a refused accept leaves nothing.
+-- What is accepted is one lane's until it is cancelled; a refused accept leaves nothing.
 abbrev pub owners : Project
 owners = plain (dint (codes "n") ∷ bool (codes "x") ∷ []) (continuous (codes "MOV(1,n);" ∷ codes "MOV(2,n);" ∷ []) ∷ []) [] (codes "n" ∷ [])
 

@@ -193,17 +193,12 @@ impl Bench {
         Ok(Bench { book, tags })
     }
 
-    /// An accept of a client.
-    pub fn accept(
-        &mut self,
-        alloc: Global,
-        client: u32,
-        command: &Accept,
-    ) -> Result<u32, EditError> {
+    /// An accept of a lane.
+    pub fn accept(&mut self, alloc: Global, lane: u32, command: &Accept) -> Result<u32, EditError> {
         if !self.book.has_numbers_left() {
             return Err(EditError::Memory);
         }
-        self.book.accept(alloc, client, command, &self.tags, &[])
+        self.book.accept(alloc, lane, command, &self.tags, &[])
     }
 
     /// Holds the selected program of a program, if none is held.

@@ -128,8 +128,8 @@ fn reply_to(alloc: Global, bench: &mut Bench, journal: &Journal) -> Result<Answe
         return Err(Trouble::Form);
     }
     match journal.event_at(0) {
-        Event::Act(client, Action::Accept(accept)) => accepted(alloc, bench, *client, accept),
-        Event::Act(client, action) => acted(bench, *client, action),
+        Event::Act(lane, Action::Accept(accept)) => accepted(alloc, bench, *lane, accept),
+        Event::Act(lane, action) => acted(bench, *lane, action),
         _ => Err(Trouble::Form),
     }
 }
@@ -137,22 +137,22 @@ fn reply_to(alloc: Global, bench: &mut Bench, journal: &Journal) -> Result<Answe
 fn accepted(
     alloc: Global,
     bench: &mut Bench,
-    client: u32,
+    lane: u32,
     accept: &Accept,
 ) -> Result<Answer, Trouble> {
-    match bench.accept(alloc, client, accept) {
+    match bench.accept(alloc, lane, accept) {
         Ok(number) => Ok(Ok(Some(number))),
         Err(EditError::Edit(fault)) => Ok(Err(fault)),
         Err(EditError::Memory) => Err(Trouble::Memory),
     }
 }
 
-fn acted(bench: &mut Bench, client: u32, action: &Action) -> Result<Answer, Trouble> {
+fn acted(bench: &mut Bench, lane: u32, action: &Action) -> Result<Answer, Trouble> {
     let answer = match action {
-        Action::Test(program) => bench.book.test(client, program),
-        Action::Untest(program) => bench.book.untest(client, program),
-        Action::Assemble(program) => bench.book.assemble(client, program),
-        Action::Cancel(program) => bench.book.cancel(client, program),
+        Action::Test(program) => bench.book.test(lane, program),
+        Action::Untest(program) => bench.book.untest(lane, program),
+        Action::Assemble(program) => bench.book.assemble(lane, program),
+        Action::Cancel(program) => bench.book.cancel(lane, program),
         _ => return Err(Trouble::Form),
     };
     Ok(done(answer))

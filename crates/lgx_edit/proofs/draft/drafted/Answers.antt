@@ -23,9 +23,9 @@ returns-in-Some-clause-answer c =
     let x = c.index-routines-routine.result in
     let rungs : c.len-rungs.result ≡ length (routine_at (map base_of routines) c.args.routine).source =
     c.len-rungs.ensures ∙ ap (λ (t : machine.RoutineText). length t.source) (sym (base_there routines c.args.routine x c.requires.within)) in
-    λ b client is owner.
-    over b routines c.args.accepted.now is (λ (w : Book). accept_in (scope_against c.args.against.now routines) client c.args.routine c.args.edits.now w ≡ Err (E5 c.in-Some.k))
-    (misplaced (scope_against c.args.against.now routines) client c.args.routine c.args.edits.now (book_over b routines c.args.accepted.now) owner c.in-Some.k
+    λ b lane is owner.
+    over b routines c.args.accepted.now is (λ (w : Book). accept_in (scope_against c.args.against.now routines) lane c.args.routine c.args.edits.now w ≡ Err (E5 c.in-Some.k))
+    (misplaced (scope_against c.args.against.now routines) lane c.args.routine c.args.edits.now (book_over b routines c.args.accepted.now) owner c.in-Some.k
     (c.in-Some.ensures ∙ ap (λ n. position_from (is_misplaced n) 0 c.args.edits.now) rungs))
 
 pub returns-in-Some-first_again-clause-answer : goal.returns-in-Some-first_again-clause-answer
@@ -34,9 +34,9 @@ returns-in-Some-first_again-clause-answer c =
     let x = c.index-routines-routine.result in
     let rungs : c.len-rungs.result ≡ length (routine_at (map base_of routines) c.args.routine).source =
     c.len-rungs.ensures ∙ ap (λ (t : machine.RoutineText). length t.source) (sym (base_there routines c.args.routine x c.requires.within)) in
-    λ b client is owner.
-    over b routines c.args.accepted.now is (λ (w : Book). accept_in (scope_against c.args.against.now routines) client c.args.routine c.args.edits.now w ≡ Err (E6 c.in-Some-first_again.k))
-    (taken_again (scope_against c.args.against.now routines) client c.args.routine c.args.edits.now (book_over b routines c.args.accepted.now) owner
+    λ b lane is owner.
+    over b routines c.args.accepted.now is (λ (w : Book). accept_in (scope_against c.args.against.now routines) lane c.args.routine c.args.edits.now w ≡ Err (E6 c.in-Some-first_again.k))
+    (taken_again (scope_against c.args.against.now routines) lane c.args.routine c.args.edits.now (book_over b routines c.args.accepted.now) owner
     (c.in_default.ensures ∙ ap (λ n. position_from (is_misplaced n) 0 c.args.edits.now) rungs) c.in-Some-first_again.k c.in-Some-first_again.ensures)
 
 pub returns-in_err-new-clause-answer : goal.returns-in_err-new-clause-answer
@@ -46,11 +46,11 @@ returns-in_err-new-clause-answer c =
     let rungs : c.len-rungs.result ≡ length (routine_at (map base_of routines) c.args.routine).source =
     c.len-rungs.ensures ∙ ap (λ (t : machine.RoutineText). length t.source) (sym (base_there routines c.args.routine x c.requires.within)) in
     let p = err_from_is_err_and c.from_residual.result c.from_residual.ensures.1 in
-    λ b client is owner. rw (p.1, p.2)
-    (over b routines c.args.accepted.now is (λ (w : Book). AnswersAs (with_draft client c.args.routine w) (accept_in (scope_against c.args.against.now routines) client c.args.routine c.args.edits.now w) (Err c.in_err-new.field-0.0))
-    (unread (scope_against c.args.against.now routines) client c.args.routine c.args.edits.now (book_over b routines c.args.accepted.now) owner
+    λ b lane is owner. rw (p.1, p.2)
+    (over b routines c.args.accepted.now is (λ (w : Book). AnswersAs (with_draft lane c.args.routine w) (accept_in (scope_against c.args.against.now routines) lane c.args.routine c.args.edits.now w) (Err c.in_err-new.field-0.0))
+    (unread (scope_against c.args.against.now routines) lane c.args.routine c.args.edits.now (book_over b routines c.args.accepted.now) owner
     (c.in_default.ensures ∙ ap (λ n. position_from (is_misplaced n) 0 c.args.edits.now) rungs) c.in_default-first_again.ensures
-    (with_draft client c.args.routine (book_over b routines c.args.accepted.now)) (λ (kept : Vec KeptEdit). map change_kept kept.items) c.in_err-new.field-0.0 c.in_err-new.ensures.answer))
+    (with_draft lane c.args.routine (book_over b routines c.args.accepted.now)) (λ (kept : Vec KeptEdit). map change_kept kept.items) c.in_err-new.field-0.0 c.in_err-new.ensures.answer))
 
 pub returns-in_err-text-clause-answer : goal.returns-in_err-text-clause-answer
 returns-in_err-text-clause-answer c =
@@ -67,11 +67,11 @@ returns-in_err-text-clause-answer c =
     ≡ merged (routine_at (map base_of routines) r).source (changes_so_far r c.args.accepted.now ++ changes) =
     ap (λ (cs : List Change). merged (routine_at (map base_of routines) r).source (changes_so_far r c.args.accepted.now ++ cs)) news in
     let p = err_from_is_err_and c.from_residual-in_err-text.result c.from_residual-in_err-text.ensures.1 in
-    λ b client is owner. rw (p.1, p.2)
-    (over b routines c.args.accepted.now is (λ (w : Book). AnswersAs (with_draft client r w) (accept_in scope client r c.args.edits.now w) (Err c.in_err-text.field-0.0))
-    (unchecked scope client r c.args.edits.now (book_over b routines c.args.accepted.now) owner
+    λ b lane is owner. rw (p.1, p.2)
+    (over b routines c.args.accepted.now is (λ (w : Book). AnswersAs (with_draft lane r w) (accept_in scope lane r c.args.edits.now w) (Err c.in_err-text.field-0.0))
+    (unchecked scope lane r c.args.edits.now (book_over b routines c.args.accepted.now) owner
     (c.in_default.ensures ∙ ap (λ n. position_from (is_misplaced n) 0 c.args.edits.now) rungs) c.in_default-first_again.ensures
-    changes c.in_ok-new.ensures.answer (with_draft client r (book_over b routines c.args.accepted.now)) (λ (t : RoutineText). t.checked) c.in_err-text.field-0.0
+    changes c.in_ok-new.ensures.answer (with_draft lane r (book_over b routines c.args.accepted.now)) (λ (t : RoutineText). t.checked) c.in_err-text.field-0.0
     (subst (λ (s : List Source). AnswersAs (λ (t : RoutineText). t.checked) (ok_or_cause (checked scope s) E8) (Err c.in_err-text.field-0.0)) sources c.in_err-text.ensures.answer)))
 
 pub returns-then-not-has_room-clause-answer : goal.returns-then-not-has_room-clause-answer
@@ -88,9 +88,9 @@ returns-then-not-has_room-clause-answer c =
     let sources : merged (routine_at (map base_of routines) r).source (changes_so_far r c.args.accepted.now ++ changes_so_far r c.as_slice.result.now)
     ≡ merged (routine_at (map base_of routines) r).source (changes_so_far r c.args.accepted.now ++ changes) =
     ap (λ (cs : List Change). merged (routine_at (map base_of routines) r).source (changes_so_far r c.args.accepted.now ++ cs)) news in
-    λ b client is owner.
-    over b routines c.args.accepted.now is (λ (w : Book). accept_in scope client r c.args.edits.now w ≡ Err E9)
-    (crowded scope client r c.args.edits.now (book_over b routines c.args.accepted.now) owner
+    λ b lane is owner.
+    over b routines c.args.accepted.now is (λ (w : Book). accept_in scope lane r c.args.edits.now w ≡ Err E9)
+    (crowded scope lane r c.args.edits.now (book_over b routines c.args.accepted.now) owner
     (c.in_default.ensures ∙ ap (λ n. position_from (is_misplaced n) 0 c.args.edits.now) rungs) c.in_default-first_again.ensures
     changes c.in_ok-new.ensures.answer c.in_ok-text.text
     (ap (λ (s : List Source). ok_or_cause (checked scope s) E8) (sym sources) ∙ c.in_ok-text.ensures.answer)
@@ -111,9 +111,9 @@ returns-clause-answer c =
     let sources : merged (routine_at (map base_of routines) r).source (changes_so_far r c.args.accepted.now ++ changes_so_far r c.as_slice.result.now)
     ≡ merged (routine_at (map base_of routines) r).source (changes_so_far r c.args.accepted.now ++ changes) =
     ap (λ (cs : List Change). merged (routine_at (map base_of routines) r).source (changes_so_far r c.args.accepted.now ++ cs)) news in
-    λ b client is owner.
-    over b routines c.args.accepted.now is (λ (w : Book). accept_in scope client r c.args.edits.now w ≡ Ok (with_draft client r w (record { edits = c.in_ok-new.new; text = c.in_ok-text.text; program = c.in_ok-program.program })))
-    (accepted scope client r c.args.edits.now (book_over b routines c.args.accepted.now) owner
+    λ b lane is owner.
+    over b routines c.args.accepted.now is (λ (w : Book). accept_in scope lane r c.args.edits.now w ≡ Ok (with_draft lane r w (record { edits = c.in_ok-new.new; text = c.in_ok-text.text; program = c.in_ok-program.program })))
+    (accepted scope lane r c.args.edits.now (book_over b routines c.args.accepted.now) owner
     (c.in_default.ensures ∙ ap (λ n. position_from (is_misplaced n) 0 c.args.edits.now) rungs) c.in_default-first_again.ensures
     changes c.in_ok-new.ensures.answer c.in_ok-text.text
     (ap (λ (s : List Source). ok_or_cause (checked scope s) E8) (sym sources) ∙ c.in_ok-text.ensures.answer)

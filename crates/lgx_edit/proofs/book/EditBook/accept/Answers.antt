@@ -12,7 +12,7 @@ accept-requires-clause-number c =
 
 pub returns : goal.returns
 returns c =
-    accept-leaves c.args.tags.now.declarations c.args.tasks.now c.args.client c.in_ok-n.n c.args.command.now c.self.inside.programs.items c.args.self.now
+    accept-leaves c.args.tags.now.declarations c.args.tasks.now c.args.lane c.in_ok-n.n c.args.command.now c.self.inside.programs.items c.args.self.now
     c.index_mut.result.now c.accept.new.self c.accept.result c.self.view_is
     (subst (λ (command : AcceptCommand). Ok c.in_ok-n.n ≡ program_named (books c.args.self.now) command.program) c.command.view_is c.in_ok-n.ensures.named)
     c.in_ok-n.ensures.within c.index_mut.ensures.value c.accept.ensures

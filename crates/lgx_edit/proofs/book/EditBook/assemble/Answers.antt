@@ -5,6 +5,6 @@ use Rattle.lgx_edit.proofs.book.EditBook.assemble.Goals as goal
 
 pub returns : goal.returns
 returns c =
-    command-leaves assemble c.args.client c.in_ok-n.n c.args.program.now c.self.inside.programs.items c.args.self.now
+    command-leaves assemble c.args.lane c.in_ok-n.n c.args.program.now c.self.inside.programs.items c.args.self.now
     c.index_mut.result.now c.assemble.new.self c.assemble.result c.self.view_is c.in_ok-n.ensures.named c.in_ok-n.ensures.within
     c.index_mut.ensures.value c.assemble.ensures

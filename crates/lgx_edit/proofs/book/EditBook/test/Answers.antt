@@ -5,6 +5,6 @@ use Rattle.lgx_edit.proofs.book.EditBook.test.Goals as goal
 
 pub returns : goal.returns
 returns c =
-    command-leaves test c.args.client c.in_ok-n.n c.args.program.now c.self.inside.programs.items c.args.self.now
+    command-leaves test c.args.lane c.in_ok-n.n c.args.program.now c.self.inside.programs.items c.args.self.now
     c.index_mut.result.now c.test.new.self c.test.result c.self.view_is c.in_ok-n.ensures.named c.in_ok-n.ensures.within
     c.index_mut.ensures.value c.test.ensures

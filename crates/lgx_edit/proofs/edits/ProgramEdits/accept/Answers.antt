@@ -28,7 +28,7 @@ invariant_of-self-2 c =
     drafted-for c.args.against.now e.main c.in_ok-routine.routine e.routines.items c.as_slice-2.result.now e.accepted.items c.as_slice-3.result.now c.command.inside.edits c.as_slice-4.result.now c.in_ok-draft.draft
     c.as_slice-2.ensures.value c.as_slice-3.ensures.value c.as_slice-4.ensures (c.in_ok-draft.ensures.answer, c.in_ok-draft.ensures.draft) in
     tied-now e.name e.main e.routines.items e.accepted.items e.owner e.versions.roles c.in_ok-routine.routine c.index_mut.result.now c.index_mut.ensures.value within
-    c.args.client c.command.inside.edits c.in_ok-draft.draft drafted.1 c.append.new.self.items c.add.new.self.roles
+    c.args.lane c.command.inside.edits c.in_ok-draft.draft drafted.1 c.append.new.self.items c.add.new.self.roles
     c.in_ok-append.ensures.items c.add.ensures.roles c.self.invariant (some_edit (length c.command.inside.edits) c.command.invariant)
 
 pub returns : goal.returns
@@ -44,20 +44,20 @@ returns c =
     let scope : CheckScope = scope_of a.tags.now.declarations a.tasks.now a.program b in
     let command : AcceptCommand = accept_command c.command.inside.program c.command.inside.routine c.command.inside.edits in
     let of : IsBookOf b e.routines.items e.accepted.items = record { bases = refl; mergeds = refl; kept = refl } in
-    let owner : other_owner b c.args.client ≡ None = sym c.in_default.ensures in
+    let owner : other_owner b c.args.lane ≡ None = sym c.in_default.ensures in
     let named : Ok r ≡ routine_named b command.routine =
     c.in_ok-routine.ensures.named ∙ ap (λ (xs : List EditedRoutine). some_or (position_from (λ t. same t.name c.command.inside.routine) 0 (map base_of xs)) E2) c.as_slice.ensures.value in
-    let meant : accept_at scope c.args.client command b ≡ Ok (with_draft c.args.client r b c.in_ok-draft.draft) =
-    accept-found a c.args.client r command b (with_draft c.args.client r b c.in_ok-draft.draft) scope named (drafted.0 b c.args.client of owner) in
-    let new : Book = book_with e.name e.main (slice_set e.routines.items r (record c.index_mut.result.now { merged = Some c.in_ok-draft.draft.text })) c.append.new.self.items (Some c.args.client) c.add.new.self.roles in
-    let new_is : with_draft c.args.client r b c.in_ok-draft.draft ≡ new =
+    let meant : accept_at scope c.args.lane command b ≡ Ok (with_draft c.args.lane r b c.in_ok-draft.draft) =
+    accept-found a c.args.lane r command b (with_draft c.args.lane r b c.in_ok-draft.draft) scope named (drafted.0 b c.args.lane of owner) in
+    let new : Book = book_with e.name e.main (slice_set e.routines.items r (record c.index_mut.result.now { merged = Some c.in_ok-draft.draft.text })) c.append.new.self.items (Some c.args.lane) c.add.new.self.roles in
+    let new_is : with_draft c.args.lane r b c.in_ok-draft.draft ≡ new =
     sym (accepted-along e.name e.main e.routines.items e.accepted.items e.owner e.versions.roles r c.index_mut.result.now c.index_mut.ensures.value within
-    c.args.client c.command.inside.edits c.in_ok-draft.draft drafted.1 c.append.new.self.items c.add.new.self.roles c.in_ok-append.ensures.items c.add.ensures.roles
+    c.args.lane c.command.inside.edits c.in_ok-draft.draft drafted.1 c.append.new.self.items c.add.new.self.roles c.in_ok-append.ensures.items c.add.ensures.roles
     ∙ accepted-book e.name e.main e.routines.items e.accepted.items e.owner e.versions.roles r c.index_mut.result.now c.index_mut.ensures.value within
-    c.args.client c.command.inside.edits c.in_ok-draft.draft drafted.1) in
+    c.args.lane c.command.inside.edits c.in_ok-draft.draft drafted.1) in
     let now = c.args.self.now in (
-      ap (λ (x : AcceptCommand). accept_at (scope_of a.tags.now.declarations a.tasks.now a.program now.book) c.args.client x now.book) (sym c.command.view_is)
-          ∙ (ap (λ (v : EditsView). accept_at (scope_of a.tags.now.declarations a.tasks.now a.program v.book) c.args.client command v.book) (sym c.self.view_is)
+      ap (λ (x : AcceptCommand). accept_at (scope_of a.tags.now.declarations a.tasks.now a.program now.book) c.args.lane x now.book) (sym c.command.view_is)
+          ∙ (ap (λ (v : EditsView). accept_at (scope_of a.tags.now.declarations a.tasks.now a.program v.book) c.args.lane command v.book) (sym c.self.view_is)
           ∙ (meant ∙ ap (λ (x : Book). let ok : Result Book EditFault = Ok x in ok) new_is)),
       ok_inj c.in_ok-add.field-0 (e.versions.roles.newest + 1) c.in_ok-add.ensures.number ∙ sym (ap (λ (q : Roles). q.newest) c.add.ensures.roles),
       ap (λ (q : Roles). q.held) c.add.ensures.roles ∙ ap (λ (v : EditsView). v.versions.roles.held) c.self.view_is,

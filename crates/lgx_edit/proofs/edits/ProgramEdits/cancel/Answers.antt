@@ -26,7 +26,7 @@ returns c =
     let done : c.cancel_all.new.routines ≡ map cancelled items = c.cancel_all.ensures ∙ ap (λ (xs : List EditedRoutine). map cancelled xs) c.deref_mut.ensures.value in
     let book : Book = record (view_of c.self.inside).book { merged = map base_of items; accepted = []; owner = None; testing = false } in
     let new : EditsView = view_of (record c.self.inside { routines = with_items c.self.inside.routines c.cancel_all.new.routines; accepted = c.clear.new.self; owner = None; versions = c.cancel.new.self }) in
-    commanded cancel c.args.client (view_of c.self.inside) c.args.self.now new book c.self.view_is c.in_ok-may_edit.ensures refl
+    commanded cancel c.args.lane (view_of c.self.inside) c.args.self.now new book c.self.view_is c.in_ok-may_edit.ensures refl
     (book-along c.self.inside.name c.self.inside.main (with_items c.self.inside.routines c.cancel_all.new.routines).items (map cancelled items)
     c.clear.new.self.items [] c.cancel.new.self.roles (roles.cancel c.self.inside.versions.roles)
     (changed_items cancelled c.self.inside.routines c.cancel_all.new.routines done) c.clear.ensures.items c.cancel.ensures.roles

@@ -13,11 +13,11 @@ invariant_of-self c =
     subst (λ (r : Roles). AreTied (book_with c.self.inside.name c.self.inside.main c.self.inside.routines.items c.self.inside.accepted.items c.self.inside.owner r) r) (sym c.select.ensures.roles)
     (tied-select c.self.inside.name c.self.inside.main c.self.inside.routines.items c.self.inside.accepted.items c.self.inside.owner c.self.inside.versions.roles true c.self.invariant
     (λ h. c.self.invariant.accepted ∙ (ap (λ (e : EditsView). has_accepted e.book) c.self.view_is
-    ∙ accepted_there c.args.client c.args.self.now.book c.in_ok-may_edit.ensures)))
+    ∙ accepted_there c.args.lane c.args.self.now.book c.in_ok-may_edit.ensures)))
 
 pub returns : goal.returns
 returns c =
-    commanded test c.args.client (view_of c.self.inside) c.args.self.now (view_of (record c.self.inside { versions = c.select.new.self }))
+    commanded test c.args.lane (view_of c.self.inside) c.args.self.now (view_of (record c.self.inside { versions = c.select.new.self }))
     (record (view_of c.self.inside).book { testing = true }) c.self.view_is c.in_ok-may_edit.ensures
     (test-ok (view_of c.self.inside).book (sym c.if-is_testing.ensures.value))
     (ap (λ (r : Roles). book_with c.self.inside.name c.self.inside.main c.self.inside.routines.items c.self.inside.accepted.items c.self.inside.owner r) c.select.ensures.roles)

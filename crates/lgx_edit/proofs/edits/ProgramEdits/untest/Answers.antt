@@ -16,7 +16,7 @@ invariant_of-self c =
 
 pub returns : goal.returns
 returns c =
-    commanded untest c.args.client (view_of c.self.inside) c.args.self.now (view_of (record c.self.inside { versions = c.select.new.self }))
+    commanded untest c.args.lane (view_of c.self.inside) c.args.self.now (view_of (record c.self.inside { versions = c.select.new.self }))
     (record (view_of c.self.inside).book { testing = false }) c.self.view_is c.in_ok-may_edit.ensures
     (untest-ok (view_of c.self.inside).book (sym c.if-not-is_testing.ensures.value))
     (ap (λ (r : Roles). book_with c.self.inside.name c.self.inside.main c.self.inside.routines.items c.self.inside.accepted.items c.self.inside.owner r) c.select.ensures.roles)

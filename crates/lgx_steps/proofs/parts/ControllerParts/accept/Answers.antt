@@ -12,8 +12,8 @@ accept-done-requires c =
 
 pub returns-in-Ok-clause-gives : goal.returns-in-Ok-clause-gives
 returns-in-Ok-clause-gives c = λ n s h.
-    accepted n (view_of c.args.self.now) s h c.args.client c.args.command.now c.as_slice.result.now c.accept-done.new.self c.in-Ok.number c.replied.result c.as_slice.ensures c.replied.ensures c.in-Ok.ensures.0 c.in-Ok.ensures.1
+    accepted n (view_of c.args.self.now) s h c.args.lane c.args.command.now c.as_slice.result.now c.accept-done.new.self c.in-Ok.number c.replied.result c.as_slice.ensures c.replied.ensures c.in-Ok.ensures.0 c.in-Ok.ensures.1
 
 pub returns-in-Err-clause-gives : goal.returns-in-Err-clause-gives
 returns-in-Err-clause-gives c = λ n s h.
-    refused-as n (view_of c.args.self.now) s h c.args.client c.args.command.now c.as_slice.result.now c.accept-done.new.self c.in-Err.error c.refusal.result c.as_slice.ensures c.refusal.ensures c.in-Err.ensures
+    refused-as n (view_of c.args.self.now) s h c.args.lane c.args.command.now c.as_slice.result.now c.accept-done.new.self c.in-Err.error c.refusal.result c.as_slice.ensures c.refusal.ensures c.in-Err.ensures

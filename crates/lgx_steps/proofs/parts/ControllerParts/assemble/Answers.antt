@@ -10,5 +10,5 @@ use Rattle.lgx_steps.proofs.parts.ControllerParts.assemble.Goals as goal
 
 pub returns-clause-gives : goal.returns-clause-gives
 returns-clause-gives c = λ n s h.
-    subst (λ (x : Outcome). ViewGives n (record (view_of c.args.self.now) { book = c.assemble-done.new.self }) x (edit_replied s (on_accepted assemble s.books c.args.client c.args.program.now))) (sym c.answered.ensures)
-    (gives-edited n (view_of c.args.self.now) s h assemble assemble-ready c.args.client c.args.program.now c.assemble-done.new.self c.assemble-done.result c.assemble-done.ensures)
+    subst (λ (x : Outcome). ViewGives n (record (view_of c.args.self.now) { book = c.assemble-done.new.self }) x (edit_replied s (on_accepted assemble s.books c.args.lane c.args.program.now))) (sym c.answered.ensures)
+    (gives-edited n (view_of c.args.self.now) s h assemble assemble-ready c.args.lane c.args.program.now c.assemble-done.new.self c.assemble-done.result c.assemble-done.ensures)

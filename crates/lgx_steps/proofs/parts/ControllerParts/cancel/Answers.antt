@@ -10,5 +10,5 @@ use Rattle.lgx_steps.proofs.parts.ControllerParts.cancel.Goals as goal
 
 pub returns-clause-gives : goal.returns-clause-gives
 returns-clause-gives c = λ n s h.
-    subst (λ (x : Outcome). ViewGives n (record (view_of c.args.self.now) { book = c.cancel-done.new.self }) x (edit_replied s (on_accepted cancel s.books c.args.client c.args.program.now))) (sym c.answered.ensures)
-    (gives-edited n (view_of c.args.self.now) s h cancel cancel-ready c.args.client c.args.program.now c.cancel-done.new.self c.cancel-done.result c.cancel-done.ensures)
+    subst (λ (x : Outcome). ViewGives n (record (view_of c.args.self.now) { book = c.cancel-done.new.self }) x (edit_replied s (on_accepted cancel s.books c.args.lane c.args.program.now))) (sym c.answered.ensures)
+    (gives-edited n (view_of c.args.self.now) s h cancel cancel-ready c.args.lane c.args.program.now c.cancel-done.new.self c.cancel-done.result c.cancel-done.ensures)

@@ -7,5 +7,5 @@ use Rattle.lgx_steps.proofs.parts.ControllerParts.find_work.Goals as goal
 
 pub returns-clause-gives : goal.returns-clause-gives
 returns-clause-gives c = λ n s h.
-    subst (λ (w : TableView). ViewGives n (record (view_of c.watch_and_release-report.new.self) { table = w }) c.watch_and_release-report.result (in_run s)) (sym c.settle.ensures)
+    subst (λ (w : TableView). ViewGives n (record (view_of c.watch_and_release-report.new.self) { table = w }) c.watch_and_release-report.result (in_run s)) (sym c.find_quiet.ensures)
     (c.watch_and_release-report.ensures.gives n s h)

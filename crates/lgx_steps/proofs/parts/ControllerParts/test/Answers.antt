@@ -10,5 +10,5 @@ use Rattle.lgx_steps.proofs.parts.ControllerParts.test.Goals as goal
 
 pub returns-clause-gives : goal.returns-clause-gives
 returns-clause-gives c = λ n s h.
-    subst (λ (x : Outcome). ViewGives n (record (view_of c.args.self.now) { book = c.test-done.new.self }) x (edit_replied s (on_accepted test s.books c.args.client c.args.program.now))) (sym c.answered.ensures)
-    (gives-edited n (view_of c.args.self.now) s h test test-ready c.args.client c.args.program.now c.test-done.new.self c.test-done.result c.test-done.ensures)
+    subst (λ (x : Outcome). ViewGives n (record (view_of c.args.self.now) { book = c.test-done.new.self }) x (edit_replied s (on_accepted test s.books c.args.lane c.args.program.now))) (sym c.answered.ensures)
+    (gives-edited n (view_of c.args.self.now) s h test test-ready c.args.lane c.args.program.now c.test-done.new.self c.test-done.result c.test-done.ensures)
