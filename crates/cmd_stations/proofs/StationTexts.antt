@@ -14,7 +14,7 @@ use Rattle.lgx_record.specs.IsRunOf.{IsRunOf}
 use Rattle.lgx_judge.specs.declared.ends.End.{End}
 use Rattle.lgx_judge.specs.ReportLines.{end_of}
 use Rattle.lgx_judge.proofs.Reports.{report_from_start}
-use Rattle.lgx_stations.specs.declared.watcher.Readings.{Readings}
+use Rattle.lgx_stations.specs.declared.gated.Readings.{Readings}
 use Rattle.lgx_stations.specs.declared.reported.Reported.{Reported}
 use Rattle.lgx_stations.specs.Reports.{Reports}
 use Rattle.lgx_stations.specs.Telling.{AreReadingsOf}

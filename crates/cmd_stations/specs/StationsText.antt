@@ -7,7 +7,7 @@ use Rattle.spec_machine.specs.Project.{Project}
 use Rattle.spec_text.specs.ReportText.{report}
 use Rattle.spec_board.specs.declared.snapshot.Snapshot.{Snapshot}
 use Rattle.spec_story.specs.Snapshots.{snapshots}
-use Rattle.lgx_stations.specs.declared.watcher.Readings.{Readings}
+use Rattle.lgx_stations.specs.declared.gated.Readings.{Readings}
 use Rattle.lgx_stations.specs.Telling.{AreReadingsOf}
 
 -- a number of a line, after a space

@@ -14,7 +14,7 @@ use lgx_judge::end_of;
 use lgx_num::Memory;
 use lgx_project::Project;
 use lgx_record::Run;
-use lgx_stations::{Gate, Input, Reported, watch_journal};
+use lgx_stations::{Gate, JournalInput, Reported, watch_journal};
 use lgx_watch::Log;
 use std::alloc::Global;
 use std::marker::Brand;
@@ -24,7 +24,7 @@ use std::thread::Threads;
 /// The lines of a journal that was replayed on a project, while `stations` operator stations watched.
 ///
 /// No type of a station is in its signature: so its caller may say what the input names.
-fn watched_as<I: Input + Send, G: Gate + Sync, R: Threads + Wait + Sync>(
+fn watched_as<I: JournalInput + Send, G: Gate + Sync, R: Threads + Wait + Sync>(
     rt: &R,
     alloc: Global,
     project: Project,

@@ -10,7 +10,7 @@ use Rattle.spec_schedule.specs.declared.trace.TraceEvent.{TraceEvent}
 use Rattle.spec_schedule.specs.Counting.{Counted, uncounted, counted_all, Numbers, unedited, edited_all, CountedEvent, counted_events, counted_events_from, stepping}
 use Rattle.spec_schedule.specs.Legal.{is_tick, each_from, keeps_turn, turn_kept, gives_way}
 use Rattle.lgx_audit.specs.Along.{IsWithin}
-use Rattle.lgx_audit.specs.declared.watch.Watch.{Watch}
+use Rattle.lgx_audit.specs.declared.watch.TurnState.{TurnState}
 use Rattle.lgx_audit.specs.Watching.{unwatched, Watching, watch_at, watched, watched_step, watched_all, first_watching, is_unpassed, keeps_turn_now, gives_way_now, passes_from, passes}
 use Rattle.spec_legal.proofs.CountedLists.{counts_length}
 use Rattle.lgx_audit.proofs.TurnsNow.{kept, kept_nil, owes, others_step, own_step, tick_step}
@@ -19,12 +19,12 @@ use Rattle.lgx_audit.proofs.WaysStep.{Asks, Follows, on, back, tick_no_step}
 
 -- ---- each watch after an event
 
-mapped_at : (f : ℕ × Watch → Watch) (i : ℕ) (ws : List Watch) (u : ℕ) → u < length ws → watch_at (map f (enumerate_from i ws)) u ≡ f (i + u, watch_at ws u)
+mapped_at : (f : ℕ × TurnState → TurnState) (i : ℕ) (ws : List TurnState) (u : ℕ) → u < length ws → watch_at (map f (enumerate_from i ws)) u ≡ f (i + u, watch_at ws u)
 mapped_at f i [] u h = absurd (omega arith)
 mapped_at f i (w ∷ ws) zero h = ap (λ n. f (n, w)) (let z : i ≡ i + 0 = omega arith in z)
 mapped_at f i (w ∷ ws) (suc u) h = mapped_at f (i + 1) ws u (omega arith) ∙ ap (λ n. f (n, watch_at ws u)) (let z : i + 1 + u ≡ i + suc u = omega arith in z)
 
-mapped_length : (f : ℕ × Watch → Watch) (i : ℕ) (ws : List Watch) → length (map f (enumerate_from i ws)) ≡ length ws
+mapped_length : (f : ℕ × TurnState → TurnState) (i : ℕ) (ws : List TurnState) → length (map f (enumerate_from i ws)) ≡ length ws
 mapped_length f i [] = refl
 mapped_length f i (w ∷ ws) = ap suc (mapped_length f (i + 1) ws)
 

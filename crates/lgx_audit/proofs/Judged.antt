@@ -5,7 +5,7 @@ use Rattle.std.specs.List.{AllByRecursion as Each}
 use Rattle.std.proofs.lemmas.Bool.{and_from, and_left, and_right, and_cases, false_from_ne_true, false≢true}
 use Rattle.std.proofs.lemmas.List.{ext_get_or, length-replicate, get_or-replicate}
 use Rattle.std.proofs.Common.{inl, inr}
-use Rattle.lgx_audit.specs.declared.watch.Watch.{Watch}
+use Rattle.lgx_audit.specs.declared.watch.TurnState.{TurnState}
 use Rattle.lgx_audit.specs.declared.numbers.Tally.{Tally}
 use Rattle.spec_schedule.specs.declared.trace.Table.{Table}
 use Rattle.spec_schedule.specs.declared.trace.TraceEvent.{TraceEvent}
@@ -55,14 +55,14 @@ two_below P z a b (suc (suc (suc k))) h = absurd (omega arith)
 
 -- ---- what is watched after an event
 
-pub watches_on : (table : Table) (x : CountedEvent) (cs' : List Counted) (w : Watching) (old new : List Watch) (last : Option ℕ) → old ≡ w.watches → last ≡ w.last → length old ≡ length table.tasks → length new ≡ length old → ((t : ℕ) → t < length old → watch_at new t ≡ watched table x last t (slice_index_or cs' t uncounted) (watch_at old t)) → new ≡ (watched_all table x cs' w).watches
+pub watches_on : (table : Table) (x : CountedEvent) (cs' : List Counted) (w : Watching) (old new : List TurnState) (last : Option ℕ) → old ≡ w.watches → last ≡ w.last → length old ≡ length table.tasks → length new ≡ length old → ((t : ℕ) → t < length old → watch_at new t ≡ watched table x last t (slice_index_or cs' t uncounted) (watch_at old t)) → new ≡ (watched_all table x cs' w).watches
 watches_on table x cs' w old new last is last_is long same each =
     let wide : length w.watches ≡ length table.tasks = sym (ap length is) ∙ long in
     let all = all_long table x cs' w wide in
     ext_get_or unwatched new (watched_all table x cs' w).watches (same ∙ long ∙ sym all) (λ t l.
     each t (omega arith)
     ∙ (ap (λ (o : Option ℕ). watched table x o t (slice_index_or cs' t uncounted) (watch_at old t)) last_is
-    ∙ (ap (λ (ws : List Watch). watched table x w.last t (slice_index_or cs' t uncounted) (watch_at ws t)) is
+    ∙ (ap (λ (ws : List TurnState). watched table x w.last t (slice_index_or cs' t uncounted) (watch_at ws t)) is
     ∙ sym ((follows table x cs' w wide).watches t (omega arith)))))
 
 -- ---- at the start
@@ -82,11 +82,11 @@ none_told_yet n ts is = record {
 
 -- ---- the tests as the code makes them
 
-pub tests_are : (w : Watching) (ws : List Watch) (way steps s : Option ℕ) (r : Bool) → ws ≡ w.watches → way ≡ w.way → steps ≡ s → r ≡ (is_unpassed ws steps && awaits_none (record { watches = ws; last = w.last; way = way }) steps) → r ≡ (is_unpassed w.watches s && awaits_none w s)
+pub tests_are : (w : Watching) (ws : List TurnState) (way steps s : Option ℕ) (r : Bool) → ws ≡ w.watches → way ≡ w.way → steps ≡ s → r ≡ (is_unpassed ws steps && awaits_none (record { watches = ws; last = w.last; way = way }) steps) → r ≡ (is_unpassed w.watches s && awaits_none w s)
 tests_are w ws way steps s r is_ws is_way is_s made =
     made
     ∙ (ap (λ (o : Option ℕ). is_unpassed ws o && awaits_none (record { watches = ws; last = w.last; way = way }) o) is_s
-    ∙ (ap (λ (vs : List Watch). is_unpassed vs s && awaits_none (record { watches = vs; last = w.last; way = way }) s) is_ws
+    ∙ (ap (λ (vs : List TurnState). is_unpassed vs s && awaits_none (record { watches = vs; last = w.last; way = way }) s) is_ws
     ∙ ap (λ (o : Option ℕ). is_unpassed w.watches s && awaits_none (record { watches = w.watches; last = w.last; way = o }) s) is_way))
 
 -- one of two tests fails at the next event

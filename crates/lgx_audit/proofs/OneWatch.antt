@@ -2,7 +2,7 @@
 use Rattle.std.proofs.Common.{◌≡◌, ℕ, ◌+◌, ◌<◌, inl, inr, Bool, true, false, List, length, Option, Some, None, refl, sym, ◌∙◌, ap, arith, eq-eqb}
 use Rattle.std.specs.Prelude.{slice_index_or, nat_eq, not, ◌||◌, ◌&&◌}
 use Rattle.std.proofs.lemmas.Bool.{cases_eq, ne_eqb}
-use Rattle.lgx_audit.specs.declared.watch.Watch.{Watch}
+use Rattle.lgx_audit.specs.declared.watch.TurnState.{TurnState}
 use Rattle.spec_schedule.specs.declared.trace.Table.{Table}
 use Rattle.spec_schedule.specs.declared.trace.TraceEvent.{TraceEvent}
 use Rattle.spec_schedule.specs.declared.trace.TraceEvent.TheVariants.{Tick}
@@ -30,7 +30,7 @@ module _ (table : Table) (e : TraceEvent) (cs : List Counted) (ns : List Numbers
       ∙ others_kept e (slice_index_or table.tasks t no_task) t (slice_index_or cs t uncounted) one h))
       ∙ eq-eqb (slice_index_or cs t uncounted).downs (slice_index_or cs t uncounted).downs refl
 
-  pub step_watched : (t u : ℕ) (stay : Bool) (w : Watch) → t < length table.tasks → stepping e ≡ Some u → stay ≡ stays (slice_index_or cs u uncounted) (slice_index_or cs' u uncounted) → watched_step table t (Some u) (not (nat_eq t u) || stay) w ≡ watched table (record { tasks = cs; programs = ns; event = e }) last t (slice_index_or cs' t uncounted) w
+  pub step_watched : (t u : ℕ) (stay : Bool) (w : TurnState) → t < length table.tasks → stepping e ≡ Some u → stay ≡ stays (slice_index_or cs u uncounted) (slice_index_or cs' u uncounted) → watched_step table t (Some u) (not (nat_eq t u) || stay) w ≡ watched table (record { tasks = cs; programs = ns; event = e }) last t (slice_index_or cs' t uncounted) w
   step_watched t u stay w within steps is =
       ap (λ b. watched_step table t (Some u) b w) same
       ∙ (ap (λ o. watched_step table t o (stays (slice_index_or cs t uncounted) (slice_index_or cs' t uncounted)) w) (sym steps)
@@ -42,7 +42,7 @@ module _ (table : Table) (e : TraceEvent) (cs : List Counted) (ns : List Numbers
         | inr ne ↦ rw (ne_eqb t u ne) (sym (other_stays t within (ap (is_task t) steps ∙ ne_eqb u t (λ k. ne (sym k)))))
       ]
 
-  pub none_watched : (t : ℕ) (w : Watch) → t < length table.tasks → stepping e ≡ None → w ≡ watched table (record { tasks = cs; programs = ns; event = e }) last t (slice_index_or cs' t uncounted) w
+  pub none_watched : (t : ℕ) (w : TurnState) → t < length table.tasks → stepping e ≡ None → w ≡ watched table (record { tasks = cs; programs = ns; event = e }) last t (slice_index_or cs' t uncounted) w
   none_watched t w within steps =
       sym (plain w.stepped w.awaited)
       ∙ (ap (λ b. watched_step table t None b w) (sym (other_stays t within (ap (is_task t) steps)))

@@ -10,7 +10,7 @@ use Rattle.spec_schedule.specs.declared.trace.Table.{Table}
 use Rattle.spec_schedule.specs.declared.trace.TraceEvent.{TraceEvent}
 use Rattle.spec_schedule.specs.Counting.{Counted, uncounted, counted_all, Numbers, edited_all, CountedEvent, counted_events_from, stepping}
 use Rattle.spec_schedule.specs.Legal.{priority_of, at, is_tick, before_tick, of_priority, who_steps, keeps_on, turn_kept, keeps_turn}
-use Rattle.lgx_audit.specs.declared.watch.Watch.{Watch}
+use Rattle.lgx_audit.specs.declared.watch.TurnState.{TurnState}
 use Rattle.lgx_audit.specs.Watching.{watched_step}
 
 abbrev is_number : ℕ → ℕ → Bool
@@ -26,7 +26,7 @@ kept t true us = not (list_any (is_number t) us)
 kept t false us = keeps_on t us
 
 -- what a step of t asks of the places from here on
-abbrev pub owes : Table → ℕ → ℕ → Watch → List CountedEvent → Bool
+abbrev pub owes : Table → ℕ → ℕ → TurnState → List CountedEvent → Bool
 owes table t d w ys = not w.stepped || kept t w.passed (who table t d ys)
 
 keeps_on_cons : (t a : ℕ) (us : List ℕ) → keeps_on t (a ∷ us) ≡ cond (nat_eq a t) (keeps_on t us) (not (list_any (is_number t) us))
@@ -144,7 +144,7 @@ module _ (table : Table) (t : ℕ) (ds : List AuditTask) (cs : List Counted) (ns
   who_here no_tick = who_cons table t d y ys ∙ rw (no_tick, eq-eqb d d refl) refl
 
   -- a step that isn't t's, or an action: what t asks before it is what it asks after it
-  pub others_step : (w : Watch) → is_tick e ≡ false → (stepping e ≡ Some t → ⊥) → owes table t d w (y ∷ ys) ≡ owes table t d' (watched_step table t (stepping e) (nat_eq d d') w) ys
+  pub others_step : (w : TurnState) → is_tick e ≡ false → (stepping e ≡ Some t → ⊥) → owes table t d w (y ∷ ys) ≡ owes table t d' (watched_step table t (stepping e) (nat_eq d d') w) ys
   others_step w no_tick ne =
       ap (λ us. not w.stepped || kept t w.passed us) (who_here no_tick)
       ∙ ap (λ b. not w.stepped || b) (kept_step table t (stepping e) w.passed (who table t d ys) ne)
@@ -161,7 +161,7 @@ module _ (table : Table) (t : ℕ) (ds : List AuditTask) (cs : List Counted) (ns
           (none_asked table t d d' ys w.stepped (after_passed table t (Some u) w.passed) (after_passed table t (Some u) w.passed) (who_none table t d ds cs' (edited_all e ns) es k))
 
   -- a step of t: what it asked before, and what the law asks of this step, is the test of this step and what t asks after it
-  pub own_step : (w : Watch) → is_tick e ≡ false → stepping e ≡ Some t → (owes table t d w (y ∷ ys) && keeps_turn table y ys) ≡ (not (w.stepped && w.passed) && owes table t d' (watched_step table t (stepping e) (nat_eq d d') w) ys)
+  pub own_step : (w : TurnState) → is_tick e ≡ false → stepping e ≡ Some t → (owes table t d w (y ∷ ys) && keeps_turn table y ys) ≡ (not (w.stepped && w.passed) && owes table t d' (watched_step table t (stepping e) (nat_eq d d') w) ys)
   own_step w no_tick own =
       ap (λ us. (not w.stepped || kept t w.passed us) && keeps_turn table y ys) (who_here no_tick)
       ∙ (ap (λ o. (not w.stepped || kept t w.passed (cons_option (of_priority table (priority_of table t) o) us)) && turn_kept table y ys o) own
@@ -185,7 +185,7 @@ module _ (table : Table) (t : ℕ) (ds : List AuditTask) (cs : List Counted) (ns
       by_watch true false = ap (λ b. b && kept t false us) (kept_own t us) ∙ (both (kept t false us) ∙ asked)
 
   -- a tick: nothing is asked from there on
-  pub tick_step : (w : Watch) → is_tick e ≡ true → owes table t d w (y ∷ ys) ≡ true
+  pub tick_step : (w : TurnState) → is_tick e ≡ true → owes table t d w (y ∷ ys) ≡ true
   tick_step w tick = ap (λ us. not w.stepped || kept t w.passed us) (who_cons table t d y ys ∙ rw tick refl) ∙ (ap (λ b. not w.stepped || b) (kept_nil t w.passed) ∙ always w.stepped)
     where
       always : (b : Bool) → (not b || true) ≡ true

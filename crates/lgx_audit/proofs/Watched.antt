@@ -2,7 +2,7 @@
 use Rattle.std.proofs.Common.{◌≡◌, ℕ, ◌+◌, ◌<◌, List, length, Option, sym, ◌∙◌, ap, arith}
 use Rattle.std.specs.Prelude.{slice_index_or, nat_eq, Bool, true, false, Some, None, if◌then◌else◌}
 use Rattle.lgx_audit.specs.declared.counts.Count.{Count}
-use Rattle.lgx_audit.specs.declared.watch.Watch.{Watch}
+use Rattle.lgx_audit.specs.declared.watch.TurnState.{TurnState}
 use Rattle.spec_schedule.specs.declared.trace.Table.{Table}
 use Rattle.spec_schedule.specs.declared.trace.TraceEvent.{TraceEvent}
 use Rattle.spec_schedule.specs.Counting.{Counted, uncounted, counted, counted_all, Numbers, stepping}
@@ -11,7 +11,7 @@ use Rattle.lgx_audit.specs.Along.{shown, IsWithin}
 use Rattle.lgx_audit.specs.Watching.{stays, gives_at, watch_by, watched, candidate}
 use Rattle.spec_legal.proofs.CountedLists.{count_at}
 
-pub watched_at : (table : Table) (e : TraceEvent) (cs : List Counted) (ns : List Numbers) (last gives : Option ℕ) (t : ℕ) (count : Count) (w' w : Watch) → length cs ≡ length table.tasks → t < length table.tasks → count ≡ shown (slice_index_or cs t uncounted) → gives ≡ gives_at table (record { tasks = cs; programs = ns; event = e }) last → w' ≡ watch_by table e gives t count.up (nat_eq (slice_index_or cs t uncounted).downs (counted (slice_index_or table.tasks t no_task) t e (slice_index_or cs t uncounted)).downs) w → w' ≡ watched table (record { tasks = cs; programs = ns; event = e }) last t (slice_index_or (counted_all table.tasks e cs) t uncounted) w
+pub watched_at : (table : Table) (e : TraceEvent) (cs : List Counted) (ns : List Numbers) (last gives : Option ℕ) (t : ℕ) (count : Count) (w' w : TurnState) → length cs ≡ length table.tasks → t < length table.tasks → count ≡ shown (slice_index_or cs t uncounted) → gives ≡ gives_at table (record { tasks = cs; programs = ns; event = e }) last → w' ≡ watch_by table e gives t count.up (nat_eq (slice_index_or cs t uncounted).downs (counted (slice_index_or table.tasks t no_task) t e (slice_index_or cs t uncounted)).downs) w → w' ≡ watched table (record { tasks = cs; programs = ns; event = e }) last t (slice_index_or (counted_all table.tasks e cs) t uncounted) w
 watched_at table e cs ns last gives t count w' w many within is given made =
     made
     ∙ (ap (λ (c : Count). watch_by table e gives t c.up (nat_eq (slice_index_or cs t uncounted).downs (counted (slice_index_or table.tasks t no_task) t e (slice_index_or cs t uncounted)).downs) w) is

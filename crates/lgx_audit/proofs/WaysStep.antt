@@ -10,7 +10,7 @@ use Rattle.spec_schedule.specs.declared.trace.TraceEvent.{TraceEvent}
 use Rattle.spec_schedule.specs.declared.trace.TraceEvent.TheVariants.{Idle, Began, Step, Left, Tick, Act}
 use Rattle.spec_schedule.specs.Counting.{Counted, uncounted, counted_all, Numbers, edited_all, is_open, CountedEvent, counted_events_from, is_task, stepping, steps_here}
 use Rattle.spec_schedule.specs.Legal.{priority_of, at, higher_up, is_tick, is_action, gives_turn, way_given, gives_way}
-use Rattle.lgx_audit.specs.declared.watch.Watch.{Watch}
+use Rattle.lgx_audit.specs.declared.watch.TurnState.{TurnState}
 use Rattle.lgx_audit.specs.Watching.{unwatched, Watching, watch_at, stays, gives_at, is_rival_of, watched, watched_step, stays_last, last_after, way_after, awaits_none, gives_way_now}
 use Rattle.spec_legal.proofs.CountedLists.{counts_length}
 use Rattle.lgx_audit.proofs.WaysNow.{downs_at, downs_grow, yields, yields_cons, yields_gone, gives_each, each_gives, may_pass, law_is, pass_action, pass_other, pass_gone}
@@ -28,16 +28,16 @@ pub record Follows (table : Table) (w w' : Watching) (y : CountedEvent) (cs' : L
   pub way : w'.way ≡ way_after table y w.last w.way
 
 -- an awaited task is one of the table
-awaited_within : (ws : List Watch) (u : ℕ) → (watch_at ws u).awaited ≡ true → u < length ws
+awaited_within : (ws : List TurnState) (u : ℕ) → (watch_at ws u).awaited ≡ true → u < length ws
 awaited_within ws u h = elim (cases_lt u (length ws)) [
   | inl within ↦ within
-  | inr past ↦ absurd (false≢true (sym (ap (λ (v : Watch). v.awaited) (get_or_past ws u unwatched past)) ∙ h))
+  | inr past ↦ absurd (false≢true (sym (ap (λ (v : TurnState). v.awaited) (get_or_past ws u unwatched past)) ∙ h))
 ]
 
-awaited_any : (ws : List Watch) (u : ℕ) → (watch_at ws u).awaited ≡ true → list_any (λ v. v.awaited) ws ≡ true
+awaited_any : (ws : List TurnState) (u : ℕ) → (watch_at ws u).awaited ≡ true → list_any (λ v. v.awaited) ws ≡ true
 awaited_any ws u h = list_any_at (λ v. v.awaited) ws u unwatched (awaited_within ws u h) h
 
-any_awaited : (ws : List Watch) → list_any (λ v. v.awaited) ws ≡ true → (u : ℕ) × ((watch_at ws u).awaited ≡ true)
+any_awaited : (ws : List TurnState) → list_any (λ v. v.awaited) ws ≡ true → (u : ℕ) × ((watch_at ws u).awaited ≡ true)
 any_awaited [] h = absurd (false≢true h)
 any_awaited (w ∷ ws) h = go w.awaited refl h (any_awaited ws)
   where
@@ -154,11 +154,11 @@ module _ (table : Table) (cs : List Counted) (ns : List Numbers) (e : TraceEvent
       go None h = absurd (false≢true h)
       go (Some v) h = ap (λ n. Some n) (eqb-true v t h)
 
-  awaited_step : (w : Watch) (u : ℕ) (o : Option ℕ) → (watched_step table u o (keeps u) w).awaited ≡ (w.awaited && keeps u)
+  awaited_step : (w : TurnState) (u : ℕ) (o : Option ℕ) → (watched_step table u o (keeps u) w).awaited ≡ (w.awaited && keeps u)
   awaited_step w u None = refl
   awaited_step w u (Some v) = go (nat_eq v u)
     where
-      go : (b : Bool) → (λ (x : Watch). x.awaited) (if b then record { stepped = keeps u; passed = false; awaited = w.awaited && keeps u } else record { stepped = w.stepped && keeps u; passed = w.passed || nat_eq (priority_of table v) (priority_of table u); awaited = w.awaited && keeps u }) ≡ (w.awaited && keeps u)
+      go : (b : Bool) → (λ (x : TurnState). x.awaited) (if b then record { stepped = keeps u; passed = false; awaited = w.awaited && keeps u } else record { stepped = w.stepped && keeps u; passed = w.passed || nat_eq (priority_of table v) (priority_of table u); awaited = w.awaited && keeps u }) ≡ (w.awaited && keeps u)
       go true = refl
       go false = refl
 
@@ -170,7 +170,7 @@ module _ (table : Table) (cs : List Counted) (ns : List Numbers) (e : TraceEvent
       way_same = f.way ∙ rw no_tick refl
 
       awaited_now : (u : ℕ) → u < length table.tasks → (watch_at w'.watches u).awaited ≡ ((watch_at w.watches u).awaited && keeps u)
-      awaited_now u within = ap (λ (v : Watch). v.awaited) (f.watches u within) ∙ (rw no_tick refl ∙ awaited_step (watch_at w.watches u) u (stepping e))
+      awaited_now u within = ap (λ (v : TurnState). v.awaited) (f.watches u within) ∙ (rw no_tick refl ∙ awaited_step (watch_at w.watches u) u (stepping e))
 
       ways_on : Asks table w cs (y ∷ ys) → (t u : ℕ) → w'.way ≡ Some t → (watch_at w'.watches u).awaited ≡ true → yields t u (downs_at cs' u) ys ≡ true
       ways_on a t u way await =
@@ -231,7 +231,7 @@ module _ (table : Table) (cs : List Counted) (ns : List Numbers) (e : TraceEvent
       way_now = f.way ∙ rw tick refl
 
       awaited_tick : (u : ℕ) → u < length table.tasks → (watch_at w'.watches u).awaited ≡ ((at y u).up && is_rival_of table u (gives_at table y w.last) && keeps u)
-      awaited_tick u within = ap (λ (v : Watch). v.awaited) (f.watches u within) ∙ rw tick refl
+      awaited_tick u within = ap (λ (v : TurnState). v.awaited) (f.watches u within) ∙ rw tick refl
 
       passes_here : (t : ℕ) → may_pass table t (downs_at cs t) (y ∷ ys) ≡ (not (not (is_open (at y t)) && not (higher_up table y t)) || gives_turn table t y ys)
       passes_here t = pass_other table t (downs_at cs t) y ys (tick_no_action e tick) ∙ rw (tick, eq-eqb (downs_at cs t) (downs_at cs t) refl) refl

@@ -2,24 +2,24 @@
 -- again: each place asks only of the counts and of what is watched just before it.
 use Rattle.std.specs.Prelude.{ℕ, List, [], ◌∷◌, map, replicate, Bool, true, false, not, ◌&&◌, ◌||◌, nat_eq, if◌then◌else◌, Option, Some, None, slice_index_or}
 use Rattle.std.specs.List.{list_any, enumerate_from}
-use Rattle.lgx_audit.specs.declared.watch.Watch.{Watch}
+use Rattle.lgx_audit.specs.declared.watch.TurnState.{TurnState}
 use Rattle.spec_schedule.specs.declared.trace.TraceEvent.{TraceEvent}
 use Rattle.spec_schedule.specs.declared.trace.Table.{Table}
 use Rattle.spec_schedule.specs.Counting.{Counted, uncounted, counted_all, Numbers, unedited, edited_all, is_open, is_task, stepping, CountedEvent}
 use Rattle.spec_schedule.specs.Legal.{priority_of, at, higher_up, is_tick, is_action}
 
 -- a task of which nothing is watched
-abbrev pub unwatched : Watch
+abbrev pub unwatched : TurnState
 unwatched = record { stepped = false; passed = false; awaited = false }
 
 -- Of all: the task of the last step, as long as it stays up and actions alone follow; and the task that gives way since the
 -- last tick.
 pub record Watching : Type 0 where
-  pub watches : List Watch
+  pub watches : List TurnState
   pub last : Option ℕ
   pub way : Option ℕ
 
-abbrev pub watch_at : List Watch → ℕ → Watch
+abbrev pub watch_at : List TurnState → ℕ → TurnState
 watch_at ws t = slice_index_or ws t unwatched
 
 -- it hasn't gone down between these counts
@@ -38,21 +38,21 @@ abbrev pub is_rival_of : Table → ℕ → Option ℕ → Bool
 is_rival_of table u None = false
 is_rival_of table u (Some t) = nat_eq (priority_of table u) (priority_of table t) && not (nat_eq u t)
 
-abbrev pub watched_step : Table → ℕ → Option ℕ → Bool → Watch → Watch
+abbrev pub watched_step : Table → ℕ → Option ℕ → Bool → TurnState → TurnState
 watched_step table t None stay w = record { stepped = w.stepped && stay; passed = w.passed; awaited = w.awaited && stay }
 watched_step table t (Some u) stay w =
     if nat_eq u t then record { stepped = stay; passed = false; awaited = w.awaited && stay }
     else record { stepped = w.stepped && stay; passed = w.passed || nat_eq (priority_of table u) (priority_of table t); awaited = w.awaited && stay }
 
 -- of task t, by who gives way at this event if it is a tick, whether t is up before it, and whether it stays up
-abbrev pub watch_by : Table → TraceEvent → (gives : Option ℕ) → ℕ → (up stay : Bool) → Watch → Watch
+abbrev pub watch_by : Table → TraceEvent → (gives : Option ℕ) → ℕ → (up stay : Bool) → TurnState → TurnState
 watch_by table e gives t up stay w =
     if is_tick e
     then record { stepped = false; passed = false; awaited = up && is_rival_of table t gives && stay }
     else watched_step table t (stepping e) stay w
 
 -- by its counts before and after the event
-abbrev pub watched : Table → CountedEvent → Option ℕ → ℕ → Counted → Watch → Watch
+abbrev pub watched : Table → CountedEvent → Option ℕ → ℕ → Counted → TurnState → TurnState
 watched table x last t c' w = watch_by table x.event (gives_at table x last) t (at x t).up (stays (at x t) c') w
 
 abbrev pub stays_last : List Counted → List Counted → Option ℕ → Option ℕ
@@ -72,11 +72,11 @@ way_after table x last way = if is_tick x.event then gives_at table x last else 
 -- ---- the tests of an event
 
 -- a task steps that hasn't been passed since its last step
-abbrev pub is_unpassed : List Watch → Option ℕ → Bool
+abbrev pub is_unpassed : List TurnState → Option ℕ → Bool
 is_unpassed ws None = true
 is_unpassed ws (Some t) = not ((watch_at ws t).stepped && (watch_at ws t).passed)
 
-abbrev pub keeps_turn_now : List Watch → CountedEvent → Bool
+abbrev pub keeps_turn_now : List TurnState → CountedEvent → Bool
 keeps_turn_now ws x = is_unpassed ws (stepping x.event)
 
 -- a task steps that awaits nobody

@@ -16,17 +16,17 @@ use std::alloc::Global;
 /// Of a task: it has stepped since the last tick and stays up since; another one of its priority has stepped after that;
 /// it was up at the last tick when another was to give way to it, and stays up since.
 #[derive(Clone, Copy)]
-pub struct Watch {
+pub struct TurnState {
     pub stepped: bool,
     pub passed: bool,
     pub awaited: bool,
 }
 
 /// What is watched of tasks before the first event.
-pub(crate) fn no_watches(alloc: Global, tasks: usize) -> Result<Vec<Watch>, Memory>
+pub(crate) fn no_watches(alloc: Global, tasks: usize) -> Result<Vec<TurnState>, Memory>
     ensures { IfOk result (λ watches. watches.items ≡ replicate tasks unwatched) }
 {
-    let none = Watch {
+    let none = TurnState {
         stepped: false,
         passed: false,
         awaited: false,
@@ -81,7 +81,13 @@ fn is_rival(table: &Table, t: usize, gives: Option<usize>) -> bool
 }
 
 /// What is watched of task t after a step or an action.
-fn watched_step(table: &Table, t: usize, steps: Option<usize>, stay: bool, w: Watch) -> Watch
+fn watched_step(
+    table: &Table,
+    t: usize,
+    steps: Option<usize>,
+    stay: bool,
+    w: TurnState,
+) -> TurnState
     requires task { t < length table.now.tasks }
     requires within { (u : ℕ) → steps ≡ Some u → u < length table.now.tasks }
     ensures { result ≡ watched_step table.now t steps stay w }
@@ -90,20 +96,20 @@ fn watched_step(table: &Table, t: usize, steps: Option<usize>, stay: bool, w: Wa
         Some(u) => {
             let tasks = table.tasks.as_slice();
             if u == t {
-                Watch {
+                TurnState {
                     stepped: stay,
                     passed: false,
                     awaited: w.awaited && stay,
                 }
             } else {
-                Watch {
+                TurnState {
                     stepped: w.stepped && stay,
                     passed: w.passed || tasks[u].priority == tasks[t].priority,
                     awaited: w.awaited && stay,
                 }
             }
         }
-        None => Watch {
+        None => TurnState {
             stepped: w.stepped && stay,
             passed: w.passed,
             awaited: w.awaited && stay,
@@ -119,15 +125,15 @@ fn watched(
     t: usize,
     up: bool,
     stay: bool,
-    w: Watch,
-) -> Watch
+    w: TurnState,
+) -> TurnState
     requires task { t < length table.now.tasks }
     requires gives { (u : ℕ) → gives ≡ Some u → u < length table.now.tasks }
     requires within { IsWithin (length table.now.tasks) e.now }
     ensures { result ≡ watch_by table.now e.now gives t up stay w }
 {
     match e {
-        TraceEvent::Tick { .. } => Watch {
+        TraceEvent::Tick { .. } => TurnState {
             stepped: false,
             passed: false,
             awaited: up && is_rival(table, t, gives) && stay,
@@ -143,8 +149,8 @@ fn watch_one(
     e: &TraceEvent,
     gives: Option<usize>,
     t: usize,
-    w: Watch,
-) -> Watch
+    w: TurnState,
+) -> TurnState
     requires task { t < length table.now.tasks }
     requires gives { (u : ℕ) → gives ≡ Some u → u < length table.now.tasks }
     requires within { IsWithin (length table.now.tasks) e.now }
@@ -162,7 +168,7 @@ fn watch_one(
 pub(crate) fn watch_all(
     table: &Table,
     counts: &[Count],
-    watches: &mut [Watch],
+    watches: &mut [TurnState],
     e: &TraceEvent,
     gives: Option<usize>,
 )
@@ -188,7 +194,7 @@ fn stays_here(t: usize, u: usize, stay: bool) -> bool
 }
 
 /// What is watched of all tasks after a step of task u that changes no other task's counts.
-fn watch_step(table: &Table, watches: &mut [Watch], u: usize, stay: bool)
+fn watch_step(table: &Table, watches: &mut [TurnState], u: usize, stay: bool)
     requires watches { length watches.old ≡ length table.now.tasks }
     requires task { u < length table.now.tasks }
     ensures { (t : ℕ) → t < length watches.old → watch_at watches.new t ≡ watched_step table.now t (Some u) (not (nat_eq t u) || stay) (watch_at watches.old t) }
@@ -203,7 +209,7 @@ fn watch_step(table: &Table, watches: &mut [Watch], u: usize, stay: bool)
 pub(crate) fn watch_event(
     table: &Table,
     counts: &[Count],
-    watches: &mut [Watch],
+    watches: &mut [TurnState],
     e: &TraceEvent,
     gives: Option<usize>,
 )
@@ -225,14 +231,14 @@ pub(crate) fn watch_event(
 }
 
 /// Whether a task is awaited.
-pub(crate) fn any_awaited(watches: &[Watch]) -> bool
+pub(crate) fn any_awaited(watches: &[TurnState]) -> bool
     ensures { result ≡ list_any (λ v. v.awaited) watches.now }
 {
     watches.iter().any(|watch| watch.awaited)
 }
 
 /// Whether it is no task that was passed since its last step.
-pub(crate) fn is_unpassed(watches: &[Watch], steps: Option<usize>) -> bool
+pub(crate) fn is_unpassed(watches: &[TurnState], steps: Option<usize>) -> bool
     requires { (u : ℕ) → steps ≡ Some u → u < length watches.now }
     ensures { result ≡ is_unpassed watches.now steps }
 {
@@ -243,7 +249,7 @@ pub(crate) fn is_unpassed(watches: &[Watch], steps: Option<usize>) -> bool
 }
 
 /// Whether it is no task that is to give way and still awaits another.
-pub(crate) fn awaits_none(watches: &[Watch], way: Option<usize>, steps: Option<usize>) -> bool
+pub(crate) fn awaits_none(watches: &[TurnState], way: Option<usize>, steps: Option<usize>) -> bool
     ensures { (last : Option ℕ) → result ≡ awaits_none (record { watches = watches.now; last = last; way = way }) steps }
 {
     match steps {
@@ -330,7 +336,7 @@ pub(crate) fn way_after(e: &TraceEvent, gives: Option<usize>, way: Option<usize>
 }
 
 /// Whether a step by this task, or none, keeps both parts of the turn law.
-pub(crate) fn keeps_turns(watches: &[Watch], way: Option<usize>, steps: Option<usize>) -> bool
+pub(crate) fn keeps_turns(watches: &[TurnState], way: Option<usize>, steps: Option<usize>) -> bool
     requires { (u : ℕ) → steps ≡ Some u → u < length watches.now }
     ensures { (last : Option ℕ) → result ≡ (is_unpassed watches.now steps && awaits_none (record { watches = watches.now; last = last; way = way }) steps) }
 {

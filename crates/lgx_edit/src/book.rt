@@ -11,7 +11,7 @@ use spec_machine::{Accept, EditFault};
 use std::alloc::Global;
 use std::marker::Model;
 
-/// The edits of all programs of a project, in project order: for each a [`ProgramEdits`], which is the machine's book.
+/// The books of edits of all programs of a project, in project order: each is a [`ProgramEdits`].
 ///
 /// A program is found by a walk over their names: edit commands are rare, and a walk takes no memory.
 pub struct EditBook {
@@ -164,7 +164,7 @@ impl EditBook {
         self.programs[program as usize].held_again()
     }
 
-    /// The held program of a program; None if none is held.
+    /// The flat code of the version of a program that is held; None if none is.
     pub fn held(&self, program: u32) -> Option<&FlatProgram>
         requires { program < length self.now }
         ensures { option_map (λ p. p.now) result ≡ option_map (λ v. v.program) (held_at self.now program) }
@@ -181,7 +181,7 @@ impl EditBook {
         self.programs[program as usize].drop_hold();
     }
 
-    /// The selected program of a program: flat code of the rungs that are selected.
+    /// The flat code of the version of a program that is selected.
     pub fn selected(&self, program: u32) -> &FlatProgram
         requires { program < length self.now }
         ensures { RunsSelected result.now (book_at (books self.now) program) }

@@ -195,7 +195,7 @@ impl ProgramEdits {
         self.name.same(name)
     }
 
-    /// Holds the selected program, and answers its number. None may be held.
+    /// Holds the selected version, and answers its number. None may be held.
     pub fn hold(&mut self) -> u32
         requires { IsNone self.old.versions.roles.held }
         ensures number { result ≡ selected_number self.old.book }
@@ -204,7 +204,7 @@ impl ProgramEdits {
         self.versions.hold()
     }
 
-    /// The number of the selected program, if it is the one that is held already. None if another one is held, or none.
+    /// The number of the selected version, if it is the one that is held already. None if another one is held, or none.
     #[inline]
     pub fn held_again(&self) -> Option<u32>
         ensures held { IfSome result (λ n. IsHeldAgain n self.now) }
@@ -213,14 +213,14 @@ impl ProgramEdits {
         self.versions.held_again()
     }
 
-    /// The held program. None if none is held.
+    /// The flat code of the held version. None if none is held.
     pub fn held(&self) -> Option<&FlatProgram>
         ensures { option_map (λ p. p.now) result ≡ option_map (λ v. v.program) self.now.versions.roles.held }
     {
         self.versions.held()
     }
 
-    /// Holds no program any more. If none was held, nothing changes.
+    /// Holds no version any more. If none was held, nothing changes.
     pub fn drop_hold(&mut self)
         ensures book { self.new.book ≡ self.old.book }
         ensures held { self.new.versions.roles.held ≡ None }
@@ -228,7 +228,7 @@ impl ProgramEdits {
         self.versions.drop_hold();
     }
 
-    /// The selected program: flat code of the rungs that are selected.
+    /// The flat code of the selected version.
     pub fn selected(&self) -> &FlatProgram
         ensures program { result.now ≡ (selected self.now.versions.roles).program }
         ensures runs { RunsSelected result.now self.now.book }
@@ -236,7 +236,7 @@ impl ProgramEdits {
         self.versions.selected_program()
     }
 
-    /// The number of the program in a slot, from 0 to 2; None if the slot is free.
+    /// The number of the version in a slot, from 0 to 2; None if the slot is free.
     pub fn slot(&self, i: u32) -> Option<u32>
         requires { i < 3 }
         ensures number { result ≡ slice_index_or self.now.versions.slots i None }

@@ -15,7 +15,7 @@ use crate::error::Law;
 use crate::modes::keeps_modes;
 use crate::regions::keeps_region;
 use crate::scans::keeps_scans;
-use crate::since::{Control, Since};
+use crate::since::{ModeSince, Since};
 use crate::starts::keeps_starts;
 use crate::ticks::{keeps_releases, keeps_watchdogs};
 use crate::triggers::keeps_triggers;
@@ -30,7 +30,7 @@ pub(crate) fn broken_law(
     counts: &[Count],
     kept: &[Since],
     books: &[Booked],
-    control: Control,
+    control: ModeSince,
     e: &TraceEvent,
 ) -> Option<Law>
     requires few { length tasks.now ≤ MAX_TASKS }

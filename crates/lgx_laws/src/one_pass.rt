@@ -7,7 +7,7 @@ ghost use Rattle.lgx_laws.specs.Kept.{IsProper};
 use crate::broken::broken_law;
 use crate::edits::{book_event, nothing_booked};
 use crate::error::LawError;
-use crate::since::{Control, control_after, keep_all, nothing_since};
+use crate::since::{ModeSince, control_after, keep_all, nothing_since};
 use lgx_audit::{Trace, TraceEvent, count_event, no_counts};
 use lgx_num::Items;
 use spec_machine::Mode;
@@ -35,7 +35,7 @@ fn judge_events(
     let counts = count_list.as_mut_slice();
     let kept = kept_list.as_mut_slice();
     let books = book_list.as_mut_slice();
-    let mut control = Control {
+    let mut control = ModeSince {
         mode: Mode::Program,
         run: None,
     };

@@ -150,19 +150,19 @@ fn run_after(e: &TraceEvent, run: Option<u64>) -> Option<u64>
 
 /// Of the controller: its mode, and the ticks since the change to Run, none outside Run.
 #[derive(Clone, Copy)]
-pub struct Control {
+pub struct ModeSince {
     pub mode: Mode,
     pub run: Option<u64>,
 }
 
 /// What is kept of the controller after the event.
-pub(crate) fn control_after(e: &TraceEvent, control: Control) -> Control
+pub(crate) fn control_after(e: &TraceEvent, control: ModeSince) -> ModeSince
     requires { (n : ℕ) → control.run ≡ Some n → n < 18446744073709551615 }
     ensures mode { result.mode ≡ mode_shown e.now control.mode }
     ensures run { result.run ≡ (if comes_to_run e.now then Some 0 else (if stops e.now then None else option_map (λ n. ticks_in e.now + n) control.run)) }
     ensures ticks { (most : ℕ) → ((n : ℕ) → control.run ≡ Some n → n ≤ most) → (n : ℕ) → result.run ≡ Some n → n ≤ most + 1 }
 {
-    Control {
+    ModeSince {
         mode: mode_after(e, control.mode),
         run: run_after(e, control.run),
     }

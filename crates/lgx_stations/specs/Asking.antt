@@ -1,7 +1,7 @@
 -- What a gate is asked for.
 use Rattle.std.specs.Prelude.{ℕ, ◌+◌, ◌<◌, ◌≤◌, List, length}
 use Rattle.spec_board.specs.declared.snapshot.Snapshot.{Snapshot}
-use Rattle.lgx_stations.specs.declared.watcher.TheConstants.{READS}
+use Rattle.lgx_stations.specs.declared.gated.TheConstants.{READS}
 
 -- for each read, while a journal is replayed, of each of `stations` stations
 abbrev pub ForReads : (ℕ → ℕ → Type 0) → ℕ → Type 0

@@ -6,7 +6,7 @@ use Rattle.spec_machine.specs.Project.{Project}
 use Rattle.spec_board.specs.declared.snapshot.Snapshot.{Snapshot}
 use Rattle.spec_story.specs.Snapshots.{snapshots}
 use Rattle.lgx_stations.specs.declared.reported.Reported.{Reported}
-use Rattle.lgx_stations.specs.declared.watcher.Readings.{Readings}
+use Rattle.lgx_stations.specs.declared.gated.Readings.{Readings}
 use Rattle.lgx_stations.specs.Reports.{Reports}
 
 -- It is the run of the events that were made, with their report, and their story is published; with those that are left they are the

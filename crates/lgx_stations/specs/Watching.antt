@@ -2,7 +2,7 @@
 use Rattle.std.specs.Prelude.{◌≡◌, ℕ, ◌+◌, List, Option, None}
 use Rattle.spec_board.specs.declared.snapshot.Snapshot.{Snapshot}
 use Rattle.lgx_hmi.specs.StationViews.{StationView}
-use Rattle.lgx_stations.specs.declared.watcher.TheConstants.{READS}
+use Rattle.lgx_stations.specs.declared.gated.TheConstants.{READS}
 use Rattle.lgx_stations.specs.Telling.{IsFirstOf}
 
 -- the watcher at this place among `count`, which are numbered from the last one on, before it reads

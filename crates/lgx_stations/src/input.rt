@@ -3,7 +3,7 @@ use lgx_hmi::Story;
 use std::marker::{Brand, PhantomData};
 
 /// Names one project and one journal: those that are replayed. It has no calls.
-pub trait Input {
+pub trait JournalInput {
     ghost use Rattle.std.specs.Prelude.{List};
     ghost use Rattle.spec_machine.specs.declared.event.Event.{Event};
     ghost use Rattle.spec_machine.specs.Project.{Project};
@@ -18,14 +18,14 @@ pub(crate) struct Tells<I> {
     input: PhantomData<I>,
 }
 
-impl<I: Input> Story for Tells<I> {
+impl<I: JournalInput> Story for Tells<I> {
     ghost use Rattle.spec_story.specs.Snapshots.{snapshots};
 
     ghost story = { snapshots I.project I.journal };
 }
 
 // A caller that passes `Brand` says at the call what it names; by itself it names none.
-impl Input for Brand {
+impl JournalInput for Brand {
     ghost use Rattle.std.specs.Prelude.{[]};
     ghost use Rattle.lgx_shared.specs.Lanes.{no_project};
 

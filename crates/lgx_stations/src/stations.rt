@@ -8,10 +8,10 @@ ghost use Rattle.lgx_stations.specs.Telling.{IsAt, AreReadingsOf};
 ghost use Rattle.lgx_stations.specs.Watching.{IsUnread, HasRead};
 ghost use Rattle.lgx_stations.specs.declared.stations.TheConstants.{MAX_STATIONS};
 
-use crate::input::{Input, Tells};
+use crate::gated::{GatedStation, READS, Readings};
+use crate::input::{JournalInput, Tells};
 use crate::reported::Reported;
 use crate::telling::tell_journal;
-use crate::watcher::{READS, Readings, Watcher};
 use lgx_hmi::{Board, Station, Story};
 use lgx_journal::Journal;
 use lgx_num::Memory;
@@ -24,7 +24,7 @@ use std::thread::{Threads, for_each_mut, join_mut};
 pub const MAX_STATIONS: u32 = 8;
 
 /// Gives each station its number. The last one comes first.
-fn number_all<S: Story>(stations: Vec<Station<S>>, watchers: &mut Vec<Watcher<S>>)
+fn number_all<S: Story>(stations: Vec<Station<S>>, watchers: &mut Vec<GatedStation<S>>)
     requires many { vec_len stations ≤ MAX_STATIONS }
     requires room { vec_len stations ≤ vec_capacity watchers.old }
     requires empty { watchers.old.items ≡ [] }
@@ -35,12 +35,12 @@ fn number_all<S: Story>(stations: Vec<Station<S>>, watchers: &mut Vec<Watcher<S>
     let mut stations = stations;
     while let Some(station) = stations.pop() {
         let lane = stations.len() as u32;
-        watchers.push_reserved(Watcher::new(station, lane));
+        watchers.push_reserved(GatedStation::new(station, lane));
     }
 }
 
 /// One station reads while the journal is replayed.
-fn watch<S: Story, G: Gate>(gate: &G, watcher: &mut Watcher<S>)
+fn watch<S: Story, G: Gate>(gate: &G, watcher: &mut GatedStation<S>)
     requires { (watcher.old.station.reads ≡ 0) × (watcher.old.first ≡ None) }
     ensures read { HasRead S.story watcher.new.station watcher.new.first }
     ensures asked { (n : ℕ) → n < READS → G.asked gate.now watcher.old.lane n }
@@ -55,7 +55,7 @@ fn watch<S: Story, G: Gate>(gate: &G, watcher: &mut Watcher<S>)
 fn watch_all<S: Story + Send, G: Gate + Sync, R: Threads + Sync>(
     rt: &R,
     gate: &G,
-    watchers: &mut [Watcher<S>],
+    watchers: &mut [GatedStation<S>],
 )
     requires some { 0 < length watchers.old }
     requires new { (i : ℕ) (d : _) → i < length watchers.old → let w = slice_index_or watchers.old i d in IsUnread (length watchers.old) i w.lane w.station w.first }
@@ -68,12 +68,12 @@ fn watch_all<S: Story + Send, G: Gate + Sync, R: Threads + Sync>(
 }
 
 /// The journal is replayed and published, while the stations read, each on a thread of its own.
-fn run_beside<I: Input + Send, G: Gate + Sync, R: Threads + Wait + Sync>(
+fn run_beside<I: JournalInput + Send, G: Gate + Sync, R: Threads + Wait + Sync>(
     rt: &R,
     gate: &G,
     reported: &mut Reported,
     board: &mut Board<Tells<I>>,
-    watchers: &mut [Watcher<Tells<I>>],
+    watchers: &mut [GatedStation<Tells<I>>],
     journal: &Journal,
 ) -> Result<(), Memory>
     requires so_far { IsAt I.project I.journal reported.old board.old journal.now.events }
@@ -110,7 +110,7 @@ fn run_beside<I: Input + Send, G: Gate + Sync, R: Threads + Wait + Sync>(
 fn finish_all<S: Story>(
     alloc: Global,
     board: &Board<S>,
-    watchers: Vec<Watcher<S>>,
+    watchers: Vec<GatedStation<S>>,
 ) -> Result<Vec<Readings>, Memory>
     requires told { board.now ≡ S.story }
     requires read { All (λ w. HasRead S.story w.station w.first) watchers.items }
@@ -126,13 +126,13 @@ fn finish_all<S: Story>(
 }
 
 /// The replay with its stations, to each station's last read.
-fn watch_through<I: Input + Send, G: Gate + Sync, R: Threads + Wait + Sync>(
+fn watch_through<I: JournalInput + Send, G: Gate + Sync, R: Threads + Wait + Sync>(
     rt: &R,
     alloc: Global,
     gate: &G,
     reported: &mut Reported,
     board: &mut Board<Tells<I>>,
-    watchers: Vec<Watcher<Tells<I>>>,
+    watchers: Vec<GatedStation<Tells<I>>>,
     journal: &Journal,
 ) -> Result<Vec<Readings>, Memory>
     requires so_far { IsAt I.project I.journal reported.old board.old journal.now.events }
@@ -153,7 +153,7 @@ fn watch_through<I: Input + Send, G: Gate + Sync, R: Threads + Wait + Sync>(
 /// Each reads 1,000 times while the journal is replayed, and once more when all is published. Where no thread can be made they
 /// read before it. The gate is called before each of the 1,000 reads with the station's number and the read's, both counted from
 /// 0, and before each tick is published with the number of stations and that of what is published. Out of memory is the one fault.
-pub fn watch_journal<I: Input + Send, G: Gate + Sync, R: Threads + Wait + Sync>(
+pub fn watch_journal<I: JournalInput + Send, G: Gate + Sync, R: Threads + Wait + Sync>(
     rt: &R,
     alloc: Global,
     gate: &G,

@@ -6,7 +6,7 @@ ghost use Rattle.lgx_stations.specs.Asking.{ForPublishes};
 ghost use Rattle.lgx_stations.specs.Reports.{Reports};
 ghost use Rattle.lgx_stations.specs.Telling.{IsAt};
 
-use crate::input::{Input, Tells};
+use crate::input::{JournalInput, Tells};
 use crate::reported::Reported;
 use lgx_hmi::Board;
 use lgx_journal::{Event, Journal};
@@ -15,7 +15,7 @@ use lgx_shared::Gate;
 use std::sync::Wait;
 
 /// One event, which is published if it is a tick.
-fn tell_event<I: Input, G: Gate, R: Wait>(
+fn tell_event<I: JournalInput, G: Gate, R: Wait>(
     rt: &R,
     gate: &G,
     lane: u32,
@@ -38,7 +38,7 @@ fn tell_event<I: Input, G: Gate, R: Wait>(
 }
 
 /// An event `count` times, which is published each time if it is a tick.
-fn tell_run<I: Input, G: Gate, R: Wait>(
+fn tell_run<I: JournalInput, G: Gate, R: Wait>(
     rt: &R,
     gate: &G,
     lane: u32,
@@ -58,7 +58,7 @@ fn tell_run<I: Input, G: Gate, R: Wait>(
 }
 
 /// A whole journal, of which each tick is published.
-pub(crate) fn tell_journal<I: Input, G: Gate, R: Wait>(
+pub(crate) fn tell_journal<I: JournalInput, G: Gate, R: Wait>(
     rt: &R,
     gate: &G,
     lane: u32,

@@ -7,7 +7,7 @@ use Rattle.std.proofs.lemmas.Option.{same_Some}
 use Rattle.lgx_prog.specs.FlatProgram.{Program}
 use Rattle.lgx_versions.specs.declared.slots.TheConstants.{SLOTS}
 use Rattle.lgx_versions.specs.declared.slots.Version.{Version}
-use Rattle.lgx_versions.specs.declared.slots.Places.{Places}
+use Rattle.lgx_versions.specs.declared.slots.SlotRoles.{SlotRoles}
 use Rattle.lgx_versions.specs.declared.versions.Versions.TheInside.{Inside}
 use Rattle.lgx_versions.specs.Roles.{add}
 use Rattle.lgx_versions.specs.View.{VersionsView, number_at, number_of, NoneMoves}
@@ -17,7 +17,7 @@ use Rattle.lgx_versions.proofs.Filled.{number_in, IsUsed, uses_cases, cases_uses
 use Rattle.lgx_versions.proofs.Freed.{AreReady, freed_number}
 
 -- neither the base nor the held program lies in this slot
-pub record IsSpare (p : Places) (k : ℕ) : Type 0 where
+pub record IsSpare (p : SlotRoles) (k : ℕ) : Type 0 where
   pub slot : k < SLOTS
   pub base : k ≡ p.base → ⊥
   pub held : p.held ≡ Some k → ⊥

@@ -6,7 +6,7 @@ use Rattle.std.proofs.lemmas.List.{length-map}
 use Rattle.std.proofs.lemmas.Bool.{false≢true, or_cases, or_left, or_right, eq-eqb, eqb-true}
 use Rattle.std.proofs.lemmas.Option.{none-some, same_Some}
 use Rattle.lgx_versions.specs.declared.slots.Version.{Version}
-use Rattle.lgx_versions.specs.declared.slots.Places.{Places}
+use Rattle.lgx_versions.specs.declared.slots.SlotRoles.{SlotRoles}
 use Rattle.lgx_versions.specs.declared.versions.Versions.TheInside.{Inside}
 use Rattle.lgx_versions.specs.View.{number_at, number_of, HasRole, AreSlotsOf}
 use Rattle.lgx_versions.specs.Slots.{in_slot, no_version, version_at, numbers_in, is_at, uses}
@@ -42,7 +42,7 @@ number_of_version xs i n h = same_Some _ _ (sym (filled_number xs i (numbered_fi
 -- ---- which slots are used
 
 -- a slot is used as the base's, the merged program's or the held one's
-abbrev pub IsUsed : Places → ℕ → Type 0
+abbrev pub IsUsed : SlotRoles → ℕ → Type 0
 IsUsed p i = (i ≡ p.base) ⊎ ((p.merged ≡ Some i) ⊎ (p.held ≡ Some i))
 
 at_that : (o : Option ℕ) (i : ℕ) → is_at o i ≡ true → o ≡ Some i
@@ -52,7 +52,7 @@ at_that (Some k) i h = ap Some (eqb-true k i h)
 pub that_at : (o : Option ℕ) (i : ℕ) → o ≡ Some i → is_at o i ≡ true
 that_at o i e = ap (λ (x : Option ℕ). is_at x i) e ∙ eq-eqb i i refl
 
-pub uses_cases : (p : Places) (i : ℕ) → uses p i ≡ true → IsUsed p i
+pub uses_cases : (p : SlotRoles) (i : ℕ) → uses p i ≡ true → IsUsed p i
 uses_cases p i h =
     elim (or_cases (eqb i p.base) (is_at p.merged i || is_at p.held i) h) [
       | inl base ↦ inl (eqb-true i p.base base)
@@ -62,7 +62,7 @@ uses_cases p i h =
       ]
     ]
 
-pub cases_uses : (p : Places) (i : ℕ) → IsUsed p i → uses p i ≡ true
+pub cases_uses : (p : SlotRoles) (i : ℕ) → IsUsed p i → uses p i ≡ true
 cases_uses p i (inl base) = or_left _ _ (eq-eqb i p.base base)
 cases_uses p i (inr (inl merged)) = or_right (eqb i p.base) _ (or_left _ _ (that_at p.merged i merged))
 cases_uses p i (inr (inr held)) = or_right (eqb i p.base) _ (or_right (is_at p.merged i) _ (that_at p.held i held))

@@ -5,7 +5,7 @@ use Rattle.std.proofs.lemmas.Bool.{false≢true}
 use Rattle.std.proofs.lemmas.Option.{none-some}
 use Rattle.lgx_versions.specs.declared.slots.TheConstants.{SLOTS}
 use Rattle.lgx_versions.specs.declared.slots.Version.{Version}
-use Rattle.lgx_versions.specs.declared.slots.Places.{Places}
+use Rattle.lgx_versions.specs.declared.slots.SlotRoles.{SlotRoles}
 use Rattle.lgx_versions.specs.declared.versions.Versions.TheInside.{Inside}
 use Rattle.lgx_versions.specs.View.{VersionsView, number_at, number_of, NoneTwice, NoneMoves}
 use Rattle.lgx_versions.specs.Slots.{in_slot, no_version, version_at, numbers_in, uses, HasFreed}
@@ -21,7 +21,7 @@ pub record AreReady (v : Inside) : Type 0 where
   pub tested : IsTrue v.places.testing → IsSome v.places.merged
 
 -- a slot that has a number afterwards is used, and had it before
-pub freed_number : (p : Places) (xs ys : List (Option Version)) (i n : ℕ) → HasFreed p xs ys
+pub freed_number : (p : SlotRoles) (xs ys : List (Option Version)) (i n : ℕ) → HasFreed p xs ys
     → number_at (numbers_in ys) i ≡ Some n → (uses p i ≡ true) × (number_at (numbers_in xs) i ≡ Some n)
 freed_number p xs ys i n freed h =
     let seen : number_of (cond (uses p i) (in_slot xs i) None) ≡ Some n = sym (ap (λ (o : Option Version). number_of o) (freed i)) ∙ (sym (number_in ys i) ∙ h) in
@@ -69,7 +69,7 @@ freed-roles v ys freed =
 -- ---- other places for the same slots
 
 -- fewer slots are used than before, and the others are freed
-pub fewer-slots : (v : Inside) (q : Places) (ys : List (Option Version)) → AreSlots v
+pub fewer-slots : (v : Inside) (q : SlotRoles) (ys : List (Option Version)) → AreSlots v
     → ((i : ℕ) → IsUsed q i → IsUsed v.places i) → (IsTrue q.testing → IsSome q.merged)
     → HasFreed q v.slots ys → length ys ≡ length v.slots → AreSlots (record v { slots = ys; places = q })
 fewer-slots v q ys a fewer tested freed same = freed-slots (record v { places = q }) ys (record {
@@ -80,33 +80,33 @@ fewer-slots v q ys a fewer tested freed same = freed-slots (record v { places = 
   tested = tested;
 }) freed same
 
-pub fewer-stays : (v : Inside) (q : Places) (ys : List (Option Version)) (before : VersionsView) → AreSlots v → view_of v ≡ before
+pub fewer-stays : (v : Inside) (q : SlotRoles) (ys : List (Option Version)) (before : VersionsView) → AreSlots v → view_of v ≡ before
     → HasFreed q v.slots ys → NoneMoves before.slots (numbers_in ys)
 fewer-stays v q ys before a is freed =
     subst (λ (w : VersionsView). NoneMoves w.slots (numbers_in ys)) is
     (λ i j n old now. a.once i j n old (freed_number q v.slots ys j n freed now).1)
 
 -- the places after `cancel`, `drop_hold` and `assemble`
-abbrev pub without_merged : Places → Places
+abbrev pub without_merged : SlotRoles → SlotRoles
 without_merged p = record p { merged = None; testing = false }
 
-abbrev pub without_held : Places → Places
+abbrev pub without_held : SlotRoles → SlotRoles
 without_held p = record p { held = None }
 
-abbrev pub with_base : Places → ℕ → Places
+abbrev pub with_base : SlotRoles → ℕ → SlotRoles
 with_base p k = record p { base = k; merged = None; testing = false }
 
-pub without_merged-fewer : (p : Places) (i : ℕ) → IsUsed (without_merged p) i → IsUsed p i
+pub without_merged-fewer : (p : SlotRoles) (i : ℕ) → IsUsed (without_merged p) i → IsUsed p i
 without_merged-fewer p i (inl base) = inl base
 without_merged-fewer p i (inr (inl merged)) = absurd (none-some i merged)
 without_merged-fewer p i (inr (inr held)) = inr (inr held)
 
-pub without_held-fewer : (p : Places) (i : ℕ) → IsUsed (without_held p) i → IsUsed p i
+pub without_held-fewer : (p : SlotRoles) (i : ℕ) → IsUsed (without_held p) i → IsUsed p i
 without_held-fewer p i (inl base) = inl base
 without_held-fewer p i (inr (inl merged)) = inr (inl merged)
 without_held-fewer p i (inr (inr held)) = absurd (none-some i held)
 
-pub with_base-fewer : (p : Places) (k i : ℕ) → p.merged ≡ Some k → IsUsed (with_base p k) i → IsUsed p i
+pub with_base-fewer : (p : SlotRoles) (k i : ℕ) → p.merged ≡ Some k → IsUsed (with_base p k) i → IsUsed p i
 with_base-fewer p k i merged_k (inl base) = inr (inl (merged_k ∙ ap Some (sym base)))
 with_base-fewer p k i merged_k (inr (inl merged)) = absurd (none-some i merged)
 with_base-fewer p k i merged_k (inr (inr held)) = inr (inr held)

@@ -4,7 +4,7 @@ use Rattle.std.specs.Prelude.{unwrap_or}
 use Rattle.std.proofs.lemmas.Bool.{cases_lt, false≢true}
 use Rattle.std.proofs.lemmas.List.{get_or_past}
 use Rattle.lgx_versions.specs.declared.slots.Version.{Version}
-use Rattle.lgx_versions.specs.declared.slots.Places.{Places}
+use Rattle.lgx_versions.specs.declared.slots.SlotRoles.{SlotRoles}
 use Rattle.lgx_versions.specs.declared.versions.Versions.TheInside.{Inside}
 use Rattle.lgx_versions.specs.Roles.{selected}
 use Rattle.lgx_versions.specs.View.{number_of}
@@ -29,7 +29,7 @@ held-within v a = within v.places.held (λ i e. cases_uses v.places i (inr (inr 
     within (Some i) h = filled i (h i refl)
 
 -- a program that isn't the held one lies where it is used also when another is held
-pub others-used : (v : Inside) (q : Places) → AreSlots v → q.base ≡ v.places.base → q.merged ≡ v.places.merged
+pub others-used : (v : Inside) (q : SlotRoles) → AreSlots v → q.base ≡ v.places.base → q.merged ≡ v.places.merged
     → (i : ℕ) → v.places.held ≢ Some i → is_some (in_slot v.slots i) ≡ true → uses q i ≡ true
 others-used v q a base merged i apart filled = by_use (uses_cases v.places i (sym (a.filled i) ∙ filled))
   where
@@ -40,7 +40,7 @@ others-used v q a base merged i apart filled = by_use (uses_cases v.places i (sy
 
 -- ---- the selected program
 
-selected-used : (p : Places) → IsUsed p (selected_place p)
+selected-used : (p : SlotRoles) → IsUsed p (selected_place p)
 selected-used p = by_testing p.testing p.merged refl
   where
     by_testing : (b : Bool) (m : Option ℕ) → p.merged ≡ m → IsUsed p (if b then unwrap_or m p.base else p.base)

@@ -3,7 +3,7 @@ use Rattle.std.specs.Prelude.{ℕ, ◌+◌, Bool, false, if◌then◌else◌, Op
 use Rattle.lgx_prog.specs.FlatProgram.{Program}
 use Rattle.lgx_versions.specs.declared.slots.Version.{Version}
 
--- The base; the merged program, if edits are accepted; whether this one is tested, and so selected; the program that a
+-- The base; the merged version, if edits are accepted; whether this one is tested, and so selected; the version that a
 -- scan in progress holds; and the number of the last accept.
 pub record Roles : Type 0 where
   pub base : Version

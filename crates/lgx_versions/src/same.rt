@@ -1,7 +1,7 @@
 // Versions copied and compared.
 ghost use Rattle.std.specs.Prelude.{◌≡◌, true, IfOk};
 
-use crate::slots::{Places, SLOTS, Version};
+use crate::slots::{SLOTS, SlotRoles, Version};
 use crate::versions::Versions;
 use lgx_num::Memory;
 use std::alloc::Global;
@@ -57,7 +57,7 @@ fn same_slots(a: &[Option<Version>; SLOTS], b: &[Option<Version>; SLOTS]) -> boo
 }
 
 /// Whether all lies in the same places.
-fn same_places(a: Places, b: Places) -> bool
+fn same_places(a: SlotRoles, b: SlotRoles) -> bool
     ensures { result ≡ true → a ≡ b }
 {
     a.base == b.base && a.merged == b.merged && a.testing == b.testing && a.held == b.held

@@ -16,14 +16,14 @@ pub struct Version {
 
 /// In which slots the base, the merged and the held program lie, and whether the merged one is selected.
 #[derive(Clone, Copy)]
-pub struct Places {
+pub struct SlotRoles {
     pub base: usize,
     pub merged: Option<usize>,
     pub testing: bool,
     pub held: Option<usize>,
 }
 
-impl Places {
+impl SlotRoles {
     /// The slot of the selected program.
     #[inline]
     pub fn selected(&self) -> usize
@@ -80,7 +80,7 @@ pub fn version_at(slots: &[Option<Version>; SLOTS], slot: usize) -> &Version
 }
 
 /// Frees the slots in which no program lies that is to be kept.
-pub fn free_unused(slots: &mut [Option<Version>; SLOTS], places: &Places)
+pub fn free_unused(slots: &mut [Option<Version>; SLOTS], places: &SlotRoles)
     ensures freed { HasFreed places.now slots.old slots.new }
     ensures count { length slots.new ≡ length slots.old }
 {
@@ -93,7 +93,7 @@ pub fn free_unused(slots: &mut [Option<Version>; SLOTS], places: &Places)
 
 /// Frees this slot, if no program lies in it that is to be kept. Only in this one may such a program lie.
 #[inline]
-pub fn free_if_unused(slots: &mut [Option<Version>; SLOTS], places: &Places, slot: Option<usize>)
+pub fn free_if_unused(slots: &mut [Option<Version>; SLOTS], places: &SlotRoles, slot: Option<usize>)
     requires within { IfSome slot (λ i. i < length slots.old) }
     requires others { (i : ℕ) → slot ≢ Some i → is_some (in_slot slots.old i) ≡ true → uses places.now i ≡ true }
     ensures freed { HasFreed places.now slots.old slots.new }

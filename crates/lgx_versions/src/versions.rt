@@ -1,13 +1,13 @@
 // The versions of a program.
-use crate::slots::{Places, SLOTS, Version, free_if_unused, free_unused, is_at, version_at};
+use crate::slots::{SLOTS, SlotRoles, Version, free_if_unused, free_unused, is_at, version_at};
 use lgx_num::Memory;
 use lgx_prog::FlatProgram;
 use std::marker::Model;
 
-/// The base of a program, its merged program if edits are accepted, and the program that a scan in progress holds.
+/// The base version of a program, its merged one if edits are accepted, and the one that a scan in progress holds.
 pub struct Versions {
     pub(crate) slots: [Option<Version>; SLOTS],
-    pub(crate) places: Places,
+    pub(crate) places: SlotRoles,
     pub(crate) newest: u32,
 }
 
@@ -48,7 +48,7 @@ impl Versions {
         };
         Ok(Versions {
             slots: [Some(first), None, None],
-            places: Places {
+            places: SlotRoles {
                 base: 0,
                 merged: None,
                 testing: false,
@@ -58,9 +58,9 @@ impl Versions {
         })
     }
 
-    /// Makes this the merged program, and answers its number: that of the last accept plus one.
+    /// Makes this the merged version, and answers its number: that of the last accept plus one.
     ///
-    /// If the merged program was selected, the new one is. It takes no memory, so it doesn't fail.
+    /// If the merged version was selected, the new one is. It takes no memory, so it doesn't fail.
     pub fn add(&mut self, merged: FlatProgram) -> Result<u32, Memory>
         requires { self.old.roles.newest + 1 < 2 ^ 32 }
         ensures number { result ≡ Ok (self.old.roles.newest + 1) }
@@ -78,7 +78,7 @@ impl Versions {
         Ok(self.newest)
     }
 
-    /// Selects the merged program, or the base.
+    /// Selects the merged version, or the base.
     pub fn select(&mut self, merged: bool)
         requires { IsTrue merged → IsSome self.old.roles.merged }
         ensures roles { self.new.roles ≡ select merged self.old.roles }
@@ -87,7 +87,7 @@ impl Versions {
         self.places.testing = merged;
     }
 
-    /// Makes the merged program the base, whether it is selected or not.
+    /// Makes the merged version the base, whether it is selected or not.
     pub fn assemble(&mut self)
         requires { IsSome self.old.roles.merged }
         ensures roles { self.new.roles ≡ assemble self.old.roles }
@@ -100,7 +100,7 @@ impl Versions {
         free_unused(&mut self.slots, &self.places);
     }
 
-    /// Lets the merged program go, also if it is selected. If there is none, nothing changes.
+    /// Lets the merged version go, also if it is selected. If there is none, nothing changes.
     pub fn cancel(&mut self)
         ensures roles { self.new.roles ≡ cancel self.old.roles }
         ensures slots { NoneMoves self.old.slots self.new.slots }
@@ -110,7 +110,7 @@ impl Versions {
         free_unused(&mut self.slots, &self.places);
     }
 
-    /// Whether the merged program is tested, and so selected.
+    /// Whether the merged version is tested, and so selected.
     pub fn is_testing(&self) -> bool
         ensures value { result ≡ self.now.roles.testing }
         ensures tested { IsTrue self.now.roles.testing → IsSome self.now.roles.merged }
@@ -125,21 +125,21 @@ impl Versions {
         self.newest
     }
 
-    /// The number of the selected program.
+    /// The number of the selected version.
     pub fn selected(&self) -> u32
         ensures { result ≡ (selected self.now.roles).number }
     {
         version_at(&self.slots, self.places.selected()).number
     }
 
-    /// The selected program.
+    /// The flat code of the selected version.
     pub fn selected_program(&self) -> &FlatProgram
         ensures { result.now ≡ (selected self.now.roles).program }
     {
         &version_at(&self.slots, self.places.selected()).program
     }
 
-    /// Holds the selected program, and answers its number. None may be held.
+    /// Holds the selected version, and answers its number. None may be held.
     pub fn hold(&mut self) -> u32
         requires { IsNone self.old.roles.held }
         ensures number { result ≡ (selected self.old.roles).number }
@@ -151,7 +151,7 @@ impl Versions {
         version_at(&self.slots, slot).number
     }
 
-    /// The number of the selected program, if it is the one that is held already. None if another one is held, or none.
+    /// The number of the selected version, if it is the one that is held already. None if another one is held, or none.
     #[inline]
     pub fn held_again(&self) -> Option<u32>
         ensures held { IfSome result (λ n. self.now.roles.held ≡ Some (selected self.now.roles)) }
@@ -167,7 +167,7 @@ impl Versions {
         }
     }
 
-    /// The held program. None if none is held.
+    /// The flat code of the held version. None if none is held.
     pub fn held(&self) -> Option<&FlatProgram>
         ensures { option_map (λ p. p.now) result ≡ option_map (λ v. v.program) self.now.roles.held }
     {
@@ -177,7 +177,7 @@ impl Versions {
         }
     }
 
-    /// Holds no program any more. If none was held, nothing changes.
+    /// Holds no version any more. If none was held, nothing changes.
     pub fn drop_hold(&mut self)
         ensures roles { self.new.roles ≡ drop_hold self.old.roles }
         ensures slots { NoneMoves self.old.slots self.new.slots }
@@ -187,7 +187,7 @@ impl Versions {
         free_if_unused(&mut self.slots, &self.places, held);
     }
 
-    /// The number of the program in a slot, from 0 to 2; None if the slot is free.
+    /// The number of the version in a slot, from 0 to 2; None if the slot is free.
     pub fn slot(&self, i: u32) -> Option<u32>
         requires { i < 3 }
         ensures number { result ≡ slice_index_or self.now.slots i None }

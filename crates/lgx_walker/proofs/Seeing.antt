@@ -25,7 +25,7 @@ use Rattle.lgx_question.specs.Seen.{is_program, holds_in, IsSeen}
 use Rattle.lgx_question.proofs.SeenLines.{first_lines_are_seen, no_line_is_seen}
 use Rattle.lgx_core.specs.ControllerView.{ControllerView}
 use Rattle.lgx_core.specs.Represents.{RepresentsController, StandsFor}
-use Rattle.lgx_walker.specs.declared.watcher.Watcher.{Watcher}
+use Rattle.lgx_walker.specs.declared.valued.ValuedController.{ValuedController}
 use Rattle.lgx_walker.specs.Lines.{IsLineOf, step_events}
 use Rattle.lgx_walker.specs.Places.{AreInside}
 use Rattle.lgx_walker.specs.Walks.{places_of, Watches}
@@ -57,7 +57,7 @@ number_more f ps i p old new n lt here before pushed is =
     ∙ ap (map f) (sym (take_more ps i p lt ∙ ap (λ (x : Place). take i ps ++ x ∷ []) here))
 
 -- those of a watcher
-pub places_inside : (w : Watcher) (p : Project) (events : List Event) → Watches w p events → AreInside w.places (length w.controller.parts.image.bytes)
+pub places_inside : (w : ValuedController) (p : Project) (events : List Event) → Watches w p events → AreInside w.places (length w.controller.parts.image.bytes)
 places_inside w p events h =
     subst (λ (ps : List Place). AreInside ps (length w.controller.parts.image.bytes)) (sym h.places_are) (inside_now p events w.controller h.stands_for)
 
@@ -67,7 +67,7 @@ numbers_in : (image : List ℕ) (ws : List Watch) → map (number image) (map (�
 numbers_in image [] = refl
 numbers_in image (w ∷ ws) = ap (λ (ns : List ℤ). number image w.place ∷ ns) (numbers_in image ws)
 
-seen_after : (p : Project) (journal : List Event) (e : Event) (w : Watcher) (values : List ℤ) (ended : Option ℕ) → Watches w p (journal ++ e ∷ []) → values ≡ map (number (run p (journal ++ e ∷ [])).image) w.places → ((q : ℕ) → ends_scan q (step (run p journal) e).answer ≡ is_program q ended) → IsSeen p (step (run p journal) e) values ended
+seen_after : (p : Project) (journal : List Event) (e : Event) (w : ValuedController) (values : List ℤ) (ended : Option ℕ) → Watches w p (journal ++ e ∷ []) → values ≡ map (number (run p (journal ++ e ∷ [])).image) w.places → ((q : ℕ) → ends_scan q (step (run p journal) e).answer ≡ is_program q ended) → IsSeen p (step (run p journal) e) values ended
 seen_after p journal e w values ended h are ends = record {
   values_are = are
       ∙ (ap (map (number (run p (journal ++ e ∷ [])).image)) h.places_are
@@ -81,7 +81,7 @@ line_seen p x values ended q None seen at = no_line_is_seen p x values ended q s
 line_seen p x values ended q (Some line) seen at = first_lines_are_seen p x values ended q line seen at
 
 -- the first line by the numbers that were read after the event
-pub line_after : (p : Project) (journal : List Event) (e : Event) (w : Watcher) (values : List ℤ) (ended : Option ℕ) (q : Question) (o : Option ℕ) → Watches w p (journal ++ e ∷ []) → ((s : State) → RepresentsController w.controller s → AreInside w.places (length w.controller.parts.image.bytes) → values ≡ map (number s.image) w.places) → ((n : ℕ) → ends_scan n (step (run p journal) e).answer ≡ is_program n ended) → position (holds_in values ended) q.lines ≡ o → IsLineOf p q (step (run p journal) e) o
+pub line_after : (p : Project) (journal : List Event) (e : Event) (w : ValuedController) (values : List ℤ) (ended : Option ℕ) (q : Question) (o : Option ℕ) → Watches w p (journal ++ e ∷ []) → ((s : State) → RepresentsController w.controller s → AreInside w.places (length w.controller.parts.image.bytes) → values ≡ map (number s.image) w.places) → ((n : ℕ) → ends_scan n (step (run p journal) e).answer ≡ is_program n ended) → position (holds_in values ended) q.lines ≡ o → IsLineOf p q (step (run p journal) e) o
 line_after p journal e w values ended q o h read ends at =
     line_seen p (step (run p journal) e) values ended q o
     (seen_after p journal e w values ended h (read (run p (journal ++ e ∷ [])) h.stands_for.represents (places_inside w p (journal ++ e ∷ []) h)) ends) at
@@ -93,7 +93,7 @@ ended_after p journal m ended same ends n = sym (ap (ends_scan n) same) ∙ ends
 -- ---- without an event
 
 -- a watcher whose controller represents what it did
-pub still_watches : (p : Project) (journal : List Event) (old new : Watcher) → new.places ≡ old.places → ((s : State) → RepresentsController old.controller s → RepresentsController new.controller s) → new.controller.spent ≡ old.controller.spent → Watches old p journal → Watches new p journal
+pub still_watches : (p : Project) (journal : List Event) (old new : ValuedController) → new.places ≡ old.places → ((s : State) → RepresentsController old.controller s → RepresentsController new.controller s) → new.controller.spent ≡ old.controller.spent → Watches old p journal → Watches new p journal
 still_watches p journal old new places represents spent h = record {
   places_are = places ∙ h.places_are;
   stands_for = record {
@@ -104,7 +104,7 @@ still_watches p journal old new places represents spent h = record {
 }
 
 -- a watcher that is the same as another
-pub copy_watches : (p : Project) (journal : List Event) (watcher copy : Watcher) → copy.controller ≡ watcher.controller → copy.places ≡ watcher.places → Watches watcher p journal → Watches copy p journal
+pub copy_watches : (p : Project) (journal : List Event) (watcher copy : ValuedController) → copy.controller ≡ watcher.controller → copy.places ≡ watcher.places → Watches watcher p journal → Watches copy p journal
 copy_watches p journal watcher copy controller places h = record {
   places_are = places ∙ h.places_are;
   stands_for = subst (StandsFor p journal) (sym controller) h.stands_for;
@@ -112,12 +112,12 @@ copy_watches p journal watcher copy controller places h = record {
 
 -- ---- after an event
 
-pub event_watched : (p : Project) (journal : List Event) (e : Event) (old new : Watcher) → new.places ≡ old.places → StandsFor p (journal ++ e ∷ []) new.controller → Watches old p journal → Watches new p (journal ++ e ∷ [])
+pub event_watched : (p : Project) (journal : List Event) (e : Event) (old new : ValuedController) → new.places ≡ old.places → StandsFor p (journal ++ e ∷ []) new.controller → Watches old p journal → Watches new p (journal ++ e ∷ [])
 event_watched p journal e old new places stands h = record { places_are = places ∙ h.places_are; stands_for = stands }
 
 -- after a step and its tick
 module _ (p : Project) (q : Question) (journal : List Event) (has_tick : Bool) (ticks : has_tick ≡ true) where
-  pub ticked_watches : (w : Watcher) → Watches w p ((journal ++ Cpu ∷ []) ++ Tick ∷ []) → Watches w p (journal ++ step_events has_tick)
+  pub ticked_watches : (w : ValuedController) → Watches w p ((journal ++ Cpu ∷ []) ++ Tick ∷ []) → Watches w p (journal ++ step_events has_tick)
   ticked_watches w h =
       subst (λ (b : Bool). Watches w p (journal ++ step_events b)) (sym ticks) (subst (Watches w p) (append_assoc journal (Cpu ∷ []) (Tick ∷ [])) h)
 

@@ -8,7 +8,7 @@ use Rattle.spec_explore.specs.declared.question.Question.{Question}
 use Rattle.spec_explore.specs.Questions.{IsNever, IsNeverBefore, IsWitness}
 use Rattle.lgx_explore.specs.declared.found.Found.{Found}
 use Rattle.lgx_explore.specs.Found.{Tells}
-use Rattle.lgx_walker.specs.declared.watcher.Watcher.{Watcher}
+use Rattle.lgx_walker.specs.declared.valued.ValuedController.{ValuedController}
 use Rattle.lgx_walker.specs.declared.walker.Walker.{Walker}
 use Rattle.lgx_walker.specs.Walks.{Watches, walked}
 use Rattle.lgx_walker.specs.declared.told.Told.{Told}
@@ -34,7 +34,7 @@ IsTold p script q (told.Unknown k) = IsNeverBefore p script q k
 -- ---- on the way there
 
 -- it watches the empty journal of some project
-abbrev pub IsAtStart : Watcher → Type 0
+abbrev pub IsAtStart : ValuedController → Type 0
 IsAtStart watcher = (p : Project) × Watches watcher p []
 
 -- what was found is said of some valid project and some question

@@ -6,7 +6,7 @@ use Rattle.spec_machine.specs.Events.{steps_of}
 use Rattle.spec_machine.specs.Project.{Project, Watch}
 use Rattle.spec_text.specs.Scripts.{Script}
 use Rattle.lgx_core.specs.Represents.{StandsFor}
-use Rattle.lgx_walker.specs.declared.watcher.Watcher.{Watcher}
+use Rattle.lgx_walker.specs.declared.valued.ValuedController.{ValuedController}
 use Rattle.lgx_walker.specs.declared.walker.Walker.{Walker}
 use Rattle.lgx_walker.specs.Trails.{journal_of}
 
@@ -14,7 +14,7 @@ abbrev pub places_of : Project → List Place
 places_of p = map (λ (w : Watch). w.place) p.watches
 
 -- it has the project's watched places, and its controller stands for the journal
-pub record Watches (watcher : Watcher) (p : Project) (journal : List Event) : Type 0 where
+pub record Watches (watcher : ValuedController) (p : Project) (journal : List Event) : Type 0 where
   pub places_are : watcher.places ≡ places_of p
   pub stands_for : StandsFor p journal watcher.controller
 

@@ -12,8 +12,8 @@ ghost use Rattle.lgx_walker.specs.Told.{IsTold, IsAtStart, IsFound};
 use crate::places::places_of;
 use crate::told::Told;
 use crate::trail::Trail;
+use crate::valued::ValuedController;
 use crate::walker::Walker;
-use crate::watcher::Watcher;
 use crate::witness::{journal_of, journal_with};
 use lgx_core::Controller;
 use lgx_edit::Plant;
@@ -84,7 +84,7 @@ pub fn tell<P: Progress>(
     let places = places_of(alloc, project.parts())?;
     let trail = Trail::new(alloc, script.lanes.len())?;
     let controller = Controller::new(alloc, project)?;
-    let watcher = Watcher {
+    let watcher = ValuedController {
         controller,
         places,
         values: Vec::new(alloc),

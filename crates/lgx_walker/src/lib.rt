@@ -11,8 +11,8 @@ mod mark;
 mod places;
 mod told;
 mod trail;
+mod valued;
 mod walker;
-mod watcher;
 mod witness;
 
 pub use answer::tell;

@@ -20,7 +20,7 @@ use crate::late::is_some_late;
 use crate::mark::mark_of;
 use crate::places::same_places;
 use crate::trail::Trail;
-use crate::watcher::Watcher;
+use crate::valued::ValuedController;
 use lgx_explore::{Next, Node, Stop};
 use lgx_journal::{Action, Script};
 use lgx_question::Question;
@@ -31,7 +31,7 @@ use std::alloc::Global;
 /// each lane, and keeps one of them. `mark` is a number of its controller's image, which tells most states apart at once.
 pub struct Walker {
     pub(crate) trail: Trail,
-    pub(crate) watcher: Watcher,
+    pub(crate) watcher: ValuedController,
     pub(crate) mark: u64,
 }
 
@@ -63,11 +63,11 @@ fn same_numbers(numbers: &[u32], others: &[u32]) -> bool
 /// The watcher after an action of a lane, after which no line holds.
 fn acted_on(
     alloc: Global,
-    watcher: &Watcher,
+    watcher: &ValuedController,
     question: &Question,
     lane: u32,
     action: &Action,
-) -> Result<Watcher, Stop>
+) -> Result<ValuedController, Stop>
     ensures watches { IfOk result (λ after. (p : Project) (journal : List Events) → Watches watcher.now p journal → Watches after p (journal ++ Act lane action.now ∷ [])) }
     ensures clear { IfOk result (λ _. (p : Project) (journal : List Events) → Watches watcher.now p journal → holds_some p question.now (step (run p journal) (Act lane action.now)) ≡ false) }
     ensures shown { IfErr result (λ stop. IfShown stop (λ made line. (made ≡ next.Action lane) × ((p : Project) (journal : List Events) → Watches watcher.now p journal → IsFirstLine p question.now (step (run p journal) (Act lane action.now)) line))) }
@@ -83,7 +83,7 @@ fn acted_on(
 }
 
 /// A processor step, with its tick if it has one.
-fn step_on(watcher: &mut Watcher, question: &Question, has_tick: bool) -> Result<(), Stop>
+fn step_on(watcher: &mut ValuedController, question: &Question, has_tick: bool) -> Result<(), Stop>
     requires { watcher.old.controller.spent + 1 < MAX_EVENTS }
     ensures watches { IfOk result (λ _. (p : Project) (journal : List Events) → Watches watcher.old p journal → Watches watcher.new p (journal ++ step_events has_tick)) }
     ensures clear { IfOk result (λ _. (p : Project) (journal : List Events) → Watches watcher.old p journal → AreClear p question.now (run p journal) (step_events has_tick)) }
@@ -122,7 +122,12 @@ fn is_late_by_step(walker: &Walker, script: &Script, within: Option<u32>, has_ti
 }
 
 /// Whether an action is late at the present tick, by how many actions each lane made.
-fn is_late_now(watcher: &Watcher, script: &Script, within: Option<u32>, counts: &[u32]) -> bool
+fn is_late_now(
+    watcher: &ValuedController,
+    script: &Script,
+    within: Option<u32>,
+    counts: &[u32],
+) -> bool
     ensures some { result ≡ true → (p : Project) (journal : List Events) → Watches watcher.now p journal → SomeIsLate within script.now counts.now (ticks_of journal) }
     ensures none { result ≡ false → (p : Project) (journal : List Events) → Watches watcher.now p journal → NoneIsLate within script.now counts.now (ticks_of journal) }
 {

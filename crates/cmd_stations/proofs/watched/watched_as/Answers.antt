@@ -20,8 +20,8 @@ watch_journal-requires-clause-few g c = λ κs bounds. subst (λ (es : List Even
 pub returns-clause-text : goal.returns-clause-text
 returns-clause-text g c =
     let h = c.in_ok-readings.ensures.records in
-    let project = g.I.Input.project in
-    let events = g.I.Input.journal in
+    let project = g.I.JournalInput.project in
+    let events = g.I.JournalInput.journal in
     let stands = subst (λ v. StandsFor project events v) (sym c.controller.ensures) h.run.controller in
     let end = c.end_of-end.ensures project events stands (c.steps.ensures ∙ h.run.steps) in
     let is =
@@ -36,5 +36,5 @@ pub returns-clause-asked : goal.returns-clause-asked
 returns-clause-asked g c =
     let Asked : ℕ → ℕ → Type 0 = λ station n. g.G.Gate.asked c.args.gate.now station n in
     let P : Project → Type 0 = λ p. ForAll Asked c.args.stations (snapshots p c.args.journal.now.events) in
-    let Q : List Event → Type 0 = λ es. ForAll Asked c.args.stations (snapshots g.I.Input.project es) in
+    let Q : List Event → Type 0 = λ es. ForAll Asked c.args.stations (snapshots g.I.JournalInput.project es) in
     subst P (sym c.requires.input.0) (subst Q (sym c.requires.input.1) c.in_ok-readings.ensures.asked)

@@ -1,7 +1,7 @@
 use Rattle.std.proofs.Common.{◌≡◌, ◌<◌, inl, inr, length, arith, sym, ap, subst, ◌∙◌, get_or-set_same, get_or-set_other}
 use Rattle.std.specs.Prelude.{slice_index_or, slice_set, nat_eq}
 use Rattle.std.proofs.lemmas.Bool.{cases_eq}
-use Rattle.lgx_audit.specs.declared.watch.Watch.{Watch}
+use Rattle.lgx_audit.specs.declared.watch.TurnState.{TurnState}
 use Rattle.spec_schedule.specs.Counting.{counted, uncounted}
 use Rattle.spec_schedule.specs.Legal.{no_task}
 use Rattle.lgx_audit.specs.Along.{no_count, shown}
@@ -17,7 +17,7 @@ loop-t-preserved c =
     let l : t < length ws = (let e = c.loop-t-test.true in omega arith) in (
       (λ k below x is. elim (cases_eq k t) [
         | inl same ↦ subst (λ n. slice_index_or c.args.counts.now n no_count ≡ shown x → watch_at (slice_set ws t c.watch_one.result) n ≡ watch_by c.args.table.now c.args.e.now c.args.gives n (slice_index_or c.args.counts.now n no_count).up (nat_eq x.downs (counted (slice_index_or c.args.table.now.tasks n no_task) n c.args.e.now x).downs) (watch_at c.args.watches.now n)) (sym same)
-            (λ is'. get_or-set_same ws t c.watch_one.result unwatched l ∙ (c.watch_one.ensures x is' ∙ ap (λ (w : Watch). watch_by c.args.table.now c.args.e.now c.args.gives t (slice_index_or c.args.counts.now t no_count).up (nat_eq x.downs (counted (slice_index_or c.args.table.now.tasks t no_task) t c.args.e.now x).downs) w) (c.loop-t.invariant.1 t (omega arith)))) is
+            (λ is'. get_or-set_same ws t c.watch_one.result unwatched l ∙ (c.watch_one.ensures x is' ∙ ap (λ (w : TurnState). watch_by c.args.table.now c.args.e.now c.args.gives t (slice_index_or c.args.counts.now t no_count).up (nat_eq x.downs (counted (slice_index_or c.args.table.now.tasks t no_task) t c.args.e.now x).downs) w) (c.loop-t.invariant.1 t (omega arith)))) is
         | inr other ↦ get_or-set_other ws t k c.watch_one.result unwatched other ∙ c.loop-t.invariant.0 k (omega arith) x is
       ]),
       (λ k above. get_or-set_other ws t k c.watch_one.result unwatched (λ e. omega arith) ∙ c.loop-t.invariant.1 k (omega arith)),

@@ -1,6 +1,6 @@
 -- Each station's place gives its number.
 use Rattle.std.proofs.Common.{◌≡◌, ℕ, ◌+◌, ◌-◌, ◌<◌, length, rules, ap, subst, arith}
-use Rattle.lgx_stations.specs.declared.watcher.TheConstants.{READS}
+use Rattle.lgx_stations.specs.declared.gated.TheConstants.{READS}
 use Rattle.lgx_stations.proofs.Asked.{any_of}
 use Rattle.lgx_stations.proofs.stations.watch_all.Goals as goal
 

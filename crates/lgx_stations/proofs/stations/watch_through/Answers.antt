@@ -7,4 +7,4 @@ use Rattle.lgx_stations.proofs.stations.watch_through.Goals as goal
 
 pub finish_all-requires-clause-read : goal.finish_all-requires-clause-read
 finish_all-requires-clause-read g c =
-    All-same (λ w. HasRead (snapshots g.I.Input.project g.I.Input.journal) w.station w.first) _ _ (take_at c.run_beside.new.watchers _ _ (search rules)) c.in_ok-run_beside.ensures.read
+    All-same (λ w. HasRead (snapshots g.I.JournalInput.project g.I.JournalInput.journal) w.station w.first) _ _ (take_at c.run_beside.new.watchers _ _ (search rules)) c.in_ok-run_beside.ensures.read

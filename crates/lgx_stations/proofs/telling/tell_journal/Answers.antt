@@ -9,7 +9,7 @@ use Rattle.lgx_stations.proofs.telling.tell_journal.Goals as goal
 
 pub loop-i-init : goal.loop-i-init
 loop-i-init g c = (
-  subst (λ (es : List Events). IsAt g.I.Input.project g.I.Input.journal c.args.reported.now c.args.board.now es) (sym (runs_expand c.args.journal.now.events)) c.requires,
+  subst (λ (es : List Events). IsAt g.I.JournalInput.project g.I.JournalInput.journal c.args.reported.now c.args.board.now es) (sym (runs_expand c.args.journal.now.events)) c.requires,
   none_published (λ k. g.G.Gate.asked c.args.gate.now c.args.lane k) (length c.args.board.now) (length c.args.board.now) (omega arith),
 )
 
@@ -18,7 +18,7 @@ tell_run-requires g c =
     let runs = joined c.args.journal.now.events in
     let below : c.loop-i.i < length runs = omega arith in (
       events_of (drop (c.loop-i.i + 1) runs),
-      subst (λ (es : List Events). IsAt g.I.Input.project g.I.Input.journal c.loop-i.reported c.loop-i.board es)
+      subst (λ (es : List Events). IsAt g.I.JournalInput.project g.I.JournalInput.journal c.loop-i.reported c.loop-i.board es)
           (next_run runs c.loop-i.i c.event_at-event.result.now c.count_at-count.result below (c.event_at-event.ensures no_run) (c.count_at-count.ensures no_run)) c.loop-i.invariant.0,
     )
 
@@ -27,7 +27,7 @@ loop-i-preserved g c =
     let runs = joined c.args.journal.now.events in
     let below : c.loop-i.i < length runs = omega arith in (
       c.in_ok-tell_run.ensures.at (events_of (drop (c.loop-i.i + 1) runs))
-          (subst (λ (es : List Events). IsAt g.I.Input.project g.I.Input.journal c.loop-i.reported c.loop-i.board es)
+          (subst (λ (es : List Events). IsAt g.I.JournalInput.project g.I.JournalInput.journal c.loop-i.reported c.loop-i.board es)
           (next_run runs c.loop-i.i c.event_at-event.result.now c.count_at-count.result below (c.event_at-event.ensures no_run) (c.count_at-count.ensures no_run)) c.loop-i.invariant.0),
       publishes_on (λ k. g.G.Gate.asked c.args.gate.now c.args.lane k) (length c.args.board.now) (length c.loop-i.board) (length c.tell_run.new.board) c.loop-i.invariant.1 c.in_ok-tell_run.ensures.publishes,
     )
@@ -38,10 +38,10 @@ returns-in_err-tell_run-clause-publishes g c =
 
 pub returns-clause-records : goal.returns-clause-records
 returns-clause-records g c =
-    all_made g.I.Input.project g.I.Input.journal c.loop-i.reported c.loop-i.board
-    (subst (λ (es : List Events). IsAt g.I.Input.project g.I.Input.journal c.loop-i.reported c.loop-i.board es) (none_left (joined c.args.journal.now.events) c.loop-i.i (omega arith)) c.loop-i.invariant.0)
+    all_made g.I.JournalInput.project g.I.JournalInput.journal c.loop-i.reported c.loop-i.board
+    (subst (λ (es : List Events). IsAt g.I.JournalInput.project g.I.JournalInput.journal c.loop-i.reported c.loop-i.board es) (none_left (joined c.args.journal.now.events) c.loop-i.i (omega arith)) c.loop-i.invariant.0)
 
 pub returns-clause-told : goal.returns-clause-told
 returns-clause-told g c =
-    all_told g.I.Input.project g.I.Input.journal c.loop-i.reported c.loop-i.board
-    (subst (λ (es : List Events). IsAt g.I.Input.project g.I.Input.journal c.loop-i.reported c.loop-i.board es) (none_left (joined c.args.journal.now.events) c.loop-i.i (omega arith)) c.loop-i.invariant.0)
+    all_told g.I.JournalInput.project g.I.JournalInput.journal c.loop-i.reported c.loop-i.board
+    (subst (λ (es : List Events). IsAt g.I.JournalInput.project g.I.JournalInput.journal c.loop-i.reported c.loop-i.board es) (none_left (joined c.args.journal.now.events) c.loop-i.i (omega arith)) c.loop-i.invariant.0)

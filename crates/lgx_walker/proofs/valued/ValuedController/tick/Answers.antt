@@ -3,7 +3,7 @@ use Rattle.std.proofs.Common.{refl}
 use Rattle.std.proofs.lemmas.Result.{IfOk-weaker}
 use Rattle.spec_machine.specs.declared.event.Event.TheVariants.{Tick}
 use Rattle.lgx_walker.proofs.Seeing.{event_watched}
-use Rattle.lgx_walker.proofs.watcher.Watcher.tick.Goals as goal
+use Rattle.lgx_walker.proofs.valued.ValuedController.tick.Goals as goal
 
 pub returns-clause-line : goal.returns-clause-line
 returns-clause-line c =

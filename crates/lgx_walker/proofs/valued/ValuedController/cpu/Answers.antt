@@ -4,7 +4,7 @@ use Rattle.std.proofs.lemmas.Result.{IfOk-weaker}
 use Rattle.spec_machine.specs.declared.event.Event.TheVariants.{Cpu}
 use Rattle.spec_machine.specs.Machine.{OfStep, run}
 use Rattle.lgx_walker.proofs.Seeing.{event_watched, ended_after}
-use Rattle.lgx_walker.proofs.watcher.Watcher.cpu.Goals as goal
+use Rattle.lgx_walker.proofs.valued.ValuedController.cpu.Goals as goal
 
 pub returns-clause-line : goal.returns-clause-line
 returns-clause-line c =

@@ -34,22 +34,22 @@ impl Readings {
 
 /// A station that is read at a gate alone, but for its last read in `finish`, and what it gave first.
 #[derive(Drop)]
-pub(crate) struct Watcher<S: Story> {
+pub(crate) struct GatedStation<S: Story> {
     station: Station<S>,
     /// The station's number, counted from 0.
     lane: u32,
     first: Option<Snapshot>,
 }
 
-impl<S: Story> Watcher<S> {
+impl<S: Story> GatedStation<S> {
     /// A station that has not read.
-    pub(crate) fn new(station: Station<S>, lane: u32) -> Watcher<S>
+    pub(crate) fn new(station: Station<S>, lane: u32) -> GatedStation<S>
         requires { station.reads ≡ 0 }
         ensures lane { result.lane ≡ lane }
         ensures reads { result.station.reads ≡ 0 }
         ensures first { result.first ≡ None }
     {
-        Watcher {
+        GatedStation {
             station,
             lane,
             first: None,
@@ -88,7 +88,7 @@ impl<S: Story> Watcher<S> {
         ensures first { self.first ≡ Some result.first }
         ensures readings { AreReadingsOf S.story result }
     {
-        let Watcher {
+        let GatedStation {
             mut station,
             lane: _,
             first,

@@ -22,15 +22,15 @@ use spec_machine::{Moment, What};
 use std::alloc::Global;
 
 /// A controller with the watched places of its project. `values` is room for the numbers that are there.
-pub struct Watcher {
+pub struct ValuedController {
     pub(crate) controller: Controller,
     pub(crate) places: Items<Place>,
     pub(crate) values: Vec<i32>,
 }
 
-impl Drop for Watcher {
+impl Drop for ValuedController {
     fn drop(self) {
-        let Watcher {
+        let ValuedController {
             controller: _,
             places: _,
             values: _,
@@ -52,16 +52,16 @@ fn ended_by(moment: Moment) -> Option<u32>
     }
 }
 
-impl Watcher {
+impl ValuedController {
     /// The watcher once more.
-    pub(crate) fn copied(&self, alloc: Global) -> Result<Watcher, Memory>
+    pub(crate) fn copied(&self, alloc: Global) -> Result<ValuedController, Memory>
         ensures controller { IfOk result (λ watcher. watcher.controller ≡ self.now.controller) }
         ensures places { IfOk result (λ watcher. watcher.places ≡ self.now.places) }
     {
         let places = places_again(alloc, self.places.as_slice())?;
         let values = Vec::with_capacity(alloc, self.places.len())?;
         let controller = self.controller.copied(alloc)?;
-        Ok(Watcher {
+        Ok(ValuedController {
             controller,
             places,
             values,

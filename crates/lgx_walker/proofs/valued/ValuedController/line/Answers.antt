@@ -4,7 +4,7 @@ use Rattle.lgx_num.specs.declared.place.Place.{Place}
 use Rattle.lgx_num.specs.Image.{number}
 use Rattle.lgx_walker.specs.Places.{AreInside}
 use Rattle.lgx_walker.proofs.Seeing.{line_after}
-use Rattle.lgx_walker.proofs.watcher.Watcher.line.Goals as goal
+use Rattle.lgx_walker.proofs.valued.ValuedController.line.Goals as goal
 
 pub returns-clause-line : goal.returns-clause-line
 returns-clause-line c = λ p journal e w ends.

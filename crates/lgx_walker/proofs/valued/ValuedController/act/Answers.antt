@@ -4,7 +4,7 @@ use Rattle.std.proofs.lemmas.Result.{IfOk-weaker}
 use Rattle.spec_machine.specs.declared.event.Event.TheVariants.{Act}
 use Rattle.lgx_core.specs.Represents.{StandsFor}
 use Rattle.lgx_walker.proofs.Seeing.{event_watched}
-use Rattle.lgx_walker.proofs.watcher.Watcher.act.Goals as goal
+use Rattle.lgx_walker.proofs.valued.ValuedController.act.Goals as goal
 
 pub returns-in-Ok-clause-watches : goal.returns-in-Ok-clause-watches
 returns-in-Ok-clause-watches c =
