@@ -7,7 +7,7 @@
 
 mod actions;
 mod controller;
-mod place;
+mod executing;
 mod readers;
 mod same;
 
