@@ -10,7 +10,7 @@ use Rattle.lgx_answer.specs.declared.status.Status.TheVariants as status
 use Rattle.lgx_answer.specs.Endings.{number}
 use Rattle.lgx_answer.specs.Answered.{Failures, Change}
 
--- What the system answered for the arguments: texts, the program's own name and then the words of its command line, or why none.
+-- What the system answers for the arguments: texts, of which the first is the program's own name, or why there are none.
 abbrev pub Arguments : Type 0
 Arguments = Result (IntoIter (String Global) Global) Error
 
