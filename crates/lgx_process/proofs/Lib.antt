@@ -1,2 +1,1 @@
-pub mod AfterName
 pub mod Doing

@@ -1,22 +1,25 @@
 -- The words of a command line, and what a process does with them.
-use Rattle.std.specs.Prelude.{◌≡◌, ◌⊎◌, ℕ, List, [], drop, replicate, Option, IfSome}
+use Rattle.std.specs.Prelude.{◌≡◌, ◌≢◌, ◌⊎◌, ℕ, List, [], map, drop, replicate, string_bytes, MatchResult, Result, String}
+use Rattle.std.specs.Vec.Iter.{into_iter_items}
+use Rattle.std.specs.declared.alloc.Global.{Global}
+use Rattle.std.specs.declared.vec.IntoIter.{IntoIter}
+use Rattle.std.specs.IoError.{error_kind}
+use Rattle.std.specs.declared.io.Error.{Error}
+use Rattle.std.specs.declared.io.ErrorKind.TheVariants.{OutOfMemory}
 use Rattle.lgx_answer.specs.declared.status.Status.TheVariants as status
 use Rattle.lgx_answer.specs.Endings.{number}
 use Rattle.lgx_answer.specs.Answered.{Failures, Change}
 
--- The arguments of a process: texts, the program's own name and then the words of its command line, or some that aren't text.
-pub data Given : Type 0 where
-  Texts : List (List ℕ) → Given
-  NoTexts : Given
+-- What the system answers for the arguments: texts, of which the first is the program's own name, or why there are none.
+abbrev pub Arguments : Type 0
+Arguments = Result (IntoIter (String Global) Global) Error
 
--- The words: all texts but the first. Four empty ones, which no program takes, stand for arguments that aren't text.
-abbrev pub words_given : Given → List (List ℕ)
-words_given (Texts arguments) = drop 1 arguments
-words_given NoTexts = replicate 4 []
-
--- These are the words of the arguments, if those are known.
-abbrev pub AreWords : Option Given → List (List ℕ) → Type 0
-AreWords told words = IfSome told (λ given. words ≡ words_given given)
+-- These are the words of the arguments: all texts but the first. Four empty ones, which no program takes, stand for arguments that
+-- aren't text. There are none if there was no memory for the arguments.
+abbrev pub AreWords : Arguments → List (List ℕ) → Type 0
+AreWords arguments words = MatchResult arguments
+    (λ texts. words ≡ drop 1 (map string_bytes (into_iter_items texts)))
+    (λ fault. (error_kind fault ≢ OutOfMemory) × (words ≡ replicate 4 []))
 
 -- Memory ran out for the words: no read failed, the output is as before, and the number is that of `Memory`.
 pub record HasNoWords (Output : Type 0) (failures : Change Failures) (output : Change Output) (ends : ℕ) : Type 0 where
@@ -25,6 +28,6 @@ pub record HasNoWords (Output : Type 0) (failures : Change Failures) (output : C
   pub put : output.new ≡ output.old
 
 -- The process does this with its words, or memory ran out for them.
-abbrev pub WithWords : (Output : Type 0) → Option Given → Change Failures → Change Output → ℕ → (List (List ℕ) → Type 0) → Type 0
-WithWords Output told failures output ends does =
-    ((words : List (List ℕ)) × AreWords told words × does words) ⊎ HasNoWords Output failures output ends
+abbrev pub WithWords : (Output : Type 0) → Arguments → Change Failures → Change Output → ℕ → (List (List ℕ) → Type 0) → Type 0
+WithWords Output arguments failures output ends does =
+    ((words : List (List ℕ)) × AreWords arguments words × does words) ⊎ HasNoWords Output failures output ends

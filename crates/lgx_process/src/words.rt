@@ -1,10 +1,12 @@
 // The words of the command line.
 ghost use Rattle.std.specs.Prelude.{◌≡◌, [], map, drop, replicate, string_bytes, IfOk};
+ghost use Rattle.std.specs.Vec.Iter.{into_iter_items};
 ghost use Rattle.lgx_process.specs.Words.{AreWords};
 
-use crate::arguments::{Arguments, ArgumentsFault};
 use lgx_num::Memory;
 use std::alloc::Global;
+use std::env::Args;
+use std::io::{self, ErrorKind};
 
 /// Four empty words, which no program takes.
 fn no_words(alloc: Global) -> Result<Vec<String>, Memory>
@@ -20,24 +22,21 @@ fn no_words(alloc: Global) -> Result<Vec<String>, Memory>
 }
 
 /// The words after the program's own name.
-fn after_name(arguments: Vec<String>) -> Vec<String>
-    ensures { map string_bytes result.items ≡ drop 1 (map string_bytes arguments.items) }
+fn after_name(alloc: Global, arguments: Args) -> Result<Vec<String>, Memory>
+    ensures { IfOk result (λ words. words.items ≡ drop 1 (into_iter_items arguments)) }
 {
-    if arguments.is_empty() {
-        return arguments;
-    }
-    let mut words = arguments;
-    let _ = words.remove(0);
-    words
+    let words = arguments.skip(1).collect(alloc)?;
+    Ok(words)
 }
 
-/// The words of the command line, without the program's own name. Arguments that aren't text are wrong words.
-pub fn words_of<A: Arguments>(alloc: Global, arguments: &A) -> Result<Vec<String>, Memory>
-    ensures { IfOk result (λ words. AreWords (A.told arguments.now) (map string_bytes words.items)) }
+/// The words of the command line, without the program's own name, of the arguments that `env::args` gave or refused. Arguments that
+/// aren't text are wrong words.
+pub fn words_of(alloc: Global, arguments: io::Result<Args>) -> Result<Vec<String>, Memory>
+    ensures { IfOk result (λ words. AreWords arguments (map string_bytes words.items)) }
 {
-    match arguments.all() {
-        Ok(all) => Ok(after_name(all)),
-        Err(ArgumentsFault::NoText) => no_words(alloc),
-        Err(ArgumentsFault::Memory) => Err(Memory),
+    match arguments {
+        Ok(all) => after_name(alloc, all),
+        Err(fault) if fault.kind() == ErrorKind::OutOfMemory => Err(Memory),
+        Err(_) => no_words(alloc),
     }
 }

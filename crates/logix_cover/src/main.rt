@@ -2,9 +2,19 @@
 #![tactic(auto)]
 
 use lgx_cover::CoverProgram;
-use lgx_process::process;
+use lgx_io::{HostFiles, HostSink};
+use lgx_process::process_over;
+use std::env;
 use std::process::ExitCode;
 
 fn main(rt: HostRuntime) -> ExitCode {
-    ExitCode::from(process::<CoverProgram, HostRuntime>(&rt))
+    let alloc = rt.alloc();
+    let mut files = HostFiles::new(&rt, alloc);
+    let mut output = HostSink::new(&rt, alloc);
+    ExitCode::from(process_over::<CoverProgram, _, _>(
+        alloc,
+        env::args(&rt),
+        &mut files,
+        &mut output,
+    ))
 }

@@ -7,27 +7,25 @@ ghost use Rattle.lgx_process.specs.Words.{WithWords};
 ghost use Rattle.cmd_explore.specs.ExplorePlan.{plan_of};
 ghost use Rattle.cmd_explore.specs.Explored.{said_by, EndsExplored};
 
-use cmd_explore::{Lines, program};
+use cmd_explore::program;
 use lgx_answer::Status;
 use lgx_explore::Progress;
-use lgx_io::{Files, Gathered, HostFiles, HostSink};
-use lgx_process::{Arguments, HostArguments, words_of};
-use std::alloc::{AllocGlobal, Global};
-use std::env::Env;
-use std::io::{Eprint, Print, Write};
-use std::rt::Files as FileAccess;
-use std::time::Clock;
+use lgx_io::{Files, Gathered};
+use lgx_process::words_of;
+use std::alloc::Global;
+use std::env::Args;
+use std::io::{self, Write};
 
 /// All of the process but the call of this, over any arguments, any files and any output: with its words it does what [`program`]
 /// does. Answers the number that the process ends with.
-fn process_over<A: Arguments, P: Progress + Drop, F: Files, W: Write + Drop>(
+pub fn process_over<P: Progress + Drop, F: Files, W: Write + Drop>(
     alloc: Global,
-    arguments: &A,
+    arguments: io::Result<Args>,
     progress: P,
     files: &mut F,
     output: &mut Gathered<W>,
 ) -> u8
-    ensures { WithWords GatheredState (A.told arguments.now)
+    ensures { WithWords GatheredState arguments
         (record { old = F.failures files.old; new = F.failures files.new })
         (record { old = output.old; new = output.new }) result
         (λ words. IsProcess (plan_of words) (F.told files.old)
@@ -40,22 +38,4 @@ fn process_over<A: Arguments, P: Progress + Drop, F: Files, W: Write + Drop>(
         Ok(words) => program(alloc, &words, progress, files, output),
         Err(_) => Status::Memory.number(),
     }
-}
-
-/// What [`process_over`] does, with the arguments and the files of the system and standard output. If lines are wanted, standard
-/// error shows how far it is: at most one a second, from two seconds on.
-pub fn process<R: Env + AllocGlobal + FileAccess + Print + Eprint + Clock>(
-    rt: &R,
-    are_lines_wanted: bool,
-) -> u8 {
-    let alloc = rt.alloc();
-    let mut files = HostFiles::new(rt, alloc);
-    let mut output = HostSink::new(rt, alloc);
-    process_over(
-        alloc,
-        &HostArguments::new(rt),
-        Lines::new(rt, are_lines_wanted),
-        &mut files,
-        &mut output,
-    )
 }

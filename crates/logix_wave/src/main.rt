@@ -2,9 +2,18 @@
 #![tactic(auto)]
 
 use lgx_chart::WaveProgram;
-use lgx_process::process_of_input;
+use lgx_io::HostSink;
+use lgx_process::process_over_input;
+use std::env;
 use std::process::ExitCode;
 
 fn main(rt: HostRuntime) -> ExitCode {
-    ExitCode::from(process_of_input::<WaveProgram, HostRuntime>(&rt))
+    let alloc = rt.alloc();
+    let mut output = HostSink::new(&rt, alloc);
+    ExitCode::from(process_over_input::<WaveProgram, _, _>(
+        alloc,
+        env::args(&rt),
+        rt.reader(),
+        &mut output,
+    ))
 }

@@ -1,11 +1,12 @@
-use Rattle.std.proofs.Common.{◌∙◌, sym, ap, arith}
-use Rattle.std.specs.Prelude.{map, string_bytes, vec_len}
-use Rattle.std.proofs.lemmas.Bool.{eqb-true}
-use Rattle.lgx_process.proofs.AfterName.{none_left, first_removed}
+use Rattle.std.proofs.Common.{refl}
+use Rattle.std.specs.Vec.Iter.{into_iter_items}
+use Rattle.std.proofs.lemmas.Iterator.{items_from_collect}
+use Rattle.std.proofs.lemmas.Iterator.Consumers.{YieldsList-at}
+use Rattle.std.proofs.lemmas.Iterator.Adapters.{YieldsList-from_vec, YieldsList-from_skip}
+use Rattle.std.specs.Prelude.{Ok, ⊤}
 use Rattle.lgx_process.proofs.words.after_name.Goals as goal
 
-pub returns-then-is_empty : goal.returns-then-is_empty
-returns-then-is_empty c = none_left string_bytes c.args.arguments.items (let n = eqb-true (vec_len c.args.arguments) 0 (sym c.is_empty.ensures ∙ c.if-is_empty.true) in omega arith)
-
 pub returns : goal.returns
-returns c = ap (map string_bytes) c.remove.ensures.items ∙ first_removed string_bytes c.args.arguments.items
+returns c =
+    let given = YieldsList-from_vec (into_iter_items c.args.arguments) refl c.args.arguments.rest.ok.0 in
+    items_from_collect {E = ⊤} (Ok c.in_ok-words.words) c.in_ok-words.ensures.ran (YieldsList-from_skip 1 (YieldsList-at c.skip.ensures.source given) c.skip.ensures.count)
