@@ -61,6 +61,10 @@ count_ends text after i count h feed few digits value small some rest =
       some = some;
     }
 
+-- the count is the digit 1
+pub one_ends : (text after : List ℕ) → text ≡ 49 ∷ 10 ∷ after → IsCount text after 1
+one_ends text after is = record { digits = 49 ∷ []; is = is; number = refl; some = omega arith }
+
 -- ---- the line of a count
 
 -- what is known of digits that are a number

@@ -15,7 +15,7 @@ const MOST_DIGITS: usize = 9;
 
 /// The count that the digits before the first line feed are, if it isn't 0, and the text after the line feed.
 #[inline(always)]
-fn count_line(text: &[u8]) -> Option<(u32, &[u8])>
+fn digits_line(text: &[u8]) -> Option<(u32, &[u8])>
     ensures { IfSome result (λ r. IsCount text.now r.1.now r.0) }
 {
     let mut count = 0u32;
@@ -36,6 +36,18 @@ fn count_line(text: &[u8]) -> Option<(u32, &[u8])>
         count = count * 10 + u32::from(*byte - b'0');
     }
     None
+}
+
+/// The same, sooner for a count of one, which most lines have.
+#[inline(always)]
+#[tactic(auto, using(crate::proofs::ShortLines::one_ends))]
+fn count_line(text: &[u8]) -> Option<(u32, &[u8])>
+    ensures { IfSome result (λ r. IsCount text.now r.1.now r.0) }
+{
+    match text {
+        [b'1', b'\n', after @ ..] => Some((1, after)),
+        _ => digits_line(text),
+    }
 }
 
 /// The bytes of `cpu `, as a number.

@@ -1,7 +1,7 @@
 use Rattle.std.proofs.Common.{◌≡◌, ◌<◌, ◌≤◌, ◌^◌, true, take}
 use Rattle.std.specs.Str.{all_ascii_digits}
 use Rattle.spec_text.specs.TextLines.{value_of}
-use Rattle.lgx_journal.proofs.counts.count_line.Given as goal
+use Rattle.lgx_journal.proofs.counts.digits_line.Given as goal
 
 abbrev pub invariant-loop-i : goal.invariant-loop-i
 invariant-loop-i l = record {

@@ -3,7 +3,7 @@ use Rattle.std.specs.Char.{is_ascii_digit}
 use Rattle.spec_text.specs.TextLines.{value_of}
 use Rattle.lgx_journal.proofs.Digits.{pow_short, pow_more}
 use Rattle.lgx_journal.proofs.ShortLines.{digits_more, value_more, digit_small}
-use Rattle.lgx_journal.proofs.counts.count_line.Goals as goal
+use Rattle.lgx_journal.proofs.counts.digits_line.Goals as goal
 
 pub overflow_mul-count : goal.overflow_mul-count
 overflow_mul-count c = omega (arith, pow_short c.loop-i.i (omega arith), c.loop-i.invariant.small)
