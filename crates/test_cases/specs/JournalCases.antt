@@ -38,11 +38,11 @@ abbrev pub tested : List Event
 tested = Act OWN_LANE ModeRun ∷ cpu 2 ++ Act 0 (accept (codes "P") (codes "M") (Replace 1 (codes "MOV(3,n);") ∷ [])) ∷ Act 0 (Test (codes "P")) ∷ cpu 5 ++ Act 0 (Untest (codes "P")) ∷ cpu 2
 
 -- two lanes edit one program
-abbrev pub clients_text : List ℕ
-clients_text = codes "mode run\n@0 cancel P\n@0 accept P M r 0 XIC(zz)OTE(x);\n@1 accept P M r 1 MOV(6,n);\n@1 cancel P\ncpu 3\nend\n"
+abbrev pub one_program_text : List ℕ
+one_program_text = codes "mode run\n@0 cancel P\n@0 accept P M r 0 XIC(zz)OTE(x);\n@1 accept P M r 1 MOV(6,n);\n@1 cancel P\ncpu 3\nend\n"
 
-abbrev pub lanes : List Event
-lanes =
+abbrev pub one_program : List Event
+one_program =
     Act OWN_LANE ModeRun ∷ Act 0 (Cancel (codes "P")) ∷ Act 0 (accept (codes "P") (codes "M") (Replace 0 (codes "XIC(zz)OTE(x);") ∷ [])) ∷ Act 1 (accept (codes "P") (codes "M") (Replace 1 (codes "MOV(6,n);") ∷ [])) ∷ Act 1 (Cancel (codes "P")) ∷ cpu 3
 
 -- three edits in one accept, with blanks that aren't the canonical ones

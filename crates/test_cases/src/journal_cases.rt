@@ -4,7 +4,7 @@ ghost use Rattle.std.specs.Prelude.{◌≡◌, ◌+◌, ◌-◌, ◌∷◌, ◌+
 ghost use Rattle.spec_base.specs.declared.limits.TheConstants.{MAX_ACTIONS, MAX_JOURNAL_STEPS, MAX_LINE_BYTES, OWN_LANE};
 ghost use Rattle.spec_text.specs.JournalText.{journal_of, journal_runs, text, refused, read_line};
 ghost use Rattle.spec_text.specs.ScriptText.{script_of};
-ghost use Rattle.test_cases.specs.JournalCases.{accept, paced_text, paced, tested_text, tested, clients_text, lanes, edits_text, edits, edits_canonical, words_text, words, formless, before_end, plain, cut_scripts, lanes_text, lanes};
+ghost use Rattle.test_cases.specs.JournalCases.{accept, paced_text, paced, tested_text, tested, one_program_text, one_program, edits_text, edits, edits_canonical, words_text, words, formless, before_end, plain, cut_scripts, lanes_text, lanes};
 ghost use Rattle.spec_machine.specs.declared.event.Event.TheVariants.{Cpu, Tick, Act};
 ghost use Rattle.spec_machine.specs.declared.event.RungEdit.TheVariants.{Insert};
 ghost use Rattle.spec_machine.specs.declared.event.Action.TheVariants.{WordIn};
@@ -14,7 +14,7 @@ ghost use Rattle.spec_text.specs.declared.script.JournalCode.TheVariants.{J1, J2
 pub fn journals_are_read()
     ensures paced { journal_of paced_text ≡ Ok paced }
     ensures tested { journal_of tested_text ≡ Ok tested }
-    ensures lanes { journal_of clients_text ≡ Ok lanes }
+    ensures one_program { journal_of one_program_text ≡ Ok one_program }
     ensures edits { journal_of edits_text ≡ Ok edits }
     ensures words { journal_of words_text ≡ Ok words }
     ensures empty { journal_of (codes " end \nend") ≡ Ok [] }
@@ -63,7 +63,7 @@ pub fn scripts_are_refused()
 pub fn journals_are_written()
     ensures paced { text paced ≡ paced_text }
     ensures tested { text tested ≡ tested_text }
-    ensures lanes { text lanes ≡ clients_text }
+    ensures one_program { text one_program ≡ one_program_text }
     ensures edits { text edits ≡ edits_canonical }
     ensures edits_again { journal_of edits_canonical ≡ Ok edits }
     ensures words { text words ≡ words_text }

@@ -3,7 +3,7 @@
 ghost use Rattle.std.specs.Prelude.{◌≡◌, ◌∷◌, ◌++◌, [], take, IsTrue, false};
 ghost use Rattle.std.specs.List.{AllByRecursion};
 ghost use Rattle.test_cases.specs.LegalCases.{all_hold};
-ghost use Rattle.test_cases.specs.JournalCases.{cpu, tick, paced, tested, lanes};
+ghost use Rattle.test_cases.specs.JournalCases.{cpu, tick, paced, tested, one_program};
 ghost use Rattle.test_cases.specs.LadderRuns.{one_rung};
 ghost use Rattle.test_cases.specs.TaskRuns.{preemption, nested_regions, turns_at_ticks};
 ghost use Rattle.test_cases.specs.EditRuns.{two_moves, owners};
@@ -35,7 +35,7 @@ pub fn scans_keep_rungs()
 pub fn copies_and_refusals()
     ensures copy { IsTrue (each_from keeps_copy (stages whole_copy held_copy)) }
     ensures held { AllByRecursion KeepsState (stages whole_copy held_copy) }
-    ensures refused { AllByRecursion KeepsState (stages owners lanes) }
+    ensures refused { AllByRecursion KeepsState (stages owners one_program) }
 {}
 
 /// Doctored runs break a law: a scan that began after a test has the base's rungs; the last element of a copy isn't

@@ -103,7 +103,7 @@ EDIT_VERBS = ("accept", "accept", "accept", "accept", "accept", "test", "test", 
 
 
 def edit_runs(draw, _):
-    """Some thousand edit commands of two clients on one routine, each of whose rungs stores another number, with a few steps between."""
+    """Some thousand edit commands of two lanes on one routine, each of whose rungs stores another number, with a few steps between."""
     lines, number = ["mode run"], 3
     for _ in range(2000):
         client, verb = draw.choice((0, 0, 0, 0, 0, 0, 0, 1)), draw.choice(EDIT_VERBS)

@@ -11,9 +11,9 @@ pub returns-clause-tested : goal.returns-clause-tested
 unfolding digits
 returns-clause-tested c = refl
 
-pub returns-clause-clients : goal.returns-clause-clients
+pub returns-clause-one_program : goal.returns-clause-one_program
 unfolding digits
-returns-clause-clients c = refl
+returns-clause-one_program c = refl
 
 pub returns-clause-edits : goal.returns-clause-edits
 unfolding digits
