@@ -19,7 +19,8 @@ WANTED = {
 OUT_OF_MEMORY = 6
 # Of a call with more allocations every so manieth fails, so that about so many do.
 MOST_ALLOCATIONS = 2_000
-NEEDLESS = 1
+# The output's buffer, and the room for the list of words.
+NEEDLESS = 2
 # Commands that start threads: their allocations are failed one in each run.
 THREADED = ("run", "stations")
 
