@@ -11,7 +11,7 @@ from unittest import mock
 
 from scenario_files import programs
 from lib.hammer import begins, books, corpus, coverage, covers, marks, pieces, scenarios, sessions, splits, tool_faults
-from lib.hammer.cases import PROJECT, file_text
+from lib.hammer.cases import EVERY, OF_PROJECT, PROJECT, file_text
 from lib.hammer.main import ON_ONE, Hammer
 from lib.hammer.plain.judge import answer, kept_project
 from lib.hammer.plain.required import Requirement, Test
@@ -82,10 +82,11 @@ class OnOne(unittest.TestCase):
             self.assertEqual(len(set(runs)), len(runs), kind)
 
     def test_no_command_reads_a_project_alone_twice(self):
-        hammer = Hammer(Plain(), "s", "nowhere", runs=12)
-        met = [hammer.case("whole", number)[0].command for number in range(24)]
-        for command in ("check", "text", "migrate", "xref"):
-            self.assertEqual((met[:12].count(command), met[12:].count(command)), (1, 1))
+        runs = EVERY * len(OF_PROJECT)
+        hammer = Hammer(Plain(), "s", "nowhere", runs=runs)
+        met = [hammer.case("whole", number)[0].command for number in range(2 * runs)]
+        for command in OF_PROJECT:
+            self.assertEqual((met[:runs].count(command), met[runs:].count(command)), (1, 1))
 
     def test_a_case_is_made_by_its_number_alone(self):
         made = self.cases(4, range(8))

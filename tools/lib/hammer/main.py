@@ -47,7 +47,7 @@ ON_ONE = {
     "laws": cases.traced, "links": cases.links_projects, "link laws": cases.links_projects, "journal laws": laws.sound_project, "live": laws.live_project,
     "stations": laws.stations_project, "scripts": lanes.scripts_project, "lanes": lanes.lanes_project, "threads": lanes.lanes_project, "cover": covers.project,
 }
-RUNS = 12  # cases on such a project
+RUNS = cases.EVERY * len(cases.OF_PROJECT)  # cases on such a project
 SHOWN = 8  # of so many cases one tells what showed of each instruction
 WHOLE_ANYWAY = (*IN_TURN, "little memory")
 FEW = 1_000  # cases: what was met by fewer is told as rare
