@@ -7,6 +7,9 @@ STEPS = (10_000, 100_000, 1_000_000)
 RUNGS = (1, 10, 100, 1_000, 10_000)
 WATCHES = (0, 16, 256)
 LANES = (1, 3, 7, 15, 31)
+SIZES = (2, 128, 1_024, 8_192, 32_768, 131_072)
+EDITED = (10, 100, 1_000, 10_000)
+EDITS = 20
 
 
 def print_all(program, rounds, folder):
@@ -16,9 +19,13 @@ def print_all(program, rounds, folder):
         ("Rungs, 200,000 steps", rungs),
         ("Watched tags, 200 rungs, 200,000 steps", watches),
         ("Lanes of `run`, 20,000 steps", lanes),
+        ("Instructions of a project that is checked", sizes),
     ):
         points = [(label, measure.cost_of(program, words, rounds)) for label, words in series(folder)]
         print(f"\n{title}:\n\n{plot(points)}", flush=True)
+    print("\nRungs of a routine with an online edit (accept, test, assemble), millions of instructions for an edit:\n")
+    for count in EDITED:
+        print(f"    {count:>9,} {measure.told(edit(program, folder, count)):>9}", flush=True)
 
 
 def plot(points):
@@ -61,6 +68,22 @@ def watches(folder):
     names += [f"{kind}{i}.{part}" for kind in "tc" for i in range(16) for part in ("ACC", "DN", "PRE", "EN" if kind == "t" else "CU")]
     for count in WATCHES:
         yield f"{count:,}", replay(folder, inputs.wide(200, names[:count]), inputs.rounds_of(400, 500))
+
+
+def sizes(folder):
+    for count in SIZES:
+        inputs.written(f"{folder}/p.json", inputs.large(count))
+        yield f"{count:,}", ["check", f"{folder}/p.json"]
+
+
+def edit(program, folder, rungs):
+    """What one online edit costs, in millions of instructions: an accept of a rung, a test and an assemble."""
+    project, calls = inputs.wide(rungs, ()), []
+    for name, count in (("few", 1), ("many", 1 + EDITS)):
+        inputs.written(f"{folder}/{name}.txt", inputs.edits(count))
+        calls.append(["replay", f"{folder}/edit.json", f"{folder}/{name}.txt"])
+    inputs.written(f"{folder}/edit.json", project)
+    return measure.one_of(program, *calls, EDITS)
 
 
 def lanes(folder):

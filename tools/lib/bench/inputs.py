@@ -134,10 +134,11 @@ def large_routine(instructions, rungs):
     return texts
 
 
-def large():
+def large(instructions=131_072):
+    """A project of so many instructions, half of them in each of two routines, of 13 in a rung at most or so."""
     kinds = ("BOOL", "DINT", "INT", "TIMER")
     tags = [tag(f"Tag_{i}", kinds[i % 4]) for i in range(4000)] + [tag("Arr", "DINT", 100)]
-    routines = [(name, large_routine(65_536, 5_000)) for name in ("M", "N")]
+    routines = [(name, large_routine(instructions // 2, max(1, instructions * 5_000 // 131_072))) for name in ("M", "N")]
     return project(tags, routines)
 
 
@@ -149,6 +150,15 @@ def lanes(count, steps=200_000, period=100, until=2_000):
     lines = [f"run {steps} {period} {count}"]
     lines += [f"@{lane} {tick} test P" for tick in range(0, until, 20) for lane in range(count)]
     return "\n".join([*lines, "end", ""])
+
+
+# ---- online edits
+
+
+def edits(count):
+    """So many edits one after another, each of the routine's first rung: accepted, tested and assembled."""
+    one = "@0 accept P M r 0 XIC(b{})OTE(b{});\n@0 test P\n@0 assemble P\n"
+    return "mode run\n" + "".join(one.format(i % 64, (i + 1) % 64) for i in range(count)) + "end\n"
 
 
 def write_all(folder):

@@ -45,11 +45,22 @@ def instructions_of(words):
     return int(found[1]) / 1_000_000
 
 
+def told(count):
+    """A number of millions as a text, short where it is large."""
+    return "-" if count is None else f"{count:,.3f}" if count < 1 else f"{count:,.1f}" if count < 10 else f"{count:,.0f}"
+
+
+def one_of(program, few, many, more):
+    """The instructions, in millions, of one of those things of which the second call does `more` more than the first; None without valgrind."""
+    less = instructions_of([program, *few])
+    return None if less is None else (instructions_of([program, *many]) - less) / more
+
+
 def cost_of(program, words, rounds):
     uses = [ran([program, *words]) for _ in range(max(rounds, 1))]
     count = instructions_of([program, *words])
     return Cost(
-        instructions="-" if count is None else f"{count:,.1f}" if count < 10 else f"{count:,.0f}",
+        instructions=told(count),
         seconds=min(use.ru_utime + use.ru_stime for use in uses),
         megabytes=max(use.ru_maxrss for use in uses) / 1024,
     )
