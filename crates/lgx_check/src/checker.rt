@@ -227,7 +227,7 @@ impl<'a> Checker<'a> {
         ensures { IfOk result (λ judged. Judges (map (operand_of (checked_scope self.now) self.now.labels (spot_of spot)) (zip kinds.now texts.now)) judged) }
     {
         let mut judged = Judged {
-            args: Vec::new(self.alloc),
+            args: Vec::with_capacity(self.alloc, texts.len())?,
             code: None,
         };
         for (i, text) in texts.iter().enumerate() {

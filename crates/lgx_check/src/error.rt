@@ -5,7 +5,7 @@ ghost use Rattle.lgx_check.specs.declared.error.OperandError.TheVariants.{Code, 
 
 use lgx_num::Memory;
 use lgx_rung::{CheckCode, CheckFault};
-use std::alloc::AllocFailed;
+use std::alloc::{AllocError, AllocFailed};
 
 /// Why a routine wasn't checked.
 #[derive(Clone, Copy, PartialEq, Eq, Debug)]
@@ -20,6 +20,14 @@ impl From<Memory> for CheckError {
     ghost from_gives = { λ _ e. e ≡ no_memory };
 
     fn from(_: Memory) -> Self {
+        CheckError::Memory
+    }
+}
+
+impl From<AllocError> for CheckError {
+    ghost from_gives = { λ _ e. e ≡ no_memory };
+
+    fn from(_: AllocError) -> Self {
         CheckError::Memory
     }
 }

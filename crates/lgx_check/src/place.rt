@@ -157,16 +157,12 @@ pub(crate) fn flag_as(kind: OperandKind, flag: Flag) -> Result<Operand, CheckCod
 pub(crate) fn flag(text: &[u8]) -> Option<Flag>
     ensures { result ≡ flag text.now }
 {
-    if b"S:FS".as_slice() == text {
-        Some(Flag::First)
-    } else if b"S:V".as_slice() == text {
-        Some(Flag::Overflow)
-    } else if b"S:Z".as_slice() == text {
-        Some(Flag::Zero)
-    } else if b"S:N".as_slice() == text {
-        Some(Flag::Negative)
-    } else {
-        None
+    match text {
+        [b'S', b':', b'F', b'S'] => Some(Flag::First),
+        [b'S', b':', b'V'] => Some(Flag::Overflow),
+        [b'S', b':', b'Z'] => Some(Flag::Zero),
+        [b'S', b':', b'N'] => Some(Flag::Negative),
+        _ => None,
     }
 }
 

@@ -22,7 +22,7 @@ impl Checker<'_> {
         requires { IsReady self.now }
         ensures { AnswersCheck (checked_from (check_of self.now) 0 0 rungs.now) result }
     {
-        let mut made = Vec::new(self.alloc);
+        let mut made = Vec::with_capacity(self.alloc, rungs.len())?;
         let mut before = 0;
         for (number, rung) in rungs.iter().enumerate() {
             let mut place = InstructionPlace {
@@ -52,7 +52,7 @@ impl Checker<'_> {
         ensures place { OnOk result (place.new ≡ place_after (length (instructions rung.now)) place.old) }
         ensures within { OnOk result (IsWithin place.new) }
     {
-        let mut nodes = Vec::new(self.alloc);
+        let mut nodes = Vec::with_capacity(self.alloc, rung.elements().len())?;
         let mut first = leads;
         for element in rung.elements() {
             let node = self.check_element(place, first, element)?;
@@ -106,7 +106,7 @@ impl Checker<'_> {
         ensures place { OnOk result (place.new ≡ place_after (length (leg_instructions (legs_of legs.now))) place.old) }
         ensures within { OnOk result (IsWithin place.new) }
     {
-        let mut made = Vec::new(self.alloc);
+        let mut made = Vec::with_capacity(self.alloc, legs.as_slice().len())?;
         for leg in legs.as_slice() {
             let checked = self.check_rung(place, false, leg)?;
             made.push(checked)?;

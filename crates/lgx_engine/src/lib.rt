@@ -6,10 +6,13 @@
 #![tactic(auto)]
 
 mod branches;
+mod comparing;
+mod computing;
 mod frame;
 mod frames;
 mod handing;
 mod known;
+mod left;
 mod moves;
 mod operand;
 mod over;

@@ -6,3 +6,4 @@ pub mod Changes
 pub mod Writes
 pub mod Paths
 pub mod Bindings
+pub mod Masks

@@ -5,8 +5,10 @@ ghost use Rattle.lgx_num.specs.Image.{number, number_of, write, write_of, piece,
 ghost use Rattle.lgx_num.specs.Paths.{PathInBounds};
 ghost use Rattle.lgx_num.specs.Number.{bytes_of};
 ghost use Rattle.spec_scan.specs.Arguments.{is_one, bit_number};
+ghost use Rattle.lgx_image.specs.Bits.{IsBit};
 ghost use Rattle.lgx_image.specs.Words.{cut_step};
 
+use crate::bit::Bit;
 use lgx_num::{Index, Kind, Path, Place, bytes_of};
 
 /// The number at a place.
@@ -43,6 +45,65 @@ pub(crate) fn bit_at(bytes: &[u8], bit: u32) -> bool
     (bytes[(bit / 8) as usize] >> (bit % 8)) & 1 == 1
 }
 
+/// Whether a bit is 1.
+#[inline(always)]
+pub(crate) fn is_on(bytes: &[u8], bit: Bit) -> bool
+    requires bit { IsBit bit }
+    requires lies { bit.number / 8 < length bytes.now }
+    ensures { result ≡ is_one (number_of Kind.Bool bytes.now bit.number) }
+{
+    bytes[bit.byte as usize] & bit.mask != 0
+}
+
+/// Whether a bit has this value, so that putting it changes nothing.
+#[inline(always)]
+pub(crate) fn is_at(bytes: &[u8], bit: Bit, value: bool) -> bool
+    requires bit { IsBit bit }
+    requires lies { bit.number / 8 < length bytes.now }
+    ensures { result ≡ true → write_of Kind.Bool bytes.now bit.number (bit_number value) ≡ bytes.now }
+{
+    let byte = bytes[bit.byte as usize];
+    let put = if value {
+        byte | bit.mask
+    } else {
+        byte & !bit.mask
+    };
+    put == byte
+}
+
+/// Whether the bit of this number has this value, so that putting it changes nothing.
+#[inline(always)]
+pub(crate) fn is_bit(bytes: &[u8], bit: u32, value: bool) -> bool
+    requires { bit / 8 < length bytes.now }
+    ensures { result ≡ true → write_of Kind.Bool bytes.now bit (bit_number value) ≡ bytes.now }
+{
+    let byte = bytes[(bit / 8) as usize];
+    let mask = 1u8 << (bit % 8);
+    let put = if value { byte | mask } else { byte & !mask };
+    put == byte
+}
+
+/// Whether the low bits of this value are at a place, so that storing it changes nothing.
+#[inline(always)]
+pub(crate) fn is_stored(bytes: &[u8], place: Place, value: i32) -> bool
+    requires { InBounds place (length bytes.now) }
+    ensures { result ≡ true → write bytes.now place value ≡ bytes.now }
+{
+    let at = (place.at / 8) as usize;
+    let low = bytes_of(value);
+    match place.kind {
+        Kind::Bool => is_bit(bytes, place.at, low[0] % 2 == 1),
+        Kind::Sint => bytes[at] == low[0],
+        Kind::Int => bytes[at] == low[0] && bytes[at + 1] == low[1],
+        Kind::Dint => {
+            bytes[at] == low[0]
+                && bytes[at + 1] == low[1]
+                && bytes[at + 2] == low[2]
+                && bytes[at + 3] == low[3]
+        }
+    }
+}
+
 /// Puts a byte; whether that changed it.
 #[inline(always)]
 pub(crate) fn write_byte(bytes: &mut [u8], at: usize, byte: u8) -> bool
@@ -50,9 +111,11 @@ pub(crate) fn write_byte(bytes: &mut [u8], at: usize, byte: u8) -> bool
     ensures after { bytes.new ≡ slice_set bytes.old at byte }
     ensures differs { result ≡ not (byte == slice_index bytes.old at) }
 {
-    let old = bytes[at];
+    if bytes[at] == byte {
+        return false;
+    }
     bytes[at] = byte;
-    byte != old
+    true
 }
 
 /// Puts a bit at the place of this number; whether that changed a byte.

@@ -118,6 +118,8 @@ impl Hits {
     }
 
     /// A word is hit.
+    #[cold]
+    #[inline(never)]
     fn hit(&mut self, word: u32)
         requires { word < MAX_WORDS }
         ensures watched { self.new.watched ≡ self.old.watched }

@@ -15,7 +15,8 @@ ghost use Rattle.spec_scan.specs.ArgBounds.{ArgInBounds, ArgsInBounds};
 ghost use Rattle.lgx_image.specs.Laws.{AllWatched};
 
 use crate::bytes::{
-    bit_at, copy_piece, dint_at, first_bit, number_at, write_bit, write_byte, write_dint,
+    bit_at, copy_piece, dint_at, first_bit, is_bit, is_stored, number_at, write_bit, write_byte,
+    write_dint,
 };
 use crate::grain::{GRAIN, Marks};
 use crate::hits::{Hits, WORD_BYTES, word_of};
@@ -96,6 +97,20 @@ impl Image {
         ensures only_marked { ChangesOnlyMarked self.old self.new }
     {
         self.store(place, value);
+    }
+
+    /// Stores the low bits of a value at a place, which lies in the image, if they aren't there yet: then the grains of its bytes
+    /// are marked, and a watched word in which a byte changes is hit.
+    #[inline(always)]
+    pub fn change(&mut self, place: Place, value: i32)
+        requires { InBounds place (length self.old.bytes) }
+        ensures bytes { self.new.bytes ≡ write self.old.bytes place value }
+        ensures hits { HitsWritten self.old self.new }
+        ensures only_marked { ChangesOnlyMarked self.old self.new }
+    {
+        if !is_stored(&self.bytes, place, value) {
+            self.put(place, value);
+        }
     }
 
     /// Stores the low bits of a value at a place.
@@ -188,6 +203,19 @@ impl Image {
         self.store_bit(bit, value);
     }
 
+    /// Puts the bit of this number if it isn't there yet: then the grain of its byte is marked, and its word is hit if it is watched.
+    #[inline(always)]
+    pub fn change_bit_at(&mut self, bit: u32, value: bool)
+        requires { bit / 8 < length self.old.bytes }
+        ensures bytes { self.new.bytes ≡ write_of Kind.Bool self.old.bytes bit (bit_number value) }
+        ensures hits { HitsWritten self.old self.new }
+        ensures only_marked { ChangesOnlyMarked self.old self.new }
+    {
+        if !is_bit(&self.bytes, bit, value) {
+            self.put_bit_at(bit, value);
+        }
+    }
+
     /// Stores the bit of this number.
     #[inline(always)]
     fn store_bit(&mut self, bit: u32, value: bool)
@@ -225,6 +253,20 @@ impl Image {
         self.store_dint(byte, value);
     }
 
+    /// Stores a DINT that begins at a byte, if it isn't there yet: then the grains of its bytes are marked, and a watched word in
+    /// which a byte changes is hit.
+    #[inline(always)]
+    pub fn change_dint(&mut self, byte: u32, value: i32)
+        requires { byte + 4 ≤ length self.old.bytes }
+        ensures bytes { self.new.bytes ≡ write_of Kind.Dint self.old.bytes (8 * byte) value }
+        ensures hits { HitsWritten self.old self.new }
+        ensures only_marked { ChangesOnlyMarked self.old self.new }
+    {
+        if dint_at(&self.bytes, byte) != value {
+            self.put_dint(byte, value);
+        }
+    }
+
     /// Stores a DINT that begins at a byte.
     #[inline(always)]
     fn store_dint(&mut self, byte: u32, value: i32)
@@ -235,7 +277,7 @@ impl Image {
         ensures watched { self.new.watched ≡ self.old.watched }
         ensures hits { HitsWritten self.old self.new }
     {
-        if word_of(byte) == word_of(byte.wrapping_add(3)) {
+        if byte % WORD_BYTES == 0 {
             self.store_word(byte, value);
         } else {
             self.store_bytes(byte, value);
@@ -253,13 +295,16 @@ impl Image {
         ensures watched { self.new.watched ≡ self.old.watched }
         ensures hits { HitsWritten self.old self.new }
     {
+        let differs = write_dint(&mut self.bytes, byte, value);
         self.marks.mark_inside(byte, 4);
-        if write_dint(&mut self.bytes, byte, value) {
+        if differs {
             self.hits.note(word_of(byte));
         }
     }
 
     /// Stores the bytes of a DINT that may lie in two words.
+    #[cold]
+    #[inline(never)]
     fn store_bytes(&mut self, byte: u32, value: i32)
         requires { byte + 4 ≤ length self.old.bytes }
         ensures grains { length self.old.marks ≡ grains_in (length self.old.bytes) }

@@ -61,10 +61,6 @@ count_ends text after i count h feed few digits value small some rest =
       some = some;
     }
 
--- the count is the digit 1
-pub one_ends : (text after : List ℕ) → text ≡ 49 ∷ 10 ∷ after → IsCount text after 1
-one_ends text after is = record { digits = 49 ∷ []; is = is; number = refl; some = omega arith }
-
 -- ---- the line of a count
 
 -- what is known of digits that are a number
@@ -126,3 +122,15 @@ steps_after text rest after n is c = subst (λ (t : List ℕ). IsFirstLine t aft
 
 pub ticks_after : (text rest after : List ℕ) (n : ℕ) → text ≡ codes "tick " ++ rest → IsCount rest after n → IsFirstLine text after (event_run Tick n)
 ticks_after text rest after n is c = subst (λ (t : List ℕ). IsFirstLine t after (event_run Tick n)) (sym is) (ticks_first rest after n c)
+
+-- ---- lines of one
+
+-- the count is the digit 1
+one_ends : (after : List ℕ) → IsCount (49 ∷ 10 ∷ after) after 1
+one_ends after = record { digits = 49 ∷ []; is = refl; number = refl; some = omega arith }
+
+pub step_first : (text after : List ℕ) → text ≡ codes "cpu 1" ++ 10 ∷ after → IsFirstLine text after (event_run Cpu 1)
+step_first text after is = steps_after text (49 ∷ 10 ∷ after) after 1 is (one_ends after)
+
+pub tick_first : (text after : List ℕ) → text ≡ codes "tick 1" ++ 10 ∷ after → IsFirstLine text after (event_run Tick 1)
+tick_first text after is = ticks_after text (49 ∷ 10 ∷ after) after 1 is (one_ends after)

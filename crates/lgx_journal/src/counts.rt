@@ -1,5 +1,5 @@
 // Lines of processor steps and of ticks in their short form: the word, a space, one to nine digits and a line feed.
-ghost use Rattle.std.specs.Prelude.{◌≡◌, ◌<◌, ◌++◌, length, codes, IfSome};
+ghost use Rattle.std.specs.Prelude.{◌≡◌, ◌<◌, ◌∷◌, ◌++◌, length, codes, IfSome};
 ghost use Rattle.lgx_journal.specs.Counts.{counted_event, IsCount, IsFirstLine};
 ghost use Rattle.lgx_journal.specs.Written.{event_run};
 
@@ -15,7 +15,7 @@ const MOST_DIGITS: usize = 9;
 
 /// The count that the digits before the first line feed are, if it isn't 0, and the text after the line feed.
 #[inline(always)]
-fn digits_line(text: &[u8]) -> Option<(u32, &[u8])>
+fn count_line(text: &[u8]) -> Option<(u32, &[u8])>
     ensures { IfSome result (λ r. IsCount text.now r.1.now r.0) }
 {
     let mut count = 0u32;
@@ -36,18 +36,6 @@ fn digits_line(text: &[u8]) -> Option<(u32, &[u8])>
         count = count * 10 + u32::from(*byte - b'0');
     }
     None
-}
-
-/// The same, sooner for a count of one, which most lines have.
-#[inline(always)]
-#[tactic(auto, using(crate::proofs::ShortLines::one_ends))]
-fn count_line(text: &[u8]) -> Option<(u32, &[u8])>
-    ensures { IfSome result (λ r. IsCount text.now r.1.now r.0) }
-{
-    match text {
-        [b'1', b'\n', after @ ..] => Some((1, after)),
-        _ => digits_line(text),
-    }
 }
 
 /// The bytes of `cpu `, as a number.
@@ -78,6 +66,49 @@ fn after_tick(text: &[u8]) -> Option<&[u8]>
         }
         _ => None,
     }
+}
+
+/// The bytes of `1` and a line feed.
+const ONE: u16 = 0x0a31;
+
+/// What comes after the line `cpu 1` where a text begins with it.
+#[inline(always)]
+fn after_one_step(text: &[u8]) -> Option<&[u8]>
+    ensures { IfSome result (λ r. text.now ≡ codes "cpu 1" ++ 10 ∷ r.now) }
+{
+    match text {
+        [a, b, c, d, e, f, after @ ..]
+            if u32::from_le_bytes([*a, *b, *c, *d]) == CPU && u16::from_le_bytes([*e, *f]) == ONE =>
+            { Some(after) }
+        _ => None,
+    }
+}
+
+/// What comes after the line `tick 1` where a text begins with it.
+#[inline(always)]
+fn after_one_tick(text: &[u8]) -> Option<&[u8]>
+    ensures { IfSome result (λ r. text.now ≡ codes "tick 1" ++ 10 ∷ r.now) }
+{
+    match text {
+        [a, b, c, d, b' ', e, f, after @ ..]
+            if u32::from_le_bytes([*a, *b, *c, *d]) == TICK
+                && u16::from_le_bytes([*e, *f]) == ONE => { Some(after) }
+        _ => None,
+    }
+}
+
+/// What the first line of a text counts once, and the text after it, if the line is `cpu 1` or `tick 1`.
+#[inline(always)]
+#[tactic(auto, using(crate::proofs::ShortLines::step_first, crate::proofs::ShortLines::tick_first))]
+pub(crate) fn single_line(text: &[u8]) -> Option<(Counted, &[u8])>
+    ensures first { IfSome result (λ r. IsFirstLine text.now r.1.now (event_run (counted_event r.0) 1)) }
+    ensures shorter { IfSome result (λ r. length r.1.now < length text.now) }
+{
+    if let Some(after) = after_one_step(text) {
+        return Some((Counted::Steps, after));
+    }
+    let after = after_one_tick(text)?;
+    Some((Counted::Ticks, after))
 }
 
 /// What the first line of a text counts, how many of them, and the text after it, if the line has the short form.

@@ -12,7 +12,7 @@ ghost use Rattle.lgx_journal.specs.Reading.{IfLine, IfCode, is_single, tally_eve
 ghost use Rattle.lgx_journal.specs.Written.{event_run};
 
 use crate::actions::action_of;
-use crate::counts::{Counted, short_line};
+use crate::counts::{Counted, short_line, single_line};
 use crate::error::{JournalError, LineError, at_line};
 use crate::journal::Journal;
 use crate::lines::{is_last, is_skipped, lane_of, next_line};
@@ -230,9 +230,9 @@ impl JournalReader {
     }
 }
 
-/// Puts the lines with which a text begins into a journal, as long as each is a short line of steps or of ticks, no limit is
+/// Puts the lines with which a text begins into a journal, as long as each is a line of one step or of one tick, no limit is
 /// passed and the journal has room. Answers how many lines they are, and the text after them.
-fn read_counts<'a>(
+fn read_singles<'a>(
     journal: &mut Journal,
     tally: &mut JournalReader,
     text: &'a [u8],
@@ -244,6 +244,34 @@ fn read_counts<'a>(
 {
     let mut number = 0u64;
     let mut rest = text;
+    'singles: while journal.has_room() {
+        let Some((counted, after)) = single_line(rest) else {
+            return (number, rest);
+        };
+        if !tally.take_count(counted, 1) {
+            return (number, rest);
+        }
+        journal.add_counted(counted, 1);
+        number += 1;
+        rest = after;
+    }
+    (number, rest)
+}
+
+/// Puts the lines with which a text begins into a journal, as long as each is a short line of steps or of ticks, no limit is
+/// passed and the journal has room; lines of one step or of one tick take least. Answers how many lines they are, and the text
+/// after them.
+fn read_counts<'a>(
+    journal: &mut Journal,
+    tally: &mut JournalReader,
+    text: &'a [u8],
+) -> (u64, &'a [u8])
+    requires { length journal.old.events ≡ tally_events tally.old }
+    ensures same { (n : ℕ) → read_after journal.new.events (n + result.0) tally.new result.1.now ≡ read_after journal.old.events n tally.old text.now }
+    ensures size { length journal.new.events ≡ tally_events tally.new }
+    ensures number { result.0 + length result.1.now ≤ length text.now }
+{
+    let (mut number, mut rest) = read_singles(journal, tally, text);
     'counts: while journal.has_room() {
         let Some((counted, count, after)) = short_line(rest) else {
             return (number, rest);

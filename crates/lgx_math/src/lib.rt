@@ -13,4 +13,4 @@ mod results;
 
 pub use comparison::{compare, holds};
 pub use laws::{law_of_masks, law_of_overflow, law_of_quotients};
-pub use math::{run_math, run_math_of};
+pub use math::{run_dint_math, run_math, run_math_of};

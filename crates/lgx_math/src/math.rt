@@ -73,20 +73,20 @@ fn run_to_dint(op: Op, a: i32, b: i32, place: Place, flags: &mut Flags, image: &
     ensures only_marked { ChangesOnlyMarked image.old image.new }
 {
     match op {
-        Op::Add => store_dint_result(Op::Add, a, b, place, flags, image),
-        Op::Sub => store_dint_result(Op::Sub, a, b, place, flags, image),
-        Op::Mul => store_dint_result(Op::Mul, a, b, place, flags, image),
-        Op::Div => store_dint_result(Op::Div, a, b, place, flags, image),
-        Op::Mod => store_dint_result(Op::Mod, a, b, place, flags, image),
-        Op::Neg => store_dint_result(Op::Neg, a, b, place, flags, image),
-        Op::Abs => store_dint_result(Op::Abs, a, b, place, flags, image),
-        Op::Mov => store_dint_result(Op::Mov, a, b, place, flags, image),
-        Op::And => store_dint_result(Op::And, a, b, place, flags, image),
-        Op::Or => store_dint_result(Op::Or, a, b, place, flags, image),
-        Op::Xor => store_dint_result(Op::Xor, a, b, place, flags, image),
-        Op::Not => store_dint_result(Op::Not, a, b, place, flags, image),
-        Op::Clr => store_dint_result(Op::Clr, a, b, place, flags, image),
-        _ => store_dint_result(op, a, b, place, flags, image),
+        Op::Add => run_dint_math(Op::Add, a, b, place, flags, image),
+        Op::Sub => run_dint_math(Op::Sub, a, b, place, flags, image),
+        Op::Mul => run_dint_math(Op::Mul, a, b, place, flags, image),
+        Op::Div => run_dint_math(Op::Div, a, b, place, flags, image),
+        Op::Mod => run_dint_math(Op::Mod, a, b, place, flags, image),
+        Op::Neg => run_dint_math(Op::Neg, a, b, place, flags, image),
+        Op::Abs => run_dint_math(Op::Abs, a, b, place, flags, image),
+        Op::Mov => run_dint_math(Op::Mov, a, b, place, flags, image),
+        Op::And => run_dint_math(Op::And, a, b, place, flags, image),
+        Op::Or => run_dint_math(Op::Or, a, b, place, flags, image),
+        Op::Xor => run_dint_math(Op::Xor, a, b, place, flags, image),
+        Op::Not => run_dint_math(Op::Not, a, b, place, flags, image),
+        Op::Clr => run_dint_math(Op::Clr, a, b, place, flags, image),
+        _ => run_dint_math(op, a, b, place, flags, image),
     }
 }
 
@@ -128,9 +128,10 @@ fn store_result(op: Op, a: i32, b: i32, place: Place, flags: &mut Flags, image: 
     store(op, b, exact, place, flags, image)
 }
 
-/// The same at the place of a DINT.
+/// What [`run_math_of`] does where the destination is a DINT, by code of its own for each caller: one that says which instruction it
+/// is takes that one's alone.
 #[inline(always)]
-fn store_dint_result(
+pub fn run_dint_math(
     op: Op,
     a: i32,
     b: i32,
@@ -190,7 +191,7 @@ fn store_dint(
 {
     let low = low_dint(exact);
     *flags = flags_of(overflow, low);
-    image.put_dint(place.at / 8, low);
+    image.change_dint(place.at / 8, low);
     overflow
 }
 
@@ -218,7 +219,7 @@ fn store_narrow(
 {
     let low = store_low(place.kind, exact);
     *flags = flags_of(overflow, low);
-    image.put(place, low);
+    image.change(place, low);
     overflow
 }
 

@@ -86,7 +86,8 @@ pub(crate) fn log_begins(log: &mut Log, from: Stamp, begins: &Begins)
     }
 }
 
-/// Puts the line of a fault into the log, if there is one.
+/// Puts the line of a fault into the log, if there is one. It is copied part by part, so that no room is taken for a fault that
+/// isn't there.
 #[inline(always)]
 pub(crate) fn log_fault(log: &mut Log, at: Stamp, fault: &Option<Fault>)
     requires room { log.old.lost + 1 < 2 ^ 63 }
@@ -94,7 +95,18 @@ pub(crate) fn log_fault(log: &mut Log, at: Stamp, fault: &Option<Fault>)
     ensures lost { log.new.lost ≤ log.old.lost + 1 }
 {
     if let Some(fault) = fault {
-        log_line(log, at, Line::Fault(*fault));
+        log_line(
+            log,
+            at,
+            Line::Fault(Fault {
+                severity: fault.severity,
+                kind: fault.kind,
+                code: fault.code,
+                task: fault.task,
+                program: fault.program,
+                tick: fault.tick,
+            }),
+        );
     }
 }
 

@@ -114,6 +114,28 @@ impl Recording {
         }
     }
 
+    /// Takes one processor step, for which the journal has room. It takes no memory.
+    pub fn step(&mut self)
+        requires room { self.old.controller.spent < MAX_EVENTS }
+        requires spare { 0 < self.old.journal.spare }
+        ensures records { RecordsMore self.old self.new (Cpu ∷ []) }
+        ensures counts { HasCounted self.old self.new (Cpu ∷ []) }
+        ensures spare { self.old.journal.spare ≤ self.new.journal.spare + 1 }
+    {
+        self.take_steps(1);
+    }
+
+    /// Takes one tick, for which the journal has room. It takes no memory.
+    pub fn tick(&mut self)
+        requires room { self.old.controller.spent < MAX_EVENTS }
+        requires spare { 0 < self.old.journal.spare }
+        ensures records { RecordsMore self.old self.new (Tick ∷ []) }
+        ensures counts { HasCounted self.old self.new (Tick ∷ []) }
+        ensures spare { self.old.journal.spare ≤ self.new.journal.spare + 1 }
+    {
+        self.take_ticks(1);
+    }
+
     /// Takes `count` processor steps. They take no memory.
     #[inline(always)]
     fn take_steps(&mut self, count: u32)

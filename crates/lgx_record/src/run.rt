@@ -144,9 +144,23 @@ impl Run {
         }
     }
 
-    /// `count` ticks. They take no memory.
+    /// `count` ticks. One alone needs no loop. They take no memory.
     #[inline(always)]
     pub(crate) fn take_ticks(&mut self, count: u32, log: &mut Log)
+        requires room { self.old.controller.spent + count ≤ MAX_EVENTS }
+        requires lost { log.old.lost + MAX_EVENT_LINES * count < 2 ^ 63 }
+        ensures { Extends self.old self.new log.old log.new (replicate count Tick) }
+    {
+        if count == 1 {
+            self.tick(log);
+        } else {
+            self.ticks(count, log);
+        }
+    }
+
+    /// `count` ticks, one after another. They take no memory.
+    #[inline(never)]
+    fn ticks(&mut self, count: u32, log: &mut Log)
         requires room { self.old.controller.spent + count ≤ MAX_EVENTS }
         requires lost { log.old.lost + MAX_EVENT_LINES * count < 2 ^ 63 }
         ensures { Extends self.old self.new log.old log.new (replicate count Tick) }
@@ -187,7 +201,7 @@ impl Run {
     }
 
     /// One processor step. It takes no memory.
-    #[inline(never)]
+    #[inline(always)]
     fn step(&mut self, log: &mut Log)
         requires room { self.old.controller.spent < MAX_EVENTS }
         requires lost { log.old.lost + MAX_EVENT_LINES < 2 ^ 63 }

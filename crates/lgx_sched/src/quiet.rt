@@ -19,8 +19,8 @@ pub struct Quiet {
 impl Quiet {
     /// Whether it has this tick.
     #[inline(always)]
-    pub fn contains(self, tick: u32) -> bool
-        ensures { result ≡ nat_lt self.after tick && nat_lt tick self.until }
+    pub fn contains(&self, tick: u32) -> bool
+        ensures { result ≡ nat_lt self.now.after tick && nat_lt tick self.now.until }
     {
         self.after < tick && tick < self.until
     }

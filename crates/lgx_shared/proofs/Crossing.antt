@@ -17,11 +17,14 @@ use Rattle.circular_buffer.proofs.Crosses.{Cells-send, Deed-send}
 use Rattle.spec_tables.specs.contracts.fault.Fault as Fault
 use Rattle.lgx_edit.specs.contracts.book.EditBook as EditBook
 use Rattle.lgx_fault.specs.contracts.fault_log.FaultLog as FaultLog
+use Rattle.lgx_num.specs.contracts.place.Place as Place
+use Rattle.lgx_rung.specs.contracts.op.Op as Op
 use Rattle.lgx_rung.specs.contracts.rung.SourceRung as SourceRung
 use Rattle.lgx_prog.specs.contracts.rung.Rung as Rung
 use Rattle.lgx_prog.specs.contracts.prepared.Prepared as Prepared
 use Rattle.lgx_prog.specs.contracts.code.Code as Code
 use Rattle.lgx_prog.specs.contracts.short.Does as Does
+use Rattle.lgx_prog.specs.contracts.short.Source as Source
 use Rattle.lgx_prog.specs.contracts.quick.After as After
 use Rattle.lgx_prog.specs.contracts.quick.Quick as Quick
 use Rattle.lgx_prog.specs.contracts.code.FlatRoutine as FlatRoutine
@@ -56,8 +59,17 @@ prepared_send = search (sendable, crosses, ins.the_field_send) depth 200 fits 20
 pub code_send : IsSend Code.the_row
 code_send = search (sendable, crosses, prepared_send) depth 200 fits 20000
 
+pub op_send : IsSend (Op.the_field).row
+op_send = search (sendable, crosses) depth 100 fits 20000
+
+pub place_send : IsSend (Place.the_field).row
+place_send = search (sendable, crosses) depth 100 fits 20000
+
+pub source_kind_send : IsSend (Source.the_field).row
+source_kind_send = search (sendable, crosses) depth 100 fits 20000
+
 pub does_send : IsSend (Does.the_field).row
-does_send = search (sendable, crosses) depth 300 fits 50000
+does_send = search (sendable, crosses, op_send, place_send, source_kind_send) depth 300 fits 50000
 
 pub after_send : IsSend (After.the_field).row
 after_send = search (sendable, crosses) depth 200 fits 20000

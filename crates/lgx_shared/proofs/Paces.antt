@@ -1,15 +1,9 @@
 -- A step with its tick, or without one.
-use Rattle.std.proofs.Common.{◌≡◌, ℕ, ◌%◌, Bool, true, false, cond, List, [], ◌∷◌, ◌++◌, sym, ◌∙◌, ap, append_assoc}
-use Rattle.std.specs.Prelude.{IsTrue}
+use Rattle.std.proofs.Common.{◌≡◌, ℕ, ◌%◌, cond, List, [], ◌∷◌, ◌++◌, sym, ◌∙◌, ap, append_assoc}
 use Rattle.std.proofs.lemmas.Bool.{eq-eqb, ne_eqb}
 use Rattle.spec_machine.specs.declared.event.Event.{Event}
 use Rattle.spec_machine.specs.declared.event.Event.TheVariants.{Cpu, Tick}
 use Rattle.spec_lanes.specs.Turns.{paced_step}
-
--- what isn't an accept isn't one
-pub no_accept : (b : Bool) → b ≡ false → IsTrue b → ⊥
-no_accept true h k = cc h
-no_accept false h k = cc k
 
 pub with_tick : (events : List Event) (pace n m : ℕ) → n ≡ m → n % pace ≡ 0 → (events ++ Cpu ∷ []) ++ Tick ∷ [] ≡ events ++ paced_step pace m
 with_tick events pace n m same due =

@@ -10,9 +10,7 @@ ghost use Rattle.spec_lanes.specs.Turns.{done_by, is_due, due_action, is_spent, 
 ghost use Rattle.spec_lanes.specs.Held.{is_holdable};
 ghost use Rattle.spec_lanes.specs.Laws.{with_one_more};
 ghost use Rattle.lgx_core.specs.Represents.{StandsFor};
-ghost use Rattle.lgx_journal.specs.Runs.{seen_run};
-ghost use Rattle.lgx_record.specs.Extends.{events_in, is_accept_in};
-ghost use Rattle.lgx_record.specs.Records.{Records, RecordsMore, HasCounted};
+ghost use Rattle.lgx_record.specs.Records.{Records, RecordsMore};
 ghost use Rattle.lgx_shared.specs.Turns.{MatchTurn};
 
 use crate::plan::action_at;
@@ -66,22 +64,6 @@ fn is_spent(recording: &Recording, script: &Script) -> bool
     recording.steps() >= script.steps && !recording.controller().copy_open()
 }
 
-/// Takes equal events, for which the journal has room, and none of which is an accept: so they take no memory.
-fn take_freely(recording: &mut Recording, run: EventsLent<'_>)
-    requires free { is_accept_in run ≡ false }
-    requires some { 0 < (seen_run run).count }
-    requires room { recording.old.controller.spent + (seen_run run).count ≤ MAX_EVENTS }
-    requires spare { 0 < recording.old.journal.spare }
-    ensures records { RecordsMore recording.old recording.new (events_in run.entry) }
-    ensures counts { HasCounted recording.old recording.new (events_in run.entry) }
-    ensures spare { recording.old.journal.spare ≤ recording.new.journal.spare + 1 }
-{
-    match recording.take(run) {
-        Ok(()) => {}
-        Err(_) => unreachable!(),
-    }
-}
-
 /// A processor step, and a tick after it if the pace divides its number.
 fn make_step(recording: &mut Recording, pace: u32)
     requires pace { 0 < pace }
@@ -90,9 +72,9 @@ fn make_step(recording: &mut Recording, pace: u32)
     ensures records { RecordsMore recording.old recording.new (paced_step pace (recording.old.steps + 1)) }
     ensures spare { recording.old.journal.spare ≤ recording.new.journal.spare + length (paced_step pace (recording.old.steps + 1)) }
 {
-    take_freely(recording, EventsLent::Cpu(1));
+    recording.step();
     if recording.steps() % pace == 0 {
-        take_freely(recording, EventsLent::Tick(1));
+        recording.tick();
     }
 }
 

@@ -15,7 +15,7 @@ use spec_machine::{Mark, Moment, What};
 use spec_tables::{Fault, OVERFLOW, PROGRAM_FAULT, Severity};
 
 impl ControllerParts {
-    /// What the effect of a scan's step of program `n` does.
+    /// What the effect of a scan's step of program `n` does. One that may bring a fault has a call of its own.
     #[inline(always)]
     pub(crate) fn after_effect(&mut self, t: u32, n: u32, effect: Effect) -> Moment
         requires live { IsLive self.old }
@@ -25,16 +25,41 @@ impl ControllerParts {
         ensures gives { (k : ℕ) (s : State) → RepresentsParts k self.old s → Gives (k + 1) self.new result (after_effect s t (progress_of s t) n effect) }
         ensures image { self.new.image ≡ self.old.image }
     {
+        let ran = What::Ran {
+            task: t,
+            program: n,
+        };
         match effect {
-            Effect::Ran => plainly(What::Ran {
-                task: t,
-                program: n,
-            }),
-            other => self.after_any_effect(t, n, other),
+            Effect::Ran => plainly(ran),
+            Effect::Up => self.up(t, ran),
+            Effect::Down => self.down(t, ran),
+            Effect::CopyStart(sync) => self.copy_start(t, ran, sync),
+            Effect::Copied { last, sync } => self.copied(t, n, last, sync),
+            Effect::Left { ended } => self.left(t, n, ended),
+            _ => self.after_rare_effect(t, n, effect),
         }
     }
 
-    /// What any effect does, by a call of its own: most steps have the effect `Ran`, and need no call.
+    /// What a rare effect does. The answer is copied part by part, so that its room isn't cleared for the other effects.
+    #[inline(always)]
+    fn after_rare_effect(&mut self, t: u32, n: u32, effect: Effect) -> Moment
+        requires live { IsLive self.old }
+        requires chosen { next_task self.old.table ≡ Some t }
+        requires known { t < length self.old.progress.items }
+        requires target { TriggersKnownTask (length self.old.progress.items) effect }
+        ensures gives { (k : ℕ) (s : State) → RepresentsParts k self.old s → Gives (k + 1) self.new result (after_effect s t (progress_of s t) n effect) }
+        ensures image { self.new.image ≡ self.old.image }
+    {
+        let made = self.after_any_effect(t, n, effect);
+        Moment {
+            what: made.what,
+            mark: made.mark,
+            fault: made.fault,
+        }
+    }
+
+    /// What any effect does.
+    #[inline(never)]
     fn after_any_effect(&mut self, t: u32, n: u32, effect: Effect) -> Moment
         requires live { IsLive self.old }
         requires chosen { next_task self.old.table ≡ Some t }
@@ -61,6 +86,7 @@ impl ControllerParts {
     }
 
     /// The task opens a region.
+    #[inline(always)]
     fn up(&mut self, t: u32, ran: What) -> Moment
         requires live { IsLive self.old }
         requires chosen { next_task self.old.table ≡ Some t }
@@ -76,6 +102,7 @@ impl ControllerParts {
     }
 
     /// The task closes a region.
+    #[inline(always)]
     fn down(&mut self, t: u32, ran: What) -> Moment
         requires live { IsLive self.old }
         requires chosen { next_task self.old.table ≡ Some t }
@@ -91,6 +118,7 @@ impl ControllerParts {
     }
 
     /// The task triggers another one.
+    #[inline(always)]
     fn trigger(&mut self, ran: What, other: u32) -> Moment
         requires live { IsLive self.old }
         requires target { other < length self.old.progress.items }
@@ -106,6 +134,7 @@ impl ControllerParts {
     }
 
     /// The task's copy starts.
+    #[inline(always)]
     fn copy_start(&mut self, t: u32, ran: What, sync: bool) -> Moment
         requires live { IsLive self.old }
         requires chosen { next_task self.old.table ≡ Some t }
@@ -121,6 +150,7 @@ impl ControllerParts {
     }
 
     /// An element was copied.
+    #[inline(always)]
     fn copied(&mut self, t: u32, n: u32, last: bool, sync: bool) -> Moment
         requires live { IsLive self.old }
         requires chosen { next_task self.old.table ≡ Some t }
@@ -144,6 +174,7 @@ impl ControllerParts {
     }
 
     /// A routine was left.
+    #[inline(always)]
     fn left(&mut self, t: u32, n: u32, ended: bool) -> Moment
         requires live { IsLive self.old }
         requires chosen { next_task self.old.table ≡ Some t }
@@ -165,6 +196,7 @@ impl ControllerParts {
     }
 
     /// A minor fault of an instruction.
+    #[inline(always)]
     fn minor(&mut self, t: u32, n: u32) -> Moment
         requires live { IsLive self.old }
         ensures gives { (k : ℕ) (s : State) → RepresentsParts k self.old s → Gives (k + 1) self.new result (after_effect s t (progress_of s t) n Effect.Minor) }
@@ -183,6 +215,7 @@ impl ControllerParts {
     }
 
     /// A major fault of an instruction.
+    #[inline(always)]
     fn major(&mut self, t: u32, n: u32, code: u8) -> Moment
         requires live { IsLive self.old }
         ensures gives { (k : ℕ) (s : State) → RepresentsParts k self.old s → Gives (k + 1) self.new result (after_effect s t (progress_of s t) n (Effect.Major code)) }

@@ -23,6 +23,7 @@ fn overlap_code(kind: TaskKind) -> u8
 
 impl ControllerParts {
     /// Releases a task. One that is up overlaps, which is a minor fault; at one that is inhibited nothing changes.
+    #[inline(never)]
     pub(crate) fn release(&mut self, t: u32) -> Released
         requires live { IsLive self.old }
         requires known { t < length self.old.progress.items }
@@ -70,6 +71,7 @@ impl ControllerParts {
     }
 
     /// A major fault: every task goes down and drops its scan, and the controller is Faulted.
+    #[inline(never)]
     pub(crate) fn major_fault(&mut self, fault: Fault)
         requires live { IsLive self.old }
         ensures represents { (n : ℕ) (s : State) → RepresentsParts n self.old s → RepresentsParts n self.new (major_fault fault s) }

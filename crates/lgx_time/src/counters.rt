@@ -14,7 +14,7 @@ use lgx_image::Image;
 use lgx_rung::Op;
 
 /// CTU or CTD on the counter whose first byte is `at`, with the condition before it.
-#[inline]
+#[inline(always)]
 pub fn run_counter(op: Op, at: u32, on: bool, image: &mut Image)
     requires family { family_of op ≡ Counter }
     requires lies { at + COUNTER_BYTES ≤ length image.old.bytes }
@@ -29,7 +29,7 @@ pub fn run_counter(op: Op, at: u32, on: bool, image: &mut Image)
 }
 
 /// CTU counts up if its condition became true.
-#[inline]
+#[inline(always)]
 fn ctu(at: u32, on: bool, image: &mut Image)
     requires lies { at + COUNTER_BYTES ≤ length image.old.bytes }
     ensures bytes { image.new.bytes ≡ counter Ctu at on image.old.bytes }
@@ -45,7 +45,7 @@ fn ctu(at: u32, on: bool, image: &mut Image)
 }
 
 /// CTD counts down if its condition became true.
-#[inline]
+#[inline(always)]
 fn ctd(at: u32, on: bool, image: &mut Image)
     requires lies { at + COUNTER_BYTES ≤ length image.old.bytes }
     ensures bytes { image.new.bytes ≡ counter Ctd at on image.old.bytes }

@@ -28,7 +28,7 @@ pub struct Negative {
 /// TON, RTO or TOF on the timer whose first byte is `at`, with the condition before it, at the tick `now`.
 ///
 /// TON and RTO count with a true condition; TOF counts with a false one while it is done.
-#[inline]
+#[inline(always)]
 pub fn run_timer(op: Op, at: u32, on: bool, now: u32, image: &mut Image) -> Result<(), Negative>
     requires family { family_of op ≡ Timer }
     requires lies { at + TIMER_BYTES ≤ length image.old.bytes }
@@ -38,27 +38,33 @@ pub fn run_timer(op: Op, at: u32, on: bool, now: u32, image: &mut Image) -> Resu
     ensures same { OnErr result (image.new ≡ image.old) }
     ensures only_marked { ChangesOnlyMarked image.old image.new }
 {
-    match (op, on) {
-        (Op::Ton | Op::Rto, true) => count_on(at, now, image),
-        (Op::Ton, false) => {
-            ton_off(at, image);
-            Ok(())
+    if on {
+        match op {
+            Op::Ton | Op::Rto => count_on(at, now, image),
+            Op::Tof => {
+                tof_on(at, now, image);
+                Ok(())
+            }
+            _ => unreachable!(),
         }
-        (Op::Rto, false) => {
-            stop(at, image);
-            Ok(())
+    } else {
+        match op {
+            Op::Ton => {
+                ton_off(at, image);
+                Ok(())
+            }
+            Op::Rto => {
+                stop(at, image);
+                Ok(())
+            }
+            Op::Tof => count_off(at, now, image),
+            _ => unreachable!(),
         }
-        (Op::Tof, true) => {
-            tof_on(at, now, image);
-            Ok(())
-        }
-        (Op::Tof, false) => count_off(at, now, image),
-        _ => unreachable!(),
     }
 }
 
 /// TON and RTO with a true condition.
-#[inline]
+#[inline(always)]
 fn count_on(at: u32, now: u32, image: &mut Image) -> Result<(), Negative>
     requires lies { at + TIMER_BYTES ≤ length image.old.bytes }
     ensures ok { OnOk result (count_on at now image.old.bytes ≡ Some image.new.bytes) }

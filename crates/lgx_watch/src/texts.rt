@@ -1,8 +1,9 @@
 // The texts of the report's lines.
-ghost use Rattle.std.specs.Prelude.{◌≡◌, ◌<◌, [], ◌∷◌, ◌++◌, length, slice_get, option_map, codes, Some, IfOk, OnOk};
+ghost use Rattle.std.specs.Prelude.{◌≡◌, ◌+◌, ◌≤◌, ◌<◌, [], ◌∷◌, ◌++◌, length, slice_get, option_map, codes, Some, IfOk, OnOk};
 ghost use Rattle.std.specs.Fmt.{decimal, signed_decimal};
 ghost use Rattle.spec_machine.specs.declared.line.Line.TheVariants.{Fault as FaultLine};
 ghost use Rattle.spec_text.specs.ReportText.{name, program_or_dash, fault_number, answer, line_words, line_text, end_text};
+ghost use Rattle.lgx_watch.specs.declared.texts.TheConstants.{NAMES_ROOM};
 ghost use Rattle.lgx_watch.specs.Spaces.{after_spaces};
 
 use crate::answers::push_answer;
@@ -117,6 +118,26 @@ fn push_long_begin(
     Ok(())
 }
 
+/// Adds the line of a begin at once. The names have few bytes.
+#[inline(always)]
+fn push_short_begin(
+    text: &mut Vec<u8>,
+    tick: u32,
+    step: u32,
+    task: &[u8],
+    program: &[u8],
+    version: u32,
+) -> Result<(), Memory>
+    requires { length task.now + length program.now ≤ NAMES_ROOM }
+    ensures { OnOk result (text.new.items ≡ text.old.items ++ decimal tick ++ 32 ∷ decimal step ++ after_spaces (codes "begin" ∷ task.now ∷ program.now ∷ decimal version ∷ []) ++ 10 ∷ []) }
+{
+    let mut bytes = [b'\n'; LINE_ROOM];
+    let end = write_count(&mut bytes, LINE_ROOM - 1, version);
+    let end = write_word(&mut bytes, end, program);
+    let end = write_word(&mut bytes, end, task);
+    push_head(text, tick, step, b"begin", &mut bytes, end)
+}
+
 /// Adds the line of a begin; at once, if the names have few bytes.
 fn push_begin(
     text: &mut Vec<u8>,
@@ -129,13 +150,10 @@ fn push_begin(
     ensures { OnOk result (text.new.items ≡ text.old.items ++ decimal tick ++ 32 ∷ decimal step ++ after_spaces (codes "begin" ∷ task.now ∷ program.now ∷ decimal version ∷ []) ++ 10 ∷ []) }
 {
     if task.len() + program.len() > NAMES_ROOM {
-        return push_long_begin(text, tick, step, task, program, version);
+        push_long_begin(text, tick, step, task, program, version)
+    } else {
+        push_short_begin(text, tick, step, task, program, version)
     }
-    let mut bytes = [b'\n'; LINE_ROOM];
-    let end = write_count(&mut bytes, LINE_ROOM - 1, version);
-    let end = write_word(&mut bytes, end, program);
-    let end = write_word(&mut bytes, end, task);
-    push_head(text, tick, step, b"begin", &mut bytes, end)
 }
 
 /// Adds the line of a value that a watched place has got, word by word.
@@ -156,6 +174,24 @@ fn push_long_set(
     Ok(())
 }
 
+/// Adds the line of a value that a watched place has got at once. The place's name has few bytes.
+#[inline(always)]
+fn push_short_set(
+    text: &mut Vec<u8>,
+    tick: u32,
+    step: u32,
+    watch: &[u8],
+    value: i32,
+) -> Result<(), Memory>
+    requires { length watch.now ≤ NAMES_ROOM }
+    ensures { OnOk result (text.new.items ≡ text.old.items ++ decimal tick ++ 32 ∷ decimal step ++ after_spaces (codes "set" ∷ watch.now ∷ signed_decimal value ∷ []) ++ 10 ∷ []) }
+{
+    let mut bytes = [b'\n'; LINE_ROOM];
+    let end = write_value(&mut bytes, LINE_ROOM - 1, value);
+    let end = write_word(&mut bytes, end, watch);
+    push_head(text, tick, step, b"set", &mut bytes, end)
+}
+
 /// Adds the line of a value that a watched place has got; at once, if its name has few bytes.
 fn push_set(
     text: &mut Vec<u8>,
@@ -167,12 +203,10 @@ fn push_set(
     ensures { OnOk result (text.new.items ≡ text.old.items ++ decimal tick ++ 32 ∷ decimal step ++ after_spaces (codes "set" ∷ watch.now ∷ signed_decimal value ∷ []) ++ 10 ∷ []) }
 {
     if watch.len() > NAMES_ROOM {
-        return push_long_set(text, tick, step, watch, value);
+        push_long_set(text, tick, step, watch, value)
+    } else {
+        push_short_set(text, tick, step, watch, value)
     }
-    let mut bytes = [b'\n'; LINE_ROOM];
-    let end = write_value(&mut bytes, LINE_ROOM - 1, value);
-    let end = write_word(&mut bytes, end, watch);
-    push_head(text, tick, step, b"set", &mut bytes, end)
 }
 
 /// Adds line number `i` of a log to a text, which may have a part of it after `Memory`. One text can serve for all lines of a report.

@@ -8,10 +8,10 @@ use Rattle.lgx_shared.proofs.serving.make_step.Goals as goal
 
 pub returns-then-steps-pace-eq0-clause-records : goal.returns-then-steps-pace-eq0-clause-records
 returns-then-steps-pace-eq0-clause-records c = λ project events r.
-    subst (λ (es : List Event). Records c.take_freely-then-steps-pace-eq0.new.recording project es) (with_tick events c.args.pace c.steps.result _ (c.steps.ensures ∙ c.take_freely.ensures.counts.steps) c.if-steps-pace-eq0.true)
-    (c.take_freely-then-steps-pace-eq0.ensures.records project (events ++ Cpu ∷ []) (c.take_freely.ensures.records project events r))
+    subst (λ (es : List Event). Records c.tick.new.self project es) (with_tick events c.args.pace c.steps.result _ (c.steps.ensures ∙ c.step.ensures.counts.steps) c.if-steps-pace-eq0.true)
+    (c.tick.ensures.records project (events ++ Cpu ∷ []) (c.step.ensures.records project events r))
 
 pub returns-else-steps-pace-eq0-clause-records : goal.returns-else-steps-pace-eq0-clause-records
 returns-else-steps-pace-eq0-clause-records c = λ project events r.
-    subst (λ (es : List Event). Records c.take_freely.new.recording project es) (without_tick events c.args.pace c.steps.result _ (c.steps.ensures ∙ c.take_freely.ensures.counts.steps) c.if-steps-pace-eq0.false)
-    (c.take_freely.ensures.records project events r)
+    subst (λ (es : List Event). Records c.step.new.self project es) (without_tick events c.args.pace c.steps.result _ (c.steps.ensures ∙ c.step.ensures.counts.steps) c.if-steps-pace-eq0.false)
+    (c.step.ensures.records project events r)
