@@ -53,7 +53,7 @@ continued_other : (base c : ℕ) (ps : List (List ℕ)) → is_digit c base ≡ 
 continued_other base c [] e = rw e refl
 continued_other base c (p ∷ ps) e = rw e refl
 
-all_other : (base c : ℕ) (ps : List (List ℕ)) → is_digit c base ≡ false → list_all (are_digits base) (cut false c ps) ≡ false
+pub all_other : (base c : ℕ) (ps : List (List ℕ)) → is_digit c base ≡ false → list_all (are_digits base) (cut false c ps) ≡ false
 all_other base c [] e = rw e refl
 all_other base c (p ∷ ps) e = rw e refl
 

@@ -1,10 +1,10 @@
 -- Labels, instruction by instruction.
 use Rattle.std.proofs.Common.{◌≡◌, ℕ, zero, suc, ◌+◌, ◌<◌, ◌≤◌, Bool, true, false, cond, not, List, [], ◌∷◌, ◌++◌, length, get_or, drop, refl, ap, sym, ◌∙◌, append_assoc, length-append, arith, Option, Some, None, position}
-use Rattle.std.specs.Prelude.{filter_map, flat_map, option_and_then, option_map, slice_get, nat_lt}
+use Rattle.std.specs.Prelude.{filter_map, option_and_then, option_map, slice_get, nat_lt}
 use Rattle.std.specs.List.{enumerate_from, position_or_len}
 use Rattle.std.specs.List.{cons_option}
 use Rattle.std.proofs.lemmas.Bool.Decides.{nat_tests}
-use Rattle.std.proofs.lemmas.List.{append-nil, drop_more, drop_all}
+use Rattle.std.proofs.lemmas.List.{append-nil, drop_more}
 use Rattle.lgx_num.specs.Name.{same}
 use Rattle.lgx_rung.specs.Elements.{tree_of}
 use Rattle.lgx_rung.specs.Tree.{Source, SourceIns, instructions, leg_instructions, legs_of}
@@ -129,21 +129,6 @@ pub leg_place : (ts : List Source) (i : ℕ) (t : Source) (before after : LabelP
 leg_place ts i t before after h is p =
     place_step before after (instructions t) (leg_instructions (legs_of (drop (i + 1) ts))) p
     ∙ ap (λ x. place_after (length x) before) (sym (at_leg ts i t h is))
-
--- the labels of the rungs from this number on
-abbrev pub labels_of_rungs : ℕ → List Source → List Label
-labels_of_rungs number rungs = flat_map (λ (e : ℕ × Source). filter_map (checking.label_at e.0) (enumerate_from 0 (instructions e.1))) (enumerate_from number rungs)
-
-pub rung_labels : (rungs : List Source) (number : ℕ) (r : Source) (old now : List Label) → number < length rungs → r ≡ get_or rungs number r
-    → now ≡ old ++ labels_from (record { rung = number; ins = 0 }) (instructions r)
-    → now ++ labels_of_rungs (number + 1) (drop (number + 1) rungs) ≡ old ++ labels_of_rungs number (drop number rungs)
-rung_labels rungs number r old now h is l =
-    ap (λ ls. ls ++ labels_of_rungs (number + 1) (drop (number + 1) rungs)) l
-    ∙ append_assoc old (labels_from (record { rung = number; ins = 0 }) (instructions r)) (labels_of_rungs (number + 1) (drop (number + 1) rungs))
-    ∙ ap (λ x. old ++ labels_of_rungs number x) (sym (drop_more rungs number r h ∙ ap (λ x. x ∷ drop (number + 1) rungs) (sym is)))
-
-pub no_rungs : (rungs : List Source) (number : ℕ) (now : List Label) → length rungs ≤ number → now ++ labels_of_rungs number (drop number rungs) ≡ now
-no_rungs rungs number now h = ap (λ x. now ++ labels_of_rungs number x) (drop_all number rungs h) ∙ append-nil now
 
 -- ---- what is found
 

@@ -5,3 +5,5 @@ pub mod Labels
 pub mod Judging
 pub mod Walking
 pub mod Laws
+pub mod Known
+pub mod Progress

@@ -1,5 +1,5 @@
--- A walk over a rung, element by element, over a fork, leg by leg, and over a routine, rung by rung.
-use Rattle.std.proofs.Common.{◌≡◌, ℕ, suc, ◌+◌, ◌<◌, ◌≤◌, Bool, true, false, List, [], ◌∷◌, ◌++◌, length, get_or, drop, refl, ap, sym, ◌∙◌, append_assoc, length-append, arith, Result, Ok, Err}
+-- A walk over a rung, element by element, and over a fork, leg by leg.
+use Rattle.std.proofs.Common.{◌≡◌, ℕ, ◌+◌, ◌<◌, ◌≤◌, Bool, false, List, [], ◌∷◌, ◌++◌, length, get_or, drop, refl, ap, sym, ◌∙◌, length-append, arith, Result, Ok, Err}
 use Rattle.std.proofs.lemmas.List.{append-nil, drop_more, drop_all}
 use Rattle.spec_base.specs.FirstCause.{◌>>=◌}
 use Rattle.spec_base.specs.declared.limits.TheConstants.{MAX_FORKS}
@@ -13,7 +13,7 @@ use Rattle.lgx_rung.proofs.Trees.{append-append, append-end}
 use Rattle.lgx_prog.specs.Nodes.{tree_of}
 use Rattle.lgx_prog.specs.declared.rung.Node.{Node}
 use Rattle.lgx_prog.specs.declared.rung.Node.TheVariants as node
-use Rattle.spec_language.specs.Checked.{Spot, spot_after, instruction_of, checked_tree, checked_legs, checked_from}
+use Rattle.spec_language.specs.Checked.{Spot, spot_after, instruction_of, checked_tree, checked_legs}
 use Rattle.spec_language.specs.Checked as checking
 use Rattle.spec_language.specs.CheckedLaws.{tree_map, legs_map, outline, source_outline}
 use Rattle.lgx_check.proofs.Labels.{at_element as at_place, at_leg as leg_at_place}
@@ -170,54 +170,6 @@ leg_step check ts i t made now t' before after whole h is pushed went m known =
 pub fork_done : (check : InstructionCheck) (ts : List Source) (i : ℕ) (made : List (Tree Instruction)) (spot : Spot) (whole : Result (Legs Instruction) CheckFault) (legs : List (Tree Instruction))
     → length ts ≤ i → after_legs made (left_legs check spot ts i) ≡ whole → legs ≡ made → whole ≡ Ok (legs_of legs)
 fork_done check ts i made spot whole legs h known e = sym known ∙ legs_made check spot ts i made h ∙ ap (λ ls. Ok (legs_of ls)) (sym e)
-
--- ---- rung by rung
-
-abbrev pub start_of : ℕ → ℕ → Spot
-start_of rung before = record { rung = rung; ins = 0; before = before; leads = true }
-
--- what comes of the rungs that are left, after rungs that were made
-abbrev pub after_rungs : List (Tree Instruction) → Result (List (Tree Instruction)) CheckFault → Result (List (Tree Instruction)) CheckFault
-after_rungs made r = r >>= λ ts. Ok (made ++ ts)
-
-abbrev pub left_rungs : InstructionCheck → ℕ → List Source → ℕ → Result (List (Tree Instruction)) CheckFault
-left_rungs check before rs i = checked_from check i before (drop i rs)
-
-at_rung : (check : InstructionCheck) (before : ℕ) (rs : List Source) (i : ℕ) (r : Source) → i < length rs → r ≡ get_or rs i r
-    → left_rungs check before rs i ≡ (checked_tree check (start_of i before) r >>= λ r'. left_rungs check (before + length (instructions r)) rs (i + 1) >>= λ rs'. Ok (r' ∷ rs'))
-at_rung check before rs i r h is =
-    let next : suc i ≡ i + 1 = omega arith in
-    ap (λ x. checked_from check i before x) (drop_more rs i r h ∙ ap (λ x. x ∷ drop (i + 1) rs) (sym is))
-    ∙ ap (λ n. checked_tree check (start_of i before) r >>= λ r'. checked_from check n (before + length (instructions r)) (drop (i + 1) rs) >>= λ rs'. Ok (r' ∷ rs')) next
-
-pub rung_more : (check : InstructionCheck) (before : ℕ) (rs : List Source) (i : ℕ) (r : Source) (made : List (Tree Instruction)) (r' : Tree Instruction) → i < length rs → r ≡ get_or rs i r
-    → checked_tree check (start_of i before) r ≡ Ok r'
-    → after_rungs (made ++ r' ∷ []) (left_rungs check (before + length (instructions r)) rs (i + 1)) ≡ after_rungs made (left_rungs check before rs i)
-rung_more check before rs i r made r' h is m =
-    go (left_rungs check (before + length (instructions r)) rs (i + 1))
-    ∙ sym (ap (after_rungs made) (at_rung check before rs i r h is ∙ ap (λ x. x >>= λ r'. left_rungs check (before + length (instructions r)) rs (i + 1) >>= λ rs'. Ok (r' ∷ rs')) m))
-  where
-    go : (x : Result (List (Tree Instruction)) CheckFault) → after_rungs (made ++ r' ∷ []) x ≡ after_rungs made (x >>= λ rs'. Ok (r' ∷ rs'))
-    go (Err f) = refl
-    go (Ok rs') = ap Ok (append_assoc made (r' ∷ []) rs')
-
-pub rungs_made : (check : InstructionCheck) (before : ℕ) (rs : List Source) (i : ℕ) (made : List (Tree Instruction)) → length rs ≤ i → after_rungs made (left_rungs check before rs i) ≡ Ok made
-rungs_made check before rs i made h = ap (λ x. after_rungs made (checked_from check i before x)) (drop_all i rs h) ∙ ap Ok (append-nil made)
-
-pub rung_step : (check : InstructionCheck) (rs : List Source) (i : ℕ) (r : Source) (made now : List (Tree Instruction)) (r' : Tree Instruction) (before after : ℕ) (whole : Result (List (Tree Instruction)) CheckFault)
-    → i < length rs → r ≡ get_or rs i r → now ≡ made ++ r' ∷ [] → after ≡ before + length (instructions r)
-    → checked_tree check (start_of i before) r ≡ Ok r'
-    → after_rungs made (left_rungs check before rs i) ≡ whole
-    → after_rungs now (left_rungs check after rs (i + 1)) ≡ whole
-rung_step check rs i r made now r' before after whole h is pushed went m known =
-    ap (λ x. after_rungs x (left_rungs check after rs (i + 1))) pushed
-    ∙ ap (λ n. after_rungs (made ++ r' ∷ []) (left_rungs check n rs (i + 1))) went
-    ∙ rung_more check before rs i r made r' h is m
-    ∙ known
-
-pub routine_made : (check : InstructionCheck) (rs : List Source) (i : ℕ) (made : List (Tree Instruction)) (before : ℕ) (whole : Result (List (Tree Instruction)) CheckFault) (rungs : List (Tree Instruction))
-    → length rs ≤ i → after_rungs made (left_rungs check before rs i) ≡ whole → rungs ≡ made → whole ≡ Ok rungs
-routine_made check rs i made before whole rungs h known e = sym known ∙ rungs_made check before rs i made h ∙ ap Ok (sym e)
 
 -- ---- places
 

@@ -7,3 +7,5 @@ pub mod Spots
 pub mod Judging
 pub mod Checkers
 pub mod Trees
+pub mod Known
+pub mod Progress

@@ -1,11 +1,16 @@
 -- A number that was read is one of the definition's.
-use Rattle.std.specs.Prelude.{◌^◌, ℕ, ◌+◌, ◌*◌, ◌&&◌, ◌==◌, true, false, min, Option, Some, None, if◌then◌else◌}
-use Rattle.std.specs.Char.{is_digit, digit_value}
+use Rattle.std.specs.Prelude.{◌^◌, ℕ, ◌+◌, ◌*◌, Bool, ◌&&◌, ◌||◌, ◌==◌, true, false, min, List, [], ◌∷◌, Option, Some, None, if◌then◌else◌}
+use Rattle.std.specs.Char.{is_ascii_digit, is_digit, digit_value}
 use Rattle.spec_language.specs.OperandForm.{fitting, outside}
 use Rattle.spec_language.specs.OperandForm as form
 use Rattle.lgx_check.specs.declared.number.Number.{Number}
 use Rattle.lgx_check.specs.declared.number.Reading.{Reading}
 use Rattle.lgx_check.specs.declared.number.Number.TheVariants.{Fitting, Outside}
+
+-- a number begins with a minus or a digit
+abbrev pub begins_number : List ℕ → Bool
+begins_number [] = false
+begins_number (c ∷ cs) = c == 45 || is_ascii_digit c
 
 abbrev pub number_of : Number → form.Number
 number_of (Fitting n) = fitting n

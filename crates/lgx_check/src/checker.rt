@@ -6,7 +6,7 @@ ghost use Rattle.lgx_num.specs.declared.place.Operand.{Operand as AnyOperand};
 ghost use Rattle.lgx_num.specs.declared.place.Operand.TheVariants as operand;
 ghost use Rattle.lgx_rung.specs.declared.fault.CheckCode.{CheckCode as AnyCode};
 ghost use Rattle.spec_base.specs.declared.limits.TheConstants.{MAX_ROUTINE_INSTRUCTIONS};
-ghost use Rattle.spec_language.specs.Checked.{code_number, instruction_of, is_entry, label_name, label_of, labels, least, lesser, operand_of, operands_of, other_faults, stands_elsewhere};
+ghost use Rattle.spec_language.specs.Checked.{code_number, is_entry, label_name, label_of, least, lesser, operand_of, operands_of, other_faults, stands_elsewhere};
 ghost use Rattle.spec_language.specs.Operands.{paired};
 ghost use Rattle.lgx_check.specs.Answers.{AnswersCheck, AnswersOperand};
 ghost use Rattle.lgx_check.specs.Checkers.{IsReady, check_of, checked_scope};
@@ -23,7 +23,7 @@ use crate::operand::{count_operand, data_operand, event_task, name_operand};
 use crate::scope::CheckScope;
 use crate::spot::Spot;
 use lgx_num::{Items, Memory, Name, Operand};
-use lgx_rung::{CheckCode, CheckFault, Ins, Op, OperandKind, SourceRung, Texts};
+use lgx_rung::{CheckCode, CheckFault, Ins, Op, OperandKind, Texts};
 use lgx_types::NameIndex;
 use spec_base::limits::MAX_ROUTINE_INSTRUCTIONS;
 use std::alloc::Global;
@@ -35,7 +35,7 @@ pub(crate) struct Checker<'a> {
     pub(crate) alloc: Global,
     scope: &'a CheckScope<'a>,
     routines: NameIndex,
-    labels: LabelTable,
+    pub(crate) labels: LabelTable,
 }
 
 /// What the operands of an instruction stand for, and the least code of those that stand for nothing.
@@ -147,25 +147,20 @@ impl Judged {
 }
 
 impl<'a> Checker<'a> {
-    /// The checker of these rungs.
-    pub(crate) fn new(
-        alloc: Global,
-        rungs: &[SourceRung],
-        scope: &'a CheckScope<'a>,
-    ) -> Result<Checker<'a>, Memory>
+    /// A checker without labels.
+    pub(crate) fn new(alloc: Global, scope: &'a CheckScope<'a>) -> Result<Checker<'a>, Memory>
         requires sealed { scope.now.tags.now.sealed ≡ true }
         requires few_routines { length scope.now.routines.now < 2 ^ 32 }
         requires few_tasks { length scope.now.tasks.now < 2 ^ 32 }
         ensures ready { IfOk result (λ c. IsReady c) }
-        ensures check { IfOk result (λ c. check_of c ≡ instruction_of (scope_of scope.now) (labels rungs.now)) }
+        ensures scope { IfOk result (λ c. checked_scope c ≡ scope_of scope.now) }
+        ensures labels { IfOk result (λ c. c.labels ≡ []) }
     {
-        let routines = index_of(alloc, scope.routines)?;
-        let labels = LabelTable::of(alloc, rungs)?;
         Ok(Checker {
             alloc,
             scope,
-            routines,
-            labels,
+            routines: index_of(alloc, scope.routines)?,
+            labels: LabelTable::new(alloc),
         })
     }
 

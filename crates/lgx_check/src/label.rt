@@ -1,8 +1,8 @@
 // The labels of a routine.
-ghost use Rattle.std.specs.Prelude.{◌≡◌, ◌<◌, ◌++◌, ◌∷◌, [], length, option_and_then, option_map, slice_get, IfOk, IfSome, OnOk, OnErr};
+ghost use Rattle.std.specs.Prelude.{◌≡◌, ◌<◌, ◌++◌, ◌∷◌, [], length, option_and_then, option_map, slice_get, IfSome, OnOk};
 ghost use Rattle.lgx_rung.specs.Tree.{instructions, legs_of, leg_instructions};
 ghost use Rattle.lgx_rung.specs.Elements.{tree_of};
-ghost use Rattle.spec_language.specs.Checked.{label_of, labels};
+ghost use Rattle.spec_language.specs.Checked.{label_of};
 ghost use Rattle.lgx_check.specs.Labels.{label_at, label_place, labels_from, place_after};
 
 use crate::name::label_name;
@@ -51,30 +51,13 @@ fn place_at(places: &[LabelPlace], number: Option<u32>) -> Option<LabelPlace>
 
 impl LabelTable {
     /// No labels.
-    fn new(alloc: Global) -> LabelTable
+    pub(crate) fn new(alloc: Global) -> LabelTable
         ensures { result ≡ [] }
     {
         LabelTable {
             names: NameIndex::new(alloc),
             places: Vec::new(alloc),
         }
-    }
-
-    /// The labels of these rungs: each LBL whose single operand is a name counts, in every rung and leg.
-    ///
-    /// 4,294,967,296 labels or instructions of a rung have no room.
-    pub(crate) fn of(alloc: Global, rungs: &[SourceRung]) -> Result<LabelTable, Memory>
-        ensures { IfOk result (λ table. table ≡ labels rungs.now) }
-    {
-        let mut table = LabelTable::new(alloc);
-        for (number, rung) in rungs.iter().enumerate() {
-            let mut next = LabelPlace {
-                rung: number as u64,
-                ins: 0,
-            };
-            table.add_rung(&mut next, rung)?;
-        }
-        Ok(table)
     }
 
     /// The place of the first label of a name, in any case.
@@ -98,9 +81,16 @@ impl LabelTable {
         Ok(())
     }
 
-    /// Adds the labels of a rung or of a leg. `next` is the place of its first instruction, and then of the one after it.
+    /// Adds the labels of a rung or of a leg: each LBL whose single operand is a name counts, in every leg. `next` is the place
+    /// of its first instruction, and then of the one after it.
+    ///
+    /// 4,294,967,296 labels or instructions of a rung have no room.
     #[cycle(labels)]
-    fn add_rung(&mut self, next: &mut LabelPlace, rung: &SourceRung) -> Result<(), Memory>
+    pub(crate) fn add_rung(
+        &mut self,
+        next: &mut LabelPlace,
+        rung: &SourceRung,
+    ) -> Result<(), Memory>
         ensures labels { OnOk result (self.new ≡ self.old ++ labels_from next.old (instructions rung.now)) }
         ensures next { OnOk result (next.new ≡ place_after (length (instructions rung.now)) next.old) }
     {

@@ -9,11 +9,15 @@ mod name;
 mod number;
 mod operand;
 mod place;
+mod plain;
 mod routine;
+mod routine_checker;
 mod scope;
 mod spot;
 mod walk;
 
 pub use error::CheckError;
+pub use plain::is_plain;
 pub use routine::check_routine;
+pub use routine_checker::RoutineChecker;
 pub use scope::CheckScope;

@@ -3,7 +3,7 @@ ghost use Rattle.std.specs.Prelude.{◌^◌, ◌≡◌, ◌<◌, ◌≤◌, ◌+
 ghost use Rattle.std.specs.Int.{w32, cast_signed};
 ghost use Rattle.spec_language.specs.OperandForm.{are_grouped, base_of, based_number, decimal_number, digits_number, number, within};
 ghost use Rattle.spec_language.specs.Operands.{decimal, second_number};
-ghost use Rattle.lgx_check.specs.Numbers.{number_of, read_byte};
+ghost use Rattle.lgx_check.specs.Numbers.{begins_number, number_of, read_byte};
 
 use lgx_num::{Items, split_first};
 
@@ -147,11 +147,24 @@ fn based_number(base: &[u8], digits: &[u8]) -> Option<Number>
     Some(reinterpreted(grouped_number(base, digits)?))
 }
 
-/// The number that a text is.
-#[tactic(auto, using(crate::proofs::Marks::number_alone, crate::proofs::Marks::number_based, crate::proofs::Marks::number_none))]
+/// Whether a text begins as a number does: with a minus or a digit.
+fn begins_number(text: &[u8]) -> bool
+    ensures { result ≡ begins_number text.now }
+{
+    match text {
+        [first, ..] => *first == b'-' || first.is_ascii_digit(),
+        [] => false,
+    }
+}
+
+/// The number that a text is. Most operands are names, which are told by their first byte.
+#[tactic(auto, using(crate::proofs::Marks::number_alone, crate::proofs::Marks::number_based, crate::proofs::Marks::number_none, crate::proofs::Marks::no_number))]
 pub(crate) fn read_number(text: &[u8]) -> Option<Number>
     ensures { option_map number_of result ≡ number text.now }
 {
+    if !begins_number(text) {
+        return None;
+    }
     let Some((base, digits)) = split_first(text, b'#') else {
         return decimal_number(text);
     };

@@ -1,19 +1,48 @@
 // Checking a routine.
-ghost use Rattle.std.specs.Prelude.{◌^◌, ◌≡◌, ◌<◌, true, length, IfOk};
+ghost use Rattle.std.specs.Prelude.{◌^◌, ◌≡◌, ◌<◌, true, length, IfOk, OnOk};
 ghost use Rattle.spec_language.specs.Checked.{checked};
 ghost use Rattle.spec_language.specs.Declarations.{bytes};
 ghost use Rattle.spec_scan.specs.Executable.{AreExecutable};
 ghost use Rattle.spec_scan.specs.KnownTasks.{KnowsTasks};
 ghost use Rattle.lgx_check.specs.Answers.{AnswersCheck};
+ghost use Rattle.lgx_check.specs.Progress.{HasLabels};
 ghost use Rattle.lgx_check.specs.Scopes.{scope_of};
 
-use crate::checker::Checker;
 use crate::error::CheckError;
+use crate::routine_checker::RoutineChecker;
 use crate::scope::CheckScope;
+use lgx_num::{Items, Memory};
 use lgx_prog::Rungs;
 use lgx_rung::SourceRung;
 use spec_machine::{checked_rungs_are_executable, checked_rungs_know_tasks};
 use std::alloc::Global;
+
+/// Adds the labels of all rungs.
+fn add_all_labels(checker: &mut RoutineChecker, rungs: &[SourceRung]) -> Result<(), Memory>
+    requires { HasLabels checker.old.scope rungs.now 0 checker.old }
+    ensures { OnOk result (HasLabels checker.old.scope rungs.now (length rungs.now) checker.new) }
+{
+    for (number, rung) in rungs.iter().enumerate() {
+        checker.add_labels(number, rung)?;
+    }
+    Ok(())
+}
+
+/// A routine's rungs with their operands checked.
+fn check_rungs(
+    alloc: Global,
+    checker: &mut RoutineChecker,
+    rungs: &[SourceRung],
+) -> Result<Rungs, CheckError>
+    requires { HasLabels checker.old.scope rungs.now (length rungs.now) checker.old }
+    ensures { AnswersCheck (checked checker.old.scope rungs.now) result }
+{
+    let mut made = Vec::with_capacity(alloc, rungs.len())?;
+    for (number, rung) in rungs.iter().enumerate() {
+        made.push(checker.check(number, rung)?)?;
+    }
+    Ok(Items::of(made))
+}
 
 /// A routine's rungs with their operands resolved against the declared tags, or the first fault: of the first instruction
 /// at fault, in the order of the text, the least code that applies (profile).
@@ -35,6 +64,7 @@ pub fn check_routine(
     checked_rungs_are_executable();
     checked_rungs_know_tasks();
     let _ = scope.tags.types();
-    let checker = Checker::new(alloc, rungs, scope)?;
-    checker.check_rungs(rungs)
+    let mut checker = RoutineChecker::new(alloc, scope)?;
+    add_all_labels(&mut checker, rungs)?;
+    check_rungs(alloc, &mut checker, rungs)
 }

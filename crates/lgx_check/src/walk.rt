@@ -1,9 +1,9 @@
-// A walk over the rungs of a routine, instruction by instruction.
+// A walk over a rung, instruction by instruction.
 ghost use Rattle.std.specs.Prelude.{◌≡◌, ◌∷◌, [], false, true, length, OnOk};
 ghost use Rattle.lgx_rung.specs.Elements.{tree_of as source_tree};
 ghost use Rattle.lgx_rung.specs.Tree.{instructions, leg_instructions, legs_of};
 ghost use Rattle.lgx_prog.specs.Nodes.{tree_of};
-ghost use Rattle.spec_language.specs.Checked.{checked_from, checked_legs, checked_tree};
+ghost use Rattle.spec_language.specs.Checked.{checked_legs, checked_tree};
 ghost use Rattle.lgx_check.specs.Answers.{AnswersCheck, AnswersAs};
 ghost use Rattle.lgx_check.specs.Checkers.{IsReady, check_of};
 ghost use Rattle.lgx_check.specs.Spots.{IsWithin, place_after, spot_at};
@@ -12,35 +12,14 @@ ghost use Rattle.lgx_check.specs.Trees.{node_tree};
 use crate::checker::Checker;
 use crate::error::CheckError;
 use crate::spot::{InstructionPlace, Spot};
-use lgx_num::Items;
-use lgx_prog::{Legs, Node, Rung, Rungs};
+use lgx_prog::{Legs, Node, Rung};
 use lgx_rung::{Element, Legs as SourceLegs, SourceRung};
 
 impl Checker<'_> {
-    /// A routine's rungs with their operands checked.
-    pub(crate) fn check_rungs(&self, rungs: &[SourceRung]) -> Result<Rungs, CheckError>
-        requires { IsReady self.now }
-        ensures { AnswersCheck (checked_from (check_of self.now) 0 0 rungs.now) result }
-    {
-        let mut made = Vec::with_capacity(self.alloc, rungs.len())?;
-        let mut before = 0;
-        for (number, rung) in rungs.iter().enumerate() {
-            let mut place = InstructionPlace {
-                rung: number as u64,
-                ins: 0,
-                before,
-            };
-            let checked = self.check_rung(&mut place, true, rung)?;
-            made.push(checked)?;
-            before = place.before;
-        }
-        Ok(Items::of(made))
-    }
-
     /// A rung or a leg with its operands checked. `place` is that of its first instruction, and then of the one after it;
     /// the first element `leads` if this is a rung.
     #[cycle(walk)]
-    fn check_rung(
+    pub(crate) fn check_rung(
         &self,
         place: &mut InstructionPlace,
         leads: bool,

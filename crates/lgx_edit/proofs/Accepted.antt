@@ -18,11 +18,12 @@ use Rattle.spec_machine.specs.Edits.{Book, Change, AcceptedEdit, routine_named, 
 use Rattle.lgx_prog.specs.FlatProgram.{Program, IsFlatProgram}
 use Rattle.lgx_versions.specs.declared.slots.Version.{Version}
 use Rattle.lgx_versions.specs.Roles.{Roles, add}
-use Rattle.lgx_edit.specs.declared.texts.RoutineText.{RoutineText}
+use Rattle.lgx_edit.specs.declared.shared.SharedText.{SharedText}
 use Rattle.lgx_edit.specs.declared.changes.KeptEdit.{KeptEdit}
 use Rattle.lgx_edit.specs.declared.changes.EditedRoutine.{EditedRoutine}
 use Rattle.lgx_edit.specs.declared.draft.Draft.{Draft}
-use Rattle.lgx_edit.specs.Texts.{routine_of, base_of, merged_of, accepted_of}
+use Rattle.lgx_edit.specs.Shared.{sources, checkeds}
+use Rattle.lgx_edit.specs.Texts.{text_of, base_of, merged_of, accepted_of}
 use Rattle.lgx_edit.specs.EditsView.{rungs_of, AreTied}
 use Rattle.lgx_edit.specs.Seen.{book_with}
 use Rattle.lgx_edit.specs.Drafts.{change_kept, edit_of, AreInRoutine, changes_so_far, routines_with, scope_against, IsBookOf, with_draft, IsDraft}
@@ -55,7 +56,7 @@ so_far_other n r es all e = ap (filter_map (change_in n)) all ∙ other_routine 
 
 -- ---- a routine with other merged rungs
 
-module _ (xs : List EditedRoutine) (r : ℕ) (x : EditedRoutine) (there : x ≡ get_or xs r x) (within : r < length xs) (text : RoutineText) where
+module _ (xs : List EditedRoutine) (r : ℕ) (x : EditedRoutine) (there : x ≡ get_or xs r x) (within : r < length xs) (text : SharedText) where
   abbrev now : List EditedRoutine
   now = set xs r (record x { merged = Some text })
 
@@ -79,8 +80,8 @@ module _ (name : List ℕ) (main : ℕ) (xs : List EditedRoutine) (ks : List Kep
   mergeds : map merged_of (now xs r x there within d.text) ≡ routines_with r d.text xs
   mergeds = merged_now xs r x there within d.text
 
-  text_is : routine_of d.text ≡ record (routine_at (map merged_of xs) r) { source = d.text.source; checked = d.text.checked }
-  text_is = ap (λ (n : List ℕ). let t : machine.RoutineText = record { name = n; source = d.text.source; checked = d.text.checked } in t) draft.name
+  text_is : text_of d.text ≡ record (routine_at (map merged_of xs) r) { source = sources d.text.rungs; checked = checkeds d.text.rungs }
+  text_is = ap (λ (n : List ℕ). let t : machine.RoutineText = record { name = n; source = sources d.text.rungs; checked = checkeds d.text.rungs } in t) draft.name
 
   accepted_is : map accepted_of (ks ++ d.edits.items) ≡ map accepted_of ks ++ map (edit_of r) (map change_kept d.edits.items)
   accepted_is = map-append accepted_of ks d.edits.items ∙ ap (λ (es : List AcceptedEdit). map accepted_of ks ++ es) draft.routine
@@ -89,7 +90,7 @@ module _ (name : List ℕ) (main : ℕ) (xs : List EditedRoutine) (ks : List Kep
   accepted-book =
       ap (λ (b : List machine.RoutineText). record new_book { base = b }) bases
       ∙ (ap (λ (m : List machine.RoutineText). record new_book { base = map base_of xs; merged = m }) (mergeds ∙ ap (λ (t : machine.RoutineText). set (map merged_of xs) r t) text_is)
-      ∙ ap (λ (es : List AcceptedEdit). record new_book { base = map base_of xs; merged = set (map merged_of xs) r (record (routine_at (map merged_of xs) r) { source = d.text.source; checked = d.text.checked }); accepted = es }) accepted_is)
+      ∙ ap (λ (es : List AcceptedEdit). record new_book { base = map base_of xs; merged = set (map merged_of xs) r (record (routine_at (map merged_of xs) r) { source = sources d.text.rungs; checked = checkeds d.text.rungs }); accepted = es }) accepted_is)
 
   texts_now : AreTied (book_with name main xs ks owner roles) roles → (n : ℕ) → n < length (map base_of (now xs r x there within d.text))
       → (routine_at (map merged_of (now xs r x there within d.text)) n).source ≡ merged (routine_at (map base_of (now xs r x there within d.text)) n).source (changes_so_far n (ks ++ d.edits.items))
@@ -106,12 +107,12 @@ module _ (name : List ℕ) (main : ℕ) (xs : List EditedRoutine) (ks : List Kep
           let here : r ≡ n = eqb-true r n e in
           let P : ℕ → Type 0 = λ k. (routine_at (routines_with r d.text xs) k).source ≡ merged (routine_at (map base_of xs) k).source (changes_so_far k (ks ++ d.edits.items)) in
           subst P here
-          (ap (λ (t : machine.RoutineText). t.source) (get_or-set_same (map merged_of xs) r (routine_of d.text) no_routine count)
+          (ap (λ (t : machine.RoutineText). t.source) (get_or-set_same (map merged_of xs) r (text_of d.text) no_routine count)
           ∙ (draft.source
           ∙ ap (λ (cs : List Change). merged (routine_at (map base_of xs) r).source cs)
           (ap (λ (cs : List Change). changes_so_far r ks ++ cs) (sym (so_far_new r d.edits.items draft.routine)) ∙ sym (so_far_more r ks d.edits.items))))
       by_place false e =
-          ap (λ (t : machine.RoutineText). t.source) (get_or-set_other (map merged_of xs) r n (routine_of d.text) no_routine (λ (same : n ≡ r). false≢true (sym e ∙ eq-eqb r n (sym same))))
+          ap (λ (t : machine.RoutineText). t.source) (get_or-set_other (map merged_of xs) r n (text_of d.text) no_routine (λ (same : n ≡ r). false≢true (sym e ∙ eq-eqb r n (sym same))))
           ∙ (t.texts n (subst (λ (b : List machine.RoutineText). n < length b) bases h)
           ∙ ap (λ (cs : List Change). merged (routine_at (map base_of xs) n).source cs)
           (sym (so_far_more n ks d.edits.items ∙ (ap (λ (cs : List Change). changes_so_far n ks ++ cs) (so_far_other n r d.edits.items draft.routine e) ∙ append-nil (changes_so_far n ks)))))

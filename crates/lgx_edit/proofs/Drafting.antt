@@ -2,7 +2,7 @@
 use Rattle.std.proofs.Common.{◌≡◌, ℕ, ◌<◌, get_or, Bool, true, false, List, ◌++◌, map, Option, Some, None, Result, Ok, Err, sym, ap, subst, ◌∙◌}
 use Rattle.std.specs.Prelude.{flat_map, nat_le, slice_set, length}
 use Rattle.std.specs.List.{position_from}
-use Rattle.std.proofs.lemmas.List.{get_or-map}
+use Rattle.std.proofs.lemmas.List.{get_or-map, length-map}
 use Rattle.spec_base.specs.declared.limits.TheConstants.{MAX_PROGRAM_INSTRUCTIONS}
 use Rattle.spec_base.specs.FirstCause.{◌>>=◌, unless}
 use Rattle.lgx_rung.specs.Tree.{Source}
@@ -13,13 +13,13 @@ use Rattle.spec_machine.specs.declared.reply.EditFault.{EditFault}
 use Rattle.spec_machine.specs.declared.reply.EditFault.TheVariants.{E3, E5, E6, E8, E9}
 use Rattle.spec_machine.specs.Project as machine
 use Rattle.spec_machine.specs.Edits.{Book, Change, AcceptedEdit, no_routine, routine_at, none_or, ok_or_cause, other_owner, is_misplaced, taken_by, first_again, changes_of, changes_in, merged, instruction_count, with_changes, accept_in}
-use Rattle.lgx_edit.specs.declared.texts.RoutineText.{RoutineText}
 use Rattle.lgx_edit.specs.declared.changes.KeptEdit.{KeptEdit}
 use Rattle.lgx_edit.specs.declared.changes.EditedRoutine.{EditedRoutine}
 use Rattle.lgx_edit.specs.declared.error.EditError.{EditError}
 use Rattle.lgx_edit.specs.declared.error.EditError.TheVariants.{Edit, Memory}
 use Rattle.lgx_edit.specs.Answering.{AnswersAs}
-use Rattle.lgx_edit.specs.Texts.{routine_of, base_of, merged_of, accepted_of}
+use Rattle.lgx_edit.specs.Shared.{RungPair}
+use Rattle.lgx_edit.specs.Texts.{base_of, merged_of, accepted_of}
 use Rattle.lgx_edit.specs.Drafts.{IsBookOf}
 
 -- the book with these routines and accepted edits
@@ -87,9 +87,9 @@ module _ (scope : CheckScope) (lane r : ℕ) (edits : List RungEdit) (b : Book) 
         unchecked seen rungs (Edit f) a = all_read ∙ ap (λ (c : Result Rungs EditFault). c >>= after_check changes) a
         unchecked seen rungs Memory a = tt
 
-        module _ (text : RoutineText) (is_checked : ok_or_cause (checked scope (the_source changes)) E8 ≡ Ok text.checked)
+        module _ (text : machine.RoutineText) (is_checked : ok_or_cause (checked scope (the_source changes)) E8 ≡ Ok text.checked)
             (name : text.name ≡ (routine_at b.merged r).name) (source : text.source ≡ the_source changes) where
-          text_is : record (routine_at b.merged r) { source = the_source changes; checked = text.checked } ≡ routine_of text
+          text_is : record (routine_at b.merged r) { source = the_source changes; checked = text.checked } ≡ text
           text_is =
               ap (λ (s : List Source). let t : machine.RoutineText = record { name = (routine_at b.merged r).name; source = s; checked = text.checked } in t) (sym source)
               ∙ ap (λ (n : List ℕ). let t : machine.RoutineText = record { name = n; source = text.source; checked = text.checked } in t) (sym name)
@@ -97,17 +97,17 @@ module _ (scope : CheckScope) (lane r : ℕ) (edits : List RungEdit) (b : Book) 
           the_end : Bool → Result Book EditFault
           the_end x = unless x E9 >>= λ _. Ok (with_changes lane r changes (the_source changes) text.checked b)
 
-          all_checked : whole ≡ the_end (nat_le (instruction_count (slice_set b.merged r (routine_of text))) MAX_PROGRAM_INSTRUCTIONS)
+          all_checked : whole ≡ the_end (nat_le (instruction_count (slice_set b.merged r text)) MAX_PROGRAM_INSTRUCTIONS)
           unfolding the_end
           all_checked =
               all_read ∙ (ap (λ (c : Result Rungs EditFault). c >>= after_check changes) is_checked
               ∙ ap (λ (t : machine.RoutineText). unless (nat_le (instruction_count (slice_set b.merged r t)) MAX_PROGRAM_INSTRUCTIONS) E9 >>= λ _. Ok (with_changes lane r changes (the_source changes) text.checked b)) text_is)
 
-          pub crowded : nat_le (instruction_count (slice_set b.merged r (routine_of text))) MAX_PROGRAM_INSTRUCTIONS ≡ false → whole ≡ Err E9
+          pub crowded : nat_le (instruction_count (slice_set b.merged r text)) MAX_PROGRAM_INSTRUCTIONS ≡ false → whole ≡ Err E9
           unfolding the_end
           crowded e = all_checked ∙ ap the_end e
 
-          pub accepted : nat_le (instruction_count (slice_set b.merged r (routine_of text))) MAX_PROGRAM_INSTRUCTIONS ≡ true
+          pub accepted : nat_le (instruction_count (slice_set b.merged r text)) MAX_PROGRAM_INSTRUCTIONS ≡ true
               → whole ≡ Ok (with_changes lane r changes text.source text.checked b)
           unfolding the_end
           accepted e = all_checked ∙ (ap the_end e ∙ ap (λ (s : List Source). let ok : Result Book EditFault = Ok (with_changes lane r changes s text.checked b) in ok) (sym source))
@@ -115,3 +115,7 @@ module _ (scope : CheckScope) (lane r : ℕ) (edits : List RungEdit) (b : Book) 
 -- the base text of a routine that is there
 pub base_there : (routines : List EditedRoutine) (r : ℕ) (x : EditedRoutine) → r < length routines → routine_at (map base_of routines) r ≡ base_of (get_or routines r x)
 base_there routines r x h = get_or-map base_of routines r x no_routine h
+
+pub base_count : (routines : List EditedRoutine) (r : ℕ) (x : EditedRoutine) → r < length routines → length (get_or routines r x).base.rungs ≡ length (routine_at (map base_of routines) r).source
+base_count routines r x h =
+    sym (length-map (get_or routines r x).base.rungs (λ (rung : RungPair). rung.source)) ∙ ap (λ (t : machine.RoutineText). length t.source) (sym (base_there routines r x h))

@@ -1,4 +1,10 @@
+pub mod Elements
+pub mod CheckedBooks
 pub mod Merges
+pub mod Picking
+pub mod Sharing
+pub mod Passing
+pub mod Crossing
 pub mod Tied
 pub mod Commanded
 pub mod OfAll

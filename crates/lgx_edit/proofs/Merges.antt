@@ -1,5 +1,5 @@
 -- Changes that are put where they belong and woven with the base are the merged rungs.
-use Rattle.std.proofs.Common.{◌≡◌, ℕ, zero, suc, ◌+◌, ◌<◌, Bool, true, false, cond, List, [], ◌∷◌, ◌++◌, length, get_or, set, Option, Some, None, refl, ap, sym, subst, ◌∙◌, append_assoc, eqb-true, eq-eqb, arith}
+use Rattle.std.proofs.Common.{◌≡◌, ℕ, suc, ◌+◌, ◌<◌, Bool, true, false, cond, List, [], ◌∷◌, ◌++◌, length, get_or, set, Option, Some, None, refl, ap, sym, subst, ◌∙◌, append_assoc, eqb-true, eq-eqb, arith}
 use Rattle.std.specs.Prelude.{nat_eq, filter_map, flat_map, fold, replicate, unwrap_or, slice_index_or}
 use Rattle.std.specs.List.{enumerate_from, cons_option}
 use Rattle.std.specs.Option.{option_or}
@@ -12,7 +12,7 @@ use Rattle.spec_base.proofs.Numbers.{one_on}
 use Rattle.spec_base.proofs.Options.{or_none}
 use Rattle.lgx_rung.specs.Tree.{Source}
 use Rattle.spec_machine.specs.Edits.{Change, Replaced, Inserted, Deleted, put_before, put_instead, around, merged}
-use Rattle.lgx_edit.specs.Merging.{AroundView, nothing_around, inserted, taken, with_change, put_around, rest_of, woven}
+use Rattle.lgx_edit.specs.Merging.{AroundView, nothing_around, inserted, taken, with_change, rest_of}
 
 -- ---- what stands at a place after some changes
 
@@ -128,6 +128,16 @@ put_at places (c ∷ cs) i h =
 
 -- ---- woven with the base
 
+-- the first of these rungs, if there is one, with all that is put around it
+abbrev pub sources_around : List Source → AroundView → List Source
+sources_around [] a = a.before
+sources_around (rung ∷ rungs) a = a.before ++ unwrap_or a.instead (rung ∷ [])
+
+-- each rung with what is put around it, and what is put after the last
+abbrev pub sources_woven : List Source → List AroundView → List Source
+sources_woven base [] = []
+sources_woven base (a ∷ places) = sources_around base a ++ sources_woven (rest_of base) places
+
 unwrap_first : {A : Type 0} (xs : List A) (d : A) → unwrap_or (first xs) d ≡ slice_index_or xs 0 d
 unwrap_first [] d = refl
 unwrap_first (x ∷ xs) d = refl
@@ -138,13 +148,13 @@ placed cs i = record { before = filter_map (put_before i) cs; instead = first (f
 
 woven_from : (cs : List Change) (base : List Source) (places : List AroundView) (n : ℕ) → length places ≡ length base + 1
     → ((j : ℕ) → j < length places → get_or places j nothing_around ≡ placed cs (n + j))
-    → woven base places ≡ flat_map (around cs) (enumerate_from n base) ++ filter_map (put_before (n + length base)) cs
+    → sources_woven base places ≡ flat_map (around cs) (enumerate_from n base) ++ filter_map (put_before (n + length base)) cs
 woven_from cs [] [] n len there = absurd (omega arith)
 woven_from cs [] (a ∷ b ∷ places) n len there = absurd (omega arith)
 woven_from cs [] (a ∷ []) n len there = append-nil a.before ∙ ap (λ (x : AroundView). x.before) (there 0 (omega arith))
 woven_from cs (r ∷ rs) [] n len there = absurd (omega arith)
 woven_from cs (r ∷ rs) (a ∷ places) n len there =
-    ap (λ (xs : List Source). put_around (r ∷ rs) a ++ xs) (woven_from cs rs places (n + 1) (omega arith) others)
+    ap (λ (xs : List Source). sources_around (r ∷ rs) a ++ xs) (woven_from cs rs places (n + 1) (omega arith) others)
     ∙ (ap (λ (xs : List Source). xs ++ (flat_map (around cs) (enumerate_from (n + 1) rs) ++ filter_map (put_before (n + 1 + length rs)) cs)) here
     ∙ (sym (append_assoc (around cs (n, r)) (flat_map (around cs) (enumerate_from (n + 1) rs)) (filter_map (put_before (n + 1 + length rs)) cs))
     ∙ ap (λ (k : ℕ). (around cs (n, r) ++ flat_map (around cs) (enumerate_from (n + 1) rs)) ++ filter_map (put_before k) cs) (sym (one_on n (length rs)))))
@@ -155,11 +165,11 @@ woven_from cs (r ∷ rs) (a ∷ places) n len there =
     at_n : a ≡ placed cs n
     at_n = let none : n + 0 ≡ n = omega arith in there 0 (omega arith) ∙ ap (λ (k : ℕ). placed cs k) none
 
-    here : put_around (r ∷ rs) a ≡ around cs (n, r)
+    here : sources_around (r ∷ rs) a ≡ around cs (n, r)
     here = ap (λ (x : AroundView). x.before ++ unwrap_or x.instead (r ∷ [])) at_n
         ∙ ap (λ (xs : List Source). filter_map (put_before n) cs ++ xs) (unwrap_first (filter_map (put_instead n) cs) (r ∷ []))
 
-pub woven-merged : (base : List Source) (cs : List Change) → woven base (fold with_change (replicate (length base + 1) nothing_around) cs) ≡ merged base cs
+pub woven-merged : (base : List Source) (cs : List Change) → sources_woven base (fold with_change (replicate (length base + 1) nothing_around) cs) ≡ merged base cs
 woven-merged base cs =
     let none : 0 + length base ≡ length base = omega arith in
     woven_from cs base (fold with_change (replicate (length base + 1) nothing_around) cs) 0 count there
@@ -188,21 +198,3 @@ unchanged_from n (r ∷ rs) = ap (λ (xs : List Source). r ∷ xs) (unchanged_fr
 
 pub merged-none : (base : List Source) → merged base [] ≡ base
 merged-none base = append-nil (flat_map (around []) (enumerate_from 0 base)) ∙ unchanged_from 0 base
-
--- ---- the steps of the weaving loop
-
--- what is left of the rungs after so many
-abbrev pub rest_after : ℕ → List Source → List Source
-rest_after zero base = base
-rest_after (suc n) base = rest_after n (rest_of base)
-
-pub rest_more : (n : ℕ) (base : List Source) → rest_after (suc n) base ≡ rest_of (rest_after n base)
-rest_more zero base = refl
-rest_more (suc n) base = rest_more n (rest_of base)
-
-pub woven_more : (base : List Source) (places : List AroundView) (a : AroundView) (rest : List Source) → rest ≡ rest_after (length places) base
-    → woven base (places ++ a ∷ []) ≡ woven base places ++ put_around rest a
-woven_more base [] a rest e = ap (λ (xs : List Source). put_around xs a ++ []) (sym e) ∙ append-nil (put_around rest a)
-woven_more base (b ∷ places) a rest e =
-    ap (λ (xs : List Source). put_around base b ++ xs) (woven_more (rest_of base) places a rest e)
-    ∙ sym (append_assoc (put_around base b) (woven (rest_of base) places) (put_around rest a))

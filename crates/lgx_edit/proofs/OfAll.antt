@@ -16,6 +16,8 @@ use Rattle.lgx_edit.specs.EditsView.{EditsView, RunsSelected, on_book, AnswersBo
 use Rattle.lgx_edit.specs.declared.error.EditError.{EditError}
 use Rattle.lgx_edit.specs.declared.error.EditError.TheVariants.{Edit, Memory}
 use Rattle.lgx_edit.specs.Accepting.{accept_at, Accepts, LeavesAccepted, has_numbers_left}
+use Rattle.lgx_edit.specs.CheckedBooks.{IsBookChecked, AreChecked}
+use Rattle.lgx_edit.proofs.CheckedBooks.{checked-at}
 use Rattle.std.specs.Prelude.{nat_lt}
 use Rattle.std.proofs.lemmas.Bool.{and_parts}
 
@@ -144,6 +146,13 @@ accept-leaves tags tasks lane n command all now old new answer is named within t
 
     the_book : book_at (books all) n ≡ old.book
     the_book = book-there all all n old refl (subst (λ (w : List EditsView). n < length w) (sym is) within) there
+
+-- ---- rungs as they were checked
+
+pub checked-there : (tags : Declarations) (tasks : List TaskName) (all now : List EditsView) (n : ℕ) (old : EditsView) → all ≡ now → n < length now → old ≡ get_or all n old
+    → AreChecked tags tasks (books now) → IsBookChecked tags tasks n old.book
+checked-there tags tasks all now n old is within there h =
+    subst (IsBookChecked tags tasks n) (book-there all now n old is within there) (checked-at tags tasks (books now) n h)
 
 -- ---- numbers for accepts
 

@@ -7,11 +7,12 @@ use Rattle.spec_machine.specs.declared.event.RungEdit.{RungEdit}
 use Rattle.lgx_prog.specs.FlatProgram.{IsFlatProgram}
 use Rattle.lgx_edit.specs.declared.changes.KeptEdit.{KeptEdit}
 use Rattle.lgx_edit.specs.declared.changes.EditedRoutine.{EditedRoutine}
-use Rattle.lgx_edit.specs.declared.texts.RoutineText.{RoutineText}
+use Rattle.lgx_edit.specs.declared.shared.SharedText.{SharedText}
 use Rattle.lgx_edit.specs.declared.draft.Against.{Against}
 use Rattle.lgx_edit.specs.declared.draft.Draft.{Draft}
 use Rattle.lgx_edit.specs.EditsView.{rungs_of}
-use Rattle.lgx_edit.specs.Texts.{change_of, accepted_of, routine_of, base_of, merged_of}
+use Rattle.lgx_edit.specs.Shared.{sources, checkeds}
+use Rattle.lgx_edit.specs.Texts.{change_of, accepted_of, text_of, base_of, merged_of}
 
 abbrev pub change_kept : KeptEdit → Change
 change_kept k = change_of k.change
@@ -24,8 +25,8 @@ abbrev pub AreInRoutine : ℕ → List KeptEdit → Type 0
 AreInRoutine routine kept = map accepted_of kept ≡ map (edit_of routine) (map change_kept kept)
 
 -- the merged routines, where one of them is another from now on
-abbrev pub routines_with : ℕ → RoutineText → List EditedRoutine → List machine.RoutineText
-routines_with r text routines = slice_set (map merged_of routines) r (routine_of text)
+abbrev pub routines_with : ℕ → SharedText → List EditedRoutine → List machine.RoutineText
+routines_with r text routines = slice_set (map merged_of routines) r (text_of text)
 
 -- what the rungs of a program's routine are checked against
 abbrev pub scope_against : Against → List EditedRoutine → CheckScope
@@ -48,7 +49,7 @@ pub record IsBookOf (b : Book) (routines : List EditedRoutine) (accepted : List 
 
 -- the book after the draft
 abbrev pub with_draft : ℕ → ℕ → Book → Draft → Book
-with_draft lane r b d = with_changes lane r (map change_kept d.edits.items) d.text.source d.text.checked b
+with_draft lane r b d = with_changes lane r (map change_kept d.edits.items) (sources d.text.rungs) (checkeds d.text.rungs) b
 
 -- The edits are of the routine, as many as were asked for; the text is the merged one under its name; and the program is
 -- flat code of the merged rungs.
@@ -56,5 +57,5 @@ pub record IsDraft (main r : ℕ) (routines : List EditedRoutine) (accepted : Li
   pub routine : AreInRoutine r d.edits.items
   pub count : length d.edits.items ≡ length edits
   pub name : d.text.name ≡ (routine_at (map merged_of routines) r).name
-  pub source : d.text.source ≡ merged (routine_at (map base_of routines) r).source (changes_so_far r accepted ++ map change_kept d.edits.items)
+  pub source : sources d.text.rungs ≡ merged (routine_at (map base_of routines) r).source (changes_so_far r accepted ++ map change_kept d.edits.items)
   pub program : IsFlatProgram d.program (rungs_of main (routines_with r d.text routines))

@@ -1,3 +1,5 @@
+pub mod Shared
+pub mod WorkedOut
 pub mod Texts
 pub mod EditsView
 pub mod HeldAgain
@@ -8,5 +10,7 @@ pub mod Plants
 pub mod Answering
 pub mod Counting
 pub mod Merging
+pub mod Picks
 pub mod Drafts
 pub mod Accepting
+pub mod CheckedBooks

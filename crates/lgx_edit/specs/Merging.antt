@@ -1,10 +1,13 @@
 -- The changes of a routine, each where it belongs.
-use Rattle.std.specs.Prelude.{List, [], ◌∷◌, ◌++◌, Option, Some, None, unwrap_or, slice_set, slice_index_or}
+use Rattle.std.specs.Prelude.{List, [], ◌∷◌, ◌++◌, map, Option, Some, None, option_map, unwrap_or, slice_set, slice_index_or}
 use Rattle.std.specs.Option.{option_or}
 use Rattle.lgx_rung.specs.Tree.{Source}
 use Rattle.spec_machine.specs.Edits.{Change, Replaced, Inserted, Deleted}
 use Rattle.lgx_edit.specs.declared.merge.Instead.{Instead}
 use Rattle.lgx_edit.specs.declared.merge.Instead.TheVariants.{Itself, Nothing, Other}
+use Rattle.lgx_edit.specs.declared.pick.Pick.{Pick}
+use Rattle.lgx_edit.specs.declared.pick.Pick.TheVariants.{Old, New}
+use Rattle.lgx_edit.specs.Shared.{RungPair}
 
 -- the rungs before a rung, and those in its place, if it was replaced or deleted
 pub record AroundView : Type 0 where
@@ -33,15 +36,15 @@ with_change places (Inserted i new) = slice_set places i (inserted new (slice_in
 with_change places (Deleted i) = slice_set places i (taken (Some []) (slice_index_or places i nothing_around))
 
 -- the first of these rungs, if there is one, with all that is put around it
-abbrev pub put_around : List Source → AroundView → List Source
-put_around [] a = a.before
-put_around (rung ∷ rungs) a = a.before ++ unwrap_or a.instead (rung ∷ [])
+abbrev pub put_around : List RungPair → AroundView → List Pick
+put_around [] a = map New a.before
+put_around (rung ∷ rungs) a = map New a.before ++ unwrap_or (option_map (map New) a.instead) (Old rung ∷ [])
 
-abbrev pub rest_of : List Source → List Source
+abbrev pub rest_of : {A : Type 0} → List A → List A
 rest_of [] = []
 rest_of (rung ∷ rungs) = rungs
 
 -- each rung with what is put around it, and what is put after the last
-abbrev pub woven : List Source → List AroundView → List Source
+abbrev pub woven : List RungPair → List AroundView → List Pick
 woven base [] = []
 woven base (a ∷ places) = put_around base a ++ woven (rest_of base) places

@@ -49,6 +49,7 @@ impl EditBook {
     ghost use Rattle.lgx_edit.specs.EditsView.{EditsView, books, holds, held_at, slots_at, AreSlotsAt, RunsSelected, HoldsNow, Leaves};
     ghost use Rattle.lgx_edit.specs.HeldAgain.{HoldsAgain};
     ghost use Rattle.lgx_edit.specs.Accepting.{LeavesAccepted, has_numbers_left};
+    ghost use Rattle.lgx_edit.specs.CheckedBooks.{AreChecked};
 
     /// The book of these programs in project order, without edits. The main routine of each must be one of its routines.
     ///
@@ -70,13 +71,16 @@ impl EditBook {
 
     /// Adds edits of a routine to the accepted ones of its program, and answers the accept's number: that of the program's
     /// last accept plus one. It may be tested, and stays so: then the new merged rungs are selected, from its next begin on.
+    /// The checked rungs that the book has are those that its source rungs give with these tags and tasks.
     ///
     /// It is refused by the first of these causes: E1 there is no such program, E2 no such routine, E3 another lane owns
     /// the program's edits, E5 the first edit of a rung that isn't there, E6 the first that replaces or deletes a rung that
     /// an accepted edit or an earlier one did, E7 the first whose text spells no rung, E8 the merged routine is refused, E9
     /// the merged program has more than `MAX_PROGRAM_INSTRUCTIONS`. Then it may be out of memory. If it is refused or out of
-    /// memory, the book is as before: it takes all its memory before it changes anything. Time grows with the merged routine
-    /// and the program.
+    /// memory, the book is as before: it takes all its memory before it changes anything.
+    ///
+    /// Only new rungs, and those with an LBL, a JMP or an SBR, are checked: the others are taken over as they are. Beside that
+    /// time grows with the program, by little for each instruction.
     pub fn accept(
         &mut self,
         alloc: Global,
@@ -88,6 +92,7 @@ impl EditBook {
         requires numbers { IsTrue (has_numbers_left (books self.old)) }
         requires sealed { tags.now.sealed ≡ true }
         requires few_tasks { length tasks.now < 2 ^ 32 }
+        requires checked { AreChecked tags.now.declarations tasks.now (books self.old) }
         ensures { LeavesAccepted (accept tags.now.declarations tasks.now (books self.old) lane command.now) self.old self.new result }
     {
         let n = self.find(&command.program)?;

@@ -1,8 +1,8 @@
 // Accepted edits, and what they make of a routine.
 ghost use Rattle.std.specs.Prelude.{◌≡◌, map};
-ghost use Rattle.lgx_edit.specs.Texts.{routine_of, merged_of, assembled, cancelled};
+ghost use Rattle.lgx_edit.specs.Texts.{text_of, merged_of, assembled, cancelled};
 
-use crate::texts::RoutineText;
+use crate::shared::SharedText;
 use lgx_rung::SourceRung;
 
 /// What an accepted edit does to a routine. It names a rung by its number in the base, from 0.
@@ -23,14 +23,14 @@ pub struct KeptEdit {
 /// A routine of the base, and what it is with the accepted edits, if it has any.
 #[derive(Drop)]
 pub struct EditedRoutine {
-    pub base: RoutineText,
-    pub merged: Option<RoutineText>,
+    pub base: SharedText,
+    pub merged: Option<SharedText>,
 }
 
 impl EditedRoutine {
     /// The routine with the accepted edits.
-    pub fn merged(&self) -> &RoutineText
-        ensures { routine_of result.now ≡ merged_of self.now }
+    pub fn merged(&self) -> &SharedText
+        ensures { text_of result.now ≡ merged_of self.now }
     {
         match &self.merged {
             Some(merged) => merged,

@@ -6,22 +6,27 @@ ghost use Rattle.spec_machine.specs.declared.reply.EditFault.TheVariants.{E8};
 ghost use Rattle.spec_language.specs.Checked.{checked};
 ghost use Rattle.lgx_prog.specs.Search.{AreFlat};
 ghost use Rattle.lgx_prog.specs.FlatProgram.{IsFlatProgram};
-ghost use Rattle.lgx_edit.specs.Texts.{base_of, merged_of, routine_of, accepted_of};
+ghost use Rattle.lgx_edit.specs.Texts.{base_of, merged_of, text_of, accepted_of};
+ghost use Rattle.lgx_edit.specs.Shared.{sources, checkeds};
+ghost use Rattle.lgx_edit.specs.Picks.{pick_sources, ArePicksKnown};
 ghost use Rattle.lgx_edit.specs.EditsView.{rungs_of};
-ghost use Rattle.lgx_edit.specs.Answering.{AnswersDraft, AnswersAs};
+ghost use Rattle.lgx_edit.specs.CheckedBooks.{AreTextsChecked};
+ghost use Rattle.lgx_edit.specs.Answering.{AnswersAs};
 ghost use Rattle.lgx_edit.specs.Drafts.{change_kept, routines_with, scope_against, changes_so_far, IsBookOf, IsDraft, with_draft};
 
 use crate::changes::{EditedRoutine, KeptEdit};
-use crate::count::left_by_rungs;
+use crate::count::left_by_shared;
 use crate::error::EditError;
+use crate::fresh::joined;
 use crate::judge::{first_again, first_misplaced};
 use crate::merge::merged_rungs;
+use crate::passes::check_merged;
+use crate::pick::Pick;
 use crate::read::read_changes;
-use crate::texts::RoutineText;
-use lgx_check::{CheckError, CheckScope, check_routine};
+use crate::shared::{SharedRung, SharedText};
+use lgx_check::{CheckError, CheckScope};
 use lgx_num::{Items, Memory, Name};
-use lgx_prog::{FlatProgram, FlatRoutine, Rungs, flatten};
-use lgx_rung::SourceRung;
+use lgx_prog::{FlatProgram, FlatRoutine};
 use lgx_tags::TagTable;
 use spec_base::limits::MAX_PROGRAM_INSTRUCTIONS;
 use spec_language::TaskName;
@@ -40,7 +45,7 @@ pub struct Against<'a> {
 #[derive(Drop)]
 pub struct Draft {
     pub edits: Vec<KeptEdit>,
-    pub text: RoutineText,
+    pub text: SharedText,
     pub program: FlatProgram,
 }
 
@@ -55,17 +60,19 @@ fn names(alloc: Global, routines: &[EditedRoutine]) -> Result<Vec<Name>, Memory>
     Ok(names)
 }
 
-/// Merged rungs as they run. E8 comes if they are refused.
+/// Merged rungs checked. E8 comes if they are refused.
 fn check(
     alloc: Global,
     routines: &[EditedRoutine],
-    rungs: &[SourceRung],
+    picks: Vec<Pick>,
     against: &Against,
-) -> Result<Rungs, EditError>
+) -> Result<Vec<SharedRung>, EditError>
     requires sealed { against.now.tags.now.sealed ≡ true }
     requires few_routines { length routines.now < 2 ^ 32 }
     requires few_tasks { length against.now.tasks.now < 2 ^ 32 }
-    ensures { AnswersDraft (ok_or_cause (checked (scope_against against.now routines.now) rungs.now) E8) result }
+    requires known { ArePicksKnown (scope_against against.now routines.now) picks.items }
+    ensures answer { AnswersAs (λ rungs. checkeds rungs.items) (ok_or_cause (checked (scope_against against.now routines.now) (pick_sources picks.items)) E8) result }
+    ensures sources { IfOk result (λ rungs. sources rungs.items ≡ pick_sources picks.items) }
 {
     let names = names(alloc, routines)?;
     let scope = CheckScope {
@@ -74,7 +81,7 @@ fn check(
         routines: names.as_slice(),
         tasks: against.tasks,
     };
-    match check_routine(alloc, rungs, &scope) {
+    match check_merged(alloc, &scope, picks) {
         Ok(rungs) => Ok(rungs),
         Err(CheckError::Check(fault)) => Err(EditError::Edit(EditFault::E8(fault))),
         Err(CheckError::Memory) => Err(EditError::Memory),
@@ -89,23 +96,23 @@ fn merged_text(
     new: &[KeptEdit],
     routine: u32,
     against: &Against,
-) -> Result<RoutineText, EditError>
+) -> Result<SharedText, EditError>
     requires within { routine < length routines.now }
     requires sealed { against.now.tags.now.sealed ≡ true }
     requires few_routines { length routines.now < 2 ^ 32 }
     requires few_tasks { length against.now.tasks.now < 2 ^ 32 }
-    ensures answer { AnswersAs (λ t. t.checked) (ok_or_cause (checked (scope_against against.now routines.now) (merged (routine_at (map base_of routines.now) routine).source (changes_so_far routine accepted.now ++ changes_so_far routine new.now))) E8) result }
-    ensures source { IfOk result (λ t. t.source ≡ merged (routine_at (map base_of routines.now) routine).source (changes_so_far routine accepted.now ++ changes_so_far routine new.now)) }
+    requires checked { AreTextsChecked (scope_against against.now routines.now) (map base_of routines.now) }
+    ensures answer { AnswersAs (λ t. checkeds t.rungs) (ok_or_cause (checked (scope_against against.now routines.now) (merged (routine_at (map base_of routines.now) routine).source (changes_so_far routine accepted.now ++ changes_so_far routine new.now))) E8) result }
+    ensures source { IfOk result (λ t. sources t.rungs ≡ merged (routine_at (map base_of routines.now) routine).source (changes_so_far routine accepted.now ++ changes_so_far routine new.now)) }
     ensures name { IfOk result (λ t. t.name ≡ (routine_at (map merged_of routines.now) routine).name) }
 {
     let edited = &routines[routine as usize];
     let name = edited.merged().name.copied();
-    let rungs = merged_rungs(alloc, edited.base.source.as_slice(), accepted, new, routine)?;
-    let checked = check(alloc, routines, rungs.as_slice(), against)?;
-    Ok(RoutineText {
+    let picks = merged_rungs(alloc, edited.base.rungs.as_slice(), accepted, new, routine)?;
+    let rungs = check(alloc, routines, picks, against)?;
+    Ok(SharedText {
         name,
-        source: Items::of(rungs),
-        checked,
+        rungs: Items::of(rungs),
     })
 }
 
@@ -114,10 +121,10 @@ fn text_at<'a>(
     routines: &'a [EditedRoutine],
     k: usize,
     changed: u32,
-    text: &'a RoutineText,
-) -> &'a RoutineText
+    text: &'a SharedText,
+) -> &'a SharedText
     requires { k < length routines.now }
-    ensures { routine_of result.now ≡ slice_index_or (routines_with changed text.now routines.now) k no_routine }
+    ensures { text_of result.now ≡ slice_index_or (routines_with changed text.now routines.now) k no_routine }
 {
     if k == changed as usize {
         return text;
@@ -126,12 +133,12 @@ fn text_at<'a>(
 }
 
 /// Whether the merged program has no more instructions than there may be.
-fn has_room(routines: &[EditedRoutine], changed: u32, text: &RoutineText) -> bool
+fn has_room(routines: &[EditedRoutine], changed: u32, text: &SharedText) -> bool
     ensures { result ≡ nat_le (instruction_count (routines_with changed text.now routines.now)) MAX_PROGRAM_INSTRUCTIONS }
 {
     let mut left = MAX_PROGRAM_INSTRUCTIONS as u32 + 1;
     for k in 0..routines.len() {
-        left = left_by_rungs(left, text_at(routines, k, changed, text).source.as_slice());
+        left = left_by_shared(left, text_at(routines, k, changed, text).rungs.as_slice());
     }
     left > 0
 }
@@ -141,16 +148,13 @@ fn flat_with(
     alloc: Global,
     routines: &[EditedRoutine],
     changed: u32,
-    text: &RoutineText,
+    text: &SharedText,
 ) -> Result<Vec<FlatRoutine>, Memory>
     ensures { IfOk result (λ flats. AreFlat flats.items (map (λ r. r.checked) (routines_with changed text.now routines.now))) }
 {
     let mut flats = Vec::with_capacity(alloc, routines.len())?;
     for k in 0..routines.len() {
-        let flat = flatten(
-            alloc,
-            text_at(routines, k, changed, text).checked.as_slice(),
-        )?;
+        let flat = joined(alloc, text_at(routines, k, changed, text).rungs.as_slice())?;
         flats.push(flat)?;
     }
     Ok(flats)
@@ -161,7 +165,7 @@ fn program_with(
     alloc: Global,
     routines: &[EditedRoutine],
     changed: u32,
-    text: &RoutineText,
+    text: &SharedText,
     main: u32,
 ) -> Result<FlatProgram, Memory>
     requires { main < length routines.now }
@@ -191,10 +195,11 @@ pub fn drafted(
     requires few_edits { length edits.now ≤ MAX_EDITS }
     requires sealed { against.now.tags.now.sealed ≡ true }
     requires few_tasks { length against.now.tasks.now < 2 ^ 32 }
+    requires checked { AreTextsChecked (scope_against against.now routines.now) (map base_of routines.now) }
     ensures answer { (b : Book) (lane : ℕ) → IsBookOf b routines.now accepted.now → other_owner b lane ≡ None → AnswersAs (with_draft lane routine b) (accept_in (scope_against against.now routines.now) lane routine edits.now b) result }
     ensures draft { IfOk result (IsDraft main routine routines.now accepted.now edits.now) }
 {
-    let rungs = routines[routine as usize].base.source.len();
+    let rungs = routines[routine as usize].base.rungs.len();
     if let Some(k) = first_misplaced(rungs, edits) {
         return Err(EditError::Edit(EditFault::E5(k)));
     }

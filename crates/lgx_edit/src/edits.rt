@@ -49,6 +49,7 @@ impl ProgramEdits {
     ghost use Rattle.lgx_edit.specs.EditsView.{AnswersBook, on_book, may_edit, RunsSelected, IsHeldNow};
     ghost use Rattle.lgx_edit.specs.HeldAgain.{IsHeldAgain};
     ghost use Rattle.lgx_edit.specs.Accepting.{accept_at, Accepts};
+    ghost use Rattle.lgx_edit.specs.CheckedBooks.{IsBookChecked};
 
     /// A program without edits: the base alone, with the number 0. Its main routine must be one of its routines.
     ///
@@ -66,9 +67,9 @@ impl ProgramEdits {
         if routines.len() > u32::MAX as usize {
             return Err(Memory);
         }
-        let flats = flat_routines(alloc, routines.as_slice())?;
-        let base = FlatProgram::of(alloc, flats, main)?;
         let routines = unedited(alloc, routines.into_vec())?;
+        let flats = flat_routines(alloc, &routines)?;
+        let base = FlatProgram::of(alloc, flats, main)?;
         let versions = Versions::new(base)?;
         Ok(ProgramEdits {
             name,
@@ -94,6 +95,7 @@ impl ProgramEdits {
         requires number { IsTrue (nat_lt self.old.book.newest (2 ^ 32 - 1)) }
         requires sealed { against.now.tags.now.sealed ≡ true }
         requires few_tasks { length against.now.tasks.now < 2 ^ 32 }
+        requires checked { IsBookChecked against.now.tags.now.declarations against.now.tasks.now against.now.program self.old.book }
         ensures { Accepts (accept_at (scope_of against.now.tags.now.declarations against.now.tasks.now against.now.program self.old.book) lane command.now self.old.book) self.old self.new result }
     {
         let routine = routine_named(self.routines.as_slice(), &command.routine)?;

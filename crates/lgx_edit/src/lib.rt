@@ -12,10 +12,13 @@ mod fresh;
 mod judge;
 mod merge;
 mod owner;
+mod passes;
+mod pick;
 mod plant;
 mod read;
 mod same;
 mod same_texts;
+mod shared;
 mod texts;
 
 pub use book::EditBook;

@@ -1,10 +1,16 @@
 // The merged rungs of a routine, in time that grows with the base and the changes.
-ghost use Rattle.std.specs.Prelude.{◌≡◌, ◌+◌, [], ◌∷◌, ◌++◌, length, map, filter_map, fold, replicate, unwrap_or, IfOk, OnOk};
+ghost use Rattle.std.specs.Prelude.{◌≡◌, ◌+◌, [], ◌∷◌, ◌++◌, length, map, filter_map, fold, replicate, option_map, unwrap_or, IfOk, OnOk};
+ghost use Rattle.spec_language.specs.Checked.{CheckScope};
 ghost use Rattle.spec_machine.specs.Edits.{merged, change_in};
+ghost use Rattle.lgx_edit.specs.declared.pick.Pick.TheVariants.{Old, New};
+ghost use Rattle.lgx_edit.specs.Shared.{sources};
+ghost use Rattle.lgx_edit.specs.Picks.{pick_sources, AreKnown, ArePicksKnown};
 ghost use Rattle.lgx_edit.specs.Texts.{change_of, accepted_of};
 ghost use Rattle.lgx_edit.specs.Merging.{nothing_around, inserted, taken, with_change, instead_of, put_around, woven, rest_of};
 
 use crate::changes::{KeptEdit, RungChange};
+use crate::pick::Pick;
+use crate::shared::SharedRung;
 use lgx_num::Memory;
 use lgx_rung::SourceRung;
 use std::alloc::Global;
@@ -37,19 +43,24 @@ impl Model for Around {
     ghost view = { λ a. record { before = a.before.items; instead = instead_of a.instead } };
 }
 
+/// Adds new rungs.
+fn add_new(picks: &mut Vec<Pick>, rungs: Vec<SourceRung>) -> Result<(), Memory>
+    ensures { OnOk result (picks.new.items ≡ picks.old.items ++ map New rungs.items) }
+{
+    for rung in rungs {
+        picks.push(Pick::New(rung))?;
+    }
+    Ok(())
+}
+
 /// Adds what comes in place of a rung.
-fn add_instead(
-    merged: &mut Vec<SourceRung>,
-    alloc: Global,
-    instead: Instead,
-    rung: &SourceRung,
-) -> Result<(), Memory>
-    ensures { OnOk result (merged.new.items ≡ merged.old.items ++ unwrap_or (instead_of instead) (rung.now ∷ [])) }
+fn add_instead(picks: &mut Vec<Pick>, instead: Instead, rung: &SharedRung) -> Result<(), Memory>
+    ensures { OnOk result (picks.new.items ≡ picks.old.items ++ unwrap_or (option_map (map New) (instead_of instead)) (Old rung.now ∷ [])) }
 {
     match instead {
-        Instead::Itself => merged.push(rung.copied(alloc)?)?,
+        Instead::Itself => picks.push(Pick::Old(rung.again()?))?,
         Instead::Nothing => {}
-        Instead::Other(other) => merged.push(other)?,
+        Instead::Other(other) => picks.push(Pick::New(other))?,
     }
     Ok(())
 }
@@ -81,29 +92,21 @@ impl Around {
         }
     }
 
-    /// Adds the first of these rungs, with all that is put around it, to the merged ones; after the last rung there is none.
-    fn add_to(
-        self,
-        merged: &mut Vec<SourceRung>,
-        alloc: Global,
-        rest: &[SourceRung],
-    ) -> Result<(), Memory>
-        ensures { OnOk result (merged.new.items ≡ merged.old.items ++ put_around rest.now self) }
+    /// Adds the first of these rungs, with all that is put around it, to the picked ones; after the last rung there is none.
+    fn add_to(self, picks: &mut Vec<Pick>, rest: &[SharedRung]) -> Result<(), Memory>
+        ensures { OnOk result (picks.new.items ≡ picks.old.items ++ put_around rest.now self) }
     {
-        let Around {
-            mut before,
-            instead,
-        } = self;
-        merged.append(&mut before)?;
+        let Around { before, instead } = self;
+        add_new(picks, before)?;
         match rest {
             [] => Ok(()),
-            [rung, ..] => add_instead(merged, alloc, instead, rung),
+            [rung, ..] => add_instead(picks, instead, rung),
         }
     }
 }
 
 /// Nothing but the rungs themselves: one place for each rung, and one after the last.
-fn places(alloc: Global, rungs: &[SourceRung]) -> Result<Vec<Around>, Memory>
+fn places(alloc: Global, rungs: &[SharedRung]) -> Result<Vec<Around>, Memory>
     ensures { IfOk result (λ places. places.items ≡ replicate (length rungs.now + 1) nothing_around) }
 {
     let mut places = Vec::with_capacity(alloc, rungs.len())?;
@@ -152,7 +155,7 @@ fn put_all(
 }
 
 /// The rungs after the first of these.
-fn others(rungs: &[SourceRung]) -> &[SourceRung]
+fn others(rungs: &[SharedRung]) -> &[SharedRung]
     ensures { result.now ≡ rest_of rungs.now }
 {
     match rungs {
@@ -162,27 +165,29 @@ fn others(rungs: &[SourceRung]) -> &[SourceRung]
 }
 
 /// The rungs of the base with all that is put around them.
-fn weave(alloc: Global, base: &[SourceRung], places: Vec<Around>) -> Result<Vec<SourceRung>, Memory>
-    ensures { IfOk result (λ merged. merged.items ≡ woven base.now places.items) }
+fn weave(alloc: Global, base: &[SharedRung], places: Vec<Around>) -> Result<Vec<Pick>, Memory>
+    ensures { IfOk result (λ picks. picks.items ≡ woven base.now places.items) }
 {
-    let mut merged = Vec::with_capacity(alloc, base.len())?;
+    let mut picks = Vec::with_capacity(alloc, base.len())?;
     let mut rest = base;
     for around in places {
-        around.add_to(&mut merged, alloc, rest)?;
+        around.add_to(&mut picks, rest)?;
         rest = others(rest);
     }
-    Ok(merged)
+    Ok(picks)
 }
 
-/// The merged rungs of a routine: its base with the accepted edits, and then with these new ones.
+/// The merged rungs of a routine: its base with the accepted edits, and then with these new ones. Each rung of the base that is
+/// left is picked as it is.
 pub fn merged_rungs(
     alloc: Global,
-    base: &[SourceRung],
+    base: &[SharedRung],
     accepted: &[KeptEdit],
     new: &[KeptEdit],
     routine: u32,
-) -> Result<Vec<SourceRung>, Memory>
-    ensures { IfOk result (λ rungs. rungs.items ≡ merged base.now (filter_map (change_in routine) (map accepted_of accepted.now) ++ filter_map (change_in routine) (map accepted_of new.now))) }
+) -> Result<Vec<Pick>, Memory>
+    ensures sources { IfOk result (λ picks. pick_sources picks.items ≡ merged (sources base.now) (filter_map (change_in routine) (map accepted_of accepted.now) ++ filter_map (change_in routine) (map accepted_of new.now))) }
+    ensures known { IfOk result (λ picks. (scope : CheckScope) → AreKnown scope base.now → ArePicksKnown scope picks.items) }
 {
     let mut places = places(alloc, base)?;
     put_all(alloc, &mut places, accepted, routine)?;

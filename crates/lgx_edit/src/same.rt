@@ -5,7 +5,7 @@ use crate::book::EditBook;
 use crate::changes::{EditedRoutine, KeptEdit, RungChange};
 use crate::edits::ProgramEdits;
 use crate::same_texts::{routine_again, same_routine, same_rung};
-use crate::texts::RoutineText;
+use crate::shared::SharedText;
 use lgx_num::Memory;
 use std::alloc::Global;
 
@@ -76,7 +76,7 @@ fn same_edits(a: &[KeptEdit], b: &[KeptEdit]) -> bool
 }
 
 /// The merged routine once more, if there is one.
-fn merged_again(alloc: Global, merged: &Option<RoutineText>) -> Result<Option<RoutineText>, Memory>
+fn merged_again(alloc: Global, merged: &Option<SharedText>) -> Result<Option<SharedText>, Memory>
     ensures { IfOk result (λ copy. copy ≡ merged.now) }
 {
     match merged {
@@ -89,7 +89,7 @@ fn merged_again(alloc: Global, merged: &Option<RoutineText>) -> Result<Option<Ro
 }
 
 /// Whether the merged routines are the same.
-fn same_merged(a: &Option<RoutineText>, b: &Option<RoutineText>) -> bool
+fn same_merged(a: &Option<SharedText>, b: &Option<SharedText>) -> bool
     ensures { result ≡ true → a.now ≡ b.now }
 {
     match (a, b) {

@@ -1,9 +1,8 @@
-// Rungs as they were written, and routines, copied and compared.
+// Rungs as they were written compared, and routines copied and compared.
 ghost use Rattle.std.specs.Prelude.{◌≡◌, true, IfOk};
 
-use crate::texts::{RoutineText, SourceRungs};
+use crate::shared::{SharedRung, SharedRungs, SharedText};
 use lgx_num::{Items, Memory};
-use lgx_prog::{rungs_again, same_rungs};
 use lgx_rung::{Element, Legs, Op, SourceRung, Texts};
 use std::alloc::Global;
 
@@ -102,51 +101,47 @@ pub fn same_rung(a: &SourceRung, b: &SourceRung) -> bool
     same_source(a, b)
 }
 
-/// Whether the rungs were written the same, one by one.
-fn same_sources(a: &[SourceRung], b: &[SourceRung]) -> bool
+/// The rungs once more: one more owner of each.
+fn rungs_again(alloc: Global, rungs: &[SharedRung]) -> Result<SharedRungs, Memory>
+    ensures { IfOk result (λ copy. copy ≡ rungs.now) }
+{
+    let mut list = Vec::with_capacity(alloc, rungs.len())?;
+    for rung in rungs {
+        let copy = rung.again()?;
+        list.push(copy)?;
+    }
+    Ok(Items::of(list))
+}
+
+/// Whether the rungs are the same, one by one.
+fn same_rungs(a: &[SharedRung], b: &[SharedRung]) -> bool
     ensures { result ≡ true → a.now ≡ b.now }
 {
     if a.len() != b.len() {
         return false;
     }
     for i in 0..a.len() {
-        if !same_rung(&a[i], &b[i]) {
+        if !a[i].is_same(&b[i]) {
             return false;
         }
     }
     true
 }
 
-/// The rungs once more, as they were written.
-fn sources_again(alloc: Global, rungs: &[SourceRung]) -> Result<SourceRungs, Memory>
-    ensures { IfOk result (λ copy. copy ≡ rungs.now) }
-{
-    let mut list = Vec::with_capacity(alloc, rungs.len())?;
-    for rung in rungs {
-        let copy = rung.copied(alloc)?;
-        list.push(copy)?;
-    }
-    Ok(Items::of(list))
-}
-
-/// The routine once more.
-pub fn routine_again(alloc: Global, routine: &RoutineText) -> Result<RoutineText, Memory>
+/// The routine once more, with the same rungs.
+pub fn routine_again(alloc: Global, routine: &SharedText) -> Result<SharedText, Memory>
     ensures { IfOk result (λ copy. copy ≡ routine.now) }
 {
-    let source = sources_again(alloc, routine.source.as_slice())?;
-    let checked = rungs_again(alloc, routine.checked.as_slice())?;
-    Ok(RoutineText {
+    let rungs = rungs_again(alloc, routine.rungs.as_slice())?;
+    Ok(SharedText {
         name: routine.name.copied(),
-        source,
-        checked,
+        rungs,
     })
 }
 
 /// Whether the routines are the same.
-pub fn same_routine(a: &RoutineText, b: &RoutineText) -> bool
+pub fn same_routine(a: &SharedText, b: &SharedText) -> bool
     ensures { result ≡ true → a.now ≡ b.now }
 {
-    a.name.is_spelled_as(&b.name)
-        && same_sources(a.source.as_slice(), b.source.as_slice())
-        && same_rungs(a.checked.as_slice(), b.checked.as_slice())
+    a.name.is_spelled_as(&b.name) && same_rungs(a.rungs.as_slice(), b.rungs.as_slice())
 }

@@ -1,5 +1,6 @@
 pub mod Depths
 pub mod Emitted
+pub mod Joins
 pub mod KeptCode
 pub mod Executes
 pub mod Searching

@@ -4,6 +4,7 @@ pub mod HandsOver
 pub mod NodesFall
 pub mod Flat
 pub mod Depth
+pub mod Joining
 pub mod FlatProgram
 pub mod Executes
 pub mod Search

@@ -1,5 +1,5 @@
 // Whether pieces of flat code are the same, and the same once more.
-ghost use Rattle.std.specs.Prelude.{◌≡◌, true, List, length, IfOk};
+ghost use Rattle.std.specs.Prelude.{◌≡◌, true, ◌++◌, OnOk, IfOk};
 
 use crate::code::{Code, FlatRoutine};
 use crate::quick::quick_list;
@@ -93,7 +93,7 @@ pub(crate) fn same_ins(a: &Ins, b: &Ins) -> bool
 fn operands_again(alloc: Global, operands: &[Operand]) -> Result<Items<Operand>, Memory>
     ensures { IfOk result (λ copy. copy ≡ operands.now) }
 {
-    let mut list = Vec::new(alloc);
+    let mut list = Vec::with_capacity(alloc, operands.len())?;
     for operand in operands {
         list.push(operand.copied())?;
     }
@@ -109,13 +109,13 @@ pub(crate) fn ins_again(alloc: Global, ins: &Ins) -> Result<Ins, Memory>
 }
 
 /// The piece of code once more.
-pub(crate) fn code_again(alloc: Global, code: &Code) -> Result<Code, Memory>
+fn code_again(code: &Code) -> Result<Code, Memory>
     ensures { IfOk result (λ copy. copy ≡ code.now) }
 {
     match code {
         Code::RungStart => Ok(Code::RungStart),
         Code::Execute(ins) => {
-            let copy = ins.copied(alloc)?;
+            let copy = ins.copied()?;
             Ok(Code::Execute(copy))
         }
         Code::BranchStart { empty_leg } => Ok(Code::BranchStart {
@@ -159,19 +159,28 @@ fn same_pieces(a: &[Code], b: &[Code]) -> bool
 fn pieces_again(alloc: Global, code: &[Code]) -> Result<Vec<Code>, Memory>
     ensures { IfOk result (λ copy. copy.items ≡ code.now) }
 {
-    let mut list = Vec::new(alloc);
+    let mut list = Vec::with_capacity(alloc, code.len())?;
+    append_pieces(&mut list, code)?;
+    Ok(list)
+}
+
+/// Adds the code once more behind other code.
+pub(crate) fn append_pieces(list: &mut Vec<Code>, code: &[Code]) -> Result<(), Memory>
+    ensures { OnOk result (list.new.items ≡ list.old.items ++ code.now) }
+{
+    list.reserve(code.len())?;
     for piece in code {
-        let copy = code_again(alloc, piece)?;
+        let copy = code_again(piece)?;
         list.push(copy)?;
     }
-    Ok(list)
+    Ok(())
 }
 
 /// The numbers once more.
 pub(crate) fn numbers_again(alloc: Global, numbers: &[usize]) -> Result<Vec<usize>, Memory>
     ensures { IfOk result (λ copy. copy.items ≡ numbers.now) }
 {
-    let mut list = Vec::new(alloc);
+    let mut list = Vec::with_capacity(alloc, numbers.len())?;
     for number in numbers {
         list.push(*number)?;
     }

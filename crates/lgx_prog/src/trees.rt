@@ -10,7 +10,7 @@ use std::alloc::Global;
 pub fn rungs_again(alloc: Global, rungs: &[Rung]) -> Result<Rungs, Memory>
     ensures { IfOk result (λ copy. copy ≡ rungs.now) }
 {
-    let mut list = Vec::new(alloc);
+    let mut list = Vec::with_capacity(alloc, rungs.len())?;
     for rung in rungs {
         list.push(rung_again(alloc, rung)?)?;
     }
@@ -37,7 +37,7 @@ pub fn same_rungs(a: &[Rung], b: &[Rung]) -> bool
 fn rung_again(alloc: Global, rung: &Rung) -> Result<Rung, Memory>
     ensures { IfOk result (λ copy. copy ≡ rung.now) }
 {
-    let mut nodes = Vec::new(alloc);
+    let mut nodes = Vec::with_capacity(alloc, rung.nodes.len())?;
     for node in &rung.nodes {
         nodes.push(node_again(alloc, node)?)?;
     }
@@ -60,7 +60,7 @@ fn node_again(alloc: Global, node: &Node) -> Result<Node, Memory>
 fn legs_again(alloc: Global, legs: &Legs) -> Result<Legs, Memory>
     ensures { IfOk result (λ copy. copy ≡ legs.now) }
 {
-    let mut list = Vec::new(alloc);
+    let mut list = Vec::with_capacity(alloc, legs.legs.len())?;
     for leg in &legs.legs {
         list.push(rung_again(alloc, leg)?)?;
     }
@@ -69,7 +69,7 @@ fn legs_again(alloc: Global, legs: &Legs) -> Result<Legs, Memory>
 
 /// Whether two rungs or legs are the same.
 #[cycle(same)]
-fn same_rung(a: &Rung, b: &Rung) -> bool
+pub fn same_rung(a: &Rung, b: &Rung) -> bool
     ensures { result ≡ true → a.now ≡ b.now }
 {
     if a.nodes.len() != b.nodes.len() {

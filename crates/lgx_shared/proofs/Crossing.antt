@@ -1,6 +1,6 @@
 -- A recorder, and what stands with it under the lock, may go from one thread to another: so may each of its fields. The search goes
 -- down by itself but where types are recursive, or have many fields: there the way is named.
-use denote.Param.Send.{IsSend, sendable, struct_send, recorded_send as of_fields, view_send}
+use denote.Param.Send.{IsSend, IsSync, sendable, struct_send, recorded_send as of_fields, view_send}
 use denote.RattleType.{RattleType}
 use denote.Struct.Declared.{shape}
 use Rattle.std.specs.declared.sync.ledger.Ledger as Ledger
@@ -11,16 +11,12 @@ use Rattle.lgx_shared.specs.contracts.recorder_of.RecorderOf.TheInside as named
 use Rattle.lgx_shared.specs.contracts.locked_run.HasParts as HasParts
 use Rattle.lgx_shared.specs.contracts.locked_run.LockedRun as LockedRun
 use Rattle.std.proofs.Crossing.{crosses}
-use Rattle.lgx_rung.proofs.rung.Legs.TheLaws.TheKnot as source
-use Rattle.lgx_prog.proofs.rung.Legs.TheLaws.TheKnot as checked
 use Rattle.circular_buffer.proofs.Crosses.{Cells-send, Deed-send}
 use Rattle.spec_tables.specs.contracts.fault.Fault as Fault
 use Rattle.lgx_edit.specs.contracts.book.EditBook as EditBook
 use Rattle.lgx_fault.specs.contracts.fault_log.FaultLog as FaultLog
 use Rattle.lgx_num.specs.contracts.place.Place as Place
 use Rattle.lgx_rung.specs.contracts.op.Op as Op
-use Rattle.lgx_rung.specs.contracts.rung.SourceRung as SourceRung
-use Rattle.lgx_prog.specs.contracts.rung.Rung as Rung
 use Rattle.lgx_prog.specs.contracts.prepared.Prepared as Prepared
 use Rattle.lgx_prog.specs.contracts.code.Code as Code
 use Rattle.lgx_prog.specs.contracts.short.Does as Does
@@ -31,7 +27,6 @@ use Rattle.lgx_prog.specs.contracts.code.FlatRoutine as FlatRoutine
 use Rattle.lgx_prog.specs.contracts.program.FlatProgram as FlatProgram
 use Rattle.lgx_versions.specs.contracts.slots.Version as Version
 use Rattle.lgx_versions.specs.contracts.versions.Versions as Versions
-use Rattle.lgx_edit.specs.contracts.texts.RoutineText as RoutineText
 use Rattle.lgx_edit.specs.contracts.changes.KeptEdit as KeptEdit
 use Rattle.lgx_edit.specs.contracts.changes.EditedRoutine as EditedRoutine
 use Rattle.lgx_edit.specs.contracts.edits.ProgramEdits as ProgramEdits
@@ -46,30 +41,41 @@ use Rattle.lgx_record.specs.contracts.run.Run as Run
 use Rattle.lgx_record.specs.contracts.run.Run.TheInside as run
 use Rattle.lgx_history.proofs.history.History.TheSendSync as history
 use Rattle.lgx_rung.proofs.ins.Ins.TheSendSync as ins
+use Rattle.lgx_edit.proofs.Crossing.{source_send, shared_send}
 
 pub fault_send : IsSend Fault.the_row
 fault_send = search (sendable, crosses) depth 40 fits 20000
 
-pub rung_send : IsSend Rung.the_row
-rung_send = checked.send-Rung (λ h s. search (sendable, crosses)) (search (sendable, crosses, ins.the_field_send) depth 300 fits 50000)
-
-pub prepared_send : IsSend Prepared.the_row
-prepared_send = search (sendable, crosses, ins.the_field_send) depth 200 fits 20000
-
-pub code_send : IsSend Code.the_row
-code_send = search (sendable, crosses, prepared_send) depth 200 fits 20000
-
 pub op_send : IsSend (Op.the_field).row
 op_send = search (sendable, crosses) depth 100 fits 20000
+
+pub op_sync : IsSync (Op.the_field).row
+op_sync = search (sendable, crosses) depth 100 fits 20000
 
 pub place_send : IsSend (Place.the_field).row
 place_send = search (sendable, crosses) depth 100 fits 20000
 
-pub source_kind_send : IsSend (Source.the_field).row
-source_kind_send = search (sendable, crosses) depth 100 fits 20000
+pub place_sync : IsSync (Place.the_field).row
+place_sync = search (sendable, crosses) depth 100 fits 20000
+
+pub read_send : IsSend (Source.the_field).row
+read_send = search (sendable, crosses) depth 100 fits 20000
+
+pub read_sync : IsSync (Source.the_field).row
+read_sync = search (sendable, crosses) depth 100 fits 20000
 
 pub does_send : IsSend (Does.the_field).row
-does_send = search (sendable, crosses, op_send, place_send, source_kind_send) depth 300 fits 50000
+does_send = search (sendable, crosses, op_send, place_send, read_send) depth 300 fits 50000
+
+pub does_sync : IsSync (Does.the_field).row
+does_sync = search (sendable, crosses, op_sync, place_sync, read_sync) depth 300 fits 50000
+
+-- an instruction is shared: who owns it may be in any thread
+pub prepared_send : IsSend Prepared.the_row
+prepared_send = search (sendable, crosses, ins.the_field_send, ins.the_field_sync, does_send, does_sync) depth 200 fits 20000
+
+pub code_send : IsSend Code.the_row
+code_send = search (sendable, crosses, prepared_send) depth 200 fits 20000
 
 pub after_send : IsSend (After.the_field).row
 after_send = search (sendable, crosses) depth 200 fits 20000
@@ -89,17 +95,11 @@ version_send = search (sendable, crosses, flat_program_send) depth 200 fits 2000
 pub versions_send : IsSend Versions.the_row
 versions_send = search (sendable, crosses, version_send) depth 200 fits 20000
 
-pub source_send : IsSend SourceRung.the_row
-source_send = source.send-SourceRung (λ h s. search (sendable, crosses)) (search (sendable, crosses) depth 60 fits 20000) (search (sendable, crosses) depth 60 fits 20000)
-
-pub routine_text_send : IsSend RoutineText.the_row
-routine_text_send = search (sendable, crosses, source_send, rung_send) depth 200 fits 20000
-
 pub kept_edit_send : IsSend KeptEdit.the_row
 kept_edit_send = search (sendable, crosses, source_send) depth 200 fits 20000
 
 pub edited_routine_send : IsSend EditedRoutine.the_row
-edited_routine_send = search (sendable, crosses, routine_text_send, source_send, rung_send) depth 200 fits 20000
+edited_routine_send = search (sendable, crosses, shared_send) depth 200 fits 20000
 
 pub program_edits_send : IsSend ProgramEdits.the_row
 program_edits_send = search (sendable, crosses, versions_send, kept_edit_send, edited_routine_send) depth 200 fits 20000

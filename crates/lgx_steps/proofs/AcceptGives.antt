@@ -23,6 +23,8 @@ use Rattle.lgx_edit.specs.EditsView.{EditsView, books, holds}
 use Rattle.lgx_edit.specs.declared.error.EditError.{EditError}
 use Rattle.lgx_edit.specs.declared.error.EditError.TheVariants as error
 use Rattle.lgx_edit.specs.Accepting.{has_numbers_left, LeavesAccepted}
+use Rattle.lgx_edit.specs.CheckedBooks.{AreChecked}
+use Rattle.lgx_edit.proofs.CheckedBooks.{accept-keeps_checked}
 use Rattle.lgx_steps.specs.PartsView.{PartsView}
 use Rattle.lgx_steps.specs.Plans.{IsReadyBook}
 use Rattle.lgx_steps.specs.Represents.{RepresentsState}
@@ -42,6 +44,12 @@ module _ (n : ℕ) (v : PartsView) (s : State) (h : RepresentsState n v s) where
       let few = h.sane.plan.few in
       omega arith
 
+  pub has-checked : (names : List TaskName) → names ≡ v.plan.names → AreChecked v.plan.tags names (books v.book)
+  has-checked names e =
+      subst (λ (ns : List TaskName). AreChecked v.plan.tags ns (books v.book)) (sym e)
+      (subst (λ (p : Plan). AreChecked p.tags p.names (books v.book)) (sym h.plan)
+      (subst (λ (bs : List Book). AreChecked s.plan.tags s.plan.names bs) (sym h.books) h.sane.checked))
+
   -- the accept that is meant
   meant : (lane : ℕ) (command : AcceptCommand) → accept v.plan.tags v.plan.names (books v.book) lane command ≡ accept s.plan.tags s.plan.names s.books lane command
   meant lane command = ap (λ (p : Plan). accept p.tags p.names (books v.book) lane command) h.plan ∙ ap (λ (bs : List Book). accept s.plan.tags s.plan.names bs lane command) h.books
@@ -58,7 +66,7 @@ module _ (n : ℕ) (v : PartsView) (s : State) (h : RepresentsState n v s) where
       let after : Each (IsReadyBook (bytes s.plan.tags) (length s.plan.names) (n + 1)) s.books = subst (λ k. Each (IsReadyBook (bytes s.plan.tags) k (n + 1)) s.books) named l.sane.books in
       let r : StaysReady s.plan.tags s.plan.names h.sane.plan.tags n s.books e = accept-ready s.plan.tags s.plan.names h.sane.plan.tags n lane command s.books e before after answer in
       subst (λ (x : Result Edited EditFault). ViewGives (n + 1) (record v { book = book }) o (edit_replied s x)) (sym answer)
-      (record { answers = is; represents = with-books (n + 1) v s l book (books book) refl held r.many (subst (λ k. Each (IsReadyBook (bytes s.plan.tags) k (n + 1)) (books book)) (sym named) r.ready) })
+      (record { answers = is; represents = with-books (n + 1) v s l book (books book) refl held r.many (subst (λ k. Each (IsReadyBook (bytes s.plan.tags) k (n + 1)) (books book)) (sym named) r.ready) (accept-keeps_checked s.plan.tags s.plan.names lane command s.books e answer h.sane.checked) })
 
   pub refused : (lane : ℕ) (command : AcceptCommand) (names : List TaskName) (book : List EditsView) (fault : EditFault) (o : Outcome) → names ≡ v.plan.names → o ≡ replied_by (reply.Edit fault)
       → accept v.plan.tags names (books v.book) lane command ≡ Err fault → book ≡ v.book

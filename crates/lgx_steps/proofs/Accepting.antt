@@ -1,37 +1,30 @@
 -- An accept keeps books ready: its merged rungs were checked.
-use Rattle.std.proofs.Common.{◌≡◌, ℕ, ◌+◌, ◌<◌, ◌≤◌, List, [], ◌∷◌, length, slice_set, true, Result, Ok, Err, refl, ap, subst, arith, length-set}
-use Rattle.std.specs.Prelude.{nat_le, flat_map, ◌++◌}
-use Rattle.std.specs.List.{AllByRecursion as Each, position_from}
+use Rattle.std.proofs.Common.{◌≡◌, ℕ, ◌+◌, ◌<◌, ◌≤◌, List, [], ◌∷◌, length, slice_set, true, Ok, refl, subst, arith, length-set}
+use Rattle.std.specs.List.{AllByRecursion as Each}
 use Rattle.std.proofs.lemmas.Bool.{lt-ltb}
-use Rattle.spec_base.specs.FirstCause.{unless}
-use Rattle.spec_base.specs.declared.limits.TheConstants.{MAX_EVENTS, MAX_PROGRAM_INSTRUCTIONS}
-use Rattle.spec_base.proofs.Binds.{bind_ok, err_not_ok, ok_inj}
+use Rattle.spec_base.specs.declared.limits.TheConstants.{MAX_EVENTS}
+use Rattle.spec_base.proofs.Binds.{bind_ok, ok_inj}
 use Rattle.lgx_rung.specs.Tree.{Source}
 use Rattle.spec_language.specs.declared.names.TaskName.{TaskName}
 use Rattle.spec_language.specs.Declarations.{Declarations, bytes}
 use Rattle.spec_language.specs.ResolutionLaws.{Sound}
-use Rattle.spec_language.specs.Checked.{CheckScope, checked}
+use Rattle.spec_language.specs.Checked.{checked}
 use Rattle.spec_language.proofs.OperandBounds.{checked_lies}
 use Rattle.spec_scan.specs.Position.{Rungs}
 use Rattle.spec_scan.specs.Executable.{AreExecutable}
 use Rattle.spec_scan.specs.KnownTasks.{KnowsTasks}
 use Rattle.spec_machine.specs.declared.event.RungEdit.{RungEdit}
-use Rattle.spec_machine.specs.declared.reply.EditFault.{EditFault}
-use Rattle.spec_machine.specs.declared.reply.EditFault.TheVariants.{E3, E5, E6, E8, E9}
 use Rattle.spec_machine.specs.declared.reply.Reply.TheVariants.{Version}
 use Rattle.spec_machine.specs.Commands.{AcceptCommand}
 use Rattle.spec_machine.specs.Project.{RoutineText}
-use Rattle.spec_machine.specs.Edits.{Change, Book, Edited, no_book, book_at, routine_at, program_named, routine_named, none_or, ok_or_cause, other_owner, is_misplaced, first_again, taken_by, changes_in, changes_of, merged, scope_of, with_changes, instruction_count, accept_in, accept}
+use Rattle.spec_machine.specs.Edits.{Change, Book, Edited, no_book, book_at, routine_at, program_named, routine_named, scope_of, with_changes, accept_in, accept}
 use Rattle.spec_machine.proofs.CheckedExecutable.{checked_ready}
 use Rattle.spec_machine.proofs.CheckedTasks.{checked_know_tasks}
 use Rattle.lgx_edit.specs.Accepting.{has_numbers_left}
+use Rattle.lgx_edit.proofs.CheckedBooks.{accepted-in}
+use Rattle.lgx_edit.proofs.Elements.{each-set, each-get_or}
 use Rattle.lgx_steps.specs.Plans.{IsReadyBook}
-use Rattle.lgx_steps.proofs.Elements.{each-set, each-get_or}
 use Rattle.lgx_steps.proofs.Editing.{no-rungs}
-
-was-checked : {A F : Type 0} (r : Result A F) (e : F → EditFault) (x : A) → ok_or_cause r e ≡ Ok x → r ≡ Ok x
-was-checked (Ok y) e x h = ap (λ z. Ok z) (ok_inj y x h)
-was-checked (Err f) e x h = err_not_ok _ _ h
 
 module _ (tags : Declarations) (names : List TaskName) (sound : Sound tags) where
   -- a routine that was checked is ready, and so are the merged ones with it
@@ -49,18 +42,8 @@ module _ (tags : Declarations) (names : List TaskName) (sound : Sound tags) wher
 
   in-ready : (n lane r k : ℕ) (scoped b b' : Book) (edits : List RungEdit) → IsReadyBook (bytes tags) (length names) n b → accept_in (scope_of tags names k scoped) lane r edits b ≡ Ok b' → IsReadyBook (bytes tags) (length names) (n + 1) b'
   in-ready n lane r k scoped b b' edits h is =
-      let scope : CheckScope = scope_of tags names k scoped in
-      let r₁ = bind_ok (none_or (other_owner b lane) E3) _ b' is in
-      let r₂ = bind_ok (none_or (position_from (is_misplaced (length (routine_at b.base r).source)) 0 edits) E5) _ b' r₁.2 in
-      let r₃ = bind_ok (none_or (first_again 0 (flat_map taken_by (changes_in b r)) edits) E6) _ b' r₂.2 in
-      let r₄ = bind_ok (changes_of 0 edits) _ b' r₃.2 in
-      let changes : List Change = r₄.0 in
-      let source : List Source = merged (routine_at b.base r).source (changes_in b r ++ changes) in
-      let r₅ = bind_ok (ok_or_cause (checked scope source) E8) _ b' r₄.2 in
-      let rungs : Rungs = r₅.0 in
-      let new : Book = with_changes lane r changes source rungs b in
-      let r₆ = bind_ok (unless (nat_le (instruction_count new.merged) MAX_PROGRAM_INSTRUCTIONS) E9) _ b' r₅.2 in
-      subst (IsReadyBook (bytes tags) (length names) (n + 1)) (ok_inj new b' r₆.2) (with-routine n lane r k scoped b changes source rungs (was-checked (checked scope source) E8 rungs r₅.1) h)
+      let a = accepted-in (scope_of tags names k scoped) lane r edits b b' is in
+      subst (IsReadyBook (bytes tags) (length names) (n + 1)) a.is (with-routine n lane r k scoped b a.changes a.source a.rungs a.checks h)
 
   -- the books after an accept
   pub record StaysReady (n : ℕ) (bs : List Book) (e : Edited) : Type 0 where

@@ -11,11 +11,12 @@ use Rattle.spec_machine.specs.Edits.{Book, Edited, no_book, book_at, program_nam
 use Rattle.spec_machine.specs.State.{State}
 use Rattle.spec_machine.specs.Actions.{edit_replied}
 use Rattle.lgx_edit.specs.EditsView.{EditsView, books, Leaves}
+use Rattle.lgx_edit.proofs.CheckedBooks.{KeepsChecked}
+use Rattle.lgx_edit.proofs.Elements.{each-set, each-get_or}
 use Rattle.lgx_steps.specs.PartsView.{PartsView}
 use Rattle.lgx_steps.specs.Plans.{IsReadyBook}
 use Rattle.lgx_steps.specs.Represents.{RepresentsState}
 use Rattle.lgx_steps.specs.Gives.{ViewGives, edit_outcome}
-use Rattle.lgx_steps.proofs.Elements.{each-set, each-get_or}
 use Rattle.lgx_steps.proofs.States.{with-books}
 
 -- a command keeps a book ready
@@ -68,13 +69,13 @@ command-ready change len tasks n lane name bs e keeps h is =
 
 -- ---- the answer
 
-module _ (n : ℕ) (v : PartsView) (s : State) (h : RepresentsState n v s) (change : Book → Result Book EditFault) (keeps : KeepsReady change) (lane : ℕ) (name : List ℕ) (book : List EditsView) (answer : Result (Unit {0}) EditFault) where
+module _ (n : ℕ) (v : PartsView) (s : State) (h : RepresentsState n v s) (change : Book → Result Book EditFault) (keeps : KeepsReady change) (kept : KeepsChecked change) (lane : ℕ) (name : List ℕ) (book : List EditsView) (answer : Result (Unit {0}) EditFault) where
   edited : (r : Result Edited EditFault) → on_accepted change s.books lane name ≡ r → Leaves r v.book book answer → ViewGives n (record v { book = book }) (edit_outcome answer) (edit_replied s r)
   edited (Ok e) is l =
       let r = command-ready change (bytes s.plan.tags) (length s.plan.schedule) n lane name s.books e keeps h.sane.books is in
       record {
         answers = ap edit_outcome l.0 ∙ ap (λ x. record { reply = x; fault = None; released = 0 }) (sym r.done);
-        represents = with-books n v s h book e.books l.1 l.2 r.many r.ready;
+        represents = with-books n v s h book e.books l.1 l.2 r.many r.ready (kept s.plan.tags s.plan.names lane name s.books e is h.sane.checked);
       }
   edited (Err f) is l = record {
     answers = ap edit_outcome l.0;

@@ -25,6 +25,7 @@ use Rattle.lgx_sched.specs.Represents.{RepresentsTable as RepresentsTable, HasPe
 use Rattle.lgx_edit.specs.declared.texts.ProgramText.{ProgramText as KeptProgram}
 use Rattle.lgx_edit.specs.Texts.{program_of, routine_of}
 use Rattle.lgx_edit.specs.EditsView.{EditsView, books, holds}
+use Rattle.lgx_edit.proofs.CheckedBooks.{project-checked}
 use Rattle.lgx_steps.specs.declared.parts.Progress.{Progress as KeptProgress}
 use Rattle.lgx_steps.specs.PartsView.{PartsView, IsIdle, idle}
 use Rattle.lgx_steps.specs.Plans.{list_at}
@@ -174,6 +175,7 @@ starts v p texts many valid programs plan sealed mode tick table progresses each
         tick = omega arith;
         regions = no-regions p.tasks;
         books = ready-books p valid;
+        checked = project-checked p valid;
       };
     }
 

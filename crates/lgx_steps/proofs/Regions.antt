@@ -9,7 +9,8 @@ use Rattle.spec_tables.specs.Tasks.{TaskState, Table, state_of, region_count, is
 use Rattle.lgx_sched.specs.TableView.{TableView, up_of, region_count_of}
 use Rattle.lgx_sched.specs.Represents.{RepresentsTable, without_rank}
 use Rattle.lgx_sched.specs.declared.active.ActiveTask.{ActiveTask}
-use Rattle.lgx_steps.proofs.Elements.{each-set, each-get_or, each-of_map}
+use Rattle.lgx_edit.proofs.Elements.{each-set, each-get_or}
+use Rattle.lgx_steps.proofs.Elements.{each-of_map}
 
 -- a state with so many open regions at most
 abbrev pub IsAtMost : ℕ → Option TaskState → Type 0

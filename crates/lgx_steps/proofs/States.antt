@@ -16,6 +16,7 @@ use Rattle.lgx_image.specs.Grains.{ImageView}
 use Rattle.lgx_sched.specs.TableView.{TableView}
 use Rattle.lgx_sched.specs.Represents.{RepresentsTable as RepresentsTable}
 use Rattle.lgx_edit.specs.EditsView.{EditsView, books, holds}
+use Rattle.lgx_edit.specs.CheckedBooks.{AreChecked}
 use Rattle.lgx_steps.specs.declared.parts.Progress.{Progress as KeptProgress}
 use Rattle.lgx_steps.specs.PartsView.{PartsView, idle, without_flags}
 use Rattle.lgx_steps.specs.Plans.{IsReadyBook}
@@ -44,6 +45,7 @@ sane-later n s h = record {
   tick = omega (arith, h.tick);
   regions = at_most-more n s.table.states h.regions;
   books = each_map (IsReadyBook (bytes s.plan.tags) (length s.plan.schedule) n) (IsReadyBook (bytes s.plan.tags) (length s.plan.schedule) (n + 1)) s.books (λ b h'. book-later (bytes s.plan.tags) (length s.plan.schedule) n b h') h.books;
+  checked = h.checked;
 }
 
 module _ (n : ℕ) (v : PartsView) (s : State) (h : RepresentsState n v s) where
@@ -97,6 +99,7 @@ module _ (n : ℕ) (v : PartsView) (s : State) (h : RepresentsState n v s) where
       tick = h.sane.tick;
       regions = regions;
       books = h.sane.books;
+      checked = h.sane.checked;
     };
   }
 
@@ -136,6 +139,7 @@ module _ (n : ℕ) (v : PartsView) (s : State) (h : RepresentsState n v s) where
       tick = h.sane.tick;
       regions = h.sane.regions;
       books = h.sane.books;
+      checked = h.sane.checked;
     };
   }
 
@@ -164,6 +168,7 @@ module _ (n : ℕ) (v : PartsView) (s : State) (h : RepresentsState n v s) where
       tick = h.sane.tick;
       regions = h.sane.regions;
       books = h.sane.books;
+      checked = h.sane.checked;
     };
   }
 
@@ -192,6 +197,7 @@ module _ (n : ℕ) (v : PartsView) (s : State) (h : RepresentsState n v s) where
       tick = h.sane.tick;
       regions = h.sane.regions;
       books = h.sane.books;
+      checked = h.sane.checked;
     };
   }
 
@@ -221,6 +227,7 @@ module _ (n : ℕ) (v : PartsView) (s : State) (h : RepresentsState n v s) where
       tick = h.sane.tick;
       regions = h.sane.regions;
       books = h.sane.books;
+      checked = h.sane.checked;
     };
   }
 
@@ -249,13 +256,14 @@ module _ (n : ℕ) (v : PartsView) (s : State) (h : RepresentsState n v s) where
       tick = h.sane.tick;
       regions = h.sane.regions;
       books = h.sane.books;
+      checked = h.sane.checked;
     };
   }
 
   -- other books, of which the same is held
-  pub with-books : (book : List EditsView) (bs : List Book) → books book ≡ bs → holds book ≡ holds v.book → length bs ≡ length s.books → Each (IsReadyBook (bytes s.plan.tags) (length s.plan.schedule) n) bs
+  pub with-books : (book : List EditsView) (bs : List Book) → books book ≡ bs → holds book ≡ holds v.book → length bs ≡ length s.books → Each (IsReadyBook (bytes s.plan.tags) (length s.plan.schedule) n) bs → AreChecked s.plan.tags s.plan.names bs
       → RepresentsState n (record v { book = book }) (record s { books = bs })
-  with-books book bs is held same ready = record {
+  with-books book bs is held same ready kept = record {
     plan = h.plan;
     sealed = h.sealed;
     mode = h.mode;
@@ -279,6 +287,7 @@ module _ (n : ℕ) (v : PartsView) (s : State) (h : RepresentsState n v s) where
       tick = h.sane.tick;
       regions = h.sane.regions;
       books = ready;
+      checked = kept;
     };
   }
 
@@ -308,6 +317,7 @@ module _ (n : ℕ) (v : PartsView) (s : State) (h : RepresentsState n v s) where
       tick = omega (arith, h.sane.tick);
       regions = (sane-later n s h.sane).regions;
       books = (sane-later n s h.sane).books;
+      checked = h.sane.checked;
     };
   }
 

@@ -13,6 +13,7 @@ use Rattle.lgx_fault.specs.Kept.{last_faults}
 use Rattle.lgx_sched.specs.Represents.{RepresentsTable}
 use Rattle.lgx_versions.specs.declared.slots.Version.{Version}
 use Rattle.lgx_edit.specs.EditsView.{books, holds}
+use Rattle.lgx_edit.specs.CheckedBooks.{AreChecked}
 use Rattle.lgx_steps.specs.declared.parts.Scan.{Scan as KeptScan}
 use Rattle.lgx_steps.specs.declared.parts.Progress.{Progress as KeptProgress}
 use Rattle.lgx_steps.specs.declared.parts.ControllerParts.{ControllerParts}
@@ -69,6 +70,7 @@ pub record IsSane (n : ℕ) (s : State) : Type 0 where
   pub tick : s.tick ≤ n
   pub regions : Each (λ u. region_count u ≤ n) s.table.states
   pub books : Each (IsReadyBook (bytes s.plan.tags) (length s.plan.schedule) n) s.books
+  pub checked : AreChecked s.plan.tags s.plan.names s.books
 
 -- ---- all of it
 

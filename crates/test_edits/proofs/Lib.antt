@@ -1,1 +1,2 @@
 pub mod AllMains
+pub mod Checked

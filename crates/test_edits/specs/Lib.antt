@@ -1,1 +1,3 @@
 pub mod Mains
+pub mod Programs
+pub mod Benches

@@ -1,27 +1,53 @@
 // A book of edits over tags that are the same in all rows.
-ghost use Rattle.std.specs.Prelude.{◌^◌, ◌≡◌, ◌<◌, false, true, length, IfOk, OnOk};
+ghost use Rattle.std.specs.Prelude.{◌^◌, ◌≡◌, ◌<◌, false, true, [], length, map, Ok, IfOk, OnOk};
+ghost use Rattle.spec_language.specs.Checked.{checked};
+ghost use Rattle.spec_machine.specs.Edits.{book_of};
+ghost use Rattle.lgx_check.specs.Scopes.{scope_of};
+ghost use Rattle.lgx_edit.specs.Texts.{program_of};
+ghost use Rattle.lgx_edit.specs.EditsView.{books};
 ghost use Rattle.test_edits.specs.Mains.{has_main, have_mains};
+ghost use Rattle.test_edits.specs.Programs.{AreRoutines, IsProgram, ArePrograms};
 
 use crate::trouble::Trouble;
 use lgx_check::{CheckScope, check_routine};
 use lgx_edit::{EditBook, EditError, ProgramText, RoutineText};
 use lgx_neutral::read_rung;
-use lgx_num::{Items, Name, Operand};
+use lgx_num::{Items, Memory, Name, Operand};
 use lgx_prog::{Code, FlatProgram};
 use lgx_rung::SourceRung;
 use lgx_tags::TagTable;
 use lgx_types::TypeTable;
 use spec_base::limits::MAX_FILE_BYTES;
 use spec_language::{Base, DataType, Scope};
-use spec_machine::Accept;
+use spec_machine::{Accept, Action, EditFault};
 use std::alloc::Global;
+use std::marker::Model;
 
-/// The book of some programs, and the tags that their rungs name.
+/// The book of some programs, and the tags that their rungs name. The checked rungs of the book are those that its source
+/// rungs give.
+///
+/// Contracts see the book.
 #[derive(Drop)]
 pub struct Bench {
-    pub book: EditBook,
+    book: EditBook,
     tags: Box<TagTable>,
-    ghost sealed: { tags.value.sealed ≡ true },
+}
+
+impl Model for Bench {
+    ghost use Rattle.std.specs.Prelude.{List};
+    ghost use Rattle.std.specs.Coded.{codes, coded_list};
+    ghost use Rattle.lgx_edit.specs.EditsView.{EditsView};
+    ghost use Rattle.lgx_edit.specs.Codes.{view_code};
+
+    ghost Value = { List EditsView };
+
+    ghost coded = { coded_list (view_code (Prim.hlevel codes) (Prim.hlevel codes) (Prim.hlevel codes)) };
+
+    ghost view = { λ b. b.book };
+
+    ghost use Rattle.test_edits.specs.Benches.{IsBench};
+
+    ghost invariant = { IsBench };
 }
 
 /// The tags of all rows: `n`, a DINT, and `x`, a BOOL.
@@ -76,22 +102,55 @@ fn name_of(text: &str) -> Result<Name, Trouble> {
     Name::read(name.as_bytes()).ok_or(Trouble::Form)
 }
 
-fn names_of(alloc: Global, routines: &str) -> Result<Vec<Name>, Trouble> {
-    let mut names = Vec::new(alloc);
-    for routine in routines.split('&') {
-        names.push(name_of(routine)?)?;
+/// A routine whose rungs aren't checked yet.
+#[derive(Drop)]
+struct UncheckedRoutine {
+    name: Name,
+    source: Vec<SourceRung>,
+}
+
+/// The routine of a text.
+fn unchecked(alloc: Global, text: &str) -> Result<UncheckedRoutine, Trouble> {
+    let (_, rungs) = text.trim().split_once(' ').unwrap_or((text, ""));
+    Ok(UncheckedRoutine {
+        name: name_of(text)?,
+        source: rungs_of(alloc, rungs)?,
+    })
+}
+
+/// The routines of a program's text.
+fn all_unchecked(alloc: Global, parts: &str) -> Result<Vec<UncheckedRoutine>, Trouble> {
+    let mut routines = Vec::new(alloc);
+    for part in parts.split('&') {
+        routines.push(unchecked(alloc, part)?)?;
+    }
+    Ok(routines)
+}
+
+/// The names of these routines.
+fn names_of(alloc: Global, routines: &[UncheckedRoutine]) -> Result<Vec<Name>, Memory>
+    ensures { IfOk result (λ names. names.items ≡ map (λ r. r.name) routines.now) }
+{
+    let mut names = Vec::with_capacity(alloc, routines.len())?;
+    for routine in routines {
+        names.push(routine.name.copied())?;
     }
     Ok(names)
 }
 
-fn routine_of(alloc: Global, scope: &CheckScope, text: &str) -> Result<RoutineText, Trouble>
+/// The routine with its rungs checked.
+fn routine_of(
+    alloc: Global,
+    scope: &CheckScope,
+    routine: UncheckedRoutine,
+) -> Result<RoutineText, Trouble>
     requires sealed { scope.now.tags.now.sealed ≡ true }
     requires few_routines { length scope.now.routines.now < 2 ^ 32 }
     requires few_tasks { length scope.now.tasks.now < 2 ^ 32 }
+    ensures name { IfOk result (λ r. r.name ≡ routine.name) }
+    ensures checked { IfOk result (λ r. checked (scope_of scope.now) r.source ≡ Ok r.checked) }
 {
-    let (_, rungs) = text.trim().split_once(' ').unwrap_or((text, ""));
-    let name = name_of(text)?;
-    let source = rungs_of(alloc, rungs)?;
+    let UncheckedRoutine { name, source } = routine;
     let checked = check_routine(alloc, source.as_slice(), scope)?;
     Ok(RoutineText {
         name,
@@ -100,6 +159,7 @@ fn routine_of(alloc: Global, scope: &CheckScope, text: &str) -> Result<RoutineTe
     })
 }
 
+/// The program of a text, which is number `program` of all.
 fn program_of(
     alloc: Global,
     tags: &TagTable,
@@ -107,11 +167,12 @@ fn program_of(
     text: &str,
 ) -> Result<ProgramText, Trouble>
     requires { tags.now.sealed ≡ true }
+    ensures { IfOk result (λ p. IsProgram tags.now.declarations program p) }
 {
     let (_, parts) = text.trim().split_once(' ').ok_or(Trouble::Form)?;
     let name = name_of(text)?;
-    let names = names_of(alloc, parts)?;
-    let routines = routines_of(alloc, tags, program, &names, parts)?;
+    let unchecked = all_unchecked(alloc, parts)?;
+    let routines = routines_of(alloc, tags, program, unchecked)?;
     Ok(ProgramText {
         name,
         routines: Items::of(routines),
@@ -119,27 +180,29 @@ fn program_of(
     })
 }
 
+/// These routines of a program, with their rungs checked.
 fn routines_of(
     alloc: Global,
     tags: &TagTable,
     program: u32,
-    names: &[Name],
-    parts: &str,
+    unchecked: Vec<UncheckedRoutine>,
 ) -> Result<Vec<RoutineText>, Trouble>
     requires { tags.now.sealed ≡ true }
+    ensures { IfOk result (λ routines. AreRoutines tags.now.declarations program routines.items) }
 {
+    let names = names_of(alloc, unchecked.as_slice())?;
     if names.len() > u32::MAX as usize {
         return Err(Trouble::Form);
     }
     let scope = CheckScope {
         tags,
         program,
-        routines: names,
+        routines: names.as_slice(),
         tasks: &[],
     };
     let mut routines = Vec::new(alloc);
-    for part in parts.split('&') {
-        routines.push(routine_of(alloc, &scope, part)?)?;
+    for routine in unchecked {
+        routines.push(routine_of(alloc, &scope, routine)?)?;
     }
     Ok(routines)
 }
@@ -163,7 +226,9 @@ fn have_mains(programs: &[ProgramText]) -> bool
     true
 }
 
-fn book_of(alloc: Global, programs: Vec<ProgramText>) -> Result<EditBook, Trouble> {
+fn book_of(alloc: Global, programs: Vec<ProgramText>) -> Result<EditBook, Trouble>
+    ensures { IfOk result (λ b. books b ≡ map (λ p. book_of (program_of p)) programs.items) }
+{
     if !have_mains(programs.as_slice()) {
         return Err(Trouble::Form);
     }
@@ -173,12 +238,15 @@ fn book_of(alloc: Global, programs: Vec<ProgramText>) -> Result<EditBook, Troubl
 /// The programs of a text.
 fn programs_of(alloc: Global, tags: &TagTable, text: &str) -> Result<Vec<ProgramText>, Trouble>
     requires { tags.now.sealed ≡ true }
+    ensures { IfOk result (λ programs. ArePrograms tags.now.declarations programs.items) }
 {
     let mut programs = Vec::new(alloc);
-    let mut number = 0u32;
     for program in text.split('%') {
-        programs.push(program_of(alloc, tags, number, program.trim())?)?;
-        number = number.saturating_add(1);
+        let number = programs.len();
+        if number > u32::MAX as usize {
+            return Err(Trouble::Form);
+        }
+        programs.push(program_of(alloc, tags, number as u32, program.trim())?)?;
     }
     Ok(programs)
 }
@@ -199,6 +267,17 @@ impl Bench {
             return Err(EditError::Memory);
         }
         self.book.accept(alloc, lane, command, &self.tags, &[])
+    }
+
+    /// Another edit command of a lane; None if the action is none.
+    pub fn edit(&mut self, lane: u32, action: &Action) -> Option<Result<(), EditFault>> {
+        match action {
+            Action::Test(program) => Some(self.book.test(lane, program)),
+            Action::Untest(program) => Some(self.book.untest(lane, program)),
+            Action::Assemble(program) => Some(self.book.assemble(lane, program)),
+            Action::Cancel(program) => Some(self.book.cancel(lane, program)),
+            _ => None,
+        }
     }
 
     /// Holds the selected program of a program, if none is held.

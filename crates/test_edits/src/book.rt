@@ -148,13 +148,7 @@ fn accepted(
 }
 
 fn acted(bench: &mut Bench, lane: u32, action: &Action) -> Result<Answer, Trouble> {
-    let answer = match action {
-        Action::Test(program) => bench.book.test(lane, program),
-        Action::Untest(program) => bench.book.untest(lane, program),
-        Action::Assemble(program) => bench.book.assemble(lane, program),
-        Action::Cancel(program) => bench.book.cancel(lane, program),
-        _ => return Err(Trouble::Form),
-    };
+    let answer = bench.edit(lane, action).ok_or(Trouble::Form)?;
     Ok(done(answer))
 }
 

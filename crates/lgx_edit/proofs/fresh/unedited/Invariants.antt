@@ -1,7 +1,7 @@
 -- The routines so far are without edits.
 use Rattle.std.proofs.Common.{◌≡◌, map}
-use Rattle.lgx_edit.specs.Texts.{unedited}
+use Rattle.lgx_edit.specs.Texts.{routine_of, base_of, merged_of}
 use Rattle.lgx_edit.proofs.fresh.unedited.Given as goal
 
-abbrev pub invariant-loop-base : goal.invariant-loop-base
-invariant-loop-base l = l.edited.items ≡ map unedited l.yielded
+abbrev pub invariant-loop-routine : goal.invariant-loop-routine
+invariant-loop-routine l = (map base_of l.edited.items ≡ map routine_of l.yielded) × (map merged_of l.edited.items ≡ map routine_of l.yielded)

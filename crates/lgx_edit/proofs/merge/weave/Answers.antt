@@ -1,9 +1,9 @@
 -- One place more is woven.
 use Rattle.std.proofs.Common.{◌++◌, length, List, ap, sym, ◌∙◌, add-one}
 use Rattle.std.proofs.lemmas.List.{length_push}
-use Rattle.lgx_rung.specs.Tree.{Source}
+use Rattle.lgx_edit.specs.declared.pick.Pick.{Pick}
 use Rattle.lgx_edit.specs.Merging.{put_around, rest_of}
-use Rattle.lgx_edit.proofs.Merges.{rest_after, rest_more, woven_more}
+use Rattle.lgx_edit.proofs.Picking.{rest_after, rest_more, woven_more}
 use Rattle.lgx_edit.proofs.merge.weave.Goals as goal
 
 pub loop-around-preserved : goal.loop-around-preserved
@@ -13,7 +13,7 @@ loop-around-preserved c =
     let a = c.in-Some.around in
     record {
       woven = c.in_ok-add_to.ensures
-          ∙ (ap (λ (xs : List Source). xs ++ put_around c.loop-around.rest.now a) c.loop-around.invariant.woven
+          ∙ (ap (λ (xs : List Pick). xs ++ put_around c.loop-around.rest.now a) c.loop-around.invariant.woven
           ∙ sym (woven_more base ys a c.loop-around.rest.now c.loop-around.invariant.rest));
       rest = c.others-rest.ensures
           ∙ (ap rest_of c.loop-around.invariant.rest

@@ -16,9 +16,18 @@ use Rattle.lgx_edit.specs.Texts.{base_of}
 use Rattle.lgx_edit.specs.EditsView.{EditsView}
 use Rattle.lgx_edit.specs.Seen.{book_with, view_of}
 use Rattle.lgx_edit.specs.Accepting.{accept_at}
-use Rattle.lgx_edit.specs.Drafts.{IsBookOf, with_draft}
+use Rattle.lgx_edit.specs.CheckedBooks.{AreTextsChecked, IsBookChecked}
+use Rattle.lgx_edit.specs.Drafts.{scope_against, IsBookOf, with_draft}
 use Rattle.lgx_edit.proofs.Accepted.{Drafted, drafted-for, accept-found, some_edit, tied-now, accepted-along, accepted-book}
 use Rattle.lgx_edit.proofs.edits.ProgramEdits.accept.Goals as goal
+
+pub drafted-requires-clause-checked : goal.drafted-requires-clause-checked
+drafted-requires-clause-checked c =
+    let e = c.self.inside in
+    let a = c.args.against.now in
+    let checked : IsBookChecked a.tags.now.declarations a.tasks.now a.program (view_of e).book =
+    subst (λ (v : EditsView). IsBookChecked a.tags.now.declarations a.tasks.now a.program v.book) (sym c.self.view_is) c.requires.checked in
+    subst (λ (xs : List EditedRoutine). AreTextsChecked (scope_against a xs) (map base_of xs)) (sym c.as_slice-2.ensures.value) checked.base
 
 pub invariant_of-self-2 : goal.invariant_of-self-2
 invariant_of-self-2 c =

@@ -1,5 +1,5 @@
 use Rattle.lgx_steps.specs.PartsView.{view_of}
-use Rattle.lgx_steps.proofs.AcceptGives.{can-number, few-names, accepted, refused-as}
+use Rattle.lgx_steps.proofs.AcceptGives.{can-number, few-names, has-checked, accepted, refused-as}
 use Rattle.lgx_steps.proofs.parts.ControllerParts.accept.Goals as goal
 
 pub accept-done-requires : goal.accept-done-requires
@@ -8,7 +8,12 @@ accept-done-requires c =
     let v = view_of c.args.self.now in
     let s = c.requires.state in
     let h = c.requires.represents in
-    record { numbers = can-number n v s h c.requires.room; sealed = h.sealed; few_tasks = few-names n v s h c.as_slice.result.now c.as_slice.ensures }
+    record {
+      numbers = can-number n v s h c.requires.room;
+      sealed = h.sealed;
+      few_tasks = few-names n v s h c.as_slice.result.now c.as_slice.ensures;
+      checked = has-checked n v s h c.as_slice.result.now c.as_slice.ensures;
+    }
 
 pub returns-in-Ok-clause-gives : goal.returns-in-Ok-clause-gives
 returns-in-Ok-clause-gives c = λ n s h.

@@ -1,5 +1,6 @@
 use Rattle.std.proofs.Common.{sym, subst}
 use Rattle.lgx_steps.specs.PartsView.{view_of}
+use Rattle.lgx_edit.proofs.CheckedBooks.{assemble-keeps_checked}
 use Rattle.lgx_steps.proofs.Editing.{gives-edited, assemble-ready}
 use Rattle.spec_machine.specs.Edits.{assemble}
 use Rattle.lgx_steps.specs.Gives.{ViewGives}
@@ -11,4 +12,4 @@ use Rattle.lgx_steps.proofs.parts.ControllerParts.assemble.Goals as goal
 pub returns-clause-gives : goal.returns-clause-gives
 returns-clause-gives c = λ n s h.
     subst (λ (x : Outcome). ViewGives n (record (view_of c.args.self.now) { book = c.assemble-done.new.self }) x (edit_replied s (on_accepted assemble s.books c.args.lane c.args.program.now))) (sym c.answered.ensures)
-    (gives-edited n (view_of c.args.self.now) s h assemble assemble-ready c.args.lane c.args.program.now c.assemble-done.new.self c.assemble-done.result c.assemble-done.ensures)
+    (gives-edited n (view_of c.args.self.now) s h assemble assemble-ready assemble-keeps_checked c.args.lane c.args.program.now c.assemble-done.new.self c.assemble-done.result c.assemble-done.ensures)
