@@ -1,5 +1,5 @@
 -- The least of codes, and what the operands stand for, one after another.
-use Rattle.std.proofs.Common.{◌≡◌, ℕ, zero, suc, ◌+◌, ◌<◌, ◌≤◌, Bool, true, false, if◌then◌else◌, List, [], ◌∷◌, ◌++◌, length, drop, get_or, refl, ap, sym, ◌∙◌, append_assoc, arith, Option, Some, None, Result, Ok, Err}
+use Rattle.std.proofs.Common.{◌≡◌, ℕ, ◌+◌, ◌<◌, ◌≤◌, Bool, true, false, if◌then◌else◌, List, [], ◌∷◌, ◌++◌, length, drop, get_or, refl, ap, sym, ◌∙◌, append_assoc, arith, Option, Some, None, Result, Ok, Err}
 use Rattle.std.specs.Prelude.{nat_le, filter_map}
 use Rattle.std.specs.List.{zip}
 use Rattle.std.specs.Result.{result_ok, result_err}
@@ -120,14 +120,16 @@ code_more old now r rs h =
     ∙ sym (lesser_of_assoc old (least (filter_map result_err (r ∷ []))) (least (filter_map result_err rs)))
     ∙ ap (lesser_of old) (sym (ap least (errs_first r rs) ∙ least_append (filter_map result_err (r ∷ [])) (filter_map result_err rs)))
 
-pub zip_at : {K T : Type 0} (ks : List K) (ts : List T) (i : ℕ) (k : K) (t : T) → length ks ≡ length ts → i < length ks → k ≡ get_or ks i k → t ≡ get_or ts i t
-    → zip (drop i ks) (drop i ts) ≡ (k, t) ∷ zip (drop (i + 1) ks) (drop (i + 1) ts)
-zip_at ks ts i k t same h p q =
-    ap (λ x. zip x (drop i ts)) (drop_more ks i k h ∙ ap (λ x. x ∷ drop (i + 1) ks) (sym p))
-    ∙ ap (λ x. zip (k ∷ drop (i + 1) ks) x) (drop_more ts i t (omega (arith, same)) ∙ ap (λ x. x ∷ drop (i + 1) ts) (sym q))
+pub zip_first : {K T : Type 0} (ks : List K) (i : ℕ) (d : K) (ts rest : List T) (t : T) → i < length ks → ts ≡ t ∷ rest
+    → zip (drop i ks) ts ≡ (get_or ks i d, t) ∷ zip (drop (i + 1) ks) rest
+zip_first ks i d ts rest t h e = ap (λ x. zip x ts) (drop_more ks i d h) ∙ ap (zip (get_or ks i d ∷ drop (i + 1) ks)) e
 
-pub zip_end : {K T : Type 0} (ks : List K) (ts : List T) (i : ℕ) → length ks ≤ i → zip (drop i ks) (drop i ts) ≡ []
-zip_end ks ts i h = ap (λ x. zip x (drop i ts)) (drop_all i ks h)
+pub zip_end : {K T : Type 0} (ks : List K) (i : ℕ) (ts : List T) → length ks ≤ i → zip (drop i ks) ts ≡ []
+zip_end ks i ts h = ap (λ x. zip x ts) (drop_all i ks h)
+
+pub zip_none : {K T : Type 0} (ks : List K) (ts : List T) → ts ≡ [] → zip ks ts ≡ []
+zip_none [] ts h = refl
+zip_none (k ∷ ks) ts h = ap (zip (k ∷ ks)) h
 
 -- ---- an operand that was answered
 
@@ -154,11 +156,3 @@ pub settled_by : (ls : List Label) (spot : Spot) (i : SourceIns) (operands : Lis
 settled_by ls spot i operands args code other o p q r h =
     ap (answered spot i.op (filter_map result_ok operands)) (least_append (filter_map result_err operands) (other_faults ls spot i) ∙ sym (h ∙ ap (λ x. lesser_of x other) q ∙ ap (lesser_of (least (filter_map result_err operands))) r))
     ∙ ap (λ x. answered spot i.op x o) (sym p)
-
-same_at : {X : Type 0} (xs : List X) (i : ℕ) (d e : X) → i < length xs → get_or xs i d ≡ get_or xs i e
-same_at [] i d e h = absurd (omega arith)
-same_at (x ∷ xs) zero d e h = refl
-same_at (x ∷ xs) (suc i) d e h = same_at xs i d e (omega arith)
-
-pub self_at : {X : Type 0} (xs : List X) (i : ℕ) (d : X) → i < length xs → get_or xs i d ≡ get_or xs i (get_or xs i d)
-self_at xs i d h = same_at xs i d (get_or xs i d) h

@@ -1,5 +1,5 @@
 // The checker of one routine, and what an instruction's operands stand for.
-ghost use Rattle.std.specs.Prelude.{◌^◌, ◌≡◌, ◌<◌, ◌≤◌, ◌++◌, ◌∷◌, [], not, ◌&&◌, Some, None, Result, length, map, filter_map, get_or, option_and_then, option_map, true, IfOk, IfErr, OnOk};
+ghost use Rattle.std.specs.Prelude.{◌^◌, ◌≡◌, ◌<◌, ◌≤◌, ◌++◌, ◌∷◌, [], not, ◌&&◌, Some, None, Result, length, map, filter_map, option_and_then, option_map, true, IfOk, IfErr, OnOk};
 ghost use Rattle.std.specs.List.{zip};
 ghost use Rattle.std.specs.Result.{result_ok, result_err};
 ghost use Rattle.lgx_num.specs.declared.place.Operand.{Operand as AnyOperand};
@@ -92,15 +92,6 @@ fn is_entry(op: Op) -> bool
     ensures { result ≡ is_entry op }
 {
     matches!(op, Op::Sbr)
-}
-
-/// The kind at a place.
-#[tactic(auto, using(crate::proofs::Judging::self_at))]
-fn kind_at(kinds: &[OperandKind], i: usize) -> OperandKind
-    requires { i < length kinds.now }
-    ensures { result ≡ get_or kinds.now i result }
-{
-    kinds[i]
 }
 
 /// Whether a label that was found is elsewhere.
@@ -211,30 +202,28 @@ impl<'a> Checker<'a> {
     }
 
     /// What operands of these kinds stand for.
-    fn judge(
-        &self,
-        spot: Spot,
-        kinds: &[OperandKind],
-        texts: &[Items<u8>],
-    ) -> Result<Judged, Memory>
+    fn judge(&self, spot: Spot, kinds: &[OperandKind], texts: &Texts) -> Result<Judged, Memory>
         requires ready { IsReady self.now }
         requires same { length kinds.now ≡ length texts.now }
         ensures { IfOk result (λ judged. Judges (map (operand_of (checked_scope self.now) self.now.labels (spot_of spot)) (zip kinds.now texts.now)) judged) }
     {
         let mut judged = Judged {
-            args: Vec::with_capacity(self.alloc, texts.len())?,
+            args: Vec::with_capacity(self.alloc, kinds.len())?,
             code: None,
         };
-        for (i, text) in texts.iter().enumerate() {
-            let kind = kind_at(kinds, i);
-            let answer = self.check_operand(spot, kind, text.as_slice());
+        let mut operands = texts.operands();
+        for kind in kinds {
+            let Some(text) = operands.next() else {
+                break;
+            };
+            let answer = self.check_operand(spot, *kind, text);
             judged.add(answer)?;
         }
         Ok(judged)
     }
 
     /// What the operands of an instruction stand for; C1 alone if their number isn't the mnemonic's.
-    fn check_operands(&self, spot: Spot, op: Op, texts: &[Items<u8>]) -> Result<Judged, Memory>
+    fn check_operands(&self, spot: Spot, op: Op, texts: &Texts) -> Result<Judged, Memory>
         requires { IsReady self.now }
         ensures { IfOk result (λ judged. Judges (operands_of (checked_scope self.now) self.now.labels (spot_of spot) (paired op texts.now)) judged) }
     {
@@ -248,7 +237,7 @@ impl<'a> Checker<'a> {
     }
 
     /// Whether an LBL's name is that of a label before it.
-    fn repeats_label(&self, spot: Spot, op: Op, texts: &[Items<u8>]) -> bool
+    fn repeats_label(&self, spot: Spot, op: Op, texts: &Texts) -> bool
         ensures { result ≡ stands_elsewhere (spot_of spot) (option_and_then (label_of self.now.labels) (label_name op texts.now)) }
     {
         match label_name(op, texts) {
@@ -259,7 +248,7 @@ impl<'a> Checker<'a> {
 
     /// The least code of what is wrong beside the operands: C13, C14, C16, C17.
     #[tactic(auto, using(crate::proofs::Judging::first_of))]
-    fn other_fault(&self, spot: Spot, op: Op, texts: &[Items<u8>]) -> Option<CheckCode>
+    fn other_fault(&self, spot: Spot, op: Op, texts: &Texts) -> Option<CheckCode>
         requires { spot.place.before ≤ MAX_ROUTINE_INSTRUCTIONS }
         ensures least { result ≡ least (other_faults self.now.labels (spot_of spot) (record { op = op; texts = texts.now })) }
         ensures room { result ≡ None → spot.place.before < MAX_ROUTINE_INSTRUCTIONS }
@@ -289,7 +278,6 @@ impl<'a> Checker<'a> {
         ensures answer { AnswersCheck (check_of self.now (spot_of spot) (record { op = op; texts = texts.now })) result }
         ensures room { OnOk result (spot.place.before < MAX_ROUTINE_INSTRUCTIONS) }
     {
-        let texts = texts.as_slice();
         let judged = self.check_operands(spot, op, texts)?;
         let other = self.other_fault(spot, op, texts);
         let Judged { args, code } = judged;

@@ -134,7 +134,7 @@ impl LabelTable {
         ensures labels { OnOk result (self.new ≡ self.old ++ labels_from next.old (record { op = op; texts = texts.now } ∷ [])) }
         ensures next { OnOk result (next.new ≡ place_after 1 next.old) }
     {
-        if let Some(name) = label_name(op, texts.as_slice()) {
+        if let Some(name) = label_name(op, texts) {
             self.push(&name, *next)?;
         }
         next.ins = next.ins.checked_add(1).ok_or(Memory)?;

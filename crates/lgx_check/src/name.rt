@@ -3,8 +3,8 @@ ghost use Rattle.std.specs.Prelude.{◌≡◌, ◌&&◌, Some, None, if◌then�
 ghost use Rattle.lgx_num.specs.Name.{is_name};
 ghost use Rattle.spec_language.specs.Checked.{is_label, label_name};
 
-use lgx_num::{Items, Name};
-use lgx_rung::Op;
+use lgx_num::Name;
+use lgx_rung::{Op, Texts};
 
 /// The name that a text is.
 fn name_of(text: &[u8]) -> Option<Name>
@@ -21,11 +21,16 @@ pub(crate) fn is_label(op: Op) -> bool
 }
 
 /// The name that an LBL gives: that of its one operand.
-pub(crate) fn label_name(op: Op, texts: &[Items<u8>]) -> Option<Name>
+pub(crate) fn label_name(op: Op, texts: &Texts) -> Option<Name>
     ensures { result ≡ label_name op texts.now }
 {
-    match texts {
-        [text] if is_label(op) => name_of(text.as_slice()),
-        _ => None,
+    if !is_label(op) {
+        return None;
+    }
+    let mut operands = texts.operands();
+    let text = operands.next()?;
+    match operands.next() {
+        None => name_of(text),
+        Some(_) => None,
     }
 }

@@ -5,7 +5,8 @@ ghost use Rattle.spec_language.specs.OperandForm.{are_grouped, base_of, based_nu
 ghost use Rattle.spec_language.specs.Operands.{decimal, second_number};
 ghost use Rattle.lgx_check.specs.Numbers.{begins_number, number_of, read_byte};
 
-use lgx_num::{Items, split_first};
+use lgx_num::split_first;
+use lgx_rung::Texts;
 
 /// A text that is a number: its value, unless it is outside its range.
 #[derive(Clone, Copy, PartialEq, Eq, Debug)]
@@ -185,11 +186,10 @@ pub(crate) fn decimal(text: &[u8]) -> Option<i32>
 }
 
 /// The number that the second operand's text gives: of a JSR it is to be the count of its inputs.
-pub(crate) fn second_number(texts: &[Items<u8>]) -> Option<i32>
+pub(crate) fn second_number(texts: &Texts) -> Option<i32>
     ensures { result ≡ second_number texts.now }
 {
-    match texts {
-        [_, second, ..] => decimal(second.as_slice()),
-        _ => None,
-    }
+    let mut operands = texts.operands();
+    operands.next()?;
+    decimal(operands.next()?)
 }

@@ -20,26 +20,11 @@ fn same_op(a: Op, b: Op) -> bool
     a == b
 }
 
-/// Whether the texts are the same, one by one.
-fn same_operands(a: &[Items<u8>], b: &[Items<u8>]) -> bool
-    ensures { result ≡ true → a.now ≡ b.now }
-{
-    if a.len() != b.len() {
-        return false;
-    }
-    for i in 0..a.len() {
-        if !same_text(a[i].as_slice(), b[i].as_slice()) {
-            return false;
-        }
-    }
-    true
-}
-
 /// Whether the operands are the same, as they were written.
 fn same_texts(a: &Texts, b: &Texts) -> bool
     ensures { result ≡ true → a.now ≡ b.now }
 {
-    same_operands(a.as_slice(), b.as_slice())
+    same_text(a.joined(), b.joined())
 }
 
 /// Whether two rungs or legs were written the same: mnemonics, operands as they are spelled, and forks.

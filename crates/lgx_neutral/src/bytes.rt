@@ -1,7 +1,6 @@
 // The kinds of byte of neutral text.
 ghost use Rattle.std.specs.Prelude.{◌≡◌};
-ghost use Rattle.lgx_num.specs.Name.{is_letter};
-ghost use Rattle.lgx_rung.specs.Tokens.{is_blank, is_operand_byte, in_run};
+ghost use Rattle.lgx_rung.specs.Tokens.{is_blank, in_run};
 
 /// A letter, of which mnemonics are made.
 const LETTER: u8 = 1;
@@ -31,29 +30,11 @@ pub(crate) fn is_blank(byte: u8) -> bool
     KINDS[byte as usize] & BLANK != 0
 }
 
-/// Whether the byte may be in an operand.
-#[inline(always)]
-fn is_operand_byte(byte: u8) -> bool
-    ensures { result ≡ is_operand_byte byte }
-{
-    KINDS[byte as usize] & OPERAND != 0
-}
-
-#[inline(always)]
-fn is_letter(byte: u8) -> bool
-    ensures { result ≡ is_letter byte }
-{
-    KINDS[byte as usize] & LETTER != 0
-}
-
 /// Whether the byte goes on a run: of an operand's bytes inside parentheses, of letters outside.
 #[inline(always)]
 pub(crate) fn in_run(inside: bool, byte: u8) -> bool
     ensures { result ≡ in_run inside byte }
 {
-    if inside {
-        is_operand_byte(byte)
-    } else {
-        is_letter(byte)
-    }
+    let kind = if inside { OPERAND } else { LETTER };
+    KINDS[byte as usize] & kind != 0
 }

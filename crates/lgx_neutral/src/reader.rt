@@ -71,7 +71,7 @@ impl Reader {
             Expected::Named(op) => self.take_open(op, token),
             Expected::First(op) => self.take_first(alloc, op, token),
             Expected::After(op) => self.take_after(alloc, op, token),
-            Expected::Next(op) => self.take_next(alloc, op, token),
+            Expected::Next(op) => self.take_next(op, token),
             Expected::End => Err(Refusal::Text(TextCode::T1)),
         }
     }
@@ -186,7 +186,7 @@ impl Reader {
     {
         match token {
             Token::Operand(operand) => {
-                self.texts.push(alloc, operand)?;
+                self.texts.push(operand)?;
                 self.place = Expected::After(op);
                 Ok(())
             }
@@ -223,7 +223,7 @@ impl Reader {
 
     /// The operand after a comma.
     #[inline(always)]
-    fn take_next(&mut self, alloc: Global, op: Op, token: Token) -> Result<(), Refusal>
+    fn take_next(&mut self, op: Op, token: Token) -> Result<(), Refusal>
         requires some { 0 < length self.old.texts }
         requires operand { IsFitToken token }
         ensures takes { Takes (text.read_at (next op self.old.texts) (token_of token.entry) self.old.forks self.old.leg) (reading self.new) result }
@@ -232,7 +232,7 @@ impl Reader {
         let Token::Operand(operand) = token else {
             return Err(Refusal::Text(TextCode::T1));
         };
-        self.texts.push(alloc, operand)?;
+        self.texts.push(operand)?;
         self.place = Expected::After(op);
         Ok(())
     }

@@ -1,10 +1,10 @@
 // The canonical text of a rung.
 ghost use Rattle.std.specs.Prelude.{◌≡◌, ◌++◌, OnOk, IfOk};
-ghost use Rattle.lgx_rung.specs.Text.{canon, canon_tokens, list_tokens, operands as operand_tokens};
+ghost use Rattle.lgx_rung.specs.Text.{canon, canon_tokens, list_tokens};
 ghost use Rattle.lgx_rung.specs.Tree.{end, one, fork_of};
 ghost use Rattle.lgx_neutral.specs.Writing.{element_tokens, legs_tokens};
 
-use lgx_num::{Items, Memory};
+use lgx_num::Memory;
 use lgx_rung::{Element, Legs, Op, SourceRung, Texts};
 use std::alloc::Global;
 
@@ -73,22 +73,7 @@ fn write_instruction(text: &mut Vec<u8>, op: Op, texts: &Texts) -> Result<(), Me
 {
     text.extend_from_slice(op.text())?;
     text.push(b'(')?;
-    write_operands(text, texts.as_slice())?;
+    text.extend_from_slice(texts.joined())?;
     text.push(b')')?;
-    Ok(())
-}
-
-/// Operands with commas between them.
-fn write_operands(text: &mut Vec<u8>, operands: &[Items<u8>]) -> Result<(), Memory>
-    ensures { OnOk result (text.new.items ≡ text.old.items ++ canon_tokens (operand_tokens operands.now)) }
-{
-    let [first, others @ ..] = operands else {
-        return Ok(());
-    };
-    text.extend_from_slice(first.as_slice())?;
-    for operand in others {
-        text.push(b',')?;
-        text.extend_from_slice(operand.as_slice())?;
-    }
     Ok(())
 }

@@ -9,3 +9,4 @@ pub mod Lexemes
 pub mod Laws
 pub mod Walks
 pub mod KindCounts
+pub mod Joined

@@ -23,4 +23,4 @@ pub use text::{
     canonical_text_spells_its_rung, text_spells_one_rung, texts_are_read,
     tokens_are_runs_and_single_bytes, worked_texts,
 };
-pub use texts::Texts;
+pub use texts::{Operands, Texts};

@@ -8,7 +8,7 @@ pub returns : goal.returns
 returns c =
     let old = c.args.text.now.items in
     let name = c.in_ok-extend_from_slice.ensures.items ∙ ap (λ x. old ++ x) c.text.ensures in
-    let texts = c.in_ok-write_operands.ensures ∙ ap (λ x. c.push.new.self.items ++ canon_tokens (operands x)) c.as_slice.ensures.texts in
+    let texts = c.in_ok-extend_from_slice-2.ensures.items ∙ ap (λ x. c.push.new.self.items ++ x) c.joined.ensures.canonical in
     c.in_ok-push-2.ensures.items
     ∙ ap (λ x. x ++ 41 ∷ []) (texts ∙ ap (λ x. x ++ canon_tokens (operands c.args.texts.now)) (c.in_ok-push.ensures.items ∙ ap (λ x. x ++ 40 ∷ []) name))
     ∙ instruction_text old (text_of c.args.op) c.args.texts.now

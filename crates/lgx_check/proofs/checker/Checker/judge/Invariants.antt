@@ -8,10 +8,10 @@ use Rattle.lgx_check.specs.Checkers.{checked_scope}
 use Rattle.lgx_check.specs.Spots.{spot_of}
 use Rattle.lgx_check.proofs.checker.Checker.judge.Given as goal
 
-abbrev pub invariant-loop-i : goal.invariant-loop-i
-invariant-loop-i l =
+abbrev pub invariant-loop-kind : goal.invariant-loop-kind
+invariant-loop-kind l =
     let meant = operand_of (checked_scope l.self) l.self.labels (spot_of l.spot) in
     record {
-      args : l.judged.args.items ++ filter_map result_ok (map meant (zip (drop l.i l.kinds) (drop l.i l.texts))) ≡ filter_map result_ok (map meant (zip l.kinds l.texts));
-      code : lesser_of l.judged.code (least (filter_map result_err (map meant (zip (drop l.i l.kinds) (drop l.i l.texts))))) ≡ least (filter_map result_err (map meant (zip l.kinds l.texts)));
+      args : l.judged.args.items ++ filter_map result_ok (map meant (zip (drop l.kind-index l.kinds) l.operands)) ≡ filter_map result_ok (map meant (zip l.kinds l.texts));
+      code : lesser_of l.judged.code (least (filter_map result_err (map meant (zip (drop l.kind-index l.kinds) l.operands)))) ≡ least (filter_map result_err (map meant (zip l.kinds l.texts)));
     }
