@@ -1,23 +1,27 @@
 -- The least of codes, and what the operands stand for, one after another.
-use Rattle.std.proofs.Common.{◌≡◌, ℕ, ◌+◌, ◌<◌, ◌≤◌, Bool, true, false, if◌then◌else◌, List, [], ◌∷◌, ◌++◌, length, drop, get_or, refl, ap, sym, ◌∙◌, append_assoc, arith, Option, Some, None, Result, Ok, Err}
-use Rattle.std.specs.Prelude.{nat_le, filter_map}
+use Rattle.std.proofs.Common.{◌≡◌, ◌≢◌, ℕ, ◌+◌, ◌<◌, ◌≤◌, Bool, true, false, if◌then◌else◌, List, [], ◌∷◌, ◌++◌, length, map, drop, get_or, refl, ap, sym, subst, ◌∙◌, append_assoc, arith, eq-eqb, ne_eqb, Option, Some, None, Result, Ok, Err}
+use Rattle.std.specs.Prelude.{nat_le, filter_map, option_map, ◌==◌}
 use Rattle.std.specs.List.{zip}
 use Rattle.std.specs.Result.{result_ok, result_err}
 use Rattle.std.proofs.lemmas.Bool.Decides.{nat_tests}
 use Rattle.std.proofs.lemmas.List.{append-nil, drop_more, drop_all}
 use Rattle.lgx_num.specs.declared.place.Operand.{Operand}
 use Rattle.lgx_rung.specs.declared.fault.CheckCode.{CheckCode}
-use Rattle.lgx_rung.specs.declared.fault.CheckCode.TheVariants.{C13, C14, C16, C17}
+use Rattle.lgx_rung.specs.declared.fault.CheckCode.TheVariants.{C1, C13, C14, C16, C17}
 use Rattle.spec_base.specs.FirstCause.{where_true}
-use Rattle.std.specs.Prelude.{ℤ}
 use Rattle.lgx_rung.specs.declared.op.Op.{Op}
 use Rattle.lgx_rung.specs.declared.operands.OperandKind.{OperandKind}
 use Rattle.lgx_rung.specs.OperandTable.{operand_kinds}
 use Rattle.lgx_rung.specs.Tree.{SourceIns}
 use Rattle.lgx_rung.proofs.KindCounts.{kinds_counted}
-use Rattle.spec_language.specs.Checked.{answered, code_number, Label, least, lesser, other_faults, settled, Spot}
+use Rattle.spec_language.specs.Operands.{paired, second_number}
+use Rattle.spec_language.specs.Checked.{answered, CheckScope, code_number, Label, least, lesser, operand_of, operands_of, other_faults, settled, Spot}
 use Rattle.spec_language.proofs.Outlines.{some_lesser}
+use Rattle.lgx_check.specs.Answers.{AnswersArgs, AnswersOperand}
 use Rattle.lgx_check.specs.Judging.{lesser_of}
+use Rattle.lgx_check.specs.Pairs.{in_pairs}
+use Rattle.lgx_check.specs.declared.error.OperandError.{OperandError}
+use Rattle.lgx_check.specs.declared.error.OperandError.TheVariants.{Code, Memory as no_memory}
 
 -- ---- the lesser of two
 
@@ -145,10 +149,73 @@ kept_args old meant c p = rw p (sym (append-nil old))
 pub added_code : (code : Option CheckCode) (meant : Result Operand CheckCode) (c : CheckCode) → meant ≡ Err c → lesser_of code (Some c) ≡ lesser_of code (least (filter_map result_err (meant ∷ [])))
 added_code code meant c p = rw p refl
 
+-- ---- as many operands as kinds, or not
+
+pub as_many : (kinds : List OperandKind) (texts : List (List ℕ)) → length kinds ≡ length texts → in_pairs kinds texts ≡ Some (zip kinds texts)
+as_many kinds texts h = ap (λ b. if b then Some (zip kinds texts) else None) (eq-eqb (length kinds) (length texts) h)
+
+pub not_as_many : (kinds : List OperandKind) (texts : List (List ℕ)) → length kinds ≢ length texts → in_pairs kinds texts ≡ None
+not_as_many kinds texts h = ap (λ b. if b then Some (zip kinds texts) else None) (ne_eqb (length kinds) (length texts) h)
+
+pub too_many_or_few : (s : CheckScope) (ls : List Label) (spot : Spot) (pairs : Option (List (OperandKind × List ℕ))) → pairs ≡ None → least (filter_map result_err (operands_of s ls spot pairs)) ≡ Some C1
+too_many_or_few s ls spot pairs h = rw h refl
+
+abbrev paired_by : List (List ℕ) → Option (List OperandKind) → Option (List (OperandKind × List ℕ))
+paired_by texts kinds = option_map (λ ks. zip ks texts) kinds
+
+pub paired_fixed : (op : Op) (texts : List (List ℕ)) (kinds : List OperandKind) → operand_kinds op (second_number texts) (length texts) ≡ (if length kinds == length texts then Some kinds else None) → paired op texts ≡ in_pairs kinds texts
+paired_fixed op texts kinds h = ap (paired_by texts) h ∙ go (length kinds == length texts)
+  where
+    go : (b : Bool) → paired_by texts (if b then Some kinds else None) ≡ (if b then Some (zip kinds texts) else None)
+    go true = refl
+    go false = refl
+
+pub paired_handed : (op : Op) (texts : List (List ℕ)) (kinds : List OperandKind) → operand_kinds op (second_number texts) (length texts) ≡ Some kinds → paired op texts ≡ in_pairs kinds texts
+paired_handed op texts kinds h = ap (paired_by texts) h ∙ sym (as_many kinds texts (kinds_counted op (second_number texts) (length texts) kinds h).0)
+
+pub unpaired : (op : Op) (texts : List (List ℕ)) → operand_kinds op (second_number texts) (length texts) ≡ None → paired op texts ≡ None
+unpaired op texts h = ap (paired_by texts) h
+
+-- ---- operands that were all judged
+
+pub judged_args : (s : CheckScope) (ls : List Label) (spot : Spot) (kinds : List OperandKind) (texts operands : List (List ℕ)) (i : ℕ) (args : List Operand)
+    → length kinds ≡ length texts → length kinds ≤ i
+    → args ++ filter_map result_ok (map (operand_of s ls spot) (zip (drop i kinds) operands)) ≡ filter_map result_ok (map (operand_of s ls spot) (zip kinds texts))
+    → args ≡ filter_map result_ok (operands_of s ls spot (in_pairs kinds texts))
+judged_args s ls spot kinds texts operands i args same end h =
+    sym (append-nil args)
+    ∙ ap (λ ps. args ++ filter_map result_ok (map (operand_of s ls spot) ps)) (sym (zip_end kinds i operands end))
+    ∙ h
+    ∙ ap (λ ps. filter_map result_ok (operands_of s ls spot ps)) (sym (as_many kinds texts same))
+
+pub judged_code : (s : CheckScope) (ls : List Label) (spot : Spot) (kinds : List OperandKind) (texts operands : List (List ℕ)) (i : ℕ) (code : Option CheckCode)
+    → length kinds ≡ length texts → length kinds ≤ i
+    → lesser_of code (least (filter_map result_err (map (operand_of s ls spot) (zip (drop i kinds) operands)))) ≡ least (filter_map result_err (map (operand_of s ls spot) (zip kinds texts)))
+    → least (filter_map result_err (operands_of s ls spot (in_pairs kinds texts))) ≡ code
+judged_code s ls spot kinds texts operands i code same end h =
+    ap (λ ps. least (filter_map result_err (operands_of s ls spot ps))) (as_many kinds texts same)
+    ∙ sym h
+    ∙ ap (λ ps. lesser_of code (least (filter_map result_err (map (operand_of s ls spot) ps)))) (zip_end kinds i operands end)
+    ∙ lesser_none code
+
+-- ---- a single operand
+
+pub one_operand : (s : CheckScope) (ls : List Label) (spot : Spot) (kind : OperandKind) (text : List ℕ) (texts rest : List (List ℕ)) → texts ≡ text ∷ rest → length rest ≡ 0
+    → operands_of s ls spot (in_pairs (kind ∷ []) texts) ≡ operand_of s ls spot (kind, text) ∷ []
+one_operand s ls spot kind text texts [] h z = ap (λ ts. operands_of s ls spot (in_pairs (kind ∷ []) ts)) h
+one_operand s ls spot kind text texts (x ∷ xs) h z = absurd (omega arith)
+
+pub one_kept : (meant : Result Operand CheckCode) (o : Operand) → meant ≡ Ok o → AnswersArgs (meant ∷ []) (Ok (o ∷ []))
+one_kept meant o p = rw p (refl, refl)
+
+pub one_refused : (meant : Result Operand CheckCode) (error : OperandError) → AnswersOperand meant (Err error) → AnswersArgs (meant ∷ []) (Err error)
+one_refused meant (Code code) p = rw p refl
+one_refused meant no_memory p = tt
+
 -- ---- an instruction that was judged
 
-pub counted : (op : Op) (second : Option ℤ) (given : ℕ) (kinds : List OperandKind) → Some kinds ≡ operand_kinds op second given → length kinds ≡ given
-counted op second given kinds h = (kinds_counted op second given kinds (sym h)).0
+pub refused_code : (meant : List (Result Operand CheckCode)) (error : OperandError) (code : CheckCode) → AnswersArgs meant (Err error) → error ≡ Code code → Some code ≡ least (filter_map result_err meant)
+refused_code meant error code h is = sym (subst (λ e. AnswersArgs meant (Err e)) is h)
 
 pub settled_by : (ls : List Label) (spot : Spot) (i : SourceIns) (operands : List (Result Operand CheckCode)) (args : List Operand) (code other o : Option CheckCode)
     → args ≡ filter_map result_ok operands → code ≡ least (filter_map result_err operands) → other ≡ least (other_faults ls spot i) → o ≡ lesser_of code other

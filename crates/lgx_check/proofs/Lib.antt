@@ -3,6 +3,7 @@ pub mod Marks
 pub mod Names
 pub mod Labels
 pub mod Judging
+pub mod Taken
 pub mod Walking
 pub mod Laws
 pub mod Known

@@ -1,8 +1,10 @@
 -- What is answered: what is meant, or that there was no memory.
-use Rattle.std.specs.Prelude.{◌≡◌, Result, Ok, Err, ⊤}
+use Rattle.std.specs.Prelude.{◌≡◌, List, filter_map, Some, None, Result, Ok, Err, ⊤}
+use Rattle.std.specs.Result.{result_ok, result_err}
 use Rattle.lgx_num.specs.declared.place.Operand.{Operand}
 use Rattle.lgx_rung.specs.declared.fault.CheckCode.{CheckCode}
 use Rattle.lgx_rung.specs.declared.fault.CheckFault.{CheckFault}
+use Rattle.spec_language.specs.Checked.{least}
 use Rattle.lgx_check.specs.declared.error.CheckError.{CheckError}
 use Rattle.lgx_check.specs.declared.error.CheckError.TheVariants.{Check, Memory}
 use Rattle.lgx_check.specs.declared.error.OperandError.{OperandError}
@@ -16,6 +18,12 @@ AnswersAs seen meant (Err Memory) = ⊤
 
 abbrev pub AnswersCheck : {A : Type 0} → Result A CheckFault → Result A CheckError → Type 0
 AnswersCheck meant answer = AnswersAs (λ x. x) meant answer
+
+-- the operands of an instruction, as they are meant one by one, or the least code of those that stand for nothing
+abbrev pub AnswersArgs : List (Result Operand CheckCode) → Result (List Operand) OperandError → Type 0
+AnswersArgs meant (Ok args) = (args ≡ filter_map result_ok meant) × (least (filter_map result_err meant) ≡ None)
+AnswersArgs meant (Err (Code code)) = least (filter_map result_err meant) ≡ Some code
+AnswersArgs meant (Err no_memory) = ⊤
 
 -- the same of an operand
 abbrev pub AnswersOperand : Result Operand CheckCode → Result Operand OperandError → Type 0

@@ -1,6 +1,8 @@
 pub mod Numbers
 pub mod Scopes
 pub mod Answers
+pub mod Pairs
+pub mod Taken
 pub mod LabelLists
 pub mod Labels
 pub mod Spots

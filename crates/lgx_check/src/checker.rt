@@ -1,6 +1,5 @@
 // The checker of one routine, and what an instruction's operands stand for.
-ghost use Rattle.std.specs.Prelude.{◌^◌, ◌≡◌, ◌<◌, ◌≤◌, ◌++◌, ◌∷◌, [], not, ◌&&◌, Some, None, Result, length, map, filter_map, option_and_then, option_map, true, IfOk, IfErr, OnOk};
-ghost use Rattle.std.specs.List.{zip};
+ghost use Rattle.std.specs.Prelude.{◌^◌, ◌≡◌, ◌<◌, ◌≤◌, ◌++◌, ◌∷◌, [], Some, None, Result, length, filter_map, option_and_then, option_map, true, IfOk, OnOk};
 ghost use Rattle.std.specs.Result.{result_ok, result_err};
 ghost use Rattle.lgx_num.specs.declared.place.Operand.{Operand as AnyOperand};
 ghost use Rattle.lgx_num.specs.declared.place.Operand.TheVariants as operand;
@@ -8,10 +7,11 @@ ghost use Rattle.lgx_rung.specs.declared.fault.CheckCode.{CheckCode as AnyCode};
 ghost use Rattle.spec_base.specs.declared.limits.TheConstants.{MAX_ROUTINE_INSTRUCTIONS};
 ghost use Rattle.spec_language.specs.Checked.{code_number, is_entry, label_name, label_of, least, lesser, operand_of, operands_of, other_faults, stands_elsewhere};
 ghost use Rattle.spec_language.specs.Operands.{paired};
-ghost use Rattle.lgx_check.specs.Answers.{AnswersCheck, AnswersOperand};
+ghost use Rattle.lgx_check.specs.Answers.{AnswersArgs, AnswersCheck, AnswersOperand};
 ghost use Rattle.lgx_check.specs.Checkers.{IsReady, check_of, checked_scope};
-ghost use Rattle.lgx_check.specs.Judging.{Judges, lesser_of};
+ghost use Rattle.lgx_check.specs.Judging.{lesser_of};
 ghost use Rattle.lgx_check.specs.Labels.{elsewhere};
+ghost use Rattle.lgx_check.specs.Pairs.{in_pairs};
 ghost use Rattle.lgx_check.specs.Scopes.{scope_of};
 ghost use Rattle.lgx_check.specs.Spots.{spot_of};
 
@@ -22,8 +22,8 @@ use crate::number::second_number;
 use crate::operand::{count_operand, data_operand, event_task, name_operand};
 use crate::scope::CheckScope;
 use crate::spot::Spot;
-use lgx_num::{Items, Memory, Name, Operand};
-use lgx_rung::{CheckCode, CheckFault, Ins, Op, OperandKind, Texts};
+use lgx_num::{Memory, Name, Operand};
+use lgx_rung::{Args, CheckCode, CheckFault, Ins, Op, OperandKind, Texts};
 use lgx_types::NameIndex;
 use spec_base::limits::MAX_ROUTINE_INSTRUCTIONS;
 use std::alloc::Global;
@@ -38,7 +38,7 @@ pub(crate) struct Checker<'a> {
     pub(crate) labels: LabelTable,
 }
 
-/// What the operands of an instruction stand for, and the least code of those that stand for nothing.
+/// What the first of several operands stand for, and the least code of those that stand for nothing.
 #[derive(Drop)]
 struct Judged {
     args: Vec<Operand>,
@@ -67,6 +67,22 @@ fn code_number(code: CheckCode) -> u32
         CheckCode::C15 => 15,
         CheckCode::C16 => 16,
         CheckCode::C17 => 17,
+    }
+}
+
+/// The lesser of a code and another, if there is one.
+fn lesser(code: CheckCode, other: Option<CheckCode>) -> CheckCode
+    ensures { Some result ≡ lesser code other }
+{
+    match other {
+        None => code,
+        Some(other) => {
+            if code_number(code) <= code_number(other) {
+                code
+            } else {
+                other
+            }
+        }
     }
 }
 
@@ -166,6 +182,7 @@ impl<'a> Checker<'a> {
     }
 
     /// What an operand stands for where an operand of the kind is wanted.
+    #[inline(never)]
     fn check_operand(
         &self,
         spot: Spot,
@@ -181,31 +198,50 @@ impl<'a> Checker<'a> {
                     .routines
                     .find(text)
                     .map(|number| Operand::Routine(number));
-                Ok(name_operand(text, routine, CheckCode::C11)?)
+                name_operand(text, routine, CheckCode::C11)
             }
-            OperandKind::ParameterCount => Ok(count_operand(text)?),
-            OperandKind::JumpLabel => {
-                let label = self.find_label(text);
-                Ok(name_operand(text, label, CheckCode::C12)?)
-            }
+            OperandKind::ParameterCount => count_operand(text),
+            OperandKind::JumpLabel => name_operand(text, self.find_label(text), CheckCode::C12),
             OperandKind::OwnLabel => {
                 let label = Some(Operand::Label(spot.place.rung));
-                Ok(name_operand(text, label, CheckCode::C2)?)
+                name_operand(text, label, CheckCode::C2)
             }
             OperandKind::EventTask => {
                 let task = event_task(self.scope.tasks, text).map(|number| Operand::Task(number));
-                Ok(name_operand(text, task, CheckCode::C15)?)
+                name_operand(text, task, CheckCode::C15)
             }
             OperandKind::QuestionMark if text == b"?".as_slice() => Ok(Operand::Blank),
             _ => data_operand(self.alloc, self.scope, kind, text),
         }
     }
 
-    /// What operands of these kinds stand for.
-    fn judge(&self, spot: Spot, kinds: &[OperandKind], texts: &Texts) -> Result<Judged, Memory>
-        requires ready { IsReady self.now }
-        requires same { length kinds.now ≡ length texts.now }
-        ensures { IfOk result (λ judged. Judges (map (operand_of (checked_scope self.now) self.now.labels (spot_of spot)) (zip kinds.now texts.now)) judged) }
+    /// What a single operand of this kind stands for, or the least code: C1 if there is no operand or there are others.
+    fn judge_one(&self, spot: Spot, kind: OperandKind, texts: &Texts) -> Result<Args, OperandError>
+        requires { IsReady self.now }
+        ensures { AnswersArgs (operands_of (checked_scope self.now) self.now.labels (spot_of spot) (in_pairs (kind ∷ []) texts.now)) result }
+    {
+        let mut operands = texts.operands();
+        let Some(text) = operands.next() else {
+            return Err(OperandError::Code(CheckCode::C1));
+        };
+        if !operands.is_empty() {
+            return Err(OperandError::Code(CheckCode::C1));
+        }
+        match self.check_operand(spot, kind, text) {
+            Ok(operand) => Ok(Args::one(operand)),
+            Err(error) => Err(error),
+        }
+    }
+
+    /// What operands of these kinds stand for, or the least code: C1 if there are fewer of them or more.
+    fn judge_all(
+        &self,
+        spot: Spot,
+        kinds: &[OperandKind],
+        texts: &Texts,
+    ) -> Result<Args, OperandError>
+        requires { IsReady self.now }
+        ensures { AnswersArgs (operands_of (checked_scope self.now) self.now.labels (spot_of spot) (in_pairs kinds.now texts.now)) result }
     {
         let mut judged = Judged {
             args: Vec::with_capacity(self.alloc, kinds.len())?,
@@ -214,25 +250,52 @@ impl<'a> Checker<'a> {
         let mut operands = texts.operands();
         for kind in kinds {
             let Some(text) = operands.next() else {
-                break;
+                return Err(OperandError::Code(CheckCode::C1));
             };
             let answer = self.check_operand(spot, *kind, text);
             judged.add(answer)?;
         }
-        Ok(judged)
+        if !operands.is_empty() {
+            return Err(OperandError::Code(CheckCode::C1));
+        }
+        let Judged { args, code } = judged;
+        match code {
+            None => Ok(Args::of(args)),
+            Some(code) => Err(OperandError::Code(code)),
+        }
     }
 
-    /// What the operands of an instruction stand for; C1 alone if their number isn't the mnemonic's.
-    fn check_operands(&self, spot: Spot, op: Op, texts: &Texts) -> Result<Judged, Memory>
+    /// What operands of these kinds stand for, or the least code: C1 if there are fewer of them or more.
+    fn judge(&self, spot: Spot, kinds: &[OperandKind], texts: &Texts) -> Result<Args, OperandError>
         requires { IsReady self.now }
-        ensures { IfOk result (λ judged. Judges (operands_of (checked_scope self.now) self.now.labels (spot_of spot) (paired op texts.now)) judged) }
+        ensures { AnswersArgs (operands_of (checked_scope self.now) self.now.labels (spot_of spot) (in_pairs kinds.now texts.now)) result }
+    {
+        match kinds {
+            [kind] => self.judge_one(spot, *kind, texts),
+            _ => self.judge_all(spot, kinds, texts),
+        }
+    }
+
+    /// The same of the operands of a call, of an SBR or of a RET, whose number isn't fixed.
+    #[inline(never)]
+    fn judge_handed(&self, spot: Spot, op: Op, texts: &Texts) -> Result<Args, OperandError>
+        requires { IsReady self.now }
+        ensures { AnswersArgs (operands_of (checked_scope self.now) self.now.labels (spot_of spot) (paired op texts.now)) result }
     {
         match op.operand_kinds(second_number(texts), texts.len()) {
             Some(kinds) => self.judge(spot, kinds.as_slice(), texts),
-            None => Ok(Judged {
-                args: Vec::new(self.alloc),
-                code: Some(CheckCode::C1),
-            }),
+            None => Err(OperandError::Code(CheckCode::C1)),
+        }
+    }
+
+    /// What the operands of an instruction stand for, or the least code: C1 if their number isn't the mnemonic's.
+    fn check_operands(&self, spot: Spot, op: Op, texts: &Texts) -> Result<Args, OperandError>
+        requires { IsReady self.now }
+        ensures { AnswersArgs (operands_of (checked_scope self.now) self.now.labels (spot_of spot) (paired op texts.now)) result }
+    {
+        match op.own_kinds() {
+            Some(kinds) => self.judge(spot, kinds, texts),
+            None => self.judge_handed(spot, op, texts),
         }
     }
 
@@ -278,19 +341,20 @@ impl<'a> Checker<'a> {
         ensures answer { AnswersCheck (check_of self.now (spot_of spot) (record { op = op; texts = texts.now })) result }
         ensures room { OnOk result (spot.place.before < MAX_ROUTINE_INSTRUCTIONS) }
     {
-        let judged = self.check_operands(spot, op, texts)?;
+        let judged = self.check_operands(spot, op, texts);
         let other = self.other_fault(spot, op, texts);
-        let Judged { args, code } = judged;
-        match lesser_of(code, other) {
-            None => Ok(Ins {
-                op,
-                args: Items::of(args),
-            }),
-            Some(code) => Err(CheckError::Check(CheckFault {
-                code,
-                rung: spot.place.rung,
-                ins: spot.place.ins,
-            })),
-        }
+        let code = match judged {
+            Ok(args) => match other {
+                None => return Ok(Ins { op, args }),
+                Some(code) => code,
+            },
+            Err(OperandError::Code(code)) => lesser(code, other),
+            Err(OperandError::Memory) => return Err(CheckError::Memory),
+        };
+        Err(CheckError::Check(CheckFault {
+            code,
+            rung: spot.place.rung,
+            ins: spot.place.ins,
+        }))
     }
 }

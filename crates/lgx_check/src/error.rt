@@ -54,3 +54,19 @@ impl From<CheckCode> for OperandError {
         OperandError::Code(code)
     }
 }
+
+impl From<Memory> for OperandError {
+    ghost from_gives = { λ _ e. e ≡ no_memory_for_operand };
+
+    fn from(_: Memory) -> Self {
+        OperandError::Memory
+    }
+}
+
+impl From<AllocError> for OperandError {
+    ghost from_gives = { λ _ e. e ≡ no_memory_for_operand };
+
+    fn from(_: AllocError) -> Self {
+        OperandError::Memory
+    }
+}

@@ -2,45 +2,50 @@
 ghost use Rattle.std.specs.Prelude.{◌^◌, ◌≡◌, ◌<◌, ◌&&◌, true, length, position};
 ghost use Rattle.lgx_num.specs.Name.{same};
 ghost use Rattle.spec_language.specs.declared.tag.Scope.TheVariants.{Program};
-ghost use Rattle.spec_language.specs.Operands.{count_operand, data_operand, found_as, name_operand};
+ghost use Rattle.spec_language.specs.Operands.{count_operand, data_operand, flag_as, found_as, name_operand, number_as};
 ghost use Rattle.spec_language.specs.Resolution.{found};
 ghost use Rattle.lgx_check.specs.Answers.{AnswersOperand};
+ghost use Rattle.lgx_check.specs.Numbers.{number_of};
 
 use crate::error::OperandError;
-use crate::number::{decimal, read_number};
-use crate::place::{cause_of, flag, flag_as, number_as, place_as};
+use crate::number::{Number, decimal, read_number};
+use crate::place::{cause_of, flag, flag_as, found_operand, number_as};
 use crate::scope::CheckScope;
-use lgx_num::{Operand, is_name, same};
+use lgx_num::{Flag, Operand, is_name, same};
 use lgx_rung::{CheckCode, OperandKind, as_count};
 use lgx_tags::{Scope, TagError};
 use spec_language::TaskName;
 use std::alloc::Global;
 
 /// The operand that a name stands for: C2 if the text is no name, the cause if nothing has the name.
+#[inline(never)]
 pub(crate) fn name_operand(
     text: &[u8],
     named: Option<Operand>,
     cause: CheckCode,
-) -> Result<Operand, CheckCode>
-    ensures { result ≡ name_operand text.now named cause }
+) -> Result<Operand, OperandError>
+    ensures { AnswersOperand (name_operand text.now named cause) result }
 {
-    if is_name(text) {
-        named.ok_or(cause)
-    } else {
-        Err(CheckCode::C2)
+    if !is_name(text) {
+        return Err(OperandError::Code(CheckCode::C2));
+    }
+    match named {
+        Some(operand) => Ok(operand),
+        None => Err(OperandError::Code(cause)),
     }
 }
 
 /// A count of inputs: C2 if the text is no number that may be one.
-pub(crate) fn count_operand(text: &[u8]) -> Result<Operand, CheckCode>
-    ensures { result ≡ count_operand text.now }
+#[inline(never)]
+pub(crate) fn count_operand(text: &[u8]) -> Result<Operand, OperandError>
+    ensures { AnswersOperand (count_operand text.now) result }
 {
     let Some(number) = decimal(text) else {
-        return Err(CheckCode::C2);
+        return Err(OperandError::Code(CheckCode::C2));
     };
     match as_count(number) {
         Some(count) => Ok(Operand::Number(count as i32)),
-        None => Err(CheckCode::C2),
+        None => Err(OperandError::Code(CheckCode::C2)),
     }
 }
 
@@ -75,12 +80,28 @@ pub(crate) fn data_operand(
     ensures { AnswersOperand (data_operand scope.now.tags.now.declarations (Program scope.now.program) kind text.now) result }
 {
     if let Some(flag) = flag(text) {
-        return Ok(flag_as(kind, flag)?);
+        return flag_operand(kind, flag);
     }
     if let Some(number) = read_number(text) {
-        return Ok(number_as(kind, number)?);
+        return number_operand(kind, number);
     }
     place_operand(alloc, scope, kind, text)
+}
+
+/// A flag as an operand of the kind.
+#[inline(never)]
+fn flag_operand(kind: OperandKind, flag: Flag) -> Result<Operand, OperandError>
+    ensures { AnswersOperand (flag_as kind flag) result }
+{
+    Ok(flag_as(kind, flag)?)
+}
+
+/// A number as an operand of the kind.
+#[inline(never)]
+fn number_operand(kind: OperandKind, number: Number) -> Result<Operand, OperandError>
+    ensures { AnswersOperand (number_as kind (number_of number)) result }
+{
+    Ok(number_as(kind, number)?)
 }
 
 /// What a text names as an operand of the kind.
@@ -97,7 +118,7 @@ fn place_operand(
         .tags
         .resolve(alloc, Scope::Program(scope.program), text)
     {
-        Ok(found) => Ok(place_as(scope.tags.types(), kind, found)?),
+        Ok(found) => found_operand(scope.tags.types(), kind, found),
         Err(TagError::Tag(code)) => Err(OperandError::Code(cause_of(code))),
         Err(TagError::Memory) => Err(OperandError::Memory),
     }

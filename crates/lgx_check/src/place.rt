@@ -1,19 +1,20 @@
 // Places, numbers and flags where an operand of a kind is wanted.
-ghost use Rattle.std.specs.Prelude.{◌≡◌, ◌&&◌, not, Ok, Err, if◌then◌else◌};
-ghost use Rattle.lgx_rung.specs.declared.fault.CheckCode.TheVariants.{C2};
+ghost use Rattle.std.specs.Prelude.{◌≡◌};
 ghost use Rattle.spec_language.specs.Layout.{single};
 ghost use Rattle.spec_language.specs.OperandForm.{flag};
 ghost use Rattle.spec_language.specs.Operands.{block_of, cause_of, flag_as, is_bool, is_counter, is_timer, no_place, number_as, path_of, place_as};
-ghost use Rattle.spec_language.specs.Resolution.{is_array};
 ghost use Rattle.lgx_types.specs.Tables.{HasSize};
+ghost use Rattle.lgx_check.specs.Answers.{AnswersOperand};
 ghost use Rattle.lgx_check.specs.Numbers.{number_of};
+ghost use Rattle.lgx_check.specs.Taken.{is_taken, operand_as};
 
+use crate::error::OperandError;
 use crate::number::Number;
 use lgx_num::{Block, Flag, Operand, Path};
 use lgx_rung::{CheckCode, OperandKind};
 use lgx_tags::data_type::{integer_bits, is_array, is_integer, kind_of, single};
 use lgx_types::TypeTable;
-use spec_language::{Base, Found, TagCode};
+use spec_language::{Base, DataType, Found, TagCode};
 
 fn is_bool(base: Base) -> bool
     ensures { result ≡ is_bool base }
@@ -56,65 +57,60 @@ fn block_of(types: &TypeTable, found: Found) -> Block
     }
 }
 
-/// The path to what was found, if the test holds of it and it is no whole array; C2 if not.
-fn one_place(test: bool, found: Found) -> Result<Path, CheckCode>
-    ensures { result ≡ (if test && not (is_array found.of) then Ok (path_of found) else Err C2) }
+/// Whether what was found is of the kind, by its type.
+fn is_taken(kind: OperandKind, of: DataType) -> bool
+    ensures { result ≡ is_taken kind of }
 {
-    if test && !is_array(found.of) {
-        Ok(path_of(found))
-    } else {
-        Err(CheckCode::C2)
-    }
-}
-
-/// What was found as a block, if the test holds of it; C2 if not.
-fn block_where(test: bool, types: &TypeTable, found: Found) -> Result<Block, CheckCode>
-    requires { HasSize types.now (single found.of.base) }
-    ensures { result ≡ (if test then Ok (block_of types.now found) else Err C2) }
-{
-    if test {
-        Ok(block_of(types, found))
-    } else {
-        Err(CheckCode::C2)
-    }
-}
-
-/// What was found as an operand of the kind: C2 if it isn't of that kind.
-pub(crate) fn place_as(
-    types: &TypeTable,
-    kind: OperandKind,
-    found: Found,
-) -> Result<Operand, CheckCode>
-    requires { HasSize types.now (single found.of.base) }
-    ensures { result ≡ place_as types.now kind found }
-{
-    let of = found.of;
     match kind {
-        OperandKind::BoolPlace | OperandKind::BoolOrFlag => {
-            Ok(Operand::Cell(one_place(is_bool(of.base), found)?))
+        OperandKind::BoolPlace | OperandKind::BoolOrFlag => is_bool(of.base) && !is_array(of),
+        OperandKind::IntegerPlace | OperandKind::IntegerOrNumber => is_integer(of) && !is_array(of),
+        OperandKind::WholeTimer => is_timer(of.base) && !is_array(of),
+        OperandKind::WholeCounter => is_counter(of.base) && !is_array(of),
+        OperandKind::TimerOrCounter => {
+            (is_timer(of.base) || is_counter(of.base)) && !is_array(of)
         }
-        OperandKind::IntegerPlace | OperandKind::IntegerOrNumber => {
-            Ok(Operand::Cell(one_place(is_integer(of), found)?))
-        }
-        OperandKind::WholeTimer => Ok(Operand::Timer(one_place(is_timer(of.base), found)?)),
-        OperandKind::WholeCounter => Ok(Operand::Counter(one_place(is_counter(of.base), found)?)),
-        OperandKind::TimerOrCounter if is_timer(of.base) => {
-            Ok(Operand::Timer(one_place(true, found)?))
-        }
-        OperandKind::TimerOrCounter => Ok(Operand::Counter(one_place(is_counter(of.base), found)?)),
-        OperandKind::CopySource | OperandKind::CopyTarget => {
-            Ok(Operand::Block(block_where(!is_bool(of.base), types, found)?))
-        }
-        OperandKind::FillTarget => {
-            Ok(Operand::Block(block_where(integer_bits(of.base) > 0, types, found)?))
-        }
+        OperandKind::CopySource | OperandKind::CopyTarget => !is_bool(of.base),
+        OperandKind::FillTarget => integer_bits(of.base) > 0,
         OperandKind::QuestionMark
         | OperandKind::RoutineName
         | OperandKind::ParameterCount
         | OperandKind::JumpLabel
         | OperandKind::OwnLabel
-        | OperandKind::EventTask => Err(CheckCode::C2),
+        | OperandKind::EventTask => false,
     }
+}
+
+/// What was found as an operand of the kind, which takes it.
+fn operand_as(types: &TypeTable, kind: OperandKind, found: Found) -> Operand
+    requires { HasSize types.now (single found.of.base) }
+    ensures { result ≡ operand_as types.now kind found }
+{
+    match kind {
+        OperandKind::WholeTimer => Operand::Timer(path_of(found)),
+        OperandKind::WholeCounter => Operand::Counter(path_of(found)),
+        OperandKind::TimerOrCounter if is_timer(found.of.base) => Operand::Timer(path_of(found)),
+        OperandKind::TimerOrCounter => Operand::Counter(path_of(found)),
+        OperandKind::CopySource | OperandKind::CopyTarget | OperandKind::FillTarget => {
+            Operand::Block(block_of(types, found))
+        }
+        _ => Operand::Cell(path_of(found)),
+    }
+}
+
+/// What was found as an operand of the kind: C2 if it isn't of that kind.
+#[tactic(auto, using(crate::proofs::Taken::taken_as, crate::proofs::Taken::not_taken))]
+pub(crate) fn found_operand(
+    types: &TypeTable,
+    kind: OperandKind,
+    found: Found,
+) -> Result<Operand, OperandError>
+    requires { HasSize types.now (single found.of.base) }
+    ensures { AnswersOperand (place_as types.now kind found) result }
+{
+    if !is_taken(kind, found.of) {
+        return Err(OperandError::Code(CheckCode::C2));
+    }
+    Ok(operand_as(types, kind, found))
 }
 
 /// The code of a number or a flag that isn't taken: C3 if a place is wanted that is written, or a BOOL or an integer.

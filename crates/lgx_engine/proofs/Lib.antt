@@ -16,3 +16,4 @@ pub mod Shortly
 pub mod KnownOperands
 pub mod WholeScans
 pub mod Elements
+pub mod Copied

@@ -32,6 +32,10 @@ pub(crate) fn clear_words(words: &mut [u64], from: u32, end: u32)
     requires before { Cleared words.old words.old from }
     ensures { Cleared words.old words.new end }
 {
+    if end - from == 1 {
+        words[from as usize] = 0;
+        return;
+    }
     for word in from..end {
         words[word as usize] = 0;
     }

@@ -106,3 +106,10 @@ pub end_not_more : (line after w x : List ℕ) (ws : List (List ℕ)) → words 
 end_not_more line after w x ws e f =
     ap (λ vs. bytes_eq (spaced vs) (codes "end")) (e ∙ ap (λ vs. w ∷ vs) f)
     ∙ false_from_ne_true (bytes_eq (spaced (w ∷ x ∷ ws)) (codes "end")) (λ h. true≢false (sym (spaced_space w x ws) ∙ ap (has_byte 32) ((bytes_eq-Decides (spaced (w ∷ x ∷ ws)) (codes "end")).0 h)))
+
+pub end_other : (line word after : List ℕ) → words line ≡ word ∷ words after → bytes_eq word (codes "end") ≡ false → is_end line ≡ false
+end_other line word after e h = by_rest (words after) refl
+  where
+    by_rest : (ws : List (List ℕ)) → words after ≡ ws → is_end line ≡ false
+    by_rest [] f = end_alone line word (e ∙ ap (λ vs. word ∷ vs) f) ∙ h
+    by_rest (x ∷ ws) f = end_not_more line after word x ws e f

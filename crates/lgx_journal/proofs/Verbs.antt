@@ -1,5 +1,5 @@
 -- What an edit or an action is, by its verb.
-use Rattle.std.proofs.Common.{◌≡◌, ℕ, List, [], ◌∷◌, Bool, true, false, cond, IsTrue, IsSome, IfSome, ◌↔◌, true≢false, sym, Option, Some, None, option_map, codes, refl, ap, ◌∙◌}
+use Rattle.std.proofs.Common.{◌≡◌, ℕ, List, [], ◌∷◌, Bool, true, false, cond, IsTrue, IsSome, IfSome, ◌↔◌, true≢false, sym, Option, Some, None, option_map, codes, refl, ap, ◌∙◌, length, eqb, nat_eq, arith}
 use Rattle.std.specs.Option.{option_or}
 use Rattle.std.specs.Str.{bytes_eq}
 use Rattle.std.proofs.lemmas.Slice.Eq.{bytes_eq-Decides}
@@ -8,10 +8,12 @@ use Rattle.spec_machine.specs.declared.event.Action.{Action}
 use Rattle.spec_machine.specs.declared.event.Action.TheVariants.{Test, Untest, Assemble, Cancel}
 use Rattle.spec_machine.specs.declared.event.Event.TheVariants.{Cpu, Tick}
 use Rattle.spec_text.specs.declared.script.EventRun.{EventRun}
-use Rattle.spec_text.specs.TextLines.{unsigned_of}
-use Rattle.spec_text.specs.JournalText.{times, counted_run}
+use Rattle.spec_text.specs.TextLines.{unsigned_of, words, first_word, after_word}
+use Rattle.spec_text.specs.JournalText.{times, counted_run, at_lane, lane_of}
 use Rattle.spec_text.specs.ActionText.{at_word, name_of, one_word_of}
 use Rattle.spec_base.proofs.Options.{or_none}
+use Rattle.std.proofs.lemmas.Bool.Decides.{nat_tests}
+use Rattle.lgx_journal.proofs.WordSplits.{words_next}
 
 is_verb : (verb wanted : List ℕ) → bytes_eq verb wanted ≡ true → verb ≡ wanted
 is_verb verb wanted h = (bytes_eq-Decides verb wanted).0 h
@@ -71,3 +73,29 @@ run_steps verb count h = counts_at verb (codes "cpu") count _ h (or_none _)
 
 pub run_ticks : (verb count : List ℕ) → bytes_eq verb (codes "tick") ≡ true → counted_run (verb ∷ count ∷ []) ≡ times Tick (unsigned_of count)
 run_ticks verb count h = counts_at verb (codes "tick") count _ h refl
+
+none_is_some : {A : Type 0} {x : A} → None ≡ Some x → ⊥
+none_is_some e = cc
+
+-- a line that names a lane counts no steps and no ticks
+after_sign : (c : ℕ) (digits : List ℕ) (ws : List (List ℕ)) → c ≡ 64 → counted_run ((c ∷ digits) ∷ ws) ≡ None
+after_sign c digits [] is = refl
+after_sign c digits (count ∷ []) is = ap (λ d. counted_run ((d ∷ digits) ∷ count ∷ [])) is
+after_sign c digits (count ∷ more ∷ ws) is = refl
+
+at_sign : (c lane : ℕ) (digits : List ℕ) → at_lane (c ∷ digits) ≡ Some lane → c ≡ 64
+at_sign c lane digits e = by_sign (nat_eq c 64) refl
+  where
+    by_sign : (b : Bool) → nat_eq c 64 ≡ b → c ≡ 64
+    by_sign true h = grind (arith, nat_tests)
+    by_sign false h = absurd (let none : at_lane (c ∷ digits) ≡ None = rw h refl in none_is_some (sym none ∙ e))
+
+pub lane_counts_none : (line : List ℕ) (o : Option ℕ) (lane : ℕ) → o ≡ lane_of line → o ≡ Some lane → counted_run (words line) ≡ None
+lane_counts_none line o lane e is = by_word (first_word line) refl
+  where
+    by_word : (word : List ℕ) → first_word line ≡ word → counted_run (words line) ≡ None
+    by_word [] f = absurd (none_is_some (sym (ap at_lane f) ∙ (sym e ∙ is)))
+    by_word (c ∷ digits) f =
+        let some : eqb (length (c ∷ digits)) 0 ≡ false = grind (arith, nat_tests) in
+        ap counted_run (words_next line (ap (λ w. eqb (length w) 0) f ∙ some) ∙ ap (λ w. w ∷ words (after_word line)) f)
+        ∙ after_sign c digits (words (after_word line)) (at_sign c lane digits (sym (ap at_lane f) ∙ (sym e ∙ is)))

@@ -1,6 +1,6 @@
 // Reads an action.
-ghost use Rattle.std.specs.Prelude.{◌≡◌, [], ◌∷◌, codes, IfOk, IsTrue};
-ghost use Rattle.spec_text.specs.TextLines.{words};
+ghost use Rattle.std.specs.Prelude.{◌≡◌, ℕ, List, [], ◌∷◌, codes, IfOk, IsTrue};
+ghost use Rattle.spec_text.specs.TextLines.{words, first_word, after_word};
 ghost use Rattle.spec_text.specs.ActionText.{name_of, one_word_of, word_out_of, word_in_of, install_of, command_of, accept_of, action_of};
 ghost use Rattle.lgx_journal.specs.Lines.{is_plain};
 
@@ -147,12 +147,15 @@ fn force_of(verb: &[u8], conn: &[u8], word: &[u8], mask: &[u8], value: &[u8]) ->
     None
 }
 
-/// The action of the words of a text, if it is no accept.
-fn command_of(text: &[u8]) -> Option<Action>
-    ensures { result ≡ command_of (words text.now) }
+/// The action of the words of a text that begins with this verb and goes on so, if it is no accept.
+#[tactic(auto, using(crate::proofs::WordSplits::words_next, crate::proofs::WordSplits::words_none))]
+fn command_of(verb: &[u8], rest: &[u8]) -> Option<Action>
+    ensures { (text : List ℕ) → verb.now ≡ first_word text → rest.now ≡ after_word text → result ≡ command_of (words text) }
 {
-    let (verb, after) = next_word(text)?;
-    let Some((first, after)) = next_word(after) else {
+    if verb.is_empty() {
+        return None;
+    }
+    let Some((first, after)) = next_word(rest) else {
         return bare_of(verb);
     };
     let Some((second, after)) = next_word(after) else {
@@ -201,11 +204,10 @@ pub(crate) fn action_of(alloc: Global, text: &[u8]) -> Result<Option<Action>, Me
     ensures { IfOk result (λ o. o ≡ action_of text.now) }
 {
     let (verb, rest) = split_word(text);
-    if verb == b"accept".as_slice() {
-        return match accept_of(alloc, rest)? {
-            Some(action) => Ok(Some(action)),
-            None => Ok(command_of(text)),
-        };
+    if verb == b"accept".as_slice()
+        && let Some(action) = accept_of(alloc, rest)?
+    {
+        return Ok(Some(action));
     }
-    Ok(command_of(text))
+    Ok(command_of(verb, rest))
 }

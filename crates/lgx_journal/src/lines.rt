@@ -1,6 +1,6 @@
 // The lines of a text, and what all lines of journals and scripts may have.
 ghost use Rattle.std.specs.Prelude.{◌≡◌, ◌<◌, ◌&&◌, [], ◌∷◌, false, length, IsNone, IfSome};
-ghost use Rattle.spec_text.specs.TextLines.{lines, without_return, is_skipped};
+ghost use Rattle.spec_text.specs.TextLines.{lines, without_return, is_skipped, after_word};
 ghost use Rattle.spec_text.specs.JournalText.{lane_of, is_end, is_line};
 ghost use Rattle.spec_base.specs.Pieces.{has_byte};
 
@@ -52,17 +52,14 @@ pub fn is_skipped(line: &[u8]) -> bool
 }
 
 /// Whether a line is the word `end`.
-#[tactic(auto, using(crate::proofs::LineSplits::end_alone, crate::proofs::LineSplits::end_not_more, crate::proofs::LineSplits::end_not_none))]
+#[tactic(auto, using(crate::proofs::LineSplits::end_alone, crate::proofs::LineSplits::end_not_more, crate::proofs::LineSplits::end_other, crate::proofs::LineSplits::end_not_none))]
 fn is_end(line: &[u8]) -> bool
     ensures { result ≡ is_end line.now }
 {
     let Some((word, after)) = next_word(line) else {
         return false;
     };
-    if next_word(after).is_some() {
-        return false;
-    }
-    word == b"end".as_slice()
+    word == b"end".as_slice() && next_word(after).is_none()
 }
 
 /// Whether a line ends a text: it is the word `end`, and isn't too long.
@@ -72,13 +69,14 @@ pub fn is_last(line: &[u8]) -> bool
     line.len() <= MAX_LINE_BYTES && is_end(line)
 }
 
-/// The lane that a line names by its first word.
-pub(crate) fn lane_of(line: &[u8]) -> Option<u32>
-    ensures { result ≡ lane_of line.now }
+/// The lane that a line names by its first word, if it names one, and what comes after that word.
+pub(crate) fn split_lane(line: &[u8]) -> (Option<u32>, &[u8])
+    ensures lane { result.0 ≡ lane_of line.now }
+    ensures after { result.1.now ≡ after_word line.now }
 {
-    let (word, _) = split_word(line);
+    let (word, after) = split_word(line);
     match word {
-        [b'@', digits @ ..] => unsigned_of(digits),
-        _ => None,
+        [b'@', digits @ ..] => (unsigned_of(digits), after),
+        _ => (None, after),
     }
 }

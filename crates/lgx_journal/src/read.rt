@@ -1,9 +1,9 @@
 // Reads a journal.
-ghost use Rattle.std.specs.Prelude.{◌≡◌, ℕ, ◌+◌, ◌≤◌, ◌∷◌, [], false, length, nat_le, Ok, Err, IfOk, OnOk, IfErr, OnErr, IfSome, IsTrue};
+ghost use Rattle.std.specs.Prelude.{◌≡◌, ℕ, List, ◌+◌, ◌≤◌, ◌∷◌, [], false, length, nat_le, Ok, Err, IfOk, OnOk, IfErr, OnErr, IfSome, IsTrue};
 ghost use Rattle.spec_base.specs.declared.limits.TheConstants.{OWN_LANE};
-ghost use Rattle.spec_text.specs.TextLines.{words};
+ghost use Rattle.spec_text.specs.TextLines.{words, after_word};
 ghost use Rattle.spec_text.specs.ActionText.{action_of};
-ghost use Rattle.spec_text.specs.JournalText.{counted_run, action_run, lane_run, run_of, is_lane, is_allowed, with_run, no_events, read_line, journal_of};
+ghost use Rattle.spec_text.specs.JournalText.{counted_run, action_run, lane_of, lane_run, run_of, is_lane, is_allowed, with_run, no_events, read_line, journal_of};
 ghost use Rattle.lgx_journal.specs.Journals.{is_run};
 ghost use Rattle.spec_base.specs.Pieces.{has_byte};
 ghost use Rattle.lgx_journal.specs.Lines.{is_plain};
@@ -15,8 +15,8 @@ use crate::actions::action_of;
 use crate::counts::{Counted, short_line, single_line};
 use crate::error::{JournalError, LineError, at_line};
 use crate::journal::Journal;
-use crate::lines::{is_last, is_skipped, lane_of, next_line};
-use crate::words::{next_word, split_word, unsigned_of};
+use crate::lines::{is_last, is_skipped, next_line, split_lane};
+use crate::words::{next_word, unsigned_of};
 use lgx_num::Memory;
 use spec_base::limits::{MAX_ACTIONS, MAX_JOURNAL_STEPS, MAX_LINE_BYTES, OWN_LANE};
 use spec_machine::Event;
@@ -158,30 +158,50 @@ fn action_run(alloc: Global, lane: u32, text: &[u8]) -> Result<Option<EventRun>,
     }))
 }
 
-/// An action of a lane that the line names.
-#[tactic(auto, using(crate::proofs::Parts::plain_after_word))]
-fn lane_run(alloc: Global, line: &[u8], lane: Option<u32>) -> Result<Option<EventRun>, Memory>
-    requires { IsTrue (is_plain line.now) }
-    ensures run { IfOk result (λ o. o ≡ lane_run line.now lane) }
+/// An action of the lane that a line names, if it names one. `text` is what comes after the line's first word.
+fn lane_run(alloc: Global, lane: Option<u32>, text: &[u8]) -> Result<Option<EventRun>, Memory>
+    requires { IsTrue (is_plain text.now) }
+    ensures run { (line : List ℕ) → text.now ≡ after_word line → IfOk result (λ o. o ≡ lane_run line lane) }
     ensures form { IfOk result (λ o. IfSome o (λ r. IsTrue (is_single r))) }
 {
-    let Some(lane) = lane else {
-        return Ok(None);
-    };
-    let (_, after) = split_word(line);
-    action_run(alloc, lane, after)
+    match lane {
+        None => Ok(None),
+        Some(lane) => action_run(alloc, lane, text),
+    }
 }
 
-/// What a line of a journal says.
-fn run_of(alloc: Global, line: &[u8]) -> Result<Option<EventRun>, Memory>
-    requires { IsTrue (is_plain line.now) }
+/// A count of processor steps or of ticks, in a line that names this lane or none. One that names a lane counts neither, so it
+/// isn't looked at.
+#[tactic(auto, using(crate::proofs::Verbs::lane_counts_none))]
+fn count_without_lane(line: &[u8], lane: Option<u32>) -> Option<EventRun>
+    requires { lane ≡ lane_of line.now }
+    ensures run { result ≡ counted_run (words line.now) }
+    ensures form { IfSome result (λ r. IsTrue (is_single r)) }
+{
+    match lane {
+        None => counted_run(line),
+        Some(_) => None,
+    }
+}
+
+/// What a line of a journal says, which names this lane or none and goes on so after its first word.
+fn run_of(
+    alloc: Global,
+    line: &[u8],
+    lane: Option<u32>,
+    after: &[u8],
+) -> Result<Option<EventRun>, Memory>
+    requires plain { IsTrue (is_plain line.now) }
+    requires plain_after { IsTrue (is_plain after.now) }
+    requires lane { lane ≡ lane_of line.now }
+    requires after { after.now ≡ after_word line.now }
     ensures run { IfOk result (λ o. o ≡ run_of line.now) }
     ensures form { IfOk result (λ o. IfSome o (λ r. IsTrue (is_single r))) }
 {
-    if let Some(run) = counted_run(line) {
+    if let Some(run) = count_without_lane(line, lane) {
         return Ok(Some(run));
     }
-    match lane_run(alloc, line, lane_of(line))? {
+    match lane_run(alloc, lane, after)? {
         Some(run) => Ok(Some(run)),
         None => action_run(alloc, OWN_LANE, line),
     }
@@ -201,7 +221,7 @@ impl JournalReader {
     /// What a line says after the lines so far, which then counts with them, or its first cause: J1 for a line of more than
     /// 65,536 bytes or without one of the forms, J2 for a lane that is none of a journal's, J4 for a count of 0 or one with which
     /// a limit would be passed. A line with a cause doesn't count.
-    #[tactic(auto, using(crate::proofs::Parts::line_is_plain))]
+    #[tactic(auto, using(crate::proofs::Parts::line_is_plain, crate::proofs::Parts::plain_after_word))]
     pub fn read_line(&mut self, alloc: Global, line: &[u8]) -> Result<EventRun, LineError>
         requires { has_byte 10 line.now ≡ false }
         ensures run { IfOk result (λ run. read_line self.old line.now ≡ Ok run) }
@@ -214,10 +234,11 @@ impl JournalReader {
         if line.len() > MAX_LINE_BYTES {
             return Err(LineError::Code(JournalCode::J1));
         }
-        let Some(run) = run_of(alloc, line)? else {
+        let (lane, after) = split_lane(line);
+        let Some(run) = run_of(alloc, line, lane, after)? else {
             return Err(LineError::Code(JournalCode::J1));
         };
-        if !is_lane(lane_of(line)) {
+        if !is_lane(lane) {
             return Err(LineError::Code(JournalCode::J2));
         }
         if run.count == 0 {

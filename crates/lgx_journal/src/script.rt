@@ -12,7 +12,7 @@ ghost use Rattle.spec_base.specs.declared.limits.TheConstants.{MAX_ACTIONS, OWN_
 
 use crate::actions::action_of;
 use crate::error::{JournalError, LineError, at_line};
-use crate::lines::{is_last, is_skipped, lane_of, next_line};
+use crate::lines::{is_last, is_skipped, next_line, split_lane};
 use crate::words::{next_word, split_word, unsigned_of};
 use lgx_num::{Items, Memory};
 use spec_base::limits::{MAX_ACTIONS, MAX_LINE_BYTES, MAX_SCRIPT_STEPS, OWN_LANE};
@@ -144,9 +144,9 @@ fn lane_action_of(alloc: Global, line: &[u8]) -> Result<Option<(u32, Timed)>, Me
     requires { IsTrue (is_plain line.now) }
     ensures { IfOk result (λ o. option_map (λ a. lane_action a.0 a.1) o ≡ lane_action_of line.now) }
 {
-    let (_, after) = split_word(line);
+    let (lane, after) = split_lane(line);
     let (number, text) = split_word(after);
-    let Some(lane) = lane_of(line) else {
+    let Some(lane) = lane else {
         return Ok(None);
     };
     let Some(at) = unsigned_of(number) else {

@@ -1,6 +1,6 @@
 pub mod Runs
+pub mod Instructions
 pub mod Fits
-pub mod ByteTable
 pub mod OpsRead
 pub mod Answers
 pub mod Writing

@@ -1,5 +1,5 @@
 -- The tokens of a text after blanks, a run or a single byte.
-use Rattle.std.proofs.Common.{◌≡◌, ℕ, zero, suc, ◌+◌, ◌-◌, ◌<◌, ◌≤◌, Bool, true, false, nat_lt, List, [], ◌∷◌, ◌++◌, length, reverse, get_or, drop, take, slice_range, refl, ap, sym, ◌∙◌, subst, arith, IsTrue, length-drop}
+use Rattle.std.proofs.Common.{◌≡◌, ℕ, zero, suc, ◌+◌, ◌-◌, ◌<◌, ◌≤◌, Bool, true, false, nat_lt, List, [], ◌∷◌, ◌++◌, length, reverse, get_or, drop, take, slice_range, refl, ap, sym, ◌∙◌, subst, arith, IsTrue, length-drop, take-add, drop-drop}
 use Rattle.std.specs.List.{list_all}
 use Rattle.std.proofs.lemmas.List.{drop_more, drop_all, take_more, reverse-append, reverse-reverse, length-reverse, get_or-drop, length-take}
 use Rattle.std.proofs.lemmas.List.Folds.{list_all-append}
@@ -27,7 +27,7 @@ none_left text at at' inside h = ap (λ x. tokens_from x inside at' []) (drop_al
 -- ---- a run
 
 -- one byte more
-range_more : (text : List ℕ) (from at : ℕ) → from ≤ at → at < length text → slice_range text from (at + 1) ≡ slice_range text from at ++ get_or text at 0 ∷ []
+pub range_more : (text : List ℕ) (from at : ℕ) → from ≤ at → at < length text → slice_range text from (at + 1) ≡ slice_range text from at ++ get_or text at 0 ∷ []
 range_more text from at h k =
     let one : at + 1 - from ≡ (at - from) + 1 = omega arith in
     let room : at - from < length (drop from text) = omega (arith, length-drop from text) in
@@ -36,7 +36,16 @@ range_more text from at h k =
     ∙ take_more (drop from text) (at - from) 0 room
     ∙ ap (λ b. slice_range text from at ++ b ∷ []) (get_or-drop from text (at - from) 0 ∙ ap (λ n. get_or text n 0) place)
 
-range_length : (text : List ℕ) (from at : ℕ) → from ≤ at → at ≤ length text → length (slice_range text from at) ≡ at - from
+-- up to one place and from there on
+pub range_split : (text : List ℕ) (from at end : ℕ) → from ≤ at → at ≤ end → slice_range text from end ≡ slice_range text from at ++ slice_range text at end
+range_split text from at end h k =
+    let parts : end - from ≡ (at - from) + (end - at) = omega arith in
+    let place : from + (at - from) ≡ at = omega arith in
+    ap (λ n. take n (drop from text)) parts
+    ∙ take-add (at - from) (end - at) (drop from text)
+    ∙ ap (λ xs. slice_range text from at ++ take (end - at) xs) (drop-drop (at - from) from text ∙ ap (λ n. drop n text) place)
+
+pub range_length : (text : List ℕ) (from at : ℕ) → from ≤ at → at ≤ length text → length (slice_range text from at) ≡ at - from
 range_length text from at h k = omega (arith, length-take (at - from) (drop from text), length-drop from text)
 
 one_of_run : (b : ℕ) (bs : List ℕ) (inside : Bool) (at : ℕ) (run : List ℕ) → in_run inside b ≡ true → tokens_from (b ∷ bs) inside at run ≡ tokens_from bs inside (at + 1) (b ∷ run)

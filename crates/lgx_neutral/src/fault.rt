@@ -11,6 +11,17 @@ pub enum RungError {
     Memory,
 }
 
+impl From<Memory> for RungError {
+    ghost use Rattle.std.specs.Prelude.{◌≡◌};
+    ghost use Rattle.lgx_neutral.specs.declared.fault.RungError.TheVariants.{Memory as no_memory_for_rung};
+
+    ghost from_gives = { λ _ r. r ≡ no_memory_for_rung };
+
+    fn from(_: Memory) -> Self {
+        RungError::Memory
+    }
+}
+
 /// Why a token wasn't taken. The place of the fault is the token's.
 #[derive(Clone, Copy)]
 pub(crate) enum Refusal {

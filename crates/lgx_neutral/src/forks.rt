@@ -1,33 +1,18 @@
 // The forks that are open while a rung is read.
-use arrayvec::ArrayVec;
-use lgx_rung::{OpenFork, SourceRung};
+use lgx_num::Memory;
+use lgx_rung::OpenFork;
 use spec_base::limits::MAX_FORKS;
 use std::alloc::Global;
-use std::default::MadeWith;
 use std::marker::Model;
 
-/// An open fork, as it lies in the stack.
-#[derive(Drop)]
-struct Open {
-    fork: OpenFork,
-}
-
-impl MadeWith<Global> for Open {
-    fn made_with(alloc: Global) -> Self {
-        Open {
-            fork: OpenFork::new(alloc, SourceRung::new(alloc)),
-        }
-    }
-}
-
-/// The open forks, at most [`MAX_FORKS`], of which the innermost is closed first. They lie in the value itself.
+/// The open forks, at most [`MAX_FORKS`], of which the innermost is closed first.
 #[derive(Drop)]
 pub(crate) struct Forks {
-    open: ArrayVec<Open, MAX_FORKS, Global>,
+    open: Vec<OpenFork>,
 }
 
 impl Model for Forks {
-    ghost use Rattle.std.specs.Prelude.{List, ◌≤◌, length, map, reverse};
+    ghost use Rattle.std.specs.Prelude.{List, ◌≤◌, length, reverse};
     ghost use Rattle.std.specs.Coded.{codes, coded_list};
     ghost use Rattle.spec_base.specs.declared.limits.TheConstants.{MAX_FORKS};
     ghost use Rattle.lgx_rung.specs.ForkCode.{fork_code};
@@ -37,21 +22,21 @@ impl Model for Forks {
 
     ghost coded = { coded_list (fork_code (Prim.hlevel codes)) };
 
-    ghost view = { λ f. reverse (map (λ o. o.fork) f.open.items) };
+    ghost view = { λ f. reverse f.open.items };
 
     ghost invariant = { λ f. length f.open.items ≤ MAX_FORKS };
 }
 
 impl Forks {
     ghost use Rattle.spec_base.specs.declared.limits.TheConstants.{MAX_FORKS};
-    ghost use Rattle.std.specs.Prelude.{◌≡◌, ◌<◌, ◌≤◌, ◌==◌, [], ◌∷◌, nat_lt, length, MatchOption, OnSome};
+    ghost use Rattle.std.specs.Prelude.{◌≡◌, ◌<◌, ◌≤◌, ◌==◌, [], ◌∷◌, nat_lt, length, MatchOption, OnOk, OnSome};
 
     /// No fork is open.
     pub(crate) fn new(alloc: Global) -> Self
         ensures { result ≡ [] }
     {
         Forks {
-            open: ArrayVec::new_in(alloc),
+            open: Vec::new(alloc),
         }
     }
 
@@ -70,11 +55,12 @@ impl Forks {
     }
 
     /// Opens a fork inside the others.
-    pub(crate) fn push(&mut self, fork: OpenFork)
+    pub(crate) fn push(&mut self, fork: OpenFork) -> Result<(), Memory>
         requires { length self.old < MAX_FORKS }
-        ensures { self.new ≡ fork ∷ self.old }
+        ensures { OnOk result (self.new ≡ fork ∷ self.old) }
     {
-        self.open.push(Open { fork });
+        self.open.push(fork)?;
+        Ok(())
     }
 
     /// Takes the innermost fork out, or gives none if no fork is open.
@@ -82,7 +68,6 @@ impl Forks {
         ensures forks { MatchOption result (self.old ≡ [] × self.new ≡ []) (λ fork. self.old ≡ fork ∷ self.new) }
         ensures room { OnSome result (length self.new < MAX_FORKS) }
     {
-        let Open { fork } = self.open.pop()?;
-        Some(fork)
+        self.open.pop()
     }
 }

@@ -1,8 +1,10 @@
 // The tokens of a text, from the first to the last.
-ghost use Rattle.std.specs.Prelude.{◌≡◌, ◌+◌, ◌≤◌, ◌<◌, ◌∷◌, [], Bool, true, false, IsTrue, IfSome, MatchOption, length, drop, reverse, slice_range, slice_index};
+ghost use Rattle.std.specs.Prelude.{◌≡◌, ◌+◌, ◌≤◌, ◌<◌, ◌∷◌, [], Bool, true, false, IsTrue, IfSome, IsNone, MatchOption, length, drop, reverse, slice_range, slice_index};
 ghost use Rattle.std.specs.List.{list_all};
 ghost use Rattle.spec_base.specs.declared.limits.TheConstants.{MAX_FILE_BYTES};
-ghost use Rattle.lgx_rung.specs.Tokens.{is_blank, in_run as is_in_run, tokens_from, tokens, run_token, mark, inside_after};
+ghost use Rattle.lgx_neutral.specs.Instructions.{ReadsOperands};
+ghost use Rattle.lgx_rung.specs.Joined.{operands_in};
+ghost use Rattle.lgx_rung.specs.Tokens.{is_blank, is_operand, in_run as is_in_run, tokens_from, tokens, run_token, mark, inside_after};
 
 use crate::bytes::{in_run, is_blank};
 use crate::mnemonic::read_op;
@@ -43,6 +45,7 @@ pub(crate) struct Lexer<'a> {
 }
 
 impl<'a> Lexer<'a> {
+    ghost use Rattle.lgx_neutral.specs.Instructions.{ReadsInstruction};
     ghost use Rattle.lgx_neutral.specs.Lexing.{placed, left, IsFitToken};
 
     /// The text from its start.
@@ -83,6 +86,63 @@ impl<'a> Lexer<'a> {
             Some(Placed { at, token })
         }
     }
+
+    /// The operands of an instruction whose mnemonic was read, if they come next: between parentheses, with a comma between two, and
+    /// no blanks. Elsewise nothing is read.
+    #[inline(always)]
+    pub(crate) fn operands(&mut self) -> Option<&'a [u8]>
+        ensures text { self.new.text.now ≡ self.old.text.now }
+        ensures reads { IfSome result (λ operands. ReadsInstruction operands.now (left self.old) (left self.new)) }
+        ensures operands { IfSome result (λ operands. IsTrue (list_all is_operand (operands_in operands.now))) }
+        ensures moves_on { IfSome result (λ _. self.old.at < self.new.at) }
+        ensures none { IsNone result → self.new ≡ self.old }
+    {
+        if self.inside {
+            return None;
+        }
+        if self.at >= self.text.len() {
+            return None;
+        }
+        if self.text[self.at] != b'(' {
+            return None;
+        }
+        let from = self.at + 1;
+        let Some(end) = list_end(self.text, from) else {
+            return None;
+        };
+        self.at = end + 1;
+        Some(&self.text[from..end])
+    }
+}
+
+/// The place of the parenthesis that closes a list of operands, if from this place on there is one, with a comma between two operands
+/// and no blanks.
+#[inline(always)]
+fn list_end(text: &[u8], from: usize) -> Option<usize>
+    requires { from ≤ length text.now }
+    ensures ahead { IfSome result (λ end. from ≤ end) }
+    ensures within { IfSome result (λ end. end < length text.now) }
+    ensures reads { IfSome result (λ end. ReadsOperands (slice_range text.now from end) (tokens_from (drop from text.now) true from []) (tokens_from (drop (end + 1) text.now) false (end + 1) [])) }
+    ensures operands { IfSome result (λ end. IsTrue (list_all is_operand (operands_in (slice_range text.now from end)))) }
+{
+    if from < text.len() && text[from] == b')' {
+        return Some(from);
+    }
+    let mut at = from;
+    while at < text.len() {
+        let end = after_run(text, true, at);
+        if end == at || end == text.len() {
+            return None;
+        }
+        if text[end] == b')' {
+            return Some(end);
+        }
+        if text[end] != b',' {
+            return None;
+        }
+        at = end + 1;
+    }
+    None
 }
 
 /// The first place, from this one on, at which there is no blank.

@@ -1,13 +1,20 @@
 // A rung that is read token by token.
-ghost use Rattle.std.specs.Prelude.{◌≡◌, ◌<◌, ◌≤◌, ◌+◌, [], length, OnOk};
+ghost use Rattle.std.specs.Prelude.{◌≡◌, ◌<◌, ◌≤◌, ◌+◌, [], length, true, IsTrue, IfOk, OnOk};
+ghost use Rattle.std.specs.List.{list_all};
+ghost use Rattle.lgx_rung.specs.Joined.{operands_in};
+ghost use Rattle.lgx_rung.specs.Tokens.{is_operand};
 ghost use Rattle.lgx_rung.specs.Tokens as text;
 
 use crate::fault::Refusal;
 use crate::forks::Forks;
 use crate::lexer::Token;
+use lgx_num::Memory;
 use lgx_rung::{Op, OpenFork, SourceRung, TextCode, TextFault, Texts};
 use std::alloc::Global;
 use std::mem;
+
+/// How many elements a leg has room for at first: most have one.
+const LEG_ROOM: usize = 1;
 
 /// What may come next.
 #[derive(Clone, Copy)]
@@ -44,17 +51,44 @@ impl Reader {
     ghost use Rattle.lgx_neutral.specs.Taking.{Takes};
     ghost use Rattle.lgx_neutral.specs.Reading.{reading, after, next, IsHeld};
 
-    /// Nothing is read.
-    pub(crate) fn new(alloc: Global) -> Self
-        ensures reads { reading result ≡ text.At text.Element [] end }
-        ensures held { IsHeld result.place result.texts }
+    /// Nothing is read. There is room for `count` elements.
+    pub(crate) fn new(alloc: Global, count: usize) -> Result<Self, Memory>
+        ensures reads { IfOk result (λ r. reading r ≡ text.At text.Element [] end) }
+        ensures held { IfOk result (λ r. IsHeld r.place r.texts) }
     {
-        Reader {
+        Ok(Reader {
             place: Expected::Element,
             texts: Texts::new(alloc),
             forks: Forks::new(alloc),
-            leg: SourceRung::new(alloc),
-        }
+            leg: SourceRung::with_room(alloc, count)?,
+        })
+    }
+
+    /// Whether an element may come next.
+    #[inline(always)]
+    pub(crate) fn awaits_element(&self) -> bool
+        ensures { result ≡ true → self.now.place ≡ Expected.Element }
+    {
+        matches!(self.place, Expected::Element)
+    }
+
+    /// Takes an instruction with its operands.
+    #[inline(always)]
+    pub(crate) fn take_instruction(
+        &mut self,
+        alloc: Global,
+        op: Op,
+        operands: &[u8],
+    ) -> Result<(), Memory>
+        requires place { self.old.place ≡ Expected.Element }
+        requires held { IsHeld self.old.place self.old.texts }
+        requires operands { IsTrue (list_all is_operand (operands_in operands.now)) }
+        ensures takes { OnOk result (reading self.new ≡ text.add_element self.old.forks self.old.leg (text.instruction op (operands_in operands.now))) }
+        ensures held { OnOk result (IsHeld self.new.place self.new.texts) }
+    {
+        let texts = Texts::of_joined(alloc, operands)?;
+        self.leg.push(op, texts)?;
+        Ok(())
     }
 
     /// Takes the next token.
@@ -110,8 +144,8 @@ impl Reader {
         if !self.forks.has_room() {
             return Err(Refusal::Text(TextCode::T5));
         }
-        let before = mem::replace(&mut self.leg, SourceRung::new(alloc));
-        self.forks.push(OpenFork::new(alloc, before));
+        let before = mem::replace(&mut self.leg, SourceRung::with_room(alloc, LEG_ROOM)?);
+        self.forks.push(OpenFork::new(alloc, before))?;
         Ok(())
     }
 
@@ -125,8 +159,9 @@ impl Reader {
         let Some(mut fork) = self.forks.pop() else {
             return Err(Refusal::Text(TextCode::T1));
         };
-        fork.next_leg(mem::replace(&mut self.leg, SourceRung::new(alloc)))?;
-        self.forks.push(fork);
+        let next = SourceRung::with_room(alloc, LEG_ROOM)?;
+        fork.next_leg(mem::replace(&mut self.leg, next))?;
+        self.forks.push(fork)?;
         Ok(())
     }
 

@@ -1,10 +1,13 @@
 // Places of the image, the paths that lead to them, and the operands of checked instructions.
-ghost use Rattle.std.specs.Prelude.{◌≡◌, ◌<◌, ◌≤◌, ◌==◌, [], ◌∷◌, ◌++◌, length};
+ghost use Rattle.std.specs.Prelude.{◌≡◌, ◌<◌, ◌≤◌, ◌==◌, [], ◌∷◌, ◌++◌, length, IfOk, OnErr, OnOk};
 ghost use Rattle.spec_base.specs.declared.limits.TheConstants.{MAX_SUBSCRIPTS};
 
+use crate::memory::Memory;
 use crate::number::Kind;
 use arrayvec::ArrayVec;
 use spec_base::limits::MAX_SUBSCRIPTS;
+use std::alloc::Global;
+use std::default::MadeWith;
 use std::marker::Model;
 
 /// A place in the image.
@@ -27,22 +30,29 @@ pub struct Index {
     pub length: u32,
 }
 
-/// The variable subscripts of a path, at most [`MAX_SUBSCRIPTS`]. It takes no memory.
-#[derive(Debug, Drop)]
+/// The variable subscripts of a path, at most [`MAX_SUBSCRIPTS`]. Where there is none they take no memory.
 pub struct Steps {
-    list: ArrayVec<Index, MAX_SUBSCRIPTS>,
+    list: Option<Box<ArrayVec<Index, MAX_SUBSCRIPTS>>>,
+}
+
+impl Drop for Steps {
+    #[inline(always)]
+    fn drop(self) {
+        let Steps { list: _ } = self;
+    }
 }
 
 impl Model for Steps {
-    ghost use Rattle.std.specs.Prelude.{List, ◌≤◌, length};
+    ghost use Rattle.std.specs.Prelude.{List, ◌≤◌, [], length};
+    ghost use Rattle.std.specs.Option.{option_map_or};
     ghost use Rattle.spec_base.specs.declared.limits.TheConstants.{MAX_SUBSCRIPTS};
     ghost use Rattle.lgx_num.specs.declared.place.Index.{Index};
 
     ghost Value = { List Index };
 
-    ghost view = { λ s. s.list.items };
+    ghost view = { λ s. option_map_or (λ b. b.value.items) s.list [] };
 
-    ghost invariant = { λ s. length s.list.items ≤ MAX_SUBSCRIPTS };
+    ghost invariant = { λ s. length (option_map_or (λ b. b.value.items) s.list []) ≤ MAX_SUBSCRIPTS };
 }
 
 impl Steps {
@@ -50,17 +60,23 @@ impl Steps {
     pub fn new() -> Self
         ensures { result ≡ [] }
     {
-        Steps {
-            list: ArrayVec::new(),
-        }
+        Steps { list: None }
     }
 
-    /// Adds a subscript after the others.
-    pub fn push(&mut self, index: Index)
+    /// Adds a subscript after the others. Memory is taken for the first.
+    pub fn push(&mut self, alloc: Global, index: Index) -> Result<(), Memory>
         requires { length self.old < MAX_SUBSCRIPTS }
-        ensures { self.new ≡ self.old ++ index ∷ [] }
+        ensures added { OnOk result (self.new ≡ self.old ++ index ∷ []) }
+        ensures unchanged { OnErr result (self.new ≡ self.old) }
     {
-        self.list.push(index);
+        if let Some(list) = &mut self.list {
+            list.push(index);
+            return Ok(());
+        }
+        let mut list = ArrayVec::new();
+        list.push(index);
+        self.list = Some(Box::new(alloc, list)?);
+        Ok(())
     }
 
     /// The subscripts, in the order in which they were added.
@@ -68,7 +84,10 @@ impl Steps {
         ensures value { result.now ≡ self.now }
         ensures room { length result.now ≤ MAX_SUBSCRIPTS }
     {
-        self.list.as_slice()
+        match &self.list {
+            Some(list) => list.as_slice(),
+            None => &[],
+        }
     }
 
     /// The number of subscripts.
@@ -76,39 +95,39 @@ impl Steps {
         ensures value { result ≡ length self.now }
         ensures room { result ≤ MAX_SUBSCRIPTS }
     {
-        self.list.len()
+        self.as_slice().len()
     }
 
     /// Whether there is no subscript.
     pub fn is_empty(&self) -> bool
         ensures { result ≡ (length self.now == 0) }
     {
-        self.list.is_empty()
+        self.as_slice().is_empty()
     }
 
     /// Whether there is no room for another subscript.
     pub fn is_full(&self) -> bool
         ensures { result ≡ (length self.now == MAX_SUBSCRIPTS) }
     {
-        self.list.is_full()
+        self.as_slice().len() == MAX_SUBSCRIPTS
     }
 
-    /// The same subscripts again.
-    pub fn copied(&self) -> Steps
-        ensures { result ≡ self.now }
+    /// The same subscripts again, in memory of their own.
+    pub fn copied(&self, alloc: Global) -> Result<Steps, Memory>
+        ensures { IfOk result (λ copy. copy ≡ self.now) }
     {
         let mut copy = Steps::new();
         for index in self.as_slice() {
-            copy.push(*index);
+            copy.push(alloc, *index)?;
         }
-        copy
+        Ok(copy)
     }
 }
 
 /// A place whose first bit is moved by subscripts.
 ///
 /// `at` is its first bit if all of them are 0. The place is worked out when its instruction is executed.
-#[derive(Debug, Drop)]
+#[derive(Drop)]
 pub struct Path {
     pub kind: Kind,
     pub at: u32,
@@ -116,22 +135,22 @@ pub struct Path {
 }
 
 impl Path {
-    /// The same path again.
-    pub fn copied(&self) -> Path
-        ensures { result ≡ self.now }
+    /// The same path again, in memory of its own.
+    pub fn copied(&self, alloc: Global) -> Result<Path, Memory>
+        ensures { IfOk result (λ copy. copy ≡ self.now) }
     {
-        Path {
+        Ok(Path {
             kind: self.kind,
             at: self.at,
-            steps: self.steps.copied(),
-        }
+            steps: self.steps.copied(alloc)?,
+        })
     }
 }
 
 /// What a copy or a fill goes over, from the element that `path` names on.
 ///
 /// `size` is the size of an element in bytes, at least 1, and `stop` the byte at which its tag ends.
-#[derive(Debug, Drop)]
+#[derive(Drop)]
 pub struct Block {
     pub path: Path,
     pub size: u32,
@@ -139,15 +158,15 @@ pub struct Block {
 }
 
 impl Block {
-    /// The same block again.
-    pub fn copied(&self) -> Block
-        ensures { result ≡ self.now }
+    /// The same block again, in memory of its own.
+    pub fn copied(&self, alloc: Global) -> Result<Block, Memory>
+        ensures { IfOk result (λ copy. copy ≡ self.now) }
     {
-        Block {
-            path: self.path.copied(),
+        Ok(Block {
+            path: self.path.copied(alloc)?,
             size: self.size,
             stop: self.stop,
-        }
+        })
     }
 }
 
@@ -173,7 +192,7 @@ pub struct Flags {
 }
 
 /// An operand of a checked instruction.
-#[derive(Debug, Drop)]
+#[derive(Drop)]
 pub enum Operand {
     /// An immediate number.
     Number(i32),
@@ -197,22 +216,28 @@ pub enum Operand {
     Blank,
 }
 
+impl MadeWith<Global> for Operand {
+    fn made_with(_: Global) -> Self {
+        Operand::Blank
+    }
+}
+
 impl Operand {
-    /// The same operand again.
-    pub fn copied(&self) -> Operand
-        ensures { result ≡ self.now }
+    /// The same operand again, in memory of its own.
+    pub fn copied(&self, alloc: Global) -> Result<Operand, Memory>
+        ensures { IfOk result (λ copy. copy ≡ self.now) }
     {
-        match self {
+        Ok(match self {
             Operand::Number(number) => Operand::Number(*number),
-            Operand::Cell(path) => Operand::Cell(path.copied()),
-            Operand::Timer(path) => Operand::Timer(path.copied()),
-            Operand::Counter(path) => Operand::Counter(path.copied()),
-            Operand::Block(block) => Operand::Block(block.copied()),
+            Operand::Cell(path) => Operand::Cell(path.copied(alloc)?),
+            Operand::Timer(path) => Operand::Timer(path.copied(alloc)?),
+            Operand::Counter(path) => Operand::Counter(path.copied(alloc)?),
+            Operand::Block(block) => Operand::Block(block.copied(alloc)?),
             Operand::FlagOf(flag) => Operand::FlagOf(*flag),
             Operand::Routine(routine) => Operand::Routine(*routine),
             Operand::Label(rung) => Operand::Label(*rung),
             Operand::Task(task) => Operand::Task(*task),
             Operand::Blank => Operand::Blank,
-        }
+        })
     }
 }

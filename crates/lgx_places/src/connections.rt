@@ -120,16 +120,16 @@ fn read_connection(
     requires types { types.now ≡ tag_types file.now.types file.now.tags }
     ensures { Reads (connection_fault file.now connection.now) (connection_of file.now connection.now) result }
 {
-    let found = match connected(alloc, tags, types, connection.tag.as_slice()) {
-        Ok(found) => found,
+    let (at, of) = match connected(alloc, tags, types, connection.tag.as_slice()) {
+        Ok(found) => (found.at, found.of),
         Err(error) => return Err(error.in_field(alloc, "tag")),
     };
     match trigger_of(alloc, file, connection) {
         Ok(trigger) => Ok(ConnDef {
             name: connection.name.copied(),
             output: connection.output,
-            byte: found.at / 8,
-            words: tags.types().size_of(found.of) / 4,
+            byte: at / 8,
+            words: tags.types().size_of(of) / 4,
             trigger,
         }),
         Err(error) => Err(error.in_field(alloc, "trigger")),

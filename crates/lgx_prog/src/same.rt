@@ -3,8 +3,8 @@ ghost use Rattle.std.specs.Prelude.{◌≡◌, true, ◌++◌, OnOk, IfOk};
 
 use crate::code::{Code, FlatRoutine};
 use crate::quick::quick_list;
-use lgx_num::{Block, Index, Items, Memory, Operand, Path, Steps};
-use lgx_rung::Ins;
+use lgx_num::{Block, Index, Memory, Operand, Path, Steps};
+use lgx_rung::{Args, Ins};
 use std::alloc::Global;
 
 /// Whether the places begin at the same bit, and are moved by the same subscripts.
@@ -90,14 +90,17 @@ pub(crate) fn same_ins(a: &Ins, b: &Ins) -> bool
 }
 
 /// The operands once more.
-fn operands_again(alloc: Global, operands: &[Operand]) -> Result<Items<Operand>, Memory>
+fn operands_again(alloc: Global, operands: &[Operand]) -> Result<Args, Memory>
     ensures { IfOk result (λ copy. copy ≡ operands.now) }
 {
+    if let [operand] = operands {
+        return Ok(Args::one(operand.copied(alloc)?));
+    }
     let mut list = Vec::with_capacity(alloc, operands.len())?;
     for operand in operands {
-        list.push(operand.copied())?;
+        list.push(operand.copied(alloc)?)?;
     }
-    Ok(Items::of(list))
+    Ok(Args::of(list))
 }
 
 /// The instruction once more.

@@ -1,8 +1,8 @@
 -- The lines of watched places that changed, one place after another.
-use Rattle.std.proofs.Common.{◌≡◌, ℕ, zero, suc, ◌+◌, ◌-◌, ◌*◌, ◌/◌, ◌<◌, ◌≤◌, inl, inr, Bool, true, false, cond, List, [], ◌∷◌, ◌++◌, length, map, take, get_or, set, ◌≢◌, ℤ, pos, refl, sym, ap, ◌∙◌, subst, arith, append_assoc, add-zero, add-one, length-append}
+use Rattle.std.proofs.Common.{◌≡◌, ℕ, zero, suc, ◌+◌, ◌-◌, ◌*◌, ◌/◌, ◌<◌, ◌≤◌, inl, inr, Bool, true, false, cond, List, [], ◌∷◌, ◌++◌, length, map, take, get_or, set, Some, slice_get, ◌≢◌, ℤ, pos, refl, sym, ap, ◌∙◌, subst, arith, append_assoc, add-zero, add-one, length-append}
 use Rattle.std.proofs.lemmas.Bool.{cases_lt, false≢true}
 use Rattle.std.proofs.lemmas.Bool.Decides.{Decides-int_eq}
-use Rattle.std.proofs.lemmas.List.{append-nil, map-append, take_more, take_all, ext_get_or, get_or-map, length-map, get_or-set_same, get_or-set_other}
+use Rattle.std.proofs.lemmas.List.{append-nil, map-append, take_more, take_all, ext_get_or, get_or-map, length-map, length-set, get_or-set_same, get_or-set_other}
 use Rattle.std.proofs.lemmas.Option.{slice_get_cases}
 use Rattle.spec_base.specs.declared.limits.TheConstants.{MAX_IMAGE_BYTES}
 use Rattle.spec_base.proofs.Numbers.{one_on}
@@ -22,7 +22,7 @@ use Rattle.spec_machine.specs.Report.{set_lines}
 use Rattle.lgx_record.specs.declared.lines.Stamp.{Stamp}
 use Rattle.lgx_record.specs.EventLines.{with_event_lines, Compared}
 use Rattle.lgx_record.proofs.Logs.{with_event_lines-append}
-use Rattle.lgx_record.specs.Changes.{numbers_at, change_line, change_lines, AreAsCompared, HasWritten}
+use Rattle.lgx_record.specs.Changes.{numbers_at, change_line, change_lines, AreAsCompared, HasWritten, IsLoneWritten}
 
 -- ---- numbers
 
@@ -171,12 +171,27 @@ walk-ends old new at before values now from h within many kept same = record {
 pub compared-nothing : (log : KeptLines) (at : Stamp) (before now : List ℤ) → length before ≡ length now → ((k : ℕ) → k < length before → get_or before k (pos 0) ≡ get_or now k (pos 0)) → Compared log log at before before now
 compared-nothing log at before now many same = walk-ends log log at before before now 0 (walk-starts log at before now) (omega arith) many refl (λ k above below. same k below)
 
--- a place that isn't in the set has not changed
-pub not_written : (places : List Place) (values : List ℤ) (image : ImageView) (set : List Bool) → AreAsCompared places values image → HasWritten places image.hits set → (w : ℕ) → w < length places → is_member set w ≡ false → get_or values w (pos 0) ≡ get_or (numbers_at image.bytes places) w (pos 0)
-not_written places values image set compared written w below none = elim (slice_get_cases places w).1 [
-  | inl (p, l, got, is) ↦ compared.same w p got (written.members w p got none) ∙ sym (get_or-map (number image.bytes) places w p (pos 0) below ∙ ap (number image.bytes) is)
+-- place w alone may have changed
+pub compared-one : (old new : KeptLines) (at : Stamp) (before now : List ℤ) (w : ℕ) (value : ℤ) → w < length before → length before ≡ length now → ((k : ℕ) → k < length before → k ≢ w → get_or before k (pos 0) ≡ get_or now k (pos 0)) → value ≡ get_or now w (pos 0) → new ≡ with_event_lines old at (change_line w (get_or before w (pos 0)) value) → Compared old new at before (set before w value) now
+compared-one old new at before now w value below many same e is =
+    walk-ends old new at before (set before w value) now (w + 1)
+    (walk-compares old old new at before before now 0 w value (walk-starts old at before now) (omega arith) below many refl (λ k above under. same k (omega arith) (omega arith)) e is)
+    (omega arith) many (length-set before w value) (λ k above within. same k within (omega arith))
+
+-- a place that lies in no word that is hit has not changed
+not_hit : (places : List Place) (values : List ℤ) (image : ImageView) → AreAsCompared places values image → (w : ℕ) → w < length places → ((p : Place) → slice_get places w ≡ Some p → LiesInNoHit image.hits p) → get_or values w (pos 0) ≡ get_or (numbers_at image.bytes places) w (pos 0)
+not_hit places values image compared w below none = elim (slice_get_cases places w).1 [
+  | inl (p, l, got, is) ↦ compared.same w p got (none p got) ∙ sym (get_or-map (number image.bytes) places w p (pos 0) below ∙ ap (number image.bytes) is)
   | inr (past, e) ↦ absurd (omega arith)
 ]
+
+-- nor one that isn't in the set
+pub not_written : (places : List Place) (values : List ℤ) (image : ImageView) (set : List Bool) → AreAsCompared places values image → HasWritten places image.hits set → (w : ℕ) → w < length places → is_member set w ≡ false → get_or values w (pos 0) ≡ get_or (numbers_at image.bytes places) w (pos 0)
+not_written places values image set compared written w below none = not_hit places values image compared w below (λ p got. written.members w p got none)
+
+-- nor any but the one that alone may have
+pub not_lone : (places : List Place) (values : List ℤ) (image : ImageView) (n : ℕ) → AreAsCompared places values image → IsLoneWritten places image.hits n → (w : ℕ) → w < length places → w ≢ n → get_or values w (pos 0) ≡ get_or (numbers_at image.bytes places) w (pos 0)
+not_lone places values image n compared lone w below other = not_hit places values image compared w below (λ p got. lone w p got other)
 
 -- no word is hit, so no watched place lies in one
 lies-in-no-hit : (image : ImageView) → NoneIsHit image → (p : Place) → LiesInNoHit image.hits p
@@ -184,10 +199,7 @@ lies-in-no-hit image none p word hit lies = false≢true (sym (none word) ∙ hi
 
 -- so no place has changed
 pub not_written-anywhere : (places : List Place) (values : List ℤ) (image : ImageView) → AreAsCompared places values image → NoneIsHit image → (w : ℕ) → w < length places → get_or values w (pos 0) ≡ get_or (numbers_at image.bytes places) w (pos 0)
-not_written-anywhere places values image compared none w below = elim (slice_get_cases places w).1 [
-  | inl (p, l, got, is) ↦ compared.same w p got (lies-in-no-hit image none p) ∙ sym (get_or-map (number image.bytes) places w p (pos 0) below ∙ ap (number image.bytes) is)
-  | inr (past, e) ↦ absurd (omega arith)
-]
+not_written-anywhere places values image compared none w below = not_hit places values image compared w below (λ p got. lies-in-no-hit image none p)
 
 -- ---- words
 

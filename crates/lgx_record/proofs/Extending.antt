@@ -1,6 +1,6 @@
 -- A run that goes on by some events, and then by others.
 use Rattle.std.proofs.Common.{◌≡◌, ℕ, ◌+◌, ◌*◌, ◌≤◌, cond, List, [], ◌++◌, length, replicate, refl, sym, ap, ◌∙◌, subst, arith, append-nil, append_assoc, length-append}
-use Rattle.std.specs.Prelude.{◌<◌, Result, Ok, Err, OnErr}
+use Rattle.std.specs.Prelude.{Result, Ok, Err, OnErr}
 use Rattle.std.proofs.lemmas.List.{replicate-append-replicate}
 use Rattle.std.proofs.lemmas.List.Sums.{sum_by-append}
 use Rattle.spec_machine.specs.declared.event.Event.{Event}
@@ -8,9 +8,6 @@ use Rattle.spec_machine.specs.Project.{Project}
 use Rattle.spec_machine.specs.State.{State, start}
 use Rattle.spec_machine.specs.Machine.{run, run_from}
 use Rattle.spec_machine.specs.Report.{is_step, steps_of, lines_from, report_lines}
-use Rattle.lgx_journal.specs.declared.runs.EventsLent.{EventsLent}
-use Rattle.lgx_journal.specs.declared.runs.EventsLent.TheVariants as view
-use Rattle.lgx_journal.specs.Runs.{seen_run}
 use Rattle.lgx_watch.specs.Kept.{KeptLines, kept_of, with_lines}
 use Rattle.lgx_record.specs.declared.lines.TheConstants.{MAX_EVENT_LINES}
 use Rattle.lgx_record.specs.RunView.{RunView}

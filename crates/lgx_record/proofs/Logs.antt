@@ -44,3 +44,7 @@ three-parts start first second third at xs ys zs a b c =
     ∙ with_event_lines-append first at ys zs
     ∙ ap (λ (k : KeptLines). with_event_lines k at (ys ++ zs)) a
     ∙ with_event_lines-append start at xs (ys ++ zs)
+
+-- neither begin nor fault
+pub nothing-told : (log : KeptLines) (at : Stamp) (begins faults : List Line) → begins ≡ [] → faults ≡ [] → log ≡ with_event_lines (with_event_lines log at begins) at faults
+nothing-told log at begins faults b f = rw (b, f) refl

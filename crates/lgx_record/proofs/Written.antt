@@ -1,12 +1,12 @@
 -- The watched places that have a byte in a word that is hit, word by word.
-use Rattle.std.proofs.Common.{◌≡◌, ℕ, suc, ◌<◌, ◌≤◌, ◌⊎◌, inl, inr, Bool, true, false, ◌||◌, List, length, Some, None, slice_get, refl, sym, ap, ◌∙◌, subst, arith}
+use Rattle.std.proofs.Common.{◌≡◌, ℕ, suc, ◌<◌, ◌≤◌, ◌⊎◌, inl, inr, Bool, true, false, ◌||◌, List, length, Option, Some, None, IfSome, slice_get, refl, sym, ap, ◌∙◌, subst, arith}
 use Rattle.std.proofs.lemmas.Bool.{cases_lt, false≢true}
 use Rattle.std.proofs.lemmas.Option.{slice_get_within}
 use Rattle.spec_base.specs.declared.limits.TheConstants.{MAX_IMAGE_BYTES}
 use Rattle.lgx_num.specs.declared.place.Place.{Place}
 use Rattle.lgx_image.specs.Grains.{ImageView, is_marked, NextHit}
 use Rattle.lgx_watch.specs.Watches.{LiesInWord, is_member}
-use Rattle.lgx_record.specs.Changes.{AreInside, HasWritten}
+use Rattle.lgx_record.specs.Changes.{AreInside, HasWritten, IsLoneWritten}
 use Rattle.lgx_record.proofs.Changed.{small_word}
 
 -- the set has the places that have a byte in a word below from that is hit
@@ -71,3 +71,19 @@ join-ends-past places image set from inside h past = record {
       );
   known = h.known;
 }
+
+-- ---- one word
+
+-- of the one word that is hit, a place that is the only one with a byte in it is the only one that is written
+pub lone-of-word : (places : List Place) (image : ImageView) (word n : ℕ) → NextHit image 0 (Some word) → NextHit image (suc word) None → ((w : ℕ) (p : Place) → slice_get places w ≡ Some p → LiesInWord p word → w ≡ n) → IsLoneWritten places image.hits n
+lone-of-word places image word n first none alone w p at other g hit lies = elim (cases_lt g word) [
+  | inl before ↦ absurd (false≢true (sym (first.2 g (omega arith) before) ∙ hit))
+  | inr late ↦ elim (cases_lt word g) [
+    | inl after ↦ absurd (false≢true (sym (none g (omega arith)) ∙ hit))
+    | inr not_after ↦ (let same : g ≡ word = omega arith in other (alone w p at (subst (λ k. LiesInWord p k) same lies)))
+  ]
+]
+
+pub lone-of-words : (places : List Place) (image : ImageView) (word : ℕ) (o : Option ℕ) → NextHit image 0 (Some word) → NextHit image (suc word) None → IfSome o (λ n. (w : ℕ) (p : Place) → slice_get places w ≡ Some p → LiesInWord p word → w ≡ n) → IfSome o (λ n. IsLoneWritten places image.hits n)
+lone-of-words places image word None first none alone = tt
+lone-of-words places image word (Some n) first none alone = lone-of-word places image word n first none alone

@@ -1,5 +1,5 @@
 -- The lines of watched places that changed, from their numbers before and after.
-use Rattle.std.specs.Prelude.{◌≡◌, ℕ, ◌+◌, ◌≤◌, ◌<◌, Bool, true, false, List, [], ◌∷◌, ◌++◌, map, length, ℤ, pos, Some, slice_get, slice_index_or, if◌then◌else◌}
+use Rattle.std.specs.Prelude.{◌≡◌, ◌≢◌, ℕ, ◌+◌, ◌≤◌, ◌<◌, Bool, true, false, List, [], ◌∷◌, ◌++◌, map, length, ℤ, pos, Some, slice_get, slice_index_or, if◌then◌else◌}
 use Rattle.spec_base.specs.declared.limits.TheConstants.{MAX_IMAGE_BYTES}
 use Rattle.lgx_num.specs.Number.{int_eq}
 use Rattle.lgx_num.specs.Image.{number, InBounds}
@@ -44,3 +44,7 @@ pub record AreAsCompared (places : List Place) (values : List ℤ) (image : Imag
 pub record HasWritten (places : List Place) (hits set : List Bool) : Type 0 where
   pub members : (w : ℕ) (p : Place) → slice_get places w ≡ Some p → is_member set w ≡ false → LiesInNoHit hits p
   pub known : (w : ℕ) → is_member set w ≡ true → w < length places
+
+-- all watched places but number n lie in no word that is hit
+abbrev pub IsLoneWritten : List Place → List Bool → ℕ → Type 0
+IsLoneWritten places hits n = (w : ℕ) (p : Place) → slice_get places w ≡ Some p → w ≢ n → LiesInNoHit hits p

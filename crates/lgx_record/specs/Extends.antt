@@ -1,7 +1,6 @@
 -- A run that goes on by more events, whose lines go into a log.
-use Rattle.std.specs.Prelude.{◌≡◌, ℕ, ◌<◌, Bool, false, List, [], ◌∷◌, ◌++◌, replicate}
+use Rattle.std.specs.Prelude.{◌≡◌, Bool, false, List, [], ◌∷◌, ◌++◌, replicate}
 use Rattle.spec_machine.specs.declared.event.Event.{Event}
-use Rattle.spec_machine.specs.declared.event.Event.TheVariants as event
 use Rattle.spec_machine.specs.Events.{is_accept}
 use Rattle.spec_machine.specs.Project.{Project}
 use Rattle.spec_machine.specs.ValidProject.{IsValidProject}

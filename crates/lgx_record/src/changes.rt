@@ -1,10 +1,10 @@
 // The watched places that changed by an event.
-ghost use Rattle.std.specs.Prelude.{◌≡◌, ◌+◌, ◌≤◌, ◌<◌, ◌^◌, length, IfOk};
+ghost use Rattle.std.specs.Prelude.{◌≡◌, ◌+◌, ◌≤◌, ◌<◌, ◌^◌, length, IfOk, IfSome};
 ghost use Rattle.spec_machine.specs.State.{State};
 ghost use Rattle.lgx_image.specs.Grains.{NoneIsHit};
 ghost use Rattle.lgx_watch.specs.declared.bits.TheConstants.{MAX_WATCHES};
 ghost use Rattle.lgx_core.specs.Represents.{RepresentsController};
-ghost use Rattle.lgx_record.specs.Changes.{numbers_at, change_line, AreInside, AreWatched, AreAsCompared, HasWritten};
+ghost use Rattle.lgx_record.specs.Changes.{numbers_at, change_line, AreInside, AreWatched, AreAsCompared, HasWritten, IsLoneWritten};
 ghost use Rattle.lgx_record.specs.EventLines.{with_event_lines, Compared};
 
 use crate::lines::{Stamp, log_line};
@@ -72,9 +72,65 @@ fn log_hits(
     ensures none_hit { NoneIsHit controller.new.parts.image }
     ensures watched { controller.new.parts.image.watched ≡ controller.old.parts.image.watched }
 {
+    match lone_written(controller, watches) {
+        Some(watch) => compare_lone(log, values, at, controller, watches.places(), watch),
+        None => compare_written(log, values, at, controller, watches),
+    }
+    controller.clear_hits();
+}
+
+/// The one watched place that has a byte in a word that is hit; None if it isn't found at once, since more are or may be.
+#[inline(always)]
+fn lone_written(controller: &Controller, watches: &WatchIndex) -> Option<u32>
+    ensures known { IfSome result (λ n. n < length watches.now) }
+    ensures lone { IfSome result (λ n. IsLoneWritten watches.now controller.now.parts.image.hits n) }
+{
+    let word = controller.next_hit(0)?;
+    let next = word.checked_add(1)?;
+    if controller.next_hit(next).is_some() {
+        return None;
+    }
+    watches.lone_of(word)
+}
+
+/// Compares one place of `places`. All others have the number last compared.
+#[inline(always)]
+fn compare_lone(
+    log: &mut Log,
+    values: &mut [i32],
+    at: Stamp,
+    controller: &Controller,
+    places: &[Place],
+    watch: u32,
+)
+    requires inside { AreInside places.now controller.now.parts.image.bytes }
+    requires known { watch < length places.now }
+    requires compared { AreAsCompared places.now values.old controller.now.parts.image }
+    requires lone { IsLoneWritten places.now controller.now.parts.image.hits watch }
+    requires room { log.old.lost + 1 < 2 ^ 63 }
+    ensures { (s : State) → RepresentsController controller.now s → Compared log.old log.new at values.old values.new (numbers_at s.image places.now) }
+{
+    let number = controller.read(places[watch as usize]);
+    compare(log, &mut values[watch as usize], at, watch, number);
+}
+
+/// Compares the places that have a byte in a word that is hit.
+#[cold]
+#[inline(never)]
+fn compare_written(
+    log: &mut Log,
+    values: &mut [i32],
+    at: Stamp,
+    controller: &Controller,
+    watches: &WatchIndex,
+)
+    requires inside { AreInside watches.now controller.now.parts.image.bytes }
+    requires compared { AreAsCompared watches.now values.old controller.now.parts.image }
+    requires room { log.old.lost + MAX_WATCHES < 2 ^ 63 }
+    ensures { (s : State) → RepresentsController controller.now s → Compared log.old log.new at values.old values.new (numbers_at s.image watches.now) }
+{
     let written = written_watches(controller, watches);
     compare_all(log, values, at, controller, watches.places(), &written);
-    controller.clear_hits();
 }
 
 /// The watched places that have a byte in a word that is hit.

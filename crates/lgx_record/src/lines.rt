@@ -1,5 +1,5 @@
 // The lines of an event's answer and of its faults.
-ghost use Rattle.std.specs.Prelude.{◌≡◌, ◌+◌, ◌≤◌, ◌<◌, ◌^◌, [], ◌∷◌, length, map};
+ghost use Rattle.std.specs.Prelude.{◌≡◌, ◌+◌, ◌≤◌, ◌<◌, ◌^◌, [], ◌∷◌, length, map, IsTrue};
 ghost use Rattle.spec_base.specs.declared.limits.TheConstants.{MAX_TASKS};
 ghost use Rattle.spec_machine.specs.declared.line.Line.TheVariants.{Fault as FaultLine};
 ghost use Rattle.spec_machine.specs.State.{State};
@@ -14,7 +14,7 @@ ghost use Rattle.lgx_record.specs.EventLines.{begins_lines, with_event_lines, ov
 use lgx_core::Begins;
 use lgx_watch::{Line, Log, MAX_WATCHES};
 use spec_base::limits::MAX_TASKS;
-use spec_machine::{TickReport, What};
+use spec_machine::{Moment, TickReport, What};
 use spec_tables::{Fault, PERIODIC_OVERLAP, Severity, TASK_FAULT, WATCHDOG};
 
 /// The most lines of an event: its answer's, a fault for each task and one more, and the watched places.
@@ -34,6 +34,15 @@ pub(crate) fn log_line(log: &mut Log, at: Stamp, line: Line)
     ensures lost { log.new.lost ≤ log.old.lost + 1 }
 {
     log.push(at.tick, at.step, line);
+}
+
+/// Whether a processor step has no line but those of watched places: it began no scan, and has no fault.
+#[inline(always)]
+fn is_silent(moment: &Moment) -> bool
+    ensures lines { IsTrue result → begin_lines moment.now.what ≡ [] }
+    ensures faults { IsTrue result → faults_in moment.now.fault ≡ [] }
+{
+    !matches!(moment.what, What::Began { .. }) && moment.fault.is_none()
 }
 
 /// Puts the line of a processor step that began a scan into the log.
@@ -71,6 +80,9 @@ pub(crate) fn log_begins(log: &mut Log, from: Stamp, begins: &Begins)
     ensures lost { log.new.lost ≤ log.old.lost + length begins.now.steps.items }
 {
     let steps = begins.steps.as_slice();
+    if steps.is_empty() {
+        return;
+    }
     if log.is_full() {
         if let What::Began { .. } = begins.began {
             log.lose(steps.len() as u64);
@@ -84,6 +96,21 @@ pub(crate) fn log_begins(log: &mut Log, from: Stamp, begins: &Begins)
         };
         log_begin(log, at, begins.began);
     }
+}
+
+/// Puts the lines of a processor step into the log: that of the scan that it began, and that of its fault. Most steps have
+/// neither, which is asked first.
+#[inline(always)]
+pub(crate) fn log_moment(log: &mut Log, at: Stamp, moment: &Moment)
+    requires room { log.old.lost + 2 < 2 ^ 63 }
+    ensures log { log.new ≡ with_event_lines (with_event_lines log.old at (begin_lines moment.now.what)) at (map FaultLine (faults_in moment.now.fault)) }
+    ensures lost { log.new.lost ≤ log.old.lost + 2 }
+{
+    if is_silent(moment) {
+        return;
+    }
+    log_begin(log, at, moment.what);
+    log_fault(log, at, &moment.fault);
 }
 
 /// Puts the line of a fault into the log, if there is one. It is copied part by part, so that no room is taken for a fault that

@@ -1,6 +1,8 @@
 // A run of a project that goes on by the events that it takes.
 use crate::changes::{log_changes, numbers_at, watch_all};
-use crate::lines::{Stamp, log_begin, log_begins, log_fault, log_line, log_tick_faults};
+use crate::lines::{
+    Stamp, log_begin, log_begins, log_fault, log_line, log_moment, log_tick_faults,
+};
 use crate::names::names_and_watches;
 use lgx_core::{Begins, Controller};
 use lgx_edit::Plant;
@@ -188,8 +190,7 @@ impl Run {
         log_begins(log, from, &self.begins);
         self.steps += made.steps;
         let at = stamp(&self.controller, self.steps);
-        log_begin(log, at, made.last.what);
-        log_fault(log, at, &made.last.fault);
+        log_moment(log, at, &made.last);
         close(
             log,
             &mut self.values,

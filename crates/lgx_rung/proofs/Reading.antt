@@ -167,7 +167,7 @@ open_fork_fit : (b : Bool) (forks : List Fork) (t : Source) → nat_lt (length f
 open_fork_fit true forks t e h hs = let room : length forks < MAX_FORKS = ltb-true (length forks) MAX_FORKS e in (omega arith, (h, omega arith, hs))
 open_fork_fit false forks t e h hs = tt
 
-element_fit : (forks : List Fork) (t : Source) (op : Op) (texts : List (List ℕ)) → length forks + depth t ≤ MAX_FORKS → length forks + depth (append t (instruction op texts)) ≤ MAX_FORKS
+pub element_fit : (forks : List Fork) (t : Source) (op : Op) (texts : List (List ℕ)) → length forks + depth t ≤ MAX_FORKS → length forks + depth (append t (instruction op texts)) ≤ MAX_FORKS
 element_fit forks t op texts h = omega (arith, depth-append t (instruction op texts))
 
 read_at_fit : (p : Expected) (x : Token) (forks : List Fork) (t : Source) → length forks + depth t ≤ MAX_FORKS → AreFit forks → IfOk (read_at p x forks t) IsFit

@@ -4,6 +4,7 @@ pub mod Tree
 pub mod Tokens
 pub mod Lexemes
 pub mod Text
+pub mod ArgLists
 pub mod Joined
 pub mod Coding
 pub mod Elements

@@ -1,5 +1,5 @@
 // The kinds of an instruction's operands, by how many are given.
-ghost use Rattle.std.specs.Prelude.{◌≡◌, ◌≤◌, ◌+◌, ◌++◌, ◌∷◌, [], ◌==◌, if◌then◌else◌, length, replicate, Some, None, option_map};
+ghost use Rattle.std.specs.Prelude.{◌≡◌, ◌≤◌, ◌+◌, ◌++◌, ◌∷◌, [], ◌==◌, if◌then◌else◌, ℕ, ℤ, Option, length, replicate, Some, None, IfSome, option_map};
 ghost use Rattle.spec_base.specs.declared.limits.TheConstants.{MAX_OPERANDS, MAX_PARAMETERS};
 ghost use Rattle.lgx_rung.specs.declared.op.Op.TheVariants.{Jsr};
 ghost use Rattle.lgx_rung.specs.declared.operands.OperandKind.TheVariants.{RoutineName, ParameterCount};
@@ -62,6 +62,17 @@ impl OperandKinds {
 }
 
 impl Op {
+    /// The kinds of its operands, in order; none if it may have more of them or fewer: a JSR, an SBR or a RET.
+    #[inline(always)]
+    pub fn own_kinds(self) -> Option<&'static [OperandKind]>
+        ensures { IfSome result (λ kinds. (second : Option ℤ) (given : ℕ) → operand_kinds self second given ≡ (if length kinds.now == given then Some kinds.now else None)) }
+    {
+        match self {
+            Op::Jsr | Op::Sbr | Op::Ret => None,
+            _ => Some(self.fixed_kinds()),
+        }
+    }
+
     /// The kinds of its operands if there are `given`, in order; none if it has more or fewer.
     ///
     /// `second` is the number that the second operand is, if it is one: of a JSR it is the count of the inputs. A JSR

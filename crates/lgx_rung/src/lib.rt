@@ -4,6 +4,7 @@
 //! How deep forks nest, where blanks may be and which fault comes first is our own profile.
 #![tactic(auto)]
 
+mod args;
 mod fault;
 mod ins;
 mod kinds;
@@ -13,6 +14,7 @@ mod rung;
 mod text;
 mod texts;
 
+pub use args::Args;
 pub use fault::{CheckCode, CheckFault, TextCode, TextFault};
 pub use ins::Ins;
 pub use kinds::{OperandKinds, as_count};

@@ -128,6 +128,15 @@ impl SourceRung {
         }
     }
 
+    /// A rung without elements, with room for `count` of them.
+    pub fn with_room(alloc: Global, count: usize) -> Result<Self, Memory>
+        ensures { IfOk result (λ rung. rung ≡ end) }
+    {
+        Ok(SourceRung {
+            elements: Vec::with_capacity(alloc, count)?,
+        })
+    }
+
     /// Its elements in the order of the text.
     pub fn elements(&self) -> &[Element]
         ensures elements { tree_of result.now ≡ self.now }

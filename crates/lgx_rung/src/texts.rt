@@ -1,5 +1,5 @@
 // The operands of an instruction as they were written.
-ghost use Rattle.std.specs.Prelude.{◌≡◌, [], ◌∷◌, ◌++◌, length, IsTrue, IfOk, IfSome, MatchOption, OnOk, OnErr};
+ghost use Rattle.std.specs.Prelude.{◌≡◌, ◌==◌, [], ◌∷◌, ◌++◌, length, IsTrue, IfOk, IfSome, MatchOption, OnOk, OnErr};
 ghost use Rattle.std.specs.List.{list_all};
 ghost use Rattle.lgx_rung.specs.Joined.{operands_in};
 ghost use Rattle.lgx_rung.specs.Text.{canon_tokens, operands as operand_tokens};
@@ -42,6 +42,15 @@ impl Texts {
         Texts {
             joined: SmallVec::new(alloc),
         }
+    }
+
+    /// Operands as a rung's canonical text has them: with a comma between two.
+    pub fn of_joined(alloc: Global, joined: &[u8]) -> Result<Texts, Memory>
+        requires { IsTrue (list_all is_operand (operands_in joined.now)) }
+        ensures { IfOk result (λ texts. texts ≡ operands_in joined.now) }
+    {
+        let joined = SmallVec::from_slice(alloc, joined)?;
+        Ok(Texts { joined })
     }
 
     /// Adds an operand after the others.
@@ -129,6 +138,13 @@ impl<'a> Model for Operands<'a> {
 }
 
 impl<'a> Operands<'a> {
+    /// Whether no operand is left.
+    pub fn is_empty(&self) -> bool
+        ensures { result ≡ (length self.now == 0) }
+    {
+        self.rest.is_empty()
+    }
+
     /// The next operand, or none if none is left.
     pub fn next(&mut self) -> Option<&'a [u8]>
         ensures operands { MatchOption result (self.old ≡ [] × self.new ≡ []) (λ text. self.old ≡ text.now ∷ self.new) }

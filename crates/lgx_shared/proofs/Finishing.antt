@@ -1,9 +1,8 @@
 -- Turns that do what is left.
 use Rattle.std.proofs.Common.{◌≡◌, ℕ, ◌+◌, ◌-◌, ◌%◌, ◌<◌, Bool, true, false, cond, List, [], ◌∷◌, ◌++◌, length, get_or, Option, Some, None, refl, sym, ◌∙◌, ap, subst, arith, length-append, append_assoc, below_more}
-use Rattle.std.specs.Prelude.{IsSome, IsSomeAnd, nat_eq}
-use Rattle.std.proofs.lemmas.Bool.{false≢true}
+use Rattle.std.specs.Prelude.{IsSomeAnd, nat_eq}
 use Rattle.std.proofs.lemmas.List.{append-nil}
-use Rattle.std.proofs.lemmas.Option.{slice_get_past}
+use Rattle.std.proofs.lemmas.Option.{same_Some, slice_get_past}
 use Rattle.spec_machine.specs.declared.event.Action.{Action}
 use Rattle.spec_machine.specs.declared.event.Event.{Event}
 use Rattle.spec_machine.specs.declared.event.Event.TheVariants.{Cpu, Tick, Act}
@@ -16,13 +15,13 @@ use Rattle.spec_lanes.specs.Laws.{with_one_more}
 use Rattle.spec_lanes.proofs.LaneLists.{did_long}
 use Rattle.spec_lanes.proofs.Appended.{made_on}
 use Rattle.spec_lanes.proofs.Serving.{none_past, counts_tell, few_events_serve, all_is_complete}
-use Rattle.lgx_shared.specs.declared.turn.Turn.{Turn}
-use Rattle.lgx_shared.specs.declared.turn.Turn.TheVariants.{Did, Helped, Done, Memory}
+use Rattle.lgx_lanes.specs.declared.turn.Turn.{Turn}
+use Rattle.lgx_lanes.specs.declared.turn.Turn.TheVariants.{Did, Helped, Done, Memory}
 use Rattle.lgx_shared.specs.RecorderView.{RecorderView}
+use Rattle.lgx_shared.specs.ScriptRun.{ScriptRunView, as_recorder}
 use Rattle.lgx_shared.specs.Follows.{journal_of, Follows, IsRecorder, HasSpent, HasCompleted, GoesOn}
 use Rattle.lgx_shared.specs.Serves.{Makes, Serves}
 use Rattle.lgx_shared.proofs.Numbers.{longer, fewer_left, past_still, all_of_them, below_still}
-use Rattle.lgx_shared.proofs.Turns.{its_script}
 use Rattle.lgx_shared.proofs.Whole.{whole_counts}
 
 -- ---- what goes on
@@ -53,14 +52,9 @@ served_on project script lane old Memory new s = subst (GoesOn old) (sym s.1) (g
 
 -- ---- how long it takes
 
--- the events of which there is room for the script, if there is one
-abbrev pub room_of : Option Script → ℕ
-room_of None = 0
-room_of (Some script) = most_events script
-
 -- the events that are still to come at most
-abbrev pub to_come : RecorderView → ℕ
-to_come v = room_of v.script - length (journal_of v)
+abbrev pub to_come : ScriptRunView → ℕ
+to_come run = most_events run.script - length (journal_of (as_recorder run))
 
 events_add : (old new : RecorderView) (events : List Event) (counts : List ℕ) → Makes old new events counts → 0 < length events → length (journal_of old) < length (journal_of new)
 events_add old new events counts m some =
@@ -79,15 +73,15 @@ some_step pace n = go (nat_eq (n % pace) 0)
     go false = omega arith
 
 -- after a turn that made an event fewer are to come
-pub fewer_to_come : (project : Project) (script : Script) (old new : RecorderView) → Follows project script old → Follows project script new → length (journal_of old) < length (journal_of new) → to_come new < to_come old
-fewer_to_come project script old new f g more =
-    fewer_left (most_events script) (room_of old.script) (room_of new.script) (length (journal_of old)) (length (journal_of new))
-    (ap room_of f.made) (ap room_of g.made) (few_events_serve project script new.counts (journal_of new) g.served) more
+fewer_to_come : (project : Project) (old new : ScriptRunView) → Follows project old.script (as_recorder new) → length (journal_of (as_recorder old)) < length (journal_of (as_recorder new)) → to_come new < to_come old
+fewer_to_come project old new g more =
+    fewer_left (most_events old.script) (most_events old.script) (most_events new.script) (length (journal_of (as_recorder old))) (length (journal_of (as_recorder new)))
+    refl (ap (λ (s : Script). most_events s) (same_Some new.script old.script g.made)) (few_events_serve project old.script new.counts (journal_of (as_recorder new)) g.served) more
 
-pub did_adds : (project : Project) (script : Script) (lane : ℕ) (old new : RecorderView) → Serves project script lane old Did new → length (journal_of old) < length (journal_of new)
+did_adds : (project : Project) (script : Script) (lane : ℕ) (old new : RecorderView) → Serves project script lane old Did new → length (journal_of old) < length (journal_of new)
 did_adds project script lane old new s = action_adds old new lane (due_action project script (journal_of old) lane) (with_one_more old.counts lane) s
 
-pub helped_adds : (project : Project) (script : Script) (lane : ℕ) (old new : RecorderView) → Serves project script lane old Helped new → length (journal_of old) < length (journal_of new)
+helped_adds : (project : Project) (script : Script) (lane : ℕ) (old new : RecorderView) → Serves project script lane old Helped new → length (journal_of old) < length (journal_of new)
 helped_adds project script lane old new s =
     events_add old new (paced_step script.pace (steps_of (journal_of old) + 1)) old.counts s.2 (some_step script.pace (steps_of (journal_of old) + 1))
 
@@ -122,37 +116,25 @@ finished project script lanes old new g f all each spent =
 
 -- ---- whatever it follows
 
--- a recorder with a script follows it on some project
-pub record FollowsSome (v : RecorderView) : Type 0 where
-  pub project : Project
-  pub script : Script
-  pub follows : Follows project script v
+abbrev pub ServesAll : ℕ → ScriptRunView → Turn → ScriptRunView → Type 0
+ServesAll lane old turn new = (project : Project) (script : Script) → Follows project script (as_recorder old) → Serves project script lane (as_recorder old) turn (as_recorder new)
 
-pub its_some : (v : RecorderView) → IsRecorder v → IsSome v.script → FollowsSome v
-its_some v i some = go v.script refl some
-  where
-    go : (o : Option Script) → v.script ≡ o → IsSome o → FollowsSome v
-    go None e h = absurd (false≢true h)
-    go (Some script) e h = record { project = i.project; script = script; follows = its_script v script i e }
+abbrev pub FollowsAll : ScriptRunView → ScriptRunView → Type 0
+FollowsAll old new = (project : Project) (script : Script) → Follows project script (as_recorder old) → Follows project script (as_recorder new)
 
-abbrev pub ServesAll : ℕ → RecorderView → Turn → RecorderView → Type 0
-ServesAll lane old turn new = (project : Project) (script : Script) → Follows project script old → Serves project script lane old turn new
+module _ (lane : ℕ) (old : ScriptRunView) where
+  pub any_served_on : (turn : Turn) (new : ScriptRunView) → IsRecorder (as_recorder old) → ServesAll lane old turn new → GoesOn (as_recorder old) (as_recorder new)
+  any_served_on turn new i s = served_on i.project old.script lane (as_recorder old) turn (as_recorder new) (s i.project old.script i.follows)
 
-abbrev pub FollowsAll : RecorderView → RecorderView → Type 0
-FollowsAll old new = (project : Project) (script : Script) → Follows project script old → Follows project script new
+  pub did_fewer : (new : ScriptRunView) → IsRecorder (as_recorder old) → ServesAll lane old Did new → FollowsAll old new → to_come new < to_come old
+  did_fewer new i s g =
+      fewer_to_come i.project old new (g i.project old.script i.follows)
+      (did_adds i.project old.script lane (as_recorder old) (as_recorder new) (s i.project old.script i.follows))
 
-pub any_served_on : (lane : ℕ) (old : RecorderView) (turn : Turn) (new : RecorderView) → IsRecorder old → IsSome old.script → ServesAll lane old turn new → GoesOn old new
-any_served_on lane old turn new i some s = let f = its_some old i some in served_on f.project f.script lane old turn new (s f.project f.script f.follows)
-
-pub did_fewer : (lane : ℕ) (old new : RecorderView) → IsRecorder old → IsSome old.script → ServesAll lane old Did new → FollowsAll old new → to_come new < to_come old
-did_fewer lane old new i some s g =
-    let f = its_some old i some in
-    fewer_to_come f.project f.script old new f.follows (g f.project f.script f.follows) (did_adds f.project f.script lane old new (s f.project f.script f.follows))
-
-pub helped_fewer : (lane : ℕ) (old new : RecorderView) → IsRecorder old → IsSome old.script → ServesAll lane old Helped new → FollowsAll old new → to_come new < to_come old
-helped_fewer lane old new i some s g =
-    let f = its_some old i some in
-    fewer_to_come f.project f.script old new f.follows (g f.project f.script f.follows) (helped_adds f.project f.script lane old new (s f.project f.script f.follows))
+  pub helped_fewer : (new : ScriptRunView) → IsRecorder (as_recorder old) → ServesAll lane old Helped new → FollowsAll old new → to_come new < to_come old
+  helped_fewer new i s g =
+      fewer_to_come i.project old new (g i.project old.script i.follows)
+      (helped_adds i.project old.script lane (as_recorder old) (as_recorder new) (s i.project old.script i.follows))
 
 -- at `Done` the lane has none left and the steps are spent
 pub done_is : (project : Project) (script : Script) (lane : ℕ) (old new : RecorderView) → Serves project script lane old Done new → HasSpent project script new × (next_of script (journal_of new) lane ≡ None)

@@ -4,11 +4,9 @@ pub mod Due
 pub mod Bounds
 pub mod Turns
 pub mod TurnsServed
+pub mod Stages
 pub mod Making
 pub mod Whole
 pub mod Finishing
-pub mod Sums
-pub mod Pushes
-pub mod InStep
-pub mod Seeing
+pub mod Progressing
 pub mod Crossing

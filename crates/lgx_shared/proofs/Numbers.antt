@@ -45,9 +45,6 @@ all_of_them count done many a b c = omega arith
 pub below_still : (i lanes many : ℕ) → lanes ≡ many → i < many → i < lanes
 below_still i lanes many a b = omega arith
 
-pub plus_none : (n : ℕ) → n + 0 ≡ n
-plus_none n = omega arith
-
 pub one_more : (room most spare : ℕ) → room ≤ spare + 1 → room ≡ most + 2 → most + 2 ≤ 1 + spare
 one_more room most spare a b = omega arith
 
@@ -62,16 +59,3 @@ enough room before after a b = omega arith
 
 pub above_none : (room most : ℕ) → room ≡ most + 2 → 0 < room
 above_none room most a = omega arith
-
-pub none_above : (n : ℕ) → n ≡ 0 → 0 < n → ⊥
-none_above n a b = omega arith
-
-pub none_below : (n : ℕ) → n < 0 → ⊥
-none_below n a = omega arith
-
--- with one event there is nothing else
-pub only_one : (len sum steps ticks : ℕ) → len ≡ 1 → len ≡ 1 + (sum + (steps + ticks)) → (sum ≡ 0) × (steps ≡ 0)
-only_one len sum steps ticks a b = (omega arith, omega arith)
-
-pub parts_at_first : (parts lanes count : ℕ) → parts ≡ lanes + 1 → count ≡ lanes → parts + 0 ≡ count + 1
-parts_at_first parts lanes count a b = omega arith

@@ -1,5 +1,5 @@
 -- What each answer of a turn leaves of a recorder.
-use Rattle.std.proofs.Common.{◌≡◌, ℕ, ◌+◌, ◌≤◌, Bool, true, false, List, [], ◌∷◌, ◌++◌, length, Option, Some, None, refl, sym, ◌∙◌, ap, subst, length-append}
+use Rattle.std.proofs.Common.{◌≡◌, ℕ, ◌+◌, ◌≤◌, true, false, List, [], ◌∷◌, ◌++◌, length, Option, Some, None, refl, sym, ◌∙◌, ap, subst, length-append}
 use Rattle.std.specs.Prelude.{IfSome, IsSomeAnd, IsTrue}
 use Rattle.std.proofs.lemmas.Option.{same_Some}
 use Rattle.spec_machine.specs.declared.event.Action.{Action}
@@ -16,9 +16,9 @@ use Rattle.spec_lanes.proofs.Stepping.{steps_serve}
 use Rattle.spec_lanes.proofs.Serving.{none_is_left}
 use Rattle.lgx_record.specs.RecordingView.{RecordingView}
 use Rattle.lgx_record.specs.Records.{Records}
-use Rattle.lgx_shared.specs.declared.turn.Turn.{Turn}
-use Rattle.lgx_shared.specs.declared.turn.Turn.TheVariants.{Did, Helped, Done, Memory}
-use Rattle.lgx_shared.specs.Turns.{MatchTurn}
+use Rattle.lgx_lanes.specs.declared.turn.Turn.{Turn}
+use Rattle.lgx_lanes.specs.declared.turn.Turn.TheVariants.{Did, Helped, Done, Memory}
+use Rattle.lgx_lanes.specs.Turns.{MatchTurn}
 use Rattle.lgx_shared.specs.RecorderView.{RecorderView, view_of}
 use Rattle.lgx_shared.specs.Follows.{journal_of, Follows, IsRecorder}
 use Rattle.lgx_shared.specs.Serves.{Makes, Serves}
@@ -41,10 +41,6 @@ recorder_of project script v f = record {
 -- the script that it follows is its own
 pub same_script : (project : Project) (script other : Script) (v : RecorderView) → Follows project script v → v.script ≡ Some other → script ≡ other
 same_script project script other v f made = same_Some script other (sym f.made ∙ made)
-
--- whether it ran doesn't matter
-pub follows_still : (project : Project) (script : Script) (v : RecorderView) (ran : Bool) → Follows project script v → Follows project script (record v { ran = ran })
-follows_still project script v ran f = record { made = f.made; records = f.records; served = f.served; room = f.room }
 
 -- ---- events more
 

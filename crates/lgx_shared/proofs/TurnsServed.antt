@@ -14,8 +14,8 @@ use Rattle.spec_lanes.proofs.Scripts.{count_is}
 use Rattle.lgx_core.specs.Represents.{StandsFor}
 use Rattle.lgx_record.specs.RecordingView.{RecordingView}
 use Rattle.lgx_record.specs.Records.{Records}
-use Rattle.lgx_shared.specs.declared.turn.Turn.{Turn}
-use Rattle.lgx_shared.specs.Turns.{MatchTurn}
+use Rattle.lgx_lanes.specs.declared.turn.Turn.{Turn}
+use Rattle.lgx_lanes.specs.Turns.{MatchTurn}
 use Rattle.lgx_shared.specs.RecorderView.{RecorderView, view_of}
 use Rattle.lgx_shared.specs.Follows.{journal_of, Follows, IsRecorder}
 use Rattle.lgx_shared.proofs.Bounds.{HasRoomToAct, room_to_act, room_for_turn, events_to_step}

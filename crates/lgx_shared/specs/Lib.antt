@@ -1,7 +1,6 @@
 pub mod RecorderView
 pub mod Codes
+pub mod ScriptRun
+pub mod Stages
 pub mod Follows
-pub mod Turns
 pub mod Serves
-pub mod Seen
-pub mod Lanes

@@ -1,16 +1,16 @@
 -- What a turn of a lane does to a recorder.
-use Rattle.std.specs.Prelude.{◌≡◌, ℕ, ◌+◌, ◌<◌, ◌≤◌, List, [], ◌∷◌, ◌++◌, length, sum, true, false, None, IsSomeAnd, IsTrue}
+use Rattle.std.specs.Prelude.{◌≡◌, ℕ, ◌+◌, List, [], ◌∷◌, ◌++◌, true, false, None, IsSomeAnd, IsTrue}
 use Rattle.spec_machine.specs.declared.event.Event.{Event}
 use Rattle.spec_machine.specs.declared.event.Event.TheVariants.{Act}
 use Rattle.spec_machine.specs.Events.{is_accept, steps_of}
 use Rattle.spec_machine.specs.Project.{Project}
 use Rattle.spec_text.specs.Scripts.{Script}
-use Rattle.spec_lanes.specs.Turns.{done_by, due_action, next_of, is_spent, paced_step}
+use Rattle.spec_lanes.specs.Turns.{due_action, next_of, is_spent, paced_step}
 use Rattle.spec_lanes.specs.Laws.{with_one_more}
-use Rattle.lgx_shared.specs.declared.turn.Turn.{Turn}
-use Rattle.lgx_shared.specs.Turns.{MatchTurn}
+use Rattle.lgx_lanes.specs.declared.turn.Turn.{Turn}
+use Rattle.lgx_lanes.specs.Turns.{MatchTurn}
 use Rattle.lgx_shared.specs.RecorderView.{RecorderView}
-use Rattle.lgx_shared.specs.Follows.{journal_of, HasSpent}
+use Rattle.lgx_shared.specs.Follows.{journal_of}
 
 -- these events were recorded, the lanes have these counts, and all else is as before
 pub record Makes (old new : RecorderView) (events : List Event) (done : List ℕ) : Type 0 where
@@ -30,17 +30,3 @@ Serves project script lane old turn new =
     ((due ≡ None) × (spent ≡ false) × Makes old new (paced_step script.pace (steps_of (journal_of old) + 1)) old.counts)
     ((due ≡ None) × (spent ≡ true) × (next_of script (journal_of old) lane ≡ None) × (new ≡ old))
     (IsSomeAnd due (λ action. IsTrue (is_accept action)) × (new ≡ old))
-
--- What a turn adds to the counts of the lanes together and to the processor steps. A step is made until the steps are spent;
--- an action leaves them spent.
-abbrev pub Adds : Project → Script → RecorderView → Turn → RecorderView → Type 0
-Adds project script old turn new =
-    MatchTurn turn
-    ((sum new.counts ≡ sum old.counts + 1) × (steps_of (journal_of new) ≡ steps_of (journal_of old)) × (HasSpent project script old → HasSpent project script new))
-    ((sum new.counts ≡ sum old.counts) × (steps_of (journal_of new) ≡ steps_of (journal_of old) + 1) × (is_spent project script (journal_of old) ≡ false))
-    ((new ≡ old) × HasSpent project script old)
-    (new ≡ old)
-
--- the journal has `actions` actions of the lane; a lane that the script hasn't got has none
-abbrev pub IsInStep : Script → List Event → ℕ → ℕ → Type 0
-IsInStep script journal lane actions = (lane < length script.lanes → actions ≡ done_by lane journal) × (length script.lanes ≤ lane → actions ≡ 0)

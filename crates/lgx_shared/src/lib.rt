@@ -9,21 +9,15 @@
 //! of `lgx_record` with a log.
 #![tactic(auto)]
 
-mod front;
-mod input;
 mod lanes;
-mod locked_run;
-mod pass;
 mod plan;
 mod recorder;
 mod recorder_of;
+mod script_run;
 mod serving;
 mod shared;
-mod turn;
 
-pub use input::Input;
-pub use lanes::{Gate, run_lanes};
-pub use pass::Pass;
+pub use lanes::run_lanes;
+pub use lgx_lanes::{Gate, Input, Pass, Turn};
 pub use recorder::Recorder;
 pub use shared::Shared;
-pub use turn::Turn;

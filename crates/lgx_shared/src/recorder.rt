@@ -1,55 +1,48 @@
 // The recorder of a run.
-ghost use Rattle.std.specs.Prelude.{◌≡◌, ◌+◌, ◌≤◌, ◌<◌, List, [], ◌∷◌, ◌++◌, length, true, false, Some, None, IsSome, IfOk, OnOk, OnErr, slice_index_or};
-ghost use Rattle.spec_base.specs.declared.limits.TheConstants.{MAX_ACTIONS, MAX_EVENTS, MAX_SCRIPT_STEPS, OWN_LANE};
+ghost use Rattle.std.specs.Prelude.{◌≡◌, ◌+◌, ◌≤◌, ◌<◌, List, [], ◌∷◌, ◌++◌, true, false, Some, None, IsSome, IfOk, OnOk, OnErr};
+ghost use Rattle.spec_base.specs.declared.limits.TheConstants.{MAX_EVENTS};
 ghost use Rattle.spec_machine.specs.declared.event.Event.{Event as Events};
 ghost use Rattle.spec_machine.specs.Events.{steps_of};
 ghost use Rattle.spec_machine.specs.Project.{Project};
 ghost use Rattle.spec_text.specs.Scripts.{Script as Scripts};
-ghost use Rattle.spec_lanes.specs.Turns.{lane_of, most_steps, next_of};
-ghost use Rattle.spec_lanes.specs.Laws.{opening};
+ghost use Rattle.spec_lanes.specs.Turns.{most_steps};
 ghost use Rattle.lgx_record.specs.Records.{Records, IsUnchanged};
-ghost use Rattle.lgx_shared.specs.RecorderView.{RecorderView};
-ghost use Rattle.lgx_shared.specs.Follows.{journal_of, Follows, IsRecorder, IsNew, HasSpent, HasCompleted, GoesOn};
-ghost use Rattle.lgx_shared.specs.Seen.{IsUnseen};
+ghost use Rattle.lgx_shared.specs.ScriptRun.{recorder_with};
+ghost use Rattle.lgx_shared.specs.Follows.{journal_of, Follows, IsRecorder, IsNew, IsUnseen, HasCompleted, GoesOn};
 ghost use Rattle.lgx_shared.specs.Serves.{Serves};
 
-use crate::plan::{count_of, lanes_of, length_of, room_for};
-use crate::serving::{due_action, help, make_action};
-use crate::turn::Turn;
+use crate::script_run::ScriptRun;
 use lgx_core::Controller;
 use lgx_edit::Plant;
 use lgx_history::History;
-use lgx_journal::{Action, Event, EventsLent, Journal, Script, single};
+use lgx_journal::{Event, Journal, Script, single};
+use lgx_lanes::Turn;
 use lgx_num::Memory;
 use lgx_record::Recording;
 use lgx_watch::{Log, Names};
-use spec_base::limits::OWN_LANE;
 use std::alloc::Global;
 use std::marker::Model;
+
+/// What a recorder is for, and how far it has come.
+#[derive(Drop)]
+enum Stage {
+    /// The run of a script that wasn't shared yet, and what passes are to see of its journal.
+    Unshared(ScriptRun, History),
+    /// One whose passes are back, and whether turns brought every pass to its end, to want of memory, or to its last turn.
+    Closed(ScriptRun, bool),
+    /// Events that are given.
+    Given(Recording),
+}
 
 /// The recorder of a run: its controller with the journal of the events and the log of their report, and the script that the
 /// lanes follow, if it was made for one.
 pub struct Recorder {
-    recording: Recording,
-    /// What the lanes are to do; none if the events are given.
-    script: Option<Script>,
-    /// How many actions of each lane were made.
-    counts: Vec<u32>,
-    /// Whether turns brought every pass to its end, to want of memory, or to its last turn.
-    ran: bool,
-    /// What passes see of its journal, until it is shared.
-    history: Option<History>,
+    stage: Stage,
 }
 
 impl Drop for Recorder {
     fn drop(self) {
-        let Recorder {
-            recording: _,
-            script: _,
-            counts: _,
-            ran: _,
-            history: _,
-        } = self;
+        let Recorder { stage: _ } = self;
     }
 }
 
@@ -58,28 +51,14 @@ impl Model for Recorder {
     ghost use Rattle.lgx_history.specs.contracts.history.History as history_row;
     ghost use Rattle.lgx_record.specs.contracts.recording.Recording as recording_row;
     ghost use Rattle.lgx_shared.specs.Codes.{recorder_code};
-    ghost use Rattle.lgx_shared.specs.RecorderView.{RecorderView, view_of};
-    ghost use Rattle.lgx_shared.specs.Follows.{IsRecorder};
+    ghost use Rattle.lgx_shared.specs.RecorderView.{RecorderView};
+    ghost use Rattle.lgx_shared.specs.Stages.{recorder_at};
 
     ghost Value = { RecorderView };
 
     ghost coded = { recorder_code recording_row.the_row.coded (Prim.hlevel codes) (coded_option history_row.the_row.coded) };
 
-    ghost view = { λ r. view_of r.recording r.script r.counts.items r.ran r.history };
-
-    ghost invariant = { λ r. IsRecorder (view_of r.recording r.script r.counts.items r.ran r.history) };
-}
-
-/// A recording of a project with its `mode run` as the one event, and with the journal's room for `room` events.
-fn opened(alloc: Global, project: Plant, room: u32) -> Result<Recording, Memory>
-    requires { 0 < room }
-    ensures records { IfOk result (λ recording. Records recording project opening) }
-    ensures room { IfOk result (λ recording. room ≤ recording.journal.spare + 1) }
-{
-    let mut recording = Recording::of_project(alloc, project)?;
-    recording.reserve(room)?;
-    recording.take(EventsLent::Act(OWN_LANE, &Action::ModeRun))?;
-    Ok(recording)
+    ghost view = { λ r. recorder_at r.stage };
 }
 
 impl Recorder {
@@ -90,14 +69,9 @@ impl Recorder {
         ensures history { IfOk result (λ recorder. IsUnseen recorder.history) }
     {
         let history = History::open(alloc)?;
-        let recording = opened(alloc, project, room_for(&script))?;
-        let counts = vec![in alloc; 0; lanes_of(&script) as usize]?;
+        let run = ScriptRun::new(alloc, project, script)?;
         Ok(Recorder {
-            recording,
-            script: Some(script),
-            counts,
-            ran: false,
-            history: Some(history),
+            stage: Stage::Unshared(run, history),
         })
     }
 
@@ -110,11 +84,7 @@ impl Recorder {
     {
         let recording = Recording::of_project(alloc, project)?;
         Ok(Recorder {
-            recording,
-            script: None,
-            counts: Vec::new(alloc),
-            ran: false,
-            history: None,
+            stage: Stage::Given(recording),
         })
     }
 
@@ -122,7 +92,11 @@ impl Recorder {
     pub fn law_of_recorders(&self)
         ensures { IsRecorder self.now }
     {
-        let _ = &self.recording;
+        match &self.stage {
+            Stage::Unshared(run, _) => run.law_of_runs(),
+            Stage::Closed(run, _) => run.law_of_runs(),
+            Stage::Given(recording) => recording.law_of_recordings(),
+        }
     }
 
     /// Takes one more event: the controller makes it, and the journal and the log are those with it. The journal's room is
@@ -137,7 +111,11 @@ impl Recorder {
         ensures unchanged { OnErr result (IsUnchanged self.old.recording self.new.recording) }
         ensures room { OnErr result (self.old.recording.journal.spare ≤ self.new.recording.journal.spare) }
     {
-        self.recording.apply(single(event))
+        match &mut self.stage {
+            Stage::Given(recording) => recording.apply(single(event)),
+            Stage::Unshared(_, _) => unreachable!(),
+            Stage::Closed(_, _) => unreachable!(),
+        }
     }
 
     /// A turn of a lane: its next action, if the tick of it has come and it wouldn't be answered Held; else, until the steps are
@@ -148,13 +126,10 @@ impl Recorder {
         ensures turn { (project : Project) (script : Scripts) → Follows project script self.old → Serves project script lane self.old result self.new }
         ensures follows { (project : Project) (script : Scripts) → Follows project script self.old → Follows project script self.new }
     {
-        let Some(script) = &self.script else {
-            unreachable!()
-        };
-        let done = count_of(self.counts.as_slice(), lane);
-        match due_action(script, lane, done, self.recording.controller()) {
-            Some(action) => make_action(&mut self.recording, &mut self.counts, lane, action),
-            None => help(&mut self.recording, script),
+        match &mut self.stage {
+            Stage::Unshared(run, _) => run.serve(lane),
+            Stage::Closed(run, _) => run.serve(lane),
+            Stage::Given(_) => unreachable!(),
         }
     }
 
@@ -168,118 +143,77 @@ impl Recorder {
         ensures complete { (project : Project) (script : Scripts) → Follows project script self.old → OnOk result (HasCompleted project script self.new) }
         ensures steps { (project : Project) (script : Scripts) → Follows project script self.old → OnOk result (steps_of (journal_of self.new) ≤ most_steps script) }
     {
-        let lanes = self.lanes();
-        for lane in 0..lanes {
-            self.finish_lane(lane)?;
-        }
-        self.finish_lane(lanes)
-    }
-
-    /// Makes turns of a lane until it has no action left and the steps are spent.
-    fn finish_lane(&mut self, lane: u32) -> Result<(), Memory>
-        requires { IsSome self.old.script }
-        ensures follows { (project : Project) (script : Scripts) → Follows project script self.old → Follows project script self.new }
-        ensures goes_on { GoesOn self.old self.new }
-        ensures done { (project : Project) (script : Scripts) → Follows project script self.old → OnOk result (HasSpent project script self.new × (next_of script (journal_of self.new) lane ≡ None)) }
-    {
-        loop {
-            self.law_of_recorders();
-            match self.serve(lane) {
-                Turn::Did => {}
-                Turn::Helped => {}
-                Turn::Done => return Ok(()),
-                Turn::Memory => return Err(Memory),
-            }
+        match &mut self.stage {
+            Stage::Closed(run, _) => run.finish(),
+            Stage::Unshared(_, _) => unreachable!(),
+            Stage::Given(_) => unreachable!(),
         }
     }
 
-    /// The number of the script's lanes; 0 without a script.
-    pub(crate) fn lanes(&self) -> u32
-        ensures is { (script : Scripts) → self.now.script ≡ Some script → result ≡ length script.lanes }
-        ensures few { result ≤ OWN_LANE }
+    /// A run whose passes are back, and whether turns brought every pass to its end, to want of memory, or to its last turn.
+    pub(crate) fn closed(run: ScriptRun, ran: bool) -> Recorder
+        ensures { result ≡ recorder_with ran None run }
     {
-        match &self.script {
-            Some(script) => lanes_of(script),
-            None => 0,
+        Recorder {
+            stage: Stage::Closed(run, ran),
         }
     }
 
-    /// How many processor steps the script wants at least; 0 without a script.
-    pub(crate) fn least_steps(&self) -> u32
-        ensures is { (script : Scripts) → self.now.script ≡ Some script → result ≡ script.steps }
-        ensures few { result ≤ MAX_SCRIPT_STEPS }
+    /// The run, and what passes are to see of its journal. The recorder was made for a script, and not shared yet.
+    pub(crate) fn into_parts(self) -> (ScriptRun, History)
+        requires { IsSome self.history }
+        ensures { self ≡ recorder_with false (Some result.1) result.0 }
     {
-        match &self.script {
-            Some(script) => script.steps,
-            None => 0,
+        let Recorder { stage } = self;
+        match stage {
+            Stage::Unshared(run, history) => (run, history),
+            Stage::Closed(_, _) => unreachable!(),
+            Stage::Given(_) => unreachable!(),
         }
     }
 
-    /// The number of a lane's actions; 0 without a script.
-    pub(crate) fn length_of(&self, lane: u32) -> u32
-        ensures is { (script : Scripts) → self.now.script ≡ Some script → result ≡ length (lane_of script lane) }
-        ensures few { result ≤ MAX_ACTIONS }
+    fn recording(&self) -> &Recording
+        ensures { result.now ≡ self.now.recording }
     {
-        match &self.script {
-            Some(script) => length_of(script, lane),
-            None => 0,
+        match &self.stage {
+            Stage::Unshared(run, _) => run.recording(),
+            Stage::Closed(run, _) => run.recording(),
+            Stage::Given(recording) => recording,
         }
-    }
-
-    /// How many actions of a lane were made; 0 if there is no such lane.
-    pub(crate) fn made(&self, lane: u32) -> u32
-        ensures { result ≡ slice_index_or self.now.counts lane 0 }
-    {
-        count_of(self.counts.as_slice(), lane)
-    }
-
-    /// The history, which is no longer the recorder's then.
-    pub(crate) fn take_history(&mut self) -> Option<History>
-        ensures history { result ≡ self.old.history }
-        ensures rest { self.new ≡ record self.old { history = None } }
-    {
-        self.history.take()
-    }
-
-    /// Says whether turns brought every pass to its end, to want of memory, or to its last turn.
-    pub(crate) fn set_ran(&mut self, ran: bool)
-        ensures { self.new ≡ record self.old { ran = ran } }
-    {
-        self.ran = ran;
     }
 
     /// The events that were taken.
     pub fn journal(&self) -> &Journal
         ensures { result.now ≡ self.now.recording.journal }
     {
-        self.recording.journal()
+        self.recording().journal()
     }
 
     /// The lines of their report.
     pub fn log(&self) -> &Log
         ensures { result.now ≡ self.now.recording.log }
     {
-        self.recording.log()
+        self.recording().log()
     }
 
     /// The controller, after the events that were taken.
     pub fn controller(&self) -> &Controller
         ensures { result.now ≡ self.now.recording.controller }
     {
-        self.recording.controller()
+        self.recording().controller()
     }
 
     /// The names that the report's lines are written with.
     pub fn names(&self) -> &Names
         ensures { result.now ≡ self.now.recording.names }
     {
-        self.recording.names()
+        self.recording().names()
     }
 
     /// The number of processor steps so far.
     pub fn steps(&self) -> u32
         ensures { result ≡ self.now.recording.steps }
     {
-        self.recording.steps()
+        self.recording().steps()
     }
 }

@@ -11,12 +11,12 @@ ghost use Rattle.spec_lanes.specs.Held.{is_holdable};
 ghost use Rattle.spec_lanes.specs.Laws.{with_one_more};
 ghost use Rattle.lgx_core.specs.Represents.{StandsFor};
 ghost use Rattle.lgx_record.specs.Records.{Records, RecordsMore};
-ghost use Rattle.lgx_shared.specs.Turns.{MatchTurn};
+ghost use Rattle.lgx_lanes.specs.Turns.{MatchTurn};
 
 use crate::plan::action_at;
-use crate::turn::Turn;
 use lgx_core::Controller;
 use lgx_journal::{Action, EventsLent, Script, Timed};
+use lgx_lanes::Turn;
 use lgx_record::Recording;
 
 /// Whether an action is answered Held while a CPS is open: an I/O word, or a command on the mode.

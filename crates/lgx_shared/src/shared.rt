@@ -5,63 +5,22 @@ ghost use Rattle.spec_machine.specs.Events.{steps_of};
 ghost use Rattle.spec_lanes.specs.Turns.{IsAcceptAt};
 ghost use Rattle.spec_lanes.specs.Laws.{opening};
 ghost use Rattle.lgx_history.specs.Histories.{history_view};
-ghost use Rattle.lgx_shared.specs.Turns.{MatchTurn};
+ghost use Rattle.lgx_lanes.specs.Turns.{MatchTurn};
 ghost use Rattle.lgx_shared.specs.Follows.{journal_of, Follows, IsNew, HasSpent, HasCompleted};
-ghost use Rattle.lgx_shared.specs.Seen.{front_view, HasSeen, Tells};
-ghost use Rattle.lgx_shared.specs.Lanes.{most_turns};
+ghost use Rattle.lgx_lanes.specs.Seen.{front_view, HasSeen, Tells};
+ghost use Rattle.lgx_lanes.specs.Lanes.{most_turns};
 
-use crate::front::LaneFront;
-use crate::input::Input;
-use crate::locked_run::LockedRun;
-use crate::pass::{Pass, all_came};
 use crate::recorder::Recorder;
 use crate::recorder_of::{RecorderOf, begun};
-use crate::turn::Turn;
-use lgx_history::History;
+use lgx_lanes::{Input, Pass, Turn};
 use lgx_num::Memory;
 use std::alloc::Global;
-use std::sync::ledger::{Blank, Ledger, Share};
-use std::sync::{Mutex, Wait};
-
-/// A pass for each lane of the script and, last, one for the processor, from the whole shares of the ledgers.
-fn deal<I: Input, A: Ledger, S: Ledger, E: Ledger>(
-    alloc: Global,
-    named: &RecorderOf<I>,
-    history: &mut History,
-    mut actions: Share<A>,
-    mut steps: Share<S>,
-    mut ends: Share<E>,
-) -> Result<Vec<Pass<I, A, S, E>>, Memory>
-    requires none { sum named.now.counts ≡ 0 }
-    requires history { history.old ≡ history_view I.history (journal_of named.now) }
-    requires parts { (actions.parts ≡ length I.script.lanes + 1) × (steps.parts ≡ length I.script.lanes + 1) × (ends.parts ≡ length I.script.lanes + 1) }
-    requires amounts { (actions.amount ≡ 0) × (steps.amount ≡ 0) × (ends.amount ≡ 0) }
-    ensures same { history.new ≡ history.old }
-    ensures len { IfOk result (λ r. vec_len r ≡ length I.script.lanes + 1) }
-    ensures lanes { IfOk result (λ r. (i : ℕ) (d : _) → i < vec_len r → (slice_index_or r.items i d).lane ≡ i) }
-    ensures seen { IfOk result (λ r. All (λ p. p.front.events ≡ journal_of named.now) r.items) }
-    ensures counts { IfOk result (λ r. (i : ℕ) (d : _) → i < vec_len r → let p = slice_index_or r.items i d in (p.actions ≡ 0) × (p.steps ≡ 0) × (p.ends ≡ 0) × (p.short ≡ false)) }
-{
-    let count = named.lanes() + 1;
-    let mut passes = Vec::new(alloc);
-    for lane in 0..count {
-        let pass = Pass::new(
-            lane,
-            named.length_of(lane),
-            named.least_steps(),
-            LaneFront::new(lane, history, named),
-            actions.split_off(1, 0),
-            steps.split_off(1, 0),
-            ends.split_off(1, 0),
-        );
-        passes.push(pass)?;
-    }
-    Ok(passes)
-}
+use std::sync::Wait;
+use std::sync::ledger::{Blank, Ledger};
 
 /// A recorder that threads share under one lock, each by turns of its pass.
 pub struct Shared<I: Input, A: Ledger, S: Ledger, E: Ledger> {
-    kept: Mutex<LockedRun<I, A, S, E>>,
+    pub(crate) lanes: lgx_lanes::Shared<I, RecorderOf<I>, A, S, E>,
 }
 
 impl<I: Input, A: Ledger, S: Ledger, E: Ledger> Shared<I, A, S, E> {
@@ -85,25 +44,11 @@ impl<I: Input, A: Ledger, S: Ledger, E: Ledger> Shared<I, A, S, E> {
         ensures seen { IfOk result (λ r. All (λ p. p.front.events ≡ opening) r.1.items) }
         ensures counts { IfOk result (λ r. (i : ℕ) (d : _) → i < vec_len r.1 → let p = slice_index_or r.1.items i d in (p.actions ≡ 0) × (p.steps ≡ 0) × (p.ends ≡ 0) × (p.short ≡ false)) }
     {
-        let (action_book, action_rest) = actions.open::<A>();
-        let (step_book, step_rest) = steps.open::<S>();
-        let (end_book, end_rest) = ends.open::<E>();
-        let (named, mut history) = begun(recorder);
-        let passes = deal(
-            alloc,
-            &named,
-            &mut history,
-            action_rest,
-            step_rest,
-            end_rest,
+        let (named, history) = begun(recorder);
+        let (lanes, passes) = lgx_lanes::Shared::share(
+            alloc, named, history, actions, steps, ends,
         )?;
-        let kept = LockedRun::new(named, history, action_book, step_book, end_book);
-        Ok((
-            Shared {
-                kept: Mutex::new(kept),
-            },
-            passes,
-        ))
+        Ok((Shared { lanes }, passes))
     }
 
     /// One turn of the pass's lane under the lock: at `Did` the pass's count of actions rises by one, at `Helped` that of its
@@ -122,14 +67,7 @@ impl<I: Input, A: Ledger, S: Ledger, E: Ledger> Shared<I, A, S, E> {
             ((pass.new.actions ≡ pass.old.actions) × (pass.new.steps ≡ pass.old.steps) × (pass.new.ends ≡ 1) × (pass.new.short ≡ pass.old.short))
             ((pass.new.actions ≡ pass.old.actions) × (pass.new.steps ≡ pass.old.steps) × (pass.new.ends ≡ 0) × (pass.new.short ≡ true) × IsAcceptAt I.script pass.old.lane pass.old.actions) }
     {
-        for _ in rt.forever() {
-            let turn = self.kept.lock(rt).turn(pass);
-            if let Some(turn) = turn {
-                pass.front.law_of_fronts();
-                return turn;
-            }
-        }
-        unreachable!()
+        self.lanes.turn(rt, pass)
     }
 
     /// The recorder, once all passes are back, each at the place of its lane. It has run where every pass came to its end, was
@@ -146,11 +84,8 @@ impl<I: Input, A: Ledger, S: Ledger, E: Ledger> Shared<I, A, S, E> {
         ensures complete { ((i : ℕ) (d : _) → i < vec_len passes → (slice_index_or passes.items i d).ends ≡ 1) → HasCompleted I.project I.script result }
         ensures ran { IsTrue result.ran ↔ ((i : ℕ) (d : _) → i < vec_len passes → let p = slice_index_or passes.items i d in p.ends ≡ 0 → p.short ≡ false → most_turns p.length p.least_steps ≤ p.actions + p.steps) }
     {
-        let Shared { kept } = self;
-        let kept = kept.into_inner();
-        let ran = all_came(&passes);
-        let mut recorder = kept.close(passes);
-        recorder.set_ran(ran);
-        recorder
+        let Shared { lanes } = self;
+        let (named, ran) = lanes.close(passes);
+        named.into_recorder(ran)
     }
 }

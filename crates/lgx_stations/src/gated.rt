@@ -4,7 +4,7 @@ ghost use Rattle.spec_board.specs.Stories.{IsPrefix};
 ghost use Rattle.lgx_stations.specs.Telling.{IsFirstOf, AreReadingsOf, first_kept};
 
 use lgx_hmi::{Board, Snapshot, Station, Story};
-use lgx_shared::Gate;
+use lgx_lanes::Gate;
 
 /// How often a station reads while the journal is replayed.
 pub const READS: u32 = 1000;

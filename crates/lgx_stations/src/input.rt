@@ -27,7 +27,7 @@ impl<I: JournalInput> Story for Tells<I> {
 // A caller that passes `Brand` says at the call what it names; by itself it names none.
 impl JournalInput for Brand {
     ghost use Rattle.std.specs.Prelude.{[]};
-    ghost use Rattle.lgx_shared.specs.Lanes.{no_project};
+    ghost use Rattle.lgx_lanes.specs.Lanes.{no_project};
 
     ghost project = { no_project };
 

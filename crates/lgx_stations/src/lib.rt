@@ -9,6 +9,6 @@ mod telling;
 
 pub use gated::{READS, Readings};
 pub use input::JournalInput;
-pub use lgx_shared::Gate;
+pub use lgx_lanes::Gate;
 pub use reported::Reported;
 pub use stations::{MAX_STATIONS, watch_journal};

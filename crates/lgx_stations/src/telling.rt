@@ -10,8 +10,8 @@ use crate::input::{JournalInput, Tells};
 use crate::reported::Reported;
 use lgx_hmi::Board;
 use lgx_journal::{Event, Journal};
+use lgx_lanes::Gate;
 use lgx_num::Memory;
-use lgx_shared::Gate;
 use std::sync::Wait;
 
 /// One event, which is published if it is a tick.

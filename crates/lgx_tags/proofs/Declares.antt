@@ -23,6 +23,7 @@ use Rattle.lgx_tags.specs.Tables.{IsAdmitted, RepresentsDeclarations, keys_of, h
 use Rattle.lgx_tags.specs.declared.key.Key.{Key}
 use Rattle.lgx_tags.proofs.Spans.{padded_size, padded_total, total_append, total_ordered, end_is, ordered}
 use Rattle.lgx_tags.proofs.Lookups.{same_key, key_position}
+use Rattle.lgx_tags.proofs.Firsts.{first_more}
 use Rattle.std.proofs.lemmas.Bool.{lt-ltb, le-ltb}
 use Rattle.std.proofs.Common.{get_or}
 use Rattle.std.specs.Prelude.{slice_get}
@@ -102,8 +103,8 @@ keys_insert s name es ks k p q free = rw (p, q, key_new s name es free) refl
 own_more : (es : List Entry) (e : Entry) → has_own (es ++ e ∷ []) ≡ (has_own es || is_own e.scope)
 own_more es e = or_push has_own (λ (e : Entry). is_own e.scope) refl (λ x xs. refl) es e
 
-pub kept_more : (d : Declarations) (e : Entry) (ks : List Key) (count count' : ℕ) (own own' : Bool) → RepresentsDeclarations d ks count own → own' ≡ (own || is_own e.scope) → IsAdmitted d.types d.programs e → count' ≡ bytes (record d { entries = d.entries ++ e ∷ [] }) → count' ≤ MAX_IMAGE_BYTES → length (aliases (record d { entries = d.entries ++ e ∷ [] })) < 4294967296 → RepresentsDeclarations (record d { entries = d.entries ++ e ∷ [] }) (keys_of d.entries ++ key_of e.scope e.name ∷ []) count' own'
-kept_more d e ks count count' own own' k o l p r f = record { admitted = each_append (IsAdmitted d.types d.programs) d.entries (e ∷ []) k.admitted (l, tt); keyed = sym (keys_more d.entries e); counted = p; room = r; few = f; owned = o ∙ ap (λ (b : Bool). b || is_own e.scope) k.owned ∙ sym (own_more d.entries e) }
+pub kept_more : (d : Declarations) (e : Entry) (ks : List Key) (count count' : ℕ) (own own' : Bool) → RepresentsDeclarations d ks count own → position (is_named e.scope e.name) d.entries ≡ None → own' ≡ (own || is_own e.scope) → IsAdmitted d.types d.programs e → count' ≡ bytes (record d { entries = d.entries ++ e ∷ [] }) → count' ≤ MAX_IMAGE_BYTES → length (aliases (record d { entries = d.entries ++ e ∷ [] })) < 4294967296 → RepresentsDeclarations (record d { entries = d.entries ++ e ∷ [] }) (keys_of d.entries ++ key_of e.scope e.name ∷ []) count' own'
+kept_more d e ks count count' own own' k free o l p r f = record { admitted = each_append (IsAdmitted d.types d.programs) d.entries (e ∷ []) k.admitted (l, tt); keyed = sym (keys_more d.entries e); counted = p; room = r; few = f; owned = o ∙ ap (λ (b : Bool). b || is_own e.scope) k.owned ∙ sym (own_more d.entries e); firsts = first_more d.entries e k.firsts free }
 
 -- an alias takes no bytes
 pub bytes_same : (d : Declarations) (e : Entry) → Each (IsAdmitted d.types d.programs) d.entries → IsScopeOf d.programs e.scope → padded_size d.types e ≡ 0 → bytes d ≡ bytes (record d { entries = d.entries ++ e ∷ [] })

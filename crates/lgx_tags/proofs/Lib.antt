@@ -1,6 +1,7 @@
 pub mod Spans
 pub mod Starts
 pub mod Lookups
+pub mod Firsts
 pub mod Declares
 pub mod Rows
 pub mod Monotone

@@ -1,4 +1,5 @@
 pub mod Meanings
+pub mod Firsts
 pub mod Keys
 pub mod KeyHashes
 pub mod Scopes

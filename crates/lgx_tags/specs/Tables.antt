@@ -6,6 +6,7 @@ use Rattle.spec_language.specs.declared.types.TypeDecl.{TypeDecl}
 use Rattle.spec_language.specs.Declarations.{Meaning, tag, alias, Entry, Declarations, bytes}
 use Rattle.spec_language.specs.Resolution.{aliases}
 use Rattle.lgx_types.specs.Tables.{HasSize}
+use Rattle.lgx_tags.specs.Firsts.{AreFirst}
 use Rattle.lgx_tags.specs.Keys.{key_of}
 use Rattle.lgx_tags.specs.Scopes.{IsScopeOf, is_own}
 use Rattle.lgx_tags.specs.declared.key.Key.{Key}
@@ -34,7 +35,8 @@ keys_of entries = map (λ e. key_of e.scope e.name) entries
 abbrev pub has_own : List Entry → Bool
 has_own entries = list_any (λ e. is_own e.scope) entries
 
--- the entries' keys are kept beside them, in the same order, their bytes are counted, and it is known whether any is a program's
+-- the entries' keys are kept beside them, in the same order, their bytes are counted, it is known whether any is a program's,
+-- and each has its name alone
 pub record RepresentsDeclarations (d : Declarations) (keys : List Key) (count : ℕ) (any_own : Bool) : Type 0 where
   pub admitted : Each (IsAdmitted d.types d.programs) d.entries
   pub keyed : keys ≡ keys_of d.entries
@@ -42,3 +44,4 @@ pub record RepresentsDeclarations (d : Declarations) (keys : List Key) (count : 
   pub room : count ≤ MAX_IMAGE_BYTES
   pub few : length (aliases d) < 2 ^ 32
   pub owned : any_own ≡ has_own d.entries
+  pub firsts : AreFirst d.entries

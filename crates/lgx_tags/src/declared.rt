@@ -1,5 +1,5 @@
 // Tags and aliases in the order in which they are declared.
-ghost use Rattle.std.specs.Prelude.{◌^◌, ◌-◌, ◌≡◌, ℕ, ◌<◌, ◌≤◌, ◌||◌, List, [], ◌∷◌, ◌++◌, None, Some, slice_get, length, vec_len, vec_capacity, position, IfOk, IfSome, IfErr, IsNone, OnOk, OnErr};
+ghost use Rattle.std.specs.Prelude.{◌^◌, ◌-◌, ◌≡◌, ℕ, ◌<◌, ◌≤◌, ◌||◌, List, [], ◌∷◌, ◌++◌, None, Some, true, slice_get, length, vec_len, vec_capacity, position, IfOk, IfSome, IfErr, IsNone, OnOk, OnErr};
 ghost use Rattle.spec_base.specs.Causes.{IsFaultOf};
 ghost use Rattle.spec_base.specs.declared.limits.TheConstants.{MAX_IMAGE_BYTES, MAX_TAG_NAME_BYTES};
 ghost use Rattle.spec_language.specs.declared.tag.Scope.{Scope as In};
@@ -20,6 +20,7 @@ use crate::entry::Entry;
 use crate::error::TagError;
 use crate::key::Key;
 use crate::layout::{PlacedTag, Resolved, by_scope, in_order, place_tags, round_up};
+use crate::near::Near;
 use crate::tag_name::is_tag_name;
 use indexmap::IndexSet;
 use lgx_num::{Memory, is_name};
@@ -79,6 +80,7 @@ pub(crate) struct Declared {
     pub(crate) programs: u32,
     pub(crate) keys: IndexSet<Key>,
     pub(crate) entries: Vec<Entry>,
+    pub(crate) near: Near,
     pub(crate) bytes: u32,
     /// Whether a program has an entry of its own.
     pub(crate) any_own: bool,
@@ -107,13 +109,41 @@ impl Declared {
             programs,
             keys: IndexSet::new(alloc),
             entries: Vec::new(alloc),
+            near: Near::new(alloc),
             bytes: 0,
             any_own: false,
         }
     }
 
     /// The number of the first entry of a name in a scope; case doesn't matter. It takes no memory.
+    ///
+    /// A name that is spelled as it was declared is mostly where it is guessed to be.
     pub(crate) fn index_of(&self, scope: Scope, name: &[u8]) -> Option<usize>
+        ensures number { result ≡ position (is_named scope name.now) self.now.entries }
+        ensures within { IfSome result (λ i. i < length self.now.entries) }
+    {
+        let i = self.near.guess(name);
+        if self.is_at(i, scope, name) {
+            return Some(i);
+        }
+        self.find(scope, name)
+    }
+
+    /// Whether the entry of this number is there, and has this scope and a name that is spelled so.
+    #[inline(always)]
+    fn is_at(&self, i: usize, scope: Scope, name: &[u8]) -> bool
+        ensures first { result ≡ true → position (is_named scope name.now) self.now.entries ≡ Some i }
+        ensures within { result ≡ true → i < length self.now.entries }
+    {
+        let entries = &self.entries;
+        if i >= entries.len() {
+            return false;
+        }
+        entries[i].is_spelled(scope, name)
+    }
+
+    /// The same by the keys.
+    fn find(&self, scope: Scope, name: &[u8]) -> Option<usize>
         ensures number { result ≡ position (is_named scope name.now) self.now.entries }
         ensures within { IfSome result (λ i. i < length self.now.entries) }
     {
@@ -159,6 +189,8 @@ impl Declared {
         ensures err { OnErr result (self.new ≡ self.old) }
     {
         let any_own = with_own(self.any_own, entry.scope());
+        self.near
+            .note_next(self.alloc, &self.entries, entry.name())?;
         add_key(&mut self.keys, &mut self.entries, &entry)?;
         push_within(&mut self.entries, entry);
         self.bytes = count;

@@ -1,10 +1,11 @@
 // Tags and aliases as they are declared.
-ghost use Rattle.std.specs.Prelude.{◌≡◌, IfOk, option_copied};
+ghost use Rattle.std.specs.Prelude.{◌≡◌, true, IfOk, option_copied};
 ghost use Rattle.spec_language.specs.Declarations.{alias, tag};
 ghost use Rattle.spec_language.specs.Resolution.{target_of};
 ghost use Rattle.lgx_tags.specs.Chains.{is_target};
 ghost use Rattle.lgx_tags.specs.Meanings.{type_in};
 
+use crate::same::{same_scope, same_text};
 use lgx_num::{Items, Memory};
 use spec_language::{DataType, Scope};
 use std::alloc::Global;
@@ -86,6 +87,14 @@ impl Entry {
         ensures { result.now ≡ self.now.name }
     {
         self.name.as_slice()
+    }
+
+    /// Whether it is declared in the scope with a name that is spelled so.
+    #[inline(always)]
+    pub(crate) fn is_spelled(&self, scope: Scope, name: &[u8]) -> bool
+        ensures { result ≡ true → (self.now.scope ≡ scope) × (self.now.name ≡ name.now) }
+    {
+        same_scope(self.scope, scope) && same_text(self.name.as_slice(), name)
     }
 
     /// The type of a tag; none for an alias.

@@ -12,6 +12,7 @@ mod error;
 mod form;
 mod key;
 mod layout;
+mod near;
 mod part;
 mod resolve;
 mod same;

@@ -120,7 +120,7 @@ impl Reading {
     }
 
     /// The bracket that closes the innermost one.
-    fn close_bracket(self, types: &TypeTable) -> Result<Self, TagError>
+    fn close_bracket(self, alloc: Global, types: &TypeTable) -> Result<Self, TagError>
         requires { AreSized types.now self.arrays }
         ensures { AnswersTag (close_at types.now self.arrays self.found) result }
     {
@@ -128,13 +128,14 @@ impl Reading {
         let Some(array) = arrays.pop() else {
             return Err(TagError::Tag(TagCode::G10));
         };
-        let found = find_indexed(types, array, &found)?;
+        let found = find_indexed(alloc, types, array, &found)?;
         Ok(Reading { arrays, found })
     }
 
     /// One more part of the text.
     fn step<N: Names>(
         self,
+        alloc: Global,
         part: OperandPart,
         subscripts: Subscripts,
         types: &TypeTable,
@@ -149,7 +150,7 @@ impl Reading {
             OperandPart::Dotted(word) => self.enter_member(types, word),
             OperandPart::Element(digits) => self.index_element(types, digits),
             OperandPart::Opened(name) => self.open_bracket(subscripts, names, name),
-            OperandPart::Closed => self.close_bracket(types),
+            OperandPart::Closed => self.close_bracket(alloc, types),
         }
     }
 
@@ -194,7 +195,7 @@ fn resolve_form<N: Names>(
     let (name, mut rest) = split_word(text);
     let mut reading = Reading::new(alloc, names.named(name)?);
     while let Some((part, after)) = first_part(rest) {
-        reading = reading.step(part, subscripts, types, names)?;
+        reading = reading.step(alloc, part, subscripts, types, names)?;
         rest = after;
     }
     reading.end(rest)

@@ -7,6 +7,7 @@ ghost use Rattle.lgx_tags.specs.Sealing.{IsSealOf};
 use crate::declared::Declared;
 use crate::entry::{Entry, Meaning, copied as text_again};
 use crate::key::Key;
+use crate::near::Near;
 use crate::table::{Seal, TableParts, TagTable};
 use indexmap::IndexSet;
 use lgx_num::Memory;
@@ -70,7 +71,7 @@ fn types_again(alloc: Global, types: &TypeTable) -> Result<TypeTable, Memory>
 }
 
 /// Whether the scopes are the same.
-fn same_scope(a: Scope, b: Scope) -> bool
+pub(crate) fn same_scope(a: Scope, b: Scope) -> bool
     ensures { result ≡ true → a ≡ b }
 {
     a == b
@@ -84,7 +85,7 @@ fn same_type(a: DataType, b: DataType) -> bool
 }
 
 /// Whether the texts are the same, in case too.
-fn same_text(a: &[u8], b: &[u8]) -> bool
+pub(crate) fn same_text(a: &[u8], b: &[u8]) -> bool
     ensures { result ≡ true → a.now ≡ b.now }
 {
     a == b
@@ -181,12 +182,14 @@ impl Declared {
         let types = types_again(alloc, &self.types)?;
         let entries = entries_again(alloc, &self.entries)?;
         let keys = keys_again(&self.keys)?;
+        let near = self.near.copied(alloc)?;
         Ok(Declared {
             alloc,
             types,
             programs: self.programs,
             keys,
             entries,
+            near,
             bytes: self.bytes,
             any_own: self.any_own,
         })

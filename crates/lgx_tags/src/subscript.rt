@@ -7,13 +7,15 @@ ghost use Rattle.spec_language.specs.OperandForm.{are_digits, digits_number};
 ghost use Rattle.spec_language.specs.Resolution.{stride, may_index, index_by, find_member, find_element, find_bit, find_indexed};
 ghost use Rattle.spec_language.specs.ResolutionLaws.{width};
 ghost use Rattle.lgx_types.specs.Tables.{HasSize};
-ghost use Rattle.lgx_tags.specs.TextReading.{find_dotted};
+ghost use Rattle.lgx_tags.specs.TextReading.{AnswersTag, find_dotted};
 
 use crate::data_type::{integer_bits, is_array, is_integer, kind_of, single};
+use crate::error::TagError;
 use crate::part::are_digits;
 use lgx_num::{Index, Name, Place};
 use lgx_types::TypeTable;
 use spec_language::{Base, Found, TagCode};
+use std::alloc::Global;
 
 /// The bits from one element of an array to the next: a BOOL's are packed.
 fn stride(types: &TypeTable, base: Base) -> u32
@@ -122,28 +124,30 @@ fn may_index(found: &Found) -> bool
 
 /// What an operand in brackets makes of an array. G6 if it is no subscript, G9 if it is the fifth.
 pub(crate) fn find_indexed(
+    alloc: Global,
     types: &TypeTable,
     array: Found,
     subscript: &Found,
-) -> Result<Found, TagCode>
+) -> Result<Found, TagError>
     requires { HasSize types.now (single array.of.base) }
-    ensures { result ≡ find_indexed types.now array (Ok subscript.now) }
+    ensures { AnswersTag (find_indexed types.now array (Ok subscript.now)) result }
 {
     if !may_index(subscript) {
-        return Err(TagCode::G6);
+        return Err(TagError::Tag(TagCode::G6));
     }
     if array.steps.is_full() {
-        return Err(TagCode::G9);
+        return Err(TagError::Tag(TagCode::G9));
     }
-    let mut steps = array.steps;
-    steps.push(Index {
+    let index = Index {
         of: Place {
             kind: kind_of(subscript.of.base),
             at: subscript.at,
         },
         stride: stride(types, array.of.base),
         length: array.of.dim,
-    });
+    };
+    let mut steps = array.steps;
+    steps.push(alloc, index)?;
     Ok(Found {
         at: array.at,
         steps,

@@ -1,7 +1,7 @@
 -- The rows of an index.
-use Rattle.std.proofs.Common.{◌≡◌, ◌≢◌, ℕ, ◌+◌, ◌/◌, ◌<◌, ◌≤◌, ◌⊎◌, inl, inr, Bool, true, false, List, [], length, get_or, take, drop, ◌++◌, Some, refl, sym, ap, ◌∙◌, arith}
+use Rattle.std.proofs.Common.{◌≡◌, ◌≢◌, ℕ, ◌+◌, ◌/◌, ◌<◌, ◌≤◌, ◌⊎◌, inl, inr, Bool, true, false, List, [], length, get_or, take, drop, ◌++◌, set, replicate, Some, None, refl, sym, ap, ◌∙◌, subst, arith}
 use Rattle.std.proofs.lemmas.Bool.{cases_eq, cases_lt, false≢true}
-use Rattle.std.proofs.lemmas.List.{get_or_past}
+use Rattle.std.proofs.lemmas.List.{get_or_past, get_or-replicate, length-replicate, get_or-set_same, get_or-set_other}
 use Rattle.std.proofs.lemmas.Option.{slice_get_within, slice_get-get_or}
 use Rattle.std.proofs.Math.Seq.{take-append_seam}
 use Rattle.std.specs.Prelude.{slice_get}
@@ -11,8 +11,8 @@ use Rattle.lgx_image.specs.Grains.{word_of}
 use Rattle.lgx_image.specs.Words.{bit_of_words}
 use Rattle.lgx_image.proofs.Words.{bit_past}
 use Rattle.lgx_watch.specs.declared.bits.TheConstants.{MAX_WATCHES}
-use Rattle.lgx_watch.specs.Watches.{LiesInWord, last_word, spans}
-use Rattle.lgx_watch.specs.Index.{row, IsIndex, NumberAdded}
+use Rattle.lgx_watch.specs.Watches.{LiesInWord, NextMember, is_member, last_word, spans}
+use Rattle.lgx_watch.specs.Index.{row, AreLone, IsIndex, IsLone, NumberAdded}
 use Rattle.lgx_watch.proofs.Spanned.{spans-parts, spans-not, spans-from_lies, lies-from_spans}
 
 -- ---- what an index tells
@@ -84,3 +84,45 @@ whole_index places kept rows n same all few is = rw (same) (record {
   watched = λ word w p at. is.watched word w p (omega (arith, slice_get_within places w p at)) at;
   others = λ word w past. is.others word w (omega arith);
 })
+
+-- ---- rows with one member
+
+-- the least member is the one member, if none follows
+pub lone-is : (words : List ℕ) (members : List Bool) (first : ℕ) → ((w : ℕ) → w < MAX_WATCHES → is_member members w ≡ bit_of_words words w) → NextMember members 0 (Some first) → NextMember members (first + 1) None → IsLone words first
+lone-is words members first same least none below w within has =
+    let member : is_member members w ≡ true = same w within ∙ has in
+    elim (cases_eq w first) [
+      | inl here ↦ here
+      | inr other ↦ elim (cases_lt w first) [
+        | inl before ↦ absurd (false≢true (sym (least.2 w (omega arith) before) ∙ member))
+        | inr after ↦ absurd (false≢true (sym (none w (omega arith)) ∙ member))
+      ]
+    ]
+
+-- before any is noted
+pub none-alone : (rows : List (List ℕ)) (n : ℕ) → AreLone rows (replicate n MAX_WATCHES)
+none-alone rows n word = λ below. absurd (omega (arith, below, is))
+  where
+    is : get_or (replicate n MAX_WATCHES) word MAX_WATCHES ≡ MAX_WATCHES
+    is = elim (cases_lt word n) [
+      | inl within ↦ get_or-replicate n word MAX_WATCHES MAX_WATCHES within
+      | inr past ↦ get_or_past (replicate n MAX_WATCHES) word MAX_WATCHES (omega (arith, past, length-replicate n MAX_WATCHES))
+    ]
+
+-- one more is noted
+pub alone-noted : (rows : List (List ℕ)) (lones : List ℕ) (at number : ℕ) → at < length lones → IsLone (row rows at) number → AreLone rows lones → AreLone rows (set lones at number)
+alone-noted rows lones at number within lone are word = elim (cases_eq word at) [
+  | inl here ↦ subst (λ k. IsLone (row rows k) (get_or (set lones at number) k MAX_WATCHES)) (sym here) (subst (IsLone (row rows at)) (sym (get_or-set_same lones at number MAX_WATCHES within)) lone)
+  | inr other ↦ subst (IsLone (row rows word)) (sym (get_or-set_other lones at word number MAX_WATCHES other)) (are word)
+]
+
+-- as a loop notes them, in all of a vector
+pub noted-whole : (len : ℕ) (lones new : List ℕ) → len ≡ length new → take len (new ++ drop (length new) lones) ≡ new
+noted-whole len lones new whole = ap (λ m. take m (new ++ drop (length new) lones)) whole ∙ take-append_seam new (drop (length new) lones)
+
+-- a watched place that has a byte in a word is the one member of its row
+pub lone-place : (places now : List Place) (rows : List (List ℕ)) (lones : List ℕ) (word w : ℕ) (p : Place) → places ≡ now → IsIndex places rows → AreLone rows lones → get_or lones word MAX_WATCHES < length places → slice_get now w ≡ Some p → LiesInWord p word → w ≡ get_or lones word MAX_WATCHES
+lone-place places now rows lones word w p same index are known at lies =
+    let has = index_has places now rows word w p same index at lies in
+    let few : length places ≤ MAX_WATCHES = index.few in
+    are word (omega arith) w has.0 has.1

@@ -15,6 +15,14 @@ pub record IsIndex (places : List Place) (rows : List (List ℕ)) : Type 0 where
   pub watched : (word w : ℕ) (p : Place) → slice_get places w ≡ Some p → bit_of_words (row rows word) w ≡ spans p word
   pub others : (word w : ℕ) → length places ≤ w → bit_of_words (row rows word) w ≡ false
 
+-- a number of a watched place is that of the one member of a row, unless it is none
+abbrev pub IsLone : List ℕ → ℕ → Type 0
+IsLone words number = number < MAX_WATCHES → (w : ℕ) → w < MAX_WATCHES → bit_of_words words w ≡ true → w ≡ number
+
+-- such numbers of the rows of words
+abbrev pub AreLone : List (List ℕ) → List ℕ → Type 0
+AreLone rows lones = (word : ℕ) → IsLone (row rows word) (slice_index_or lones word MAX_WATCHES)
+
 -- the rows of the words from first on, up to next, have the bit of a number, and all else is as before
 pub record NumberAdded (number first next : ℕ) (old new : List (List ℕ)) : Type 0 where
   pub added : (g : ℕ) → first ≤ g → g < next → bit_of_words (row new g) number ≡ true

@@ -29,7 +29,7 @@ pub enum TagCode {
 
 /// What an operand's text names: its first bit in the image, which variable subscripts move, its type, and the byte after
 /// its tag.
-#[derive(Debug, Drop)]
+#[derive(Drop)]
 pub struct Found {
     pub at: u32,
     pub steps: Steps,

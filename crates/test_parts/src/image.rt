@@ -1,11 +1,11 @@
 // The image.
-ghost use Rattle.std.specs.Prelude.{◌≡◌, [], IsTrue};
+ghost use Rattle.std.specs.Prelude.{◌≡◌, [], IfOk, IsTrue};
 ghost use Rattle.lgx_num.specs.Image.{InBounds, InBoundsAt};
 ghost use Rattle.lgx_num.specs.Paths.{PathInBounds};
 
 use crate::trouble::Trouble;
 use lgx_image::{Arg, GRAIN, Image, grain_of};
-use lgx_num::{Index, Kind, Operand, Path, Place, Steps};
+use lgx_num::{Index, Kind, Memory, Operand, Path, Place, Steps};
 use spec_base::limits::MAX_IMAGE_BYTES;
 use std::alloc::Global;
 use test_rows::{Told, kind_at, number_at, value_at, word_at};
@@ -171,7 +171,7 @@ pub fn say_grains(said: &mut Told, text: &str) {
 pub fn say_element(alloc: Global, said: &mut Told, text: &str) -> Result<(), Trouble> {
     let mut image = Image::new(alloc, 136)?;
     put_subscripts(said, &mut image, text);
-    say_place(said, &image);
+    say_place(alloc, said, &image)?;
     Ok(())
 }
 
@@ -186,13 +186,14 @@ fn put_subscripts(said: &mut Told, image: &mut Image, text: &str) {
     }
 }
 
-fn say_place(said: &mut Told, image: &Image) {
-    let path = nested();
+fn say_place(alloc: Global, said: &mut Told, image: &Image) -> Result<(), Memory> {
+    let path = nested(alloc)?;
     if image.len() == 136 {
         said.or_none(image.place(&path).map(|place| place.at));
     } else {
         said.malformed();
     }
+    Ok(())
 }
 
 fn subscript(at: u32, stride: u32, length: u32) -> Index
@@ -206,19 +207,19 @@ fn subscript(at: u32, stride: u32, length: u32) -> Index
 }
 
 /// A SINT of an array of 2 by 3 by 4 by 5 from byte 16 on, with a DINT for each subscript before it.
-fn nested() -> Path
-    ensures { PathInBounds result 136 (λ to. InBoundsAt result.kind to 136) }
+fn nested(alloc: Global) -> Result<Path, Memory>
+    ensures { IfOk result (λ path. PathInBounds path 136 (λ to. InBoundsAt path.kind to 136)) }
 {
     let mut steps = Steps::new();
-    steps.push(subscript(0, 480, 2));
-    steps.push(subscript(32, 160, 3));
-    steps.push(subscript(64, 40, 4));
-    steps.push(subscript(96, 8, 5));
-    Path {
+    steps.push(alloc, subscript(0, 480, 2))?;
+    steps.push(alloc, subscript(32, 160, 3))?;
+    steps.push(alloc, subscript(64, 40, 4))?;
+    steps.push(alloc, subscript(96, 8, 5))?;
+    Ok(Path {
         kind: Kind::Sint,
         at: 128,
         steps,
-    }
+    })
 }
 
 /// `bind | NUMBER VALUE | ..`: a TIMER at byte 16, a number, a DINT at byte 4 that holds the value, and `?`, each

@@ -54,10 +54,7 @@ fn say(alloc: Global, said: &mut Told, kind: &str, given: &str) -> Result<(), Re
         "each" => checks::say_each(alloc, said, given),
         "means" => checks::say_meaning(alloc, said, given),
         "code" => flat::say_routine(alloc, said, given),
-        "copy" => {
-            operand::say_copy(said, given);
-            Ok(())
-        }
+        "copy" => Ok(operand::say_copy(alloc, said, given)?),
         _ => say_calls(alloc, said, kind, given),
     }
 }

@@ -1,8 +1,9 @@
 // What operands stand for, in words.
 ghost use Rattle.std.specs.Prelude.{◌≤◌, ◌<◌};
 
-use lgx_num::{Block, Flag, Index, Kind, Operand, Path, Place, Steps};
+use lgx_num::{Block, Flag, Index, Kind, Memory, Operand, Path, Place, Steps};
 use spec_base::limits::MAX_SUBSCRIPTS;
+use std::alloc::Global;
 use test_rows::{Told, kind_at, number_at, value_at, word_at};
 
 /// Says an operand: of a path the kind and the first bit, and then for each subscript `by`, the bit of its number,
@@ -76,30 +77,35 @@ fn say_index(said: &mut Told, index: Index) {
 }
 
 /// `copy | OPERAND | ..`: the operand again.
-pub fn say_copy(said: &mut Told, text: &str) {
-    match operand(said, text) {
-        Some(operand) => say_operand(said, &operand.copied()),
+pub fn say_copy(alloc: Global, said: &mut Told, text: &str) -> Result<(), Memory> {
+    match operand(alloc, said, text)? {
+        Some(operand) => {
+            let copy = operand.copied(alloc)?;
+            say_operand(said, &copy);
+        }
         None => said.malformed(),
     }
+    Ok(())
 }
 
-fn operand(said: &mut Told, text: &str) -> Option<Operand> {
-    match word_at(text, 0) {
-        "cell" => Some(Operand::Cell(path_at(said, text, 1))),
-        "timer" => Some(Operand::Timer(path_at(said, text, 1))),
-        "counter" => Some(Operand::Counter(path_at(said, text, 1))),
-        "block" => Some(Operand::Block(block(said, text))),
+fn operand(alloc: Global, said: &mut Told, text: &str) -> Result<Option<Operand>, Memory> {
+    let operand = match word_at(text, 0) {
+        "cell" => Some(Operand::Cell(path_at(alloc, said, text, 1)?)),
+        "timer" => Some(Operand::Timer(path_at(alloc, said, text, 1)?)),
+        "counter" => Some(Operand::Counter(path_at(alloc, said, text, 1)?)),
+        "block" => Some(Operand::Block(block(alloc, said, text)?)),
         "blank" => Some(Operand::Blank),
-        "flag" => Some(Operand::FlagOf(flag(word_at(text, 1))?)),
+        "flag" => flag(word_at(text, 1)).map(|flag| Operand::FlagOf(flag)),
         what => operand_of_number(said, what, text),
-    }
+    };
+    Ok(operand)
 }
 
-fn block(said: &mut Told, text: &str) -> Block {
+fn block(alloc: Global, said: &mut Told, text: &str) -> Result<Block, Memory> {
     let size = number_at(said, text, 1);
     let stop = number_at(said, text, 2);
-    let path = path_at(said, text, 3);
-    Block { size, stop, path }
+    let path = path_at(alloc, said, text, 3)?;
+    Ok(Block { size, stop, path })
 }
 
 fn operand_of_number(said: &mut Told, what: &str, text: &str) -> Option<Operand> {
@@ -126,7 +132,7 @@ fn flag(word: &str) -> Option<Flag> {
 }
 
 /// A kind and a bit, and then for each subscript `by`, the bit of its DINT, its stride and its length.
-fn path_at(said: &mut Told, text: &str, place: usize) -> Path
+fn path_at(alloc: Global, said: &mut Told, text: &str, place: usize) -> Result<Path, Memory>
     requires { place ≤ 3 }
 {
     let kind = kind_at(said, text, place);
@@ -135,12 +141,12 @@ fn path_at(said: &mut Told, text: &str, place: usize) -> Path
     for number in 0..MAX_SUBSCRIPTS {
         let place = place + 2 + 4 * number;
         if word_at(text, place) == "by" && steps.len() < MAX_SUBSCRIPTS {
-            steps.push(index_at(said, text, place + 1));
+            steps.push(alloc, index_at(said, text, place + 1))?;
         } else if !word_at(text, place).is_empty() {
             said.malformed();
         }
     }
-    Path { kind, at, steps }
+    Ok(Path { kind, at, steps })
 }
 
 fn index_at(said: &mut Told, text: &str, place: usize) -> Index

@@ -2,7 +2,7 @@ use Rattle.std.proofs.Common.{◌≡◌, ℕ, ◌<◌, Bool, true, false, refl, 
 use Rattle.lgx_num.specs.Name.{is_letter}
 use Rattle.lgx_rung.specs.Tokens.{is_operand_byte, in_run}
 use Rattle.lgx_neutral.specs.declared.bytes.TheConstants.{KINDS}
-use Rattle.lgx_neutral.proofs.ByteTable.{agree_below, has_kind, from_table}
+use Rattle.lgx_num.proofs.ByteTable.{agree_below, has_kind, from_table}
 use Rattle.lgx_neutral.proofs.bytes.in_run.Goals as goal
 use Rattle.lgx_neutral.proofs.bytes.in_run.Goals.{then-inside, else-inside}
 

@@ -1,6 +1,6 @@
 use Rattle.std.proofs.Common.{◌≡◌, ◌+◌, length, vec_len, rules, arith}
 use Rattle.std.proofs.lemmas.List.Elements.{All-pop}
-use Rattle.lgx_shared.proofs.Pushes.{each_push}
+use Rattle.lgx_lanes.proofs.Pushes.{each_push}
 use Rattle.lgx_stations.specs.Watching.{IsUnread}
 use Rattle.lgx_stations.proofs.stations.number_all.Goals as goal
 

@@ -1,5 +1,5 @@
 use Rattle.std.proofs.Common.{◌≡◌, ℕ, ◌+◌, None, sym, ap, ◌∙◌, subst, ◌⊎◌, inl, inr, arith}
-use Rattle.lgx_shared.proofs.Seeing.{asked_on}
+use Rattle.lgx_lanes.proofs.Seeing.{asked_on}
 use Rattle.lgx_stations.specs.Telling.{IsFirstOf}
 use Rattle.lgx_stations.proofs.Asked.{kept_of}
 use Rattle.lgx_stations.proofs.stations.watch.Goals as goal

@@ -1,4 +1,4 @@
-use Rattle.std.proofs.Common.{replicate, sym, ap, subst, arith}
+use Rattle.std.proofs.Common.{replicate, ap, subst, arith}
 use Rattle.spec_machine.specs.declared.event.Event.TheVariants.{Tick}
 use Rattle.lgx_record.specs.RecordingView.{RecordingView, recording_of}
 use Rattle.lgx_record.specs.Records.{RecordsMore, HasCounted}

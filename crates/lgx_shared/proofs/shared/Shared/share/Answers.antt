@@ -1,17 +1,8 @@
--- No action was made yet, and the shares are whole.
-use Rattle.std.proofs.Common.{sym, ◌∙◌}
-use Rattle.lgx_shared.proofs.Making.{nothing_made}
+-- The recorder is new.
 use Rattle.lgx_shared.proofs.shared.Shared.share.Goals as goal
 
-pub deal-requires-clause-none : goal.deal-requires-clause-none
-deal-requires-clause-none g c = (nothing_made g.I.Input.project g.I.Input.script c.begun-named.result.0 c.begun-named.ensures.new).0
+pub share-requires-clause-under_way : goal.share-requires-clause-under_way
+share-requires-clause-under_way g c = c.begun-named.ensures.new.follows.served
 
-pub deal-requires-clause-parts : goal.deal-requires-clause-parts
-deal-requires-clause-parts g c = (
-  c.open-action_book.ensures.parts ∙ (sym c.requires.actions.1 ∙ c.requires.actions.2),
-  c.open-step_book.ensures.parts ∙ (sym c.requires.steps.1 ∙ c.requires.steps.2),
-  c.open-end_book.ensures.parts ∙ (sym c.requires.ends.1 ∙ c.requires.ends.2),
-)
-
-pub returns-clause-seen : goal.returns-clause-seen
-returns-clause-seen g c = λ k d below. c.in_ok-passes.ensures.seen k d below ∙ c.begun-named.ensures.new.opened
+pub share-requires-clause-opened : goal.share-requires-clause-opened
+share-requires-clause-opened g c = c.begun-named.ensures.new.opened

@@ -26,4 +26,4 @@ invariant_of-self-2 c =
     let items : c.push_within.new.entries.items ≡ d.entries ++ e ∷ [] = c.push_within.ensures ∙ ap (λ (es : List Entry). es ++ e ∷ []) c.add_key.ensures.same in
     let K : List Entry → List Key → Type 0 = λ es ks. RepresentsDeclarations (record { types = d.types; programs = d.programs; entries = es }) ks c.args.count c.with_own-any_own.result in
     let own : c.with_own-any_own.result ≡ (c.self.inside.any_own || is_own e.scope) = c.with_own-any_own.ensures ∙ ap (λ (s : Scope). c.self.inside.any_own || is_own s) c.scope.ensures in
-    subst (λ (es : List Entry). K es c.add_key.new.keys.keys) (sym items) (subst (K (d.entries ++ e ∷ [])) (sym keys) (kept_more d e c.self.inside.keys.keys c.self.inside.bytes c.args.count c.self.inside.any_own c.with_own-any_own.result c.self.invariant own (subst L view c.requires.admitted) (subst B view c.requires.counted) c.requires.room (subst (λ (d : Declarations). length (aliases (record d { entries = d.entries ++ e ∷ [] })) < 4294967296) view c.requires.few)))
+    subst (λ (es : List Entry). K es c.add_key.new.keys.keys) (sym items) (subst (K (d.entries ++ e ∷ [])) (sym keys) (kept_more d e c.self.inside.keys.keys c.self.inside.bytes c.args.count c.self.inside.any_own c.with_own-any_own.result c.self.invariant (subst (λ (d : Declarations). position (is_named e.scope e.name) d.entries ≡ None) view c.requires.free) own (subst L view c.requires.admitted) (subst B view c.requires.counted) c.requires.room (subst (λ (d : Declarations). length (aliases (record d { entries = d.entries ++ e ∷ [] })) < 4294967296) view c.requires.few)))

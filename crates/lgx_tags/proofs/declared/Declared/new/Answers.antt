@@ -1,5 +1,6 @@
 use Rattle.std.proofs.Common.{arith, ap, sym, ◌∙◌, refl}
 use Rattle.lgx_tags.proofs.Spans.{none_laid}
+use Rattle.lgx_tags.proofs.Firsts.{none_first}
 use Rattle.lgx_tags.specs.Tables.{keys_of}
 use Rattle.lgx_tags.proofs.declared.Declared.new.Goals as goal
 
@@ -11,4 +12,5 @@ invariant_of-result c = record {
   room = omega arith;
   few = rw c.new-2.ensures.items (omega arith);
   owned = rw c.new-2.ensures.items refl;
+  firsts = rw c.new-2.ensures.items none_first;
 }

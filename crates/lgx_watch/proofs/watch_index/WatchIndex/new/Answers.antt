@@ -10,4 +10,4 @@ loop-number-preserved c =
 pub invariant_of-result : goal.invariant_of-result
 invariant_of-result c =
     let same : c.extend_from_slice.new.self.items ≡ c.args.places.now = grind (arith, common_steps) in
-    whole_index c.args.places.now c.extend_from_slice.new.self.items c.loop-number.rows.items c.loop-number.number same (omega arith) c.requires c.loop-number.invariant
+    (whole_index c.args.places.now c.extend_from_slice.new.self.items c.loop-number.rows.items c.loop-number.number same (omega arith) c.requires c.loop-number.invariant, rw (← c.deref.ensures.value) c.in_ok-lones.ensures)

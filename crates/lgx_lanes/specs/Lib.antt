@@ -1,0 +1,5 @@
+pub mod Progress
+pub mod Turns
+pub mod Serves
+pub mod Seen
+pub mod Lanes

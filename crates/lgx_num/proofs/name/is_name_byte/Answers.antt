@@ -1,0 +1,9 @@
+use Rattle.std.proofs.Common.{refl, arith}
+use Rattle.lgx_num.specs.Name.{is_name_byte}
+use Rattle.lgx_num.specs.declared.name.TheConstants.{KINDS}
+use Rattle.lgx_num.proofs.ByteTable.{agree_below, from_table}
+use Rattle.lgx_num.proofs.name.is_name_byte.Goals as goal
+
+pub returns : goal.returns
+unfolding agree_below
+returns c = from_table KINDS 1 is_name_byte c.args.byte (omega arith) refl
