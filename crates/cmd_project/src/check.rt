@@ -15,6 +15,7 @@ use lgx_num::{Items, Memory};
 use lgx_project::Project;
 use lgx_watch::{push_count, push_word};
 use std::alloc::Global;
+use std::mem;
 
 /// `check P`: says how many tasks, programs, routines and rungs the project has, and how many bytes its tags take.
 #[derive(Drop)]
@@ -142,7 +143,12 @@ impl<'a> FileCommand for Check<'a> {
     #[tactic(auto, using(lgx_judge::proofs::Follow::project_refused, lgx_judge::proofs::Follow::project_says))]
     fn judge(self, alloc: Global, bytes: Vec<u8>) -> Result<Step<Self, NoLines>, Memory> {
         match judge_project(alloc, &bytes) {
-            Ok(Judged::Accepted(project)) => counts_said(alloc, &project),
+            Ok(Judged::Accepted(project)) => {
+                let said = counts_said(alloc, &project);
+                // its memory goes with the process
+                mem::forget(project);
+                said
+            }
             Ok(Judged::Refused(line)) => Ok(Step::Say(Verdict::Project, line)),
             Err(Memory) => Err(Memory),
         }
@@ -150,6 +156,8 @@ impl<'a> FileCommand for Check<'a> {
 }
 
 /// `check P`: writes the line of the counts of a file's project.
+///
+/// The memory of the project isn't given back: it goes with the process, and a caller that goes on has lost it.
 pub fn check_project<F: Files, K: Sink>(
     alloc: Global,
     project: &str,

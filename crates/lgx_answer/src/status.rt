@@ -9,9 +9,9 @@ pub enum Verdict {
     Ok,
     /// The words are none of the lists of words that the program knows.
     Usage,
-    /// The first file is refused: it is no project, or no report where a picture is asked for.
+    /// A file is refused that should be a project, of a link the one or the other, or a report where a picture is asked for.
     Project,
-    /// The file that goes with the project is refused: it is no journal, or no script.
+    /// The file that goes with the project is refused: it is no journal, no script, no trace, or no question.
     Script,
     /// A file that is accepted breaks a law, or a line of a question holds.
     Breach,
@@ -26,7 +26,7 @@ pub enum Status {
     Ok,
     /// The words are none of the lists of words that the program knows.
     Usage,
-    /// The first file is refused.
+    /// A project's file is refused, or a picture's.
     Project,
     /// The file that goes with the project is refused.
     Script,

@@ -1,5 +1,5 @@
 // The checker of one routine, and what an instruction's operands stand for.
-ghost use Rattle.std.specs.Prelude.{◌^◌, ◌≡◌, ◌<◌, ◌≤◌, ◌++◌, ◌∷◌, [], Some, None, Result, length, filter_map, option_and_then, option_map, true, IfOk, OnOk};
+ghost use Rattle.std.specs.Prelude.{◌^◌, ◌≡◌, ◌<◌, ◌≤◌, ◌++◌, ◌∷◌, [], Some, None, Result, length, filter_map, option_and_then, option_map, true, bytes_eq, codes, IfOk, OnOk};
 ghost use Rattle.std.specs.Result.{result_ok, result_err};
 ghost use Rattle.lgx_num.specs.declared.place.Operand.{Operand as AnyOperand};
 ghost use Rattle.lgx_num.specs.declared.place.Operand.TheVariants as operand;
@@ -120,6 +120,14 @@ fn stands_elsewhere(spot: Spot, found: Option<LabelPlace>) -> bool
     }
 }
 
+/// Whether a text is the question mark.
+#[inline(always)]
+fn is_question(text: &[u8]) -> bool
+    ensures { result ≡ bytes_eq text.now (codes "?") }
+{
+    matches!(text, [b'?'])
+}
+
 /// An index of names.
 fn index_of(alloc: Global, names: &[Name]) -> Result<NameIndex, Memory>
     requires { length names.now < 2 ^ 32 }
@@ -135,6 +143,7 @@ fn index_of(alloc: Global, names: &[Name]) -> Result<NameIndex, Memory>
 impl Judged {
     /// Adds what the next operand stands for.
     #[tactic(auto, using(crate::proofs::Judging::added_args, crate::proofs::Judging::kept_code, crate::proofs::Judging::kept_args, crate::proofs::Judging::added_code))]
+    #[inline(always)]
     fn add(&mut self, answer: Result<Operand, OperandError>) -> Result<(), Memory>
         ensures args { OnOk result ((meant : Result AnyOperand AnyCode) → AnswersOperand meant answer → self.new.args.items ≡ self.old.args.items ++ filter_map result_ok (meant ∷ [])) }
         ensures code { OnOk result ((meant : Result AnyOperand AnyCode) → AnswersOperand meant answer → self.new.code ≡ lesser_of self.old.code (least (filter_map result_err (meant ∷ [])))) }
@@ -181,9 +190,31 @@ impl<'a> Checker<'a> {
         }
     }
 
-    /// What an operand stands for where an operand of the kind is wanted.
-    #[inline(never)]
+    /// What an operand stands for where an operand of the kind is wanted. Most kinds are data.
+    #[inline(always)]
     fn check_operand(
+        &self,
+        spot: Spot,
+        kind: OperandKind,
+        text: &[u8],
+    ) -> Result<Operand, OperandError>
+        requires { IsReady self.now }
+        ensures { AnswersOperand (operand_of (checked_scope self.now) self.now.labels (spot_of spot) (kind, text.now)) result }
+    {
+        match kind {
+            OperandKind::RoutineName
+            | OperandKind::ParameterCount
+            | OperandKind::JumpLabel
+            | OperandKind::OwnLabel
+            | OperandKind::EventTask => self.check_other(spot, kind, text),
+            OperandKind::QuestionMark if is_question(text) => Ok(Operand::Blank),
+            _ => data_operand(self.alloc, self.scope, kind, text),
+        }
+    }
+
+    /// The same, of any kind.
+    #[inline(never)]
+    fn check_other(
         &self,
         spot: Spot,
         kind: OperandKind,
@@ -210,12 +241,13 @@ impl<'a> Checker<'a> {
                 let task = event_task(self.scope.tasks, text).map(|number| Operand::Task(number));
                 name_operand(text, task, CheckCode::C15)
             }
-            OperandKind::QuestionMark if text == b"?".as_slice() => Ok(Operand::Blank),
+            OperandKind::QuestionMark if is_question(text) => Ok(Operand::Blank),
             _ => data_operand(self.alloc, self.scope, kind, text),
         }
     }
 
     /// What a single operand of this kind stands for, or the least code: C1 if there is no operand or there are others.
+    #[inline(always)]
     fn judge_one(&self, spot: Spot, kind: OperandKind, texts: &Texts) -> Result<Args, OperandError>
         requires { IsReady self.now }
         ensures { AnswersArgs (operands_of (checked_scope self.now) self.now.labels (spot_of spot) (in_pairs (kind ∷ []) texts.now)) result }
@@ -234,6 +266,7 @@ impl<'a> Checker<'a> {
     }
 
     /// What operands of these kinds stand for, or the least code: C1 if there are fewer of them or more.
+    #[inline(always)]
     fn judge_all(
         &self,
         spot: Spot,
@@ -266,6 +299,7 @@ impl<'a> Checker<'a> {
     }
 
     /// What operands of these kinds stand for, or the least code: C1 if there are fewer of them or more.
+    #[inline(always)]
     fn judge(&self, spot: Spot, kinds: &[OperandKind], texts: &Texts) -> Result<Args, OperandError>
         requires { IsReady self.now }
         ensures { AnswersArgs (operands_of (checked_scope self.now) self.now.labels (spot_of spot) (in_pairs kinds.now texts.now)) result }
@@ -289,6 +323,7 @@ impl<'a> Checker<'a> {
     }
 
     /// What the operands of an instruction stand for, or the least code: C1 if their number isn't the mnemonic's.
+    #[inline(always)]
     fn check_operands(&self, spot: Spot, op: Op, texts: &Texts) -> Result<Args, OperandError>
         requires { IsReady self.now }
         ensures { AnswersArgs (operands_of (checked_scope self.now) self.now.labels (spot_of spot) (paired op texts.now)) result }
@@ -330,6 +365,7 @@ impl<'a> Checker<'a> {
     }
 
     /// An instruction with what its operands stand for, or the least code of what is wrong with it.
+    #[inline(always)]
     pub(crate) fn check_instruction(
         &self,
         spot: Spot,

@@ -149,6 +149,7 @@ fn based_number(base: &[u8], digits: &[u8]) -> Option<Number>
 }
 
 /// Whether a text begins as a number does: with a minus or a digit.
+#[inline(always)]
 fn begins_number(text: &[u8]) -> bool
     ensures { result ≡ begins_number text.now }
 {
@@ -159,13 +160,23 @@ fn begins_number(text: &[u8]) -> bool
 }
 
 /// The number that a text is. Most operands are names, which are told by their first byte.
-#[tactic(auto, using(crate::proofs::Marks::number_alone, crate::proofs::Marks::number_based, crate::proofs::Marks::number_none, crate::proofs::Marks::no_number))]
+#[tactic(auto, using(crate::proofs::Marks::no_number))]
+#[inline(always)]
 pub(crate) fn read_number(text: &[u8]) -> Option<Number>
     ensures { option_map number_of result ≡ number text.now }
 {
     if !begins_number(text) {
         return None;
     }
+    number_in(text)
+}
+
+/// The number that a text is, however it begins.
+#[tactic(auto, using(crate::proofs::Marks::number_alone, crate::proofs::Marks::number_based, crate::proofs::Marks::number_none))]
+#[inline(never)]
+fn number_in(text: &[u8]) -> Option<Number>
+    ensures { option_map number_of result ≡ number text.now }
+{
     let Some((base, digits)) = split_first(text, b'#') else {
         return decimal_number(text);
     };

@@ -70,6 +70,7 @@ pub(crate) fn event_task(tasks: &[TaskName], text: &[u8]) -> Option<u32>
 }
 
 /// A flag, a number, or what a text names as an operand of the kind.
+#[inline(always)]
 pub(crate) fn data_operand(
     alloc: Global,
     scope: &CheckScope,
@@ -84,6 +85,12 @@ pub(crate) fn data_operand(
     }
     if let Some(number) = read_number(text) {
         return number_operand(kind, number);
+    }
+    if let Some(found) = scope
+        .tags
+        .resolve_alone(Scope::Program(scope.program), text)
+    {
+        return found_operand(scope.tags.types(), kind, found);
     }
     place_operand(alloc, scope, kind, text)
 }
@@ -105,6 +112,7 @@ fn number_operand(kind: OperandKind, number: Number) -> Result<Operand, OperandE
 }
 
 /// What a text names as an operand of the kind.
+#[inline(never)]
 fn place_operand(
     alloc: Global,
     scope: &CheckScope,

@@ -58,6 +58,7 @@ fn block_of(types: &TypeTable, found: Found) -> Block
 }
 
 /// Whether what was found is of the kind, by its type.
+#[inline(always)]
 fn is_taken(kind: OperandKind, of: DataType) -> bool
     ensures { result ≡ is_taken kind of }
 {
@@ -81,6 +82,7 @@ fn is_taken(kind: OperandKind, of: DataType) -> bool
 }
 
 /// What was found as an operand of the kind, which takes it.
+#[inline(always)]
 fn operand_as(types: &TypeTable, kind: OperandKind, found: Found) -> Operand
     requires { HasSize types.now (single found.of.base) }
     ensures { result ≡ operand_as types.now kind found }
@@ -99,6 +101,7 @@ fn operand_as(types: &TypeTable, kind: OperandKind, found: Found) -> Operand
 
 /// What was found as an operand of the kind: C2 if it isn't of that kind.
 #[tactic(auto, using(crate::proofs::Taken::taken_as, crate::proofs::Taken::not_taken))]
+#[inline(always)]
 pub(crate) fn found_operand(
     types: &TypeTable,
     kind: OperandKind,
@@ -150,6 +153,7 @@ pub(crate) fn flag_as(kind: OperandKind, flag: Flag) -> Result<Operand, CheckCod
 }
 
 /// The flag that a text is.
+#[inline(always)]
 pub(crate) fn flag(text: &[u8]) -> Option<Flag>
     ensures { result ≡ flag text.now }
 {

@@ -1,5 +1,5 @@
 -- An open controller: what its parts represent, and what a call on them gives of the whole.
-use Rattle.std.proofs.Common.{◌≡◌, ℕ, ◌+◌, ◌<◌, [], refl, sym, ap, subst, arith}
+use Rattle.std.proofs.Common.{◌≡◌, ℕ, ◌+◌, ◌<◌, ◌≤◌, [], refl, sym, ap, subst, arith}
 use Rattle.spec_base.specs.declared.limits.TheConstants.{MAX_EVENTS}
 use Rattle.spec_machine.specs.declared.answer.Moment.{Moment}
 use Rattle.spec_machine.specs.declared.answer.TickReport.{TickReport}
@@ -16,7 +16,7 @@ use Rattle.lgx_image.specs.Grains.{ImageView, ChangesOnlyMarked}
 use Rattle.lgx_image.proofs.Changes.{no_change_needs_marks}
 use Rattle.lgx_steps.specs.declared.parts.ControllerParts.{ControllerParts}
 use Rattle.lgx_steps.specs.PartsView.{view_of as parts_of}
-use Rattle.lgx_steps.specs.Represents.{RepresentsState, IsLive, HasRoom}
+use Rattle.lgx_steps.specs.Represents.{RepresentsState, IsLive, HasRoom, HasRoomFor}
 use Rattle.lgx_steps.specs.Gives.{ViewGives}
 use Rattle.lgx_steps.proofs.States.{later}
 use Rattle.lgx_core.specs.ControllerView.{ControllerView, view_of}
@@ -39,6 +39,9 @@ live parts spent i = record { events = spent; state = run i.project i.events; ro
 
 pub with-room : (parts : ControllerParts) (spent : ℕ) → IsController (view_of parts spent) → spent < MAX_EVENTS → HasRoom parts
 with-room parts spent i l = record { events = spent; state = run i.project i.events; room = l; represents = i.stands.represents.parts }
+
+pub with-room-for : (parts : ControllerParts) (spent count : ℕ) → IsController (view_of parts spent) → spent + count ≤ MAX_EVENTS → HasRoomFor count parts
+with-room-for parts spent count i l = record { events = spent; state = run i.project i.events; room = l; represents = i.stands.represents.parts }
 
 module _ (parts : ControllerParts) (spent : ℕ) (now : ControllerView) (e : view_of parts spent ≡ now) where
   pub opened : (s : State) → RepresentsController now s → RepresentsController (view_of parts spent) s

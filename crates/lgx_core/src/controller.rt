@@ -82,9 +82,8 @@ impl Controller {
         self.parts.cpu()
     }
 
-    /// Processor steps, up to one of which there is more to report than that it was made, but for begins that `begins` notes, or
-    /// after which a word of the image is hit; at most `most`. It does what as many calls of [`Controller::cpu`] do, and counts
-    /// each of them.
+    /// Processor steps, up to one that has a fault or triggers a task, or after which a word of the image is hit, or to a begin that
+    /// `begins` can't note; at most `most`. It does what as many calls of [`Controller::cpu`] do, and counts each of them.
     ///
     /// A hit that was there before ends it too, so hits are to be cleared first. While no task is up, all of them are made at once.
     /// What `begins` noted before is lost.

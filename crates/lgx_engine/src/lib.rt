@@ -11,6 +11,7 @@ mod computing;
 mod frame;
 mod frames;
 mod handing;
+mod innermost;
 mod known;
 mod left;
 mod moves;

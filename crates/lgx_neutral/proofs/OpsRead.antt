@@ -18,3 +18,6 @@ own_text _ = refl
 pub named_op : (op : Op) (letters : List ℕ) → same (text_of op) letters ≡ true → op_of letters ≡ Some op
 named_op op letters e =
     subst (λ (x : List ℕ). find (λ o. bytes_eq (lower (text_of o)) x) mnemonics ≡ Some op) ((bytes_eq-Decides (lower (text_of op)) (lower letters)).0 e) (own_text op)
+
+pub spelled_op : (op : Op) (letters : List ℕ) → text_of op ≡ letters → op_of letters ≡ Some op
+spelled_op op letters e = subst (λ (x : List ℕ). op_of x ≡ Some op) e (own_text op)

@@ -1,5 +1,6 @@
 pub mod Answer
 pub mod Lexing
+pub mod OpenForks
 pub mod Instructions
 pub mod Reading
 pub mod Taking

@@ -4,15 +4,17 @@ use lgx_rung::OpenFork;
 use spec_base::limits::MAX_FORKS;
 use std::alloc::Global;
 use std::marker::Model;
+use std::mem;
 
-/// The open forks, at most [`MAX_FORKS`], of which the innermost is closed first.
+/// The open forks, at most [`MAX_FORKS`], of which the innermost is closed first. One alone takes no memory.
 #[derive(Drop)]
 pub(crate) struct Forks {
-    open: Vec<OpenFork>,
+    inner: Option<OpenFork>,
+    outer: Vec<OpenFork>,
 }
 
 impl Model for Forks {
-    ghost use Rattle.std.specs.Prelude.{List, ◌≤◌, length, reverse};
+    ghost use Rattle.std.specs.Prelude.{List, ◌≤◌, length};
     ghost use Rattle.std.specs.Coded.{codes, coded_list};
     ghost use Rattle.spec_base.specs.declared.limits.TheConstants.{MAX_FORKS};
     ghost use Rattle.lgx_rung.specs.ForkCode.{fork_code};
@@ -22,9 +24,11 @@ impl Model for Forks {
 
     ghost coded = { coded_list (fork_code (Prim.hlevel codes)) };
 
-    ghost view = { λ f. reverse f.open.items };
+    ghost use Rattle.lgx_neutral.specs.OpenForks.{forks_of};
 
-    ghost invariant = { λ f. length f.open.items ≤ MAX_FORKS };
+    ghost view = { λ f. forks_of f.inner f.outer.items };
+
+    ghost invariant = { λ f. length (forks_of f.inner f.outer.items) ≤ MAX_FORKS };
 }
 
 impl Forks {
@@ -36,7 +40,18 @@ impl Forks {
         ensures { result ≡ [] }
     {
         Forks {
-            open: Vec::new(alloc),
+            inner: None,
+            outer: Vec::new(alloc),
+        }
+    }
+
+    /// How many forks are open.
+    fn len(&self) -> usize
+        ensures { result ≡ length self.now }
+    {
+        match self.inner {
+            Some(_) => self.outer.len() + 1,
+            None => self.outer.len(),
         }
     }
 
@@ -44,14 +59,14 @@ impl Forks {
     pub(crate) fn is_empty(&self) -> bool
         ensures { result ≡ (length self.now == 0) }
     {
-        self.open.is_empty()
+        self.len() == 0
     }
 
     /// Whether one fork more may be open.
     pub(crate) fn has_room(&self) -> bool
         ensures { result ≡ nat_lt (length self.now) MAX_FORKS }
     {
-        self.open.len() < MAX_FORKS
+        self.len() < MAX_FORKS
     }
 
     /// Opens a fork inside the others.
@@ -59,7 +74,10 @@ impl Forks {
         requires { length self.old < MAX_FORKS }
         ensures { OnOk result (self.new ≡ fork ∷ self.old) }
     {
-        self.open.push(fork)?;
+        let inner = mem::replace(&mut self.inner, Some(fork));
+        if let Some(inner) = inner {
+            self.outer.push(inner)?;
+        }
         Ok(())
     }
 
@@ -68,6 +86,9 @@ impl Forks {
         ensures forks { MatchOption result (self.old ≡ [] × self.new ≡ []) (λ fork. self.old ≡ fork ∷ self.new) }
         ensures room { OnSome result (length self.new < MAX_FORKS) }
     {
-        self.open.pop()
+        match self.inner.take() {
+            Some(fork) => Some(fork),
+            None => self.outer.pop(),
+        }
     }
 }

@@ -1,6 +1,6 @@
 // The instructions that letters name.
-ghost use Rattle.std.specs.Prelude.{◌≡◌};
-ghost use Rattle.lgx_rung.specs.Mnemonics.{op_of};
+ghost use Rattle.std.specs.Prelude.{◌≡◌, true};
+ghost use Rattle.lgx_rung.specs.Mnemonics.{op_of, text_of};
 
 use lgx_num::same;
 use lgx_rung::Op;
@@ -28,14 +28,31 @@ fn initial(letter: u8) -> &'static [Op] {
     }
 }
 
-/// The instruction whose mnemonic these letters are, as [`Op::read`] gives it: those of the first letter are tried first.
-#[tactic(auto, using(crate::proofs::OpsRead::named_op))]
+/// Whether the letters are the instruction's mnemonic, in upper case.
+#[inline(always)]
+fn is_text_of(op: Op, letters: &[u8]) -> bool
+    ensures { result ≡ true → text_of op ≡ letters.now }
+{
+    match (op.text(), letters) {
+        ([a, b, c], [x, y, z]) => a == x && b == y && c == z,
+        (text, _) => text == letters,
+    }
+}
+
+/// The instruction whose mnemonic these letters are, as [`Op::read`] gives it: those of the first letter are tried first, in upper case
+/// and then in any.
+#[tactic(auto, using(crate::proofs::OpsRead::named_op, crate::proofs::OpsRead::spelled_op))]
 pub(crate) fn read_op(letters: &[u8]) -> Option<Op>
     ensures { result ≡ op_of letters.now }
 {
     let [first, ..] = letters else {
         return None;
     };
+    for op in initial(*first) {
+        if is_text_of(*op, letters) {
+            return Some(*op);
+        }
+    }
     for op in initial(*first) {
         if same(op.text(), letters) {
             return Some(*op);

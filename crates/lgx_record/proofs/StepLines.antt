@@ -23,7 +23,7 @@ use Rattle.spec_machine.specs.ProcessorStep.{processor_step}
 use Rattle.spec_machine.specs.Machine.{OfStep, step, run_from, run}
 use Rattle.spec_machine.specs.Report.{Stamped, is_step, steps_of, stamp, begin_lines, set_lines, event_lines, lines_from}
 use Rattle.lgx_watch.specs.JournalLines.{lines_of_event}
-use Rattle.lgx_steps.specs.Stretches.{after_steps, moment_after, is_told, is_plain_mark, is_plain, told_steps, plainly}
+use Rattle.lgx_steps.specs.Stretches.{after_steps, moment_after, is_told, is_trigger, is_plain, told_steps, plainly}
 use Rattle.lgx_record.specs.EventLines.{begins_lines}
 use Rattle.spec_reach.proofs.Grows.{event_moves}
 use Rattle.lgx_record.specs.Faults.{faults_in}
@@ -124,8 +124,8 @@ has-no-line watches s plain same =
     let m = x.answer in
     let places = map (λ (w : Watch). w.place) watches in
     let sets = set_lines 0 watches s.image x.state.image in
-    let parts = and_parts (not (is_told m.what)) (is_plain_mark m.mark && is_none m.fault) plain in
-    let faults = and_parts (is_plain_mark m.mark) (is_none m.fault) parts.1 in
+    let parts = and_parts (not (is_told m.what)) (not (is_trigger m.mark) && is_none m.fault) plain in
+    let faults = and_parts (not (is_trigger m.mark)) (is_none m.fault) parts.1 in
     let no_sets : sets ≡ [] =
     set_lines-changes 0 watches s.image x.state.image
     ∙ ap (λ (now : List ℤ). change_lines 0 (numbers_at s.image places) now) same

@@ -1,5 +1,5 @@
 -- What it means that the parts of a controller represent a state of the machine.
-use Rattle.std.specs.Prelude.{◌≡◌, ◌≢◌, ℕ, ◌<◌, ◌≤◌, true, List, length, Option, Some, None, slice_index, slice_index_or}
+use Rattle.std.specs.Prelude.{◌≡◌, ◌≢◌, ℕ, ◌+◌, ◌<◌, ◌≤◌, true, List, length, Option, Some, None, slice_index, slice_index_or}
 use Rattle.std.specs.List.{AllByRecursion as Each}
 use Rattle.spec_base.specs.declared.limits.TheConstants.{MAX_EVENTS}
 use Rattle.spec_language.specs.Declarations.{bytes}
@@ -99,6 +99,13 @@ pub record IsLive (v : ControllerParts) : Type 0 where
   pub events : ℕ
   pub state : State
   pub room : events ≤ MAX_EVENTS
+  pub represents : RepresentsParts events v state
+
+-- and there is room for so many events more
+pub record HasRoomFor (count : ℕ) (v : ControllerParts) : Type 0 where
+  pub events : ℕ
+  pub state : State
+  pub room : events + count ≤ MAX_EVENTS
   pub represents : RepresentsParts events v state
 
 -- and there is room for another event

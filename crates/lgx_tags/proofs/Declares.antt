@@ -14,6 +14,7 @@ use Rattle.spec_language.specs.declared.tag.TagCode.{TagCode}
 use Rattle.spec_language.specs.declared.tag.TagCode.TheVariants.{G1, G2, G8}
 use Rattle.spec_base.specs.FirstCause.{where_true, first}
 use Rattle.spec_language.specs.Declarations.{tag, alias, Entry, Declarations, is_named, is_name_in, bytes, declared_as, entry_faults, declare_fault, alias_fault}
+use Rattle.spec_language.specs.OperandForm.{is_tag_name}
 use Rattle.spec_language.specs.Resolution.{target_of, aliases}
 use Rattle.spec_language.proofs.FoundBounds.{and_left}
 use Rattle.spec_base.proofs.Lists.{each_append, each_map, any_some}
@@ -24,6 +25,7 @@ use Rattle.lgx_tags.specs.declared.key.Key.{Key}
 use Rattle.lgx_tags.proofs.Spans.{padded_size, padded_total, total_append, total_ordered, end_is, ordered}
 use Rattle.lgx_tags.proofs.Lookups.{same_key, key_position}
 use Rattle.lgx_tags.proofs.Firsts.{first_more}
+use Rattle.lgx_tags.proofs.TagNames.{named_tag}
 use Rattle.std.proofs.lemmas.Bool.{lt-ltb, le-ltb}
 use Rattle.std.proofs.Common.{get_or}
 use Rattle.std.specs.Prelude.{slice_get}
@@ -36,6 +38,11 @@ use Rattle.spec_base.specs.declared.limits.TheConstants.{MAX_IMAGE_BYTES, MAX_NA
 pub name_short : (s : Scope) (name : List ℕ) → is_name_in s name ≡ true → length name ≤ MAX_TAG_NAME_BYTES
 name_short Controller name p = leb-true (length name) MAX_TAG_NAME_BYTES (and_left (nat_le (length name) MAX_TAG_NAME_BYTES) _ p)
 name_short (Program q) name p = omega (arith, leb-true (length name) MAX_NAME_BYTES (and_left (nat_le (length name) MAX_NAME_BYTES) _ p))
+
+-- a name of either scope is a tag's name
+pub name_tag : (s : Scope) (name : List ℕ) → is_name_in s name ≡ true → is_tag_name name ≡ true
+name_tag Controller name p = p
+name_tag (Program q) name p = named_tag name p
 
 pub any_position : {X : Type 0} (test : X → Bool) (xs : List X) → list_any test xs ≡ is_some (position test xs)
 any_position test xs = any_some test xs 0 ∙ ap is_some (sym (position_from-zero test xs))

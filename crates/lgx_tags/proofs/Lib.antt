@@ -21,3 +21,4 @@ pub mod Digits
 pub mod ReadingSteps
 pub mod ReadingBounds
 pub mod ReadingAnswers
+pub mod SpelledForms

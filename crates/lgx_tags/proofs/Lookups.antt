@@ -105,3 +105,8 @@ none_own_from p name (e ∷ es) i h =
 pub seen_alone : (s : Scope) (name : List ℕ) (es : List Entry) → has_own es ≡ false → seen_number es s name ≡ position (is_named Controller name) es
 seen_alone Controller name es h = refl
 seen_alone (Program p) name es h = ap (λ (o : Option ℕ). option_or o (position (is_named Controller name) es)) (position_from-zero (is_named (Program p) name) es ∙ none_own_from p name es 0 h)
+
+-- an entry of the scope's own is seen
+pub own_seen : (s : Scope) (name : List ℕ) (es : List Entry) (i : ℕ) → position (is_named s name) es ≡ Some i → seen_number es s name ≡ Some i
+own_seen Controller name es i h = h
+own_seen (Program p) name es i h = ap (λ (o : Option ℕ). option_or o (position (is_named Controller name) es)) h

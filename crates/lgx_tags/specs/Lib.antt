@@ -14,3 +14,4 @@ pub mod Parts
 pub mod FormStates
 pub mod TagNames
 pub mod TextReading
+pub mod SpelledNames

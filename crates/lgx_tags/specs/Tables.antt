@@ -1,9 +1,10 @@
 -- A table of tags: what it holds, what is asked of it, and what it answers.
-use Rattle.std.specs.Prelude.{◌^◌, ◌≡◌, ℕ, ◌<◌, ◌≤◌, Bool, List, map, length, ⊤}
+use Rattle.std.specs.Prelude.{◌^◌, ◌≡◌, ℕ, ◌<◌, ◌≤◌, Bool, true, List, map, length, ⊤}
 use Rattle.std.specs.List.{AllByRecursion as Each, list_any}
 use Rattle.spec_base.specs.declared.limits.TheConstants.{MAX_IMAGE_BYTES, MAX_TAG_NAME_BYTES}
 use Rattle.spec_language.specs.declared.types.TypeDecl.{TypeDecl}
 use Rattle.spec_language.specs.Declarations.{Meaning, tag, alias, Entry, Declarations, bytes}
+use Rattle.spec_language.specs.OperandForm.{is_tag_name}
 use Rattle.spec_language.specs.Resolution.{aliases}
 use Rattle.lgx_types.specs.Tables.{HasSize}
 use Rattle.lgx_tags.specs.Firsts.{AreFirst}
@@ -24,6 +25,7 @@ IsSized types (alias target) = ⊤
 
 -- an entry that was let in
 pub record IsAdmitted (types : List TypeDecl) (programs : ℕ) (e : Entry) : Type 0 where
+  pub named : is_tag_name e.name ≡ true
   pub short : length e.name ≤ MAX_TAG_NAME_BYTES
   pub placed : IsScopeOf programs e.scope
   pub sized : IsSized types e.meaning

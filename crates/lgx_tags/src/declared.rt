@@ -4,6 +4,7 @@ ghost use Rattle.spec_base.specs.Causes.{IsFaultOf};
 ghost use Rattle.spec_base.specs.declared.limits.TheConstants.{MAX_IMAGE_BYTES, MAX_TAG_NAME_BYTES};
 ghost use Rattle.spec_language.specs.declared.tag.Scope.{Scope as In};
 ghost use Rattle.spec_language.specs.Declarations.{tag, alias, is_named, is_name_in, bytes, declared_as, declare_fault, alias_fault};
+ghost use Rattle.spec_language.specs.OperandForm.{is_tag_name};
 ghost use Rattle.spec_language.specs.Resolution.{aliases};
 ghost use Rattle.spec_language.specs.ResolutionLaws.{Sound};
 ghost use Rattle.std.specs.List.{AllByRecursion as Each};
@@ -20,7 +21,7 @@ use crate::entry::Entry;
 use crate::error::TagError;
 use crate::key::Key;
 use crate::layout::{PlacedTag, Resolved, by_scope, in_order, place_tags, round_up};
-use crate::near::Near;
+use crate::near::{Hash, Near};
 use crate::tag_name::is_tag_name;
 use indexmap::IndexSet;
 use lgx_num::{Memory, is_name};
@@ -122,11 +123,53 @@ impl Declared {
         ensures number { result ≡ position (is_named scope name.now) self.now.entries }
         ensures within { IfSome result (λ i. i < length self.now.entries) }
     {
-        let i = self.near.guess(name);
-        if self.is_at(i, scope, name) {
+        if let Some(i) = self.guessed(scope, name, Hash::of(name)) {
             return Some(i);
         }
         self.find(scope, name)
+    }
+
+    /// The number of the entry of a scope and a name of this hash, if the name is spelled as it was declared, and the number as it
+    /// is guessed.
+    #[inline(always)]
+    fn guessed(&self, scope: Scope, name: &[u8], hash: Hash) -> Option<usize>
+        ensures first { IfSome result (λ i. position (is_named scope name.now) self.now.entries ≡ Some i) }
+        ensures within { IfSome result (λ i. i < length self.now.entries) }
+        ensures name { IfSome result (λ _. is_tag_name name.now ≡ true) }
+    {
+        let i = self.near.guess(hash);
+        if self.is_at(i, scope, name) {
+            return Some(i);
+        }
+        self.guessed_again(scope, name, hash)
+    }
+
+    /// The same by another guess.
+    #[inline(never)]
+    fn guessed_again(&self, scope: Scope, name: &[u8], hash: Hash) -> Option<usize>
+        ensures first { IfSome result (λ i. position (is_named scope name.now) self.now.entries ≡ Some i) }
+        ensures within { IfSome result (λ i. i < length self.now.entries) }
+        ensures name { IfSome result (λ _. is_tag_name name.now ≡ true) }
+    {
+        let i = self.near.guess_again(hash);
+        if self.is_at(i, scope, name) {
+            Some(i)
+        } else {
+            None
+        }
+    }
+
+    /// The number of the entry that a name of this hash is seen as from a scope, if the name is spelled as it was declared, and the
+    /// number as it is guessed.
+    #[inline(always)]
+    pub(crate) fn seen_guessed(&self, scope: Scope, name: &[u8], hash: Hash) -> Option<usize>
+        ensures number { IfSome result (λ i. seen_number self.now.entries scope name.now ≡ Some i) }
+        ensures name { IfSome result (λ _. is_tag_name name.now ≡ true) }
+    {
+        if !self.any_own {
+            return self.guessed(Scope::Controller, name, hash);
+        }
+        self.guessed(scope, name, hash)
     }
 
     /// Whether the entry of this number is there, and has this scope and a name that is spelled so.
@@ -134,6 +177,7 @@ impl Declared {
     fn is_at(&self, i: usize, scope: Scope, name: &[u8]) -> bool
         ensures first { result ≡ true → position (is_named scope name.now) self.now.entries ≡ Some i }
         ensures within { result ≡ true → i < length self.now.entries }
+        ensures name { result ≡ true → is_tag_name name.now ≡ true }
     {
         let entries = &self.entries;
         if i >= entries.len() {
@@ -159,6 +203,7 @@ impl Declared {
     fn name_fault(&self, scope: Scope, name: &[u8]) -> Option<TagCode>
         ensures fault { result ≡ alias_fault self.now scope name.now }
         ensures short { IsNone result → length name.now ≤ MAX_TAG_NAME_BYTES }
+        ensures named { IsNone result → is_tag_name name.now ≡ true }
         ensures free { IsNone result → position (is_named scope name.now) self.now.entries ≡ None }
     {
         if !is_name_in(scope, name) {

@@ -6,11 +6,12 @@ ghost use Rattle.spec_language.specs.Layout.{round_up};
 ghost use Rattle.lgx_types.specs.Tables.{HasSize};
 ghost use Rattle.lgx_tags.specs.Scopes.{IsScopeOf};
 ghost use Rattle.lgx_tags.specs.Layouts.{IsOfEntries, slot_of, with_entry, rows_of, place_tags, place_tags_end, known_from};
+ghost use Rattle.lgx_tags.specs.Chains.{found_at};
 
 use crate::entry::Entry;
-use lgx_num::Memory;
+use lgx_num::{Memory, Steps};
 use lgx_types::TypeTable;
-use spec_language::{DataType, Scope, TagCode};
+use spec_language::{DataType, Found, Scope, TagCode};
 use std::alloc::Global;
 use std::marker::Model;
 
@@ -36,6 +37,21 @@ pub(crate) struct FixedPlace {
     pub(crate) at: u32,
     pub(crate) of: DataType,
     pub(crate) stop: u32,
+}
+
+impl FixedPlace {
+    /// The place as it is found.
+    #[inline(always)]
+    pub(crate) fn found(self) -> Found
+        ensures { result ≡ found_at self }
+    {
+        Found {
+            at: self.at,
+            steps: Steps::new(),
+            of: self.of,
+            stop: self.stop,
+        }
+    }
 }
 
 /// What an entry stands for, as far as it is known: an alias is G7 until its chain is walked.

@@ -17,6 +17,7 @@ mod part;
 mod resolve;
 mod same;
 mod seal;
+mod spelled;
 mod subscript;
 mod table;
 mod tag_name;

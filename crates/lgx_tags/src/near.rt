@@ -12,20 +12,55 @@ const PLACES_OF_ENTRY: usize = 2;
 /// By how much the places grow.
 const GROWTH: usize = 4;
 
-/// The numbers of entries by their names' bytes. What it tells is a guess: names may share a place, and the last one has it.
+/// The numbers of entries by their names' bytes, each counted from 1. What it tells is a guess: a name is in one of two places, which
+/// it may share with others, and the last one has it.
 #[derive(Drop)]
 pub(crate) struct Near {
     places: Vec<u32>,
 }
 
-/// The place of a name among so many, a power of 2; a name without bytes has the first.
-#[inline(always)]
-fn place_of(name: &[u8], count: usize) -> usize {
-    let mut hash = 0u32;
-    for byte in name {
-        hash = (hash ^ u32::from(*byte)).wrapping_mul(0x0100_0193);
+/// What the bytes of a name come to, one after another.
+#[derive(Clone, Copy)]
+pub(crate) struct Hash {
+    sum: u32,
+}
+
+impl Hash {
+    /// No byte.
+    #[inline(always)]
+    pub(crate) fn new() -> Hash {
+        Hash { sum: 0 }
     }
-    (hash ^ (hash >> 15)) as usize & count.wrapping_sub(1)
+
+    /// With one more byte.
+    #[inline(always)]
+    pub(crate) fn with(self, byte: u8) -> Hash {
+        Hash {
+            sum: (self.sum ^ u32::from(byte)).wrapping_mul(0x0100_0193),
+        }
+    }
+
+    /// That of a name.
+    #[inline(always)]
+    pub(crate) fn of(name: &[u8]) -> Hash {
+        let mut hash = Hash::new();
+        for byte in name {
+            hash = hash.with(*byte);
+        }
+        hash
+    }
+
+    /// The place among so many, a power of 2.
+    #[inline(always)]
+    fn place(self, count: usize) -> usize {
+        (self.sum ^ (self.sum >> 15)) as usize & count.wrapping_sub(1)
+    }
+}
+
+/// The second place of what has this one.
+#[inline(always)]
+fn beside(place: usize) -> usize {
+    place ^ 1
 }
 
 impl Near {
@@ -38,18 +73,43 @@ impl Near {
 
     /// The number of an entry that may have the name.
     #[inline(always)]
-    pub(crate) fn guess(&self, name: &[u8]) -> usize {
-        match self.places.get(place_of(name, self.places.len())) {
-            Some(number) => *number as usize,
-            None => 0,
+    pub(crate) fn guess(&self, hash: Hash) -> usize {
+        self.number_at(hash.place(self.places.len()))
+    }
+
+    /// The number of another entry that may have it.
+    pub(crate) fn guess_again(&self, hash: Hash) -> usize {
+        self.number_at(beside(hash.place(self.places.len())))
+    }
+
+    /// The number of the entry that has a place, and else one that no entry has.
+    #[inline(always)]
+    fn number_at(&self, place: usize) -> usize {
+        match self.places.get(place) {
+            Some(number) => (*number as usize).wrapping_sub(1),
+            None => usize::MAX,
         }
     }
 
     /// Notes the number of an entry of a name.
     fn note(&mut self, name: &[u8], number: usize) {
-        let place = place_of(name, self.places.len());
-        if place < self.places.len() && number <= u32::MAX as usize {
-            self.places[place] = number as u32;
+        let place = Hash::of(name).place(self.places.len());
+        if self.is_taken(place) && !self.is_taken(beside(place)) {
+            self.note_at(beside(place), number);
+        } else {
+            self.note_at(place, number);
+        }
+    }
+
+    /// Whether an entry has a place.
+    fn is_taken(&self, place: usize) -> bool {
+        self.number_at(place) < usize::MAX
+    }
+
+    /// Notes the number of an entry in a place.
+    fn note_at(&mut self, place: usize, number: usize) {
+        if place < self.places.len() && number < u32::MAX as usize {
+            self.places[place] = number as u32 + 1;
         }
     }
 

@@ -5,6 +5,8 @@ ghost use Rattle.std.specs.List.{list_all};
 ghost use Rattle.spec_language.specs.OperandForm.{tokens, are_digits, dot, opening};
 ghost use Rattle.lgx_tags.specs.Parts.{part_of, ElementIsDigits, first_part, is_mark, begins_marked, with_word};
 
+use crate::near::Hash;
+
 /// A part of an operand after its tag's name.
 #[derive(Clone, Copy)]
 pub(crate) enum OperandPart<'a> {
@@ -41,11 +43,26 @@ pub(crate) fn are_digits(word: &[u8]) -> bool
     !word.is_empty() && all_digits(word)
 }
 
+/// What a byte between words has in the table.
+const MARK: u8 = 1;
+
+/// For each byte a digit, whose lowest bit is the kind above.
+static KINDS: [u8; 256] = *b"\
+    00000000000000000000000000000000\
+    00000000000000100000000000000000\
+    00000000000000000000000000010100\
+    00000000000000000000000000000000\
+    00000000000000000000000000000000\
+    00000000000000000000000000000000\
+    00000000000000000000000000000000\
+    00000000000000000000000000000000";
+
 /// Whether the byte comes between words.
+#[inline(always)]
 fn is_mark(byte: u8) -> bool
     ensures { result ≡ is_mark byte }
 {
-    byte == b'.' || byte == b'[' || byte == b']'
+    KINDS[byte as usize] & MARK != 0
 }
 
 /// The word with which a text begins, and what comes after it. The word may be empty.
@@ -61,6 +78,24 @@ pub(crate) fn split_word(text: &[u8]) -> (&[u8], &[u8])
         }
     }
     (text, &[])
+}
+
+/// The same, and the hash of the word.
+#[tactic(auto, using(crate::proofs::OperandParts::whole_at, crate::proofs::OperandParts::ended_at, crate::proofs::OperandParts::tokens_at, crate::proofs::OperandParts::tokens_whole))]
+#[inline(always)]
+pub(crate) fn split_hashed(text: &[u8]) -> (&[u8], &[u8], Hash)
+    ensures whole { text.now ≡ result.0.now ++ result.1.now }
+    ensures tokens { tokens text.now ≡ with_word result.0.now (tokens result.1.now) }
+    ensures ended { IsTrue (begins_marked result.1.now) }
+{
+    let mut hash = Hash::new();
+    for (i, byte) in text.iter().enumerate() {
+        if is_mark(*byte) {
+            return (&text[..i], &text[i..], hash);
+        }
+        hash = hash.with(*byte);
+    }
+    (text, &[], hash)
 }
 
 /// The part with which a text begins, and what comes after it, or none if it begins with no part.

@@ -13,7 +13,10 @@ ghost use Rattle.lgx_tags.specs.TextReading.{subscripts_of, AnswersTag, NamesInB
 use crate::data_type::is_array;
 use crate::error::TagError;
 use crate::form::is_form;
+use crate::layout::FixedPlace;
+use crate::near::Hash;
 use crate::part::{OperandPart, first_part, split_word};
+use crate::spelled::find_spelled;
 use crate::subscript::{find_dotted, find_indexed, find_numbered};
 use lgx_num::is_name;
 use lgx_types::TypeTable;
@@ -32,7 +35,9 @@ pub(crate) enum Subscripts {
 
 /// What the names of tags stand for, seen from one scope.
 pub(crate) trait Names {
-    ghost use Rattle.std.specs.Prelude.{◌≡◌, ℕ, List, Result};
+    ghost use Rattle.std.specs.Prelude.{◌≡◌, ℕ, List, Result, IfSome, Ok, true};
+    ghost use Rattle.spec_language.specs.OperandForm.{is_tag_name};
+    ghost use Rattle.lgx_tags.specs.Chains.{found_at};
     ghost use Rattle.spec_language.specs.declared.tag.Found.{Found as Place};
     ghost use Rattle.spec_language.specs.declared.tag.TagCode.{TagCode as Code};
 
@@ -44,6 +49,11 @@ pub(crate) trait Names {
     /// What a name stands for: a tag stands for itself, an alias for what its target names.
     fn named(&self, name: &[u8]) -> Result<Found, TagCode>
         ensures { result ≡ named self.now name.now };
+
+    /// The same of a name that is spelled as it was declared, by its hash. It may be none for others, and for some of these.
+    fn spelled(&self, name: &[u8], hash: Hash) -> Option<FixedPlace>
+        ensures named { IfSome result (λ spot. named self.now name.now ≡ Ok (found_at spot)) }
+        ensures name { IfSome result (λ _. is_tag_name name.now ≡ true) };
 }
 
 /// A text that is read from left to right: what is found so far, and the arrays whose brackets are open, the innermost last.
@@ -204,7 +214,7 @@ fn resolve_form<N: Names>(
 /// What an operand's text names, or the first cause why it names nothing.
 ///
 /// G10, that the text is no operand form, comes before all others; these come as they are met from left to right. Memory is
-/// taken for open brackets alone, and nothing recurses on how deep they are.
+/// taken for subscripts that are operands alone, and nothing recurses on how deep they are.
 pub(crate) fn resolve_text<N: Names>(
     alloc: Global,
     text: &[u8],
@@ -219,6 +229,9 @@ pub(crate) fn resolve_text<N: Names>(
     ensures lies { IfOk result (λ f. LiesIn types.now (N.bytes names.now) f) }
     ensures fixed { subscripts ≡ Subscripts.NumbersAlone → IfOk result (λ f. f.steps ≡ []) }
 {
+    if let Some(found) = find_spelled(alloc, text, subscripts, types, names) {
+        return Ok(found);
+    }
     if is_name(text) {
         return resolve_name(names, text);
     }

@@ -9,9 +9,10 @@ use crate::declared::Declared;
 use crate::entry::Entry;
 use crate::error::TagError;
 use crate::layout::{FixedPlace, Resolved};
+use crate::near::Hash;
 use crate::part::split_word;
 use crate::resolve::{Names, Subscripts, resolve_text};
-use lgx_num::{Memory, Steps};
+use lgx_num::Memory;
 use spec_language::{Found, Scope, TagCode};
 
 /// What the names of tags stand for, seen from one scope, by what is known of the entries.
@@ -36,6 +37,15 @@ impl Names for ScopeView<'_> {
             None => Err(TagCode::G3),
         }
     }
+
+    #[inline(always)]
+    fn spelled(&self, name: &[u8], hash: Hash) -> Option<FixedPlace> {
+        let i = self.declared.seen_guessed(self.scope, name, hash)?;
+        match known_at(self.known, i) {
+            Ok(spot) => Some(spot),
+            Err(_) => None,
+        }
+    }
 }
 
 /// What is known of an entry.
@@ -54,12 +64,7 @@ fn answer(known: Resolved) -> Result<Found, TagCode>
     ensures { result ≡ answer known }
 {
     match known {
-        Ok(spot) => Ok(Found {
-            at: spot.at,
-            steps: Steps::new(),
-            of: spot.of,
-            stop: spot.stop,
-        }),
+        Ok(spot) => Ok(spot.found()),
         Err(code) => Err(code),
     }
 }

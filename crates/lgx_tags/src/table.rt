@@ -1,5 +1,5 @@
 // The table of tags.
-ghost use Rattle.std.specs.Prelude.{◌^◌, ◌-◌, ◌≡◌, ◌<◌, ◌≤◌, [], true, false, length, map, slice_get, option_map, None, Some, IfOk, IfErr, IfSome, OnOk, OnErr};
+ghost use Rattle.std.specs.Prelude.{◌^◌, ◌-◌, ◌≡◌, ◌<◌, ◌≤◌, [], true, false, length, map, slice_get, option_map, None, Some, Ok, IfOk, IfErr, IfSome, OnOk, OnErr};
 ghost use Rattle.spec_base.specs.Causes.{IsFaultOf};
 ghost use Rattle.spec_base.specs.declared.limits.TheConstants.{MAX_IMAGE_BYTES};
 ghost use Rattle.spec_language.specs.Layout.{single};
@@ -20,6 +20,7 @@ use crate::error::{SealError, TagError};
 use crate::layout::{PlacedTag, Resolved, known_from};
 use crate::resolve::{Subscripts, resolve_text};
 use crate::seal::{ScopeView, first_bad, resolve_all};
+use crate::spelled::find_alone;
 use lgx_num::Memory;
 use lgx_types::TypeTable;
 use spec_language::{DataType, Found, Scope, TagSpan};
@@ -188,6 +189,25 @@ impl TagTable {
         ensures sized { IfOk result (λ f. HasSize self.now.declarations.types (single f.of.base)) }
     {
         self.resolve_with(alloc, scope, text, Subscripts::Operands)
+    }
+
+    /// What a text names that is the name of a tag or an alias alone, spelled as it was declared. There may be none of others, and of
+    /// some of these.
+    #[inline(always)]
+    pub fn resolve_alone(&self, scope: Scope, text: &[u8]) -> Option<Found>
+        requires { self.now.sealed ≡ true }
+        ensures answer { IfSome result (λ f. found self.now.declarations scope text.now ≡ Ok f) }
+        ensures sized { IfSome result (λ f. HasSize self.now.declarations.types (single f.of.base)) }
+    {
+        let known = self.seal_of().known.as_slice();
+        let declared = self.declared();
+        let types = declared.types();
+        let seen = ScopeView {
+            declared,
+            known,
+            scope,
+        };
+        find_alone(text, types, &seen)
     }
 
     /// What an operand's text names if numbers alone may be subscripts: any other subscript is G6.

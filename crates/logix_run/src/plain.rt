@@ -57,7 +57,8 @@ pub(crate) fn follow_plain<F: Files, K: Sink>(
 /// the projects of `A` and `B` over the link script of the file `L`. Any other words are answered with the usage line. Each line
 /// is one put; the project is read and checked before the journal is read.
 ///
-/// At `WriteFault` and `Memory` a first part of the output was put, at `ReadFault` and `TooLong` nothing.
+/// At `WriteFault` and `Memory` a first part of the output was put, at `ReadFault` and `TooLong` nothing. Of `check P` the memory of
+/// the project isn't given back, as [`check_project`] says.
 #[tactic(auto, using(crate::proofs::Laws::answered))]
 pub fn logix_plain<F: Files, K: Sink>(
     alloc: Global,

@@ -1,6 +1,7 @@
 """The command: draws cases of each kind from a seed, counts them, and stores what differs, made smaller."""
 
 import argparse
+import gc
 import os
 import random
 import resource
@@ -26,7 +27,7 @@ KINDS = {
     "links": (cases.links, 8, "link"), "link laws": (laws.link_laws, 1, "link"), "project laws": (laws.project_laws, 1, "migrate"),
     "journal laws": (laws.journal_laws, 1, "audit"), "stations": (laws.stations, 2, "stations"), "scripts": (lanes.scripts, 4, "run"),
     "lanes": (lanes.many_lanes, 0.5, "run"), "threads": (lanes.threads, 3, "run"), "closed pipes": (faults.closed_pipes, 2, "replay"),
-    "failed allocations": (turns.failed_allocations, 0.5, "trace"), "failed in threads": (turns.failed_in_threads, 2, "run"),
+    "failed allocations": (turns.failed_allocations, 0.1, "trace"), "failed in threads": (turns.failed_in_threads, 2, "run"),
     "failed calls": (turns.failed_calls, 2, "trace"),
     "full devices": (faults.full_devices, 0.5, "check"), "little memory": (faults.little_memory, 1, "check"),
     "lost files": (faults.lost_files, 0.3, "check"), "live": (laws.live_laws, 4, None),
@@ -198,6 +199,7 @@ def words_of_command(arguments):
 def main(arguments=None):
     """Status 0: nothing differs; 1: something does; 2: there is no program."""
     sys.setrecursionlimit(20_000)
+    gc.set_threshold(200_000, 20, 20)  # (a case makes many objects, and hardly a circle of them)
     words = words_of_command(arguments)
     if words.table:
         return pieces.tell([line for path in words.table for line in pieces.lines_of(path)], FEW, words.counts)

@@ -1,4 +1,4 @@
-use Rattle.std.proofs.Common.{◌≡◌, true, sym, subst, ◌∙◌}
+use Rattle.std.proofs.Common.{◌≡◌, true, sym, subst, ◌∙◌, Ok}
 use Rattle.lgx_num.specs.Name.{is_name}
 use Rattle.spec_language.specs.Resolution.{in_form}
 use Rattle.lgx_tags.specs.declared.resolve.Subscripts.{Subscripts}
@@ -30,3 +30,13 @@ returns-then-is_name-clause-fixed g c = λ alone.
     let named : is_name text ≡ true = sym c.is_name.ensures ∙ c.if-is_name.true in
     let answer : AnswersTag (in_form s types names text) c.resolve_name.result = name_answered s types names text c.resolve_name.result named c.resolve_name.ensures in
     fixed types (g.N.Names.bytes c.args.names.now) names text c.resolve_name.result c.requires.sound c.requires.lie (subst (λ (x : Subscripts). AnswersTag (in_form (subscripts_of x) types names text) c.resolve_name.result) alone answer)
+
+pub returns-in-Some-clause-lies : goal.returns-in-Some-clause-lies
+returns-in-Some-clause-lies g c =
+    lies (subscripts_of c.args.subscripts) c.args.types.now (g.N.Names.bytes c.args.names.now) (g.N.Names.named c.args.names.now) c.args.text.now (Ok c.in-Some.found) c.requires.sound c.requires.lie c.in-Some.ensures
+
+pub returns-in-Some-clause-fixed : goal.returns-in-Some-clause-fixed
+returns-in-Some-clause-fixed g c = λ alone.
+    let types = c.args.types.now in
+    let names = g.N.Names.named c.args.names.now in
+    fixed types (g.N.Names.bytes c.args.names.now) names c.args.text.now (Ok c.in-Some.found) c.requires.sound c.requires.lie (subst (λ (x : Subscripts). AnswersTag (in_form (subscripts_of x) types names c.args.text.now) (Ok c.in-Some.found)) alone c.in-Some.ensures)

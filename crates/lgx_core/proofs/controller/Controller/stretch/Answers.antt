@@ -1,12 +1,14 @@
 -- A stretch of the parts, counted.
-use Rattle.std.proofs.Common.{◌+◌}
+use Rattle.std.proofs.Common.{◌+◌, arith}
 use Rattle.lgx_core.specs.ControllerView.{view_of}
-use Rattle.lgx_core.proofs.Opened.{live, opened, marked}
+use Rattle.lgx_core.proofs.Opened.{with-room-for, opened, marked}
 use Rattle.lgx_core.proofs.Stretched.{still-by, stretch-gives, stretch-goes, has-room, counted-by, going-by}
 use Rattle.lgx_core.proofs.controller.Controller.stretch.Goals as goal
 
-pub stretch-made-requires-clause-live : goal.stretch-made-requires-clause-live
-stretch-made-requires-clause-live c = rw c.deref_mut.ensures.value (live c.self.inside.parts.value c.self.inside.spent c.self.invariant)
+pub stretch-made-requires-clause-room : goal.stretch-made-requires-clause-room
+stretch-made-requires-clause-room c =
+    let l = has-room c.self.inside.parts.value c.self.inside.spent c.args.self.now c.self.view_is c.args.most c.args.most (omega arith) c.requires.room in
+    rw c.deref_mut.ensures.value (with-room-for c.self.inside.parts.value c.self.inside.spent c.args.most c.self.invariant l)
 
 pub invariant_of-self : goal.invariant_of-self
 invariant_of-self c =
